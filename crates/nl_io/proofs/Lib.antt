@@ -1,0 +1,4 @@
+pub mod Ids
+pub mod Contents
+pub mod Tables
+pub mod Shelves

@@ -1,0 +1,12 @@
+pub mod Count
+pub mod Content
+pub mod Desk
+pub mod DeskLaws
+pub mod Scripts
+pub mod MemSinks
+pub mod Tables
+pub mod Readings
+pub mod Shelves
+pub mod Titles
+pub mod MemFiles
+pub mod Untold

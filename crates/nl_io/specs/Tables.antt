@@ -1,0 +1,15 @@
+-- Lists of entries as finite maps.
+use Rattle.std.specs.Prelude.{ℕ, List, [], ◌∷◌}
+use Rattle.std.specs.declared.cmp.Ordering.{Ordering}
+use Rattle.std.specs.FinMap as map
+use Rattle.nl_io.specs.Content.{Told}
+use Rattle.nl_io.specs.Desk.{ById}
+
+-- The map of some entries, of which one function gives the keys and another the values. At a key that stands twice it has the first value.
+abbrev pub as_map : {K L V X : Type 0} {R : L → L → Ordering} → (K → L) → (V → X) → List (K × V) → map.FinMap R X
+as_map key value [] = map.empty
+as_map key value (e ∷ es) = map.insert (as_map key value es) (key e.0) (value e.1)
+
+-- open files by their ids, of each of which a function tells a text or content
+abbrev pub by_id : {V : Type 0} → (V → Told) → List (ℕ × V) → ById
+by_id told es = as_map (λ id. id) told es

@@ -1,0 +1,56 @@
+ghost use Rattle.std.specs.Prelude.{◌≡◌, ◌≢◌, ◌<◌, ◌≤◌, ℕ, length, take, None, IfOk, IfSome, IfNone, OnOk, OnErr, unwrap_or};
+ghost use Rattle.std.specs.FinMap as map;
+ghost use Rattle.nl_io.specs.Count.{Rose};
+ghost use Rattle.nl_io.specs.Content.{Told, IsFront, IsAtEnd};
+ghost use Rattle.nl_io.specs.Desk.{Desk, IsReading, IsAbsent, OnlyReadFaults, OnlyWriteFaults, Opens, Takes, Leaves, Creates, Puts, Finishes};
+
+use crate::failed::Failed;
+
+/// A set of named files. An open file goes by a number, its id.
+pub trait Files {
+    /// What the names hold, which files are open, and how many calls have failed.
+    ghost desk: { Self → Desk };
+
+    /// Opens a name for reading. `None` is the answer where there is no such name.
+    fn open_read(&mut self, name: &str) -> Result<Option<u32>, Failed>
+        ensures opened { IfOk result (λ found. IfSome found (λ id. Opens (desk self.old) name.now id (desk self.new))) }
+        ensures absent { IfOk result (λ found. IfNone found (IsAbsent (desk self.old) name.now)) }
+        ensures absent_same { IfOk result (λ found. IfNone found (OnlyReadFaults (desk self.old) (desk self.new))) }
+        ensures cause { OnErr result (Rose (desk self.old).read_faults (desk self.new).read_faults) }
+        ensures err { OnErr result (OnlyReadFaults (desk self.old) (desk self.new)) };
+
+    /// Moves some of an open file's bytes to the front of `into`, as [`Source::read`](crate::Source) does.
+    fn read(&mut self, id: u32, into: &mut [u8]) -> Result<usize, Failed>
+        requires { map.get (desk self.old).left id ≢ None }
+        ensures within { IfOk result (λ n. n ≤ length into.old) }
+        ensures front { IfOk result (λ n. (content : Told) → IsReading (desk self.old) id content → IsFront n (take n into.new) content) }
+        ensures moved { IfOk result (λ n. Takes (desk self.old) id n (desk self.new)) }
+        ensures end { IfOk result (λ n. (content : Told) → IsReading (desk self.old) id content → n ≡ 0 → 0 < length into.old → IsAtEnd content) }
+        ensures cause { OnErr result (Rose (desk self.old).read_faults (desk self.new).read_faults) }
+        ensures err { OnErr result (OnlyReadFaults (desk self.old) (desk self.new)) };
+
+    /// Gives up a file that is being read.
+    fn leave(&mut self, id: u32)
+        ensures { Leaves (desk self.old) id (desk self.new) };
+
+    /// Makes the name a file of no bytes, and opens it for writing.
+    fn create(&mut self, name: &str) -> Result<u32, Failed>
+        ensures created { IfOk result (λ id. Creates (desk self.old) name.now id (desk self.new)) }
+        ensures cause { OnErr result (Rose (desk self.old).write_faults (desk self.new).write_faults) }
+        ensures err { OnErr result (OnlyWriteFaults (desk self.old) (desk self.new)) };
+
+    /// Puts some of the bytes at the end of a created file, as [`Sink::write`](crate::Sink) does.
+    fn write(&mut self, id: u32, bytes: &[u8]) -> Result<usize, Failed>
+        requires { map.get (desk self.old).made id ≢ None }
+        ensures within { IfOk result (λ n. n ≤ length bytes.now) }
+        ensures some { IfOk result (λ n. 0 < length bytes.now → 0 < n) }
+        ensures taken { IfOk result (λ n. Puts (desk self.old) id (take n bytes.now) (desk self.new)) }
+        ensures cause { OnErr result (Rose (desk self.old).write_faults (desk self.new).write_faults) }
+        ensures err { OnErr result (OnlyWriteFaults (desk self.old) (desk self.new)) };
+
+    /// Ends a created file. Its id is given up also where the answer is a refusal.
+    fn finish(&mut self, id: u32) -> Result<(), Failed>
+        requires { map.get (desk self.old).made id ≢ None }
+        ensures finished { Finishes (desk self.old) id (desk self.new) }
+        ensures cause { OnErr result (Rose (desk self.old).write_faults (desk self.new).write_faults) };
+}

@@ -1,0 +1,35 @@
+ghost use Rattle.std.specs.Prelude.{◌≡◌, ◌<◌, ◌≤◌, [], length, take, drop, vec_len};
+
+/// A file that is being read: its bytes as it was opened, and how many of them came.
+#[derive(Drop)]
+pub(crate) struct Reading {
+    bytes: Vec<u8>,
+    at: usize,
+    ghost within: { at ≤ vec_len bytes },
+}
+
+impl Reading {
+    ghost use Rattle.nl_io.specs.Readings.{left_of};
+
+    /// At its first byte.
+    pub(crate) fn new(bytes: Vec<u8>) -> Reading
+        ensures { left_of result ≡ bytes.items }
+    {
+        Reading { bytes, at: 0 }
+    }
+
+    /// Moves bytes to the front of `into`, at most `most`, and answers how many.
+    pub(crate) fn take(&mut self, most: usize, into: &mut [u8]) -> usize
+        ensures within { result ≤ length into.old }
+        ensures there { result ≤ length (left_of self.old) }
+        ensures front { take result into.new ≡ take result (left_of self.old) }
+        ensures moved { left_of self.new ≡ drop result (left_of self.old) }
+        ensures end { 0 < most → result ≡ 0 → 0 < length into.old → left_of self.old ≡ [] }
+    {
+        let left = &self.bytes[self.at..];
+        let count = most.min(left.len()).min(into.len());
+        into[..count].copy_from_slice(&left[..count]);
+        self.at += count;
+        count
+    }
+}

@@ -1,0 +1,204 @@
+use super::*;
+use std::alloc::Global;
+use std::fs;
+use std::io::{self, ErrorKind, Write};
+use std::test::Fail;
+
+/// The name, opened, as a source.
+fn source<'f, F: Files>(files: &'f mut F, name: &str) -> Option<FileSource<'f, F>> {
+    match files.open_read(name) {
+        Ok(Some(id)) => Some(FileSource::make(files, id)),
+        _ => None,
+    }
+}
+
+/// Writes a file in two calls.
+fn write_file<F: Files>(files: &mut F, name: &str, bytes: &[u8]) -> Result<(), Failed> {
+    let id = files.create(name)?;
+    let front = files.write(id, bytes)?;
+    files.write(id, &bytes[front..])?;
+    files.finish(id)
+}
+
+/// All bytes of a file.
+fn read_file<F: Files>(
+    alloc: Global,
+    files: &mut F,
+    name: &str,
+    limit: usize,
+) -> Result<Vec<u8>, ReadAllFault> {
+    match source(files, name) {
+        Some(mut source) => read_to_limit(alloc, &mut source, limit),
+        None => Err(ReadAllFault::Failed),
+    }
+}
+
+#[test]
+fn a_sink_in_memory_takes_pieces(rt: HostRuntime) -> Result<(), Fail> {
+    for (piece, first) in [(1, 1), (2, 2), (100, 5)] {
+        assert!(rt; piece >= 1);
+        let mut sink = MemSink::make(rt.alloc(), piece, &[])?;
+        assert_eq!(rt; sink.write("hello".as_bytes()), Ok(first), "by {piece}");
+        assert_eq!(rt; write_all(&mut sink, " you".as_bytes()), Ok(()));
+        assert_eq!(rt; sink.bytes().len(), first + 4);
+        assert_eq!(rt; sink.starved(), 0);
+    }
+    Ok(())
+}
+
+#[test]
+fn a_listed_call_of_a_sink_fails_and_leaves_a_prefix(rt: HostRuntime) -> Result<(), Fail> {
+    for (failing, prefix) in [(0, ""), (1, "he"), (2, "hell")] {
+        let mut sink = MemSink::make(rt.alloc(), 2, &[failing])?;
+        assert_eq!(rt;
+            write_all(&mut sink, "hello".as_bytes()),
+            Err(Failed),
+            "at {failing}"
+        );
+        assert_eq!(rt; sink.bytes(), prefix.as_bytes(), "at {failing}");
+        assert_eq!(rt; sink.write("!".as_bytes()), Ok(1));
+        assert_eq!(rt; sink.starved(), 0);
+    }
+    Ok(())
+}
+
+#[test]
+fn a_file_in_memory_is_read_in_pieces(rt: HostRuntime) -> Result<(), Fail> {
+    let mut files = MemFiles::make(rt.alloc(), 2, &[])?;
+    files.put_file("a", "hello".as_bytes())?;
+    assert_eq!(rt; files.open_read("b"), Ok(None));
+    let mut file = source(&mut files, "a").ok_or("it isn't there")?;
+    for want in ["he", "ll", "o", ""] {
+        let mut into = [0; 3];
+        let count = file.read(&mut into).ok().ok_or("it failed")?;
+        assert_eq!(rt; &into[..count], want.as_bytes());
+    }
+    files.leave(0);
+    assert_eq!(rt; files.open_read("a"), Ok(Some(0)));
+    assert_eq!(rt; files.starved(), 0);
+    Ok(())
+}
+
+#[test]
+fn a_listed_call_of_files_fails(rt: HostRuntime) -> Result<(), Fail> {
+    let table = [
+        (0, false, None, false),
+        (1, false, Some(""), true),
+        (2, false, Some("hel"), true),
+        (3, false, Some("hello"), true),
+        (4, true, Some("hello"), false),
+        (5, true, Some("hello"), false),
+        (6, true, Some("hello"), false),
+        (7, true, Some("hello"), false),
+        (8, true, Some("hello"), true),
+    ];
+    for (failing, written, held, read) in table {
+        let mut files = MemFiles::make(rt.alloc(), 3, &[failing])?;
+        let wrote = write_file(&mut files, "a", "hello".as_bytes());
+        assert_eq!(rt; wrote.is_ok(), written, "at {failing}");
+        assert_eq!(rt;
+            files.get_file("a"),
+            held.map(|text| text.as_bytes()),
+            "at {failing}"
+        );
+        let bytes = read_file(rt.alloc(), &mut files, "a", 100);
+        assert_eq!(rt; bytes.is_ok(), read, "at {failing}");
+        assert_eq!(rt; files.starved(), 0);
+    }
+    Ok(())
+}
+
+#[test]
+fn a_source_is_read_to_its_limit(rt: HostRuntime) -> Result<(), Fail> {
+    let mut files = MemFiles::make(rt.alloc(), 2, &[9])?;
+    files.put_file("a", "hello".as_bytes())?;
+    let whole = read_file(rt.alloc(), &mut files, "a", 5)
+        .ok()
+        .ok_or("it failed")?;
+    assert_eq!(rt; whole.as_slice(), "hello".as_bytes());
+    let large = read_file(rt.alloc(), &mut files, "a", 1).err();
+    assert_eq!(rt; large, Some(ReadAllFault::TooLarge));
+    let failed = read_file(rt.alloc(), &mut files, "a", 5).err();
+    assert_eq!(rt; failed, Some(ReadAllFault::Failed));
+    Ok(())
+}
+
+/// A writer that is interrupted some times, and then takes some bytes or fails.
+#[derive(Drop)]
+struct FakeWriter {
+    interruptions: u32,
+    takes: Option<usize>,
+}
+
+impl Write for FakeWriter {
+    fn write(&mut self, bytes: &[u8]) -> io::Result<usize> {
+        if self.interruptions > 0 {
+            self.interruptions -= 1;
+            return Err(io::Error::from(ErrorKind::Interrupted));
+        }
+        match self.takes {
+            Some(most) => Ok(most.min(bytes.len())),
+            None => Err(io::Error::from(ErrorKind::BrokenPipe)),
+        }
+    }
+
+    fn flush(&mut self) -> io::Result<()> {
+        Ok(())
+    }
+}
+
+#[test]
+fn a_writer_is_tried_again_where_it_was_interrupted(rt: HostRuntime) {
+    let table = [
+        (0, Some(3), Ok(3)),
+        (2, Some(3), Ok(3)),
+        (64, Some(3), Ok(3)),
+        (65, Some(3), Err(Failed)),
+        (0, Some(0), Err(Failed)),
+        (0, None, Err(Failed)),
+    ];
+    for (interruptions, takes, want) in table {
+        let mut sink = StdSink::make(FakeWriter {
+            interruptions,
+            takes,
+        });
+        assert_eq!(rt;
+            sink.write("hello".as_bytes()),
+            want,
+            "after {interruptions}"
+        );
+    }
+}
+
+#[test]
+fn a_vector_takes_all_bytes(rt: HostRuntime) {
+    let mut out = Vec::new(rt.alloc());
+    assert_eq!(rt;
+        write_all(&mut StdSink::make(&mut out), "hello".as_bytes()),
+        Ok(())
+    );
+    assert_eq!(rt; out.as_slice(), "hello".as_bytes());
+}
+
+#[test]
+fn files_of_the_system(rt: HostRuntime) -> Result<(), Fail> {
+    let mut files = StdFiles::make(&rt, rt.alloc());
+    assert_eq!(rt; files.open_read("no_such_file"), Ok(None));
+    assert_eq!(rt; files.create("no_such_folder/file"), Err(Failed));
+    assert_eq!(rt;
+        read_file(rt.alloc(), &mut files, ".", 100).err(),
+        Some(ReadAllFault::Failed)
+    );
+    assert_eq!(rt;
+        write_file(&mut files, "written_by_a_test", "hello".as_bytes()),
+        Ok(())
+    );
+    let bytes = read_file(rt.alloc(), &mut files, "written_by_a_test", 100);
+    fs::remove_file(&rt, "written_by_a_test")?;
+    assert_eq!(rt;
+        bytes.ok().ok_or("it failed")?.as_slice(),
+        "hello".as_bytes()
+    );
+    assert_eq!(rt; files.open_read("written_by_a_test"), Ok(None));
+    Ok(())
+}
