@@ -1,0 +1,129 @@
+ghost use Rattle.std.specs.Prelude.{◌≡◌, ◌↔◌, ◌++◌, IsTrue, IfOk, OnOk, FitsSigned};
+ghost use Rattle.std.specs.Int.{w32};
+ghost use Rattle.printf_grammar.specs.Types.{values_of, Fits, IsText, signed_type, unsigned_type, conversion_type, field_types, Types};
+
+use crate::argument::Arg;
+use crate::piece::{Conversion, Length, Piece, Size, Spec};
+use std::alloc::{AllocError, Global};
+
+/// What a format takes at one place of its arguments.
+#[derive(Clone, Copy, Debug, PartialEq, Eq)]
+pub enum ArgType {
+    /// Signed, from -2^31 to 2^31-1.
+    Int,
+    /// Unsigned, up to 2^32-1.
+    UInt,
+    /// Signed, 64 bits.
+    Long,
+    /// Unsigned, 64 bits.
+    ULong,
+    /// Signed, from -4,095 to 4,095.
+    Width,
+    /// Signed, from -2^31 to 4,095.
+    Precision,
+    /// At most 4,000 bytes, none of them NUL.
+    Text,
+}
+
+impl ArgType {
+    ghost use Rattle.printf_grammar.specs.Types.{value_of, FitsType};
+
+    /// Whether the argument is of this type's kind and in its range.
+    pub fn takes(self, arg: Arg) -> bool
+        ensures { IsTrue result ↔ FitsType (value_of arg.entry) self }
+    {
+        match (self, arg) {
+            (ArgType::Int, Arg::Signed(number)) => is_int(number),
+            (ArgType::Long, Arg::Signed(_)) => true,
+            (ArgType::Width, Arg::Signed(number)) => number >= -4095 && number <= 4095,
+            (ArgType::Precision, Arg::Signed(number)) => is_int(number) && number <= 4095,
+            (ArgType::UInt, Arg::Unsigned(number)) => number <= 0xffff_ffff,
+            (ArgType::ULong, Arg::Unsigned(_)) => true,
+            (ArgType::Text, Arg::Text(text)) => is_text(text),
+            _ => false,
+        }
+    }
+}
+
+fn is_int(number: i64) -> bool
+    ensures { IsTrue result ↔ FitsSigned w32 number }
+{
+    number >= i32::MIN as i64 && number <= i32::MAX as i64
+}
+
+fn is_text(text: &[u8]) -> bool
+    ensures { IsTrue result ↔ IsText text.now }
+{
+    text.len() <= 4000 && text.iter().all(|byte| *byte != 0)
+}
+
+/// Whether there are as many arguments as types, each of its type's kind and in its range.
+pub fn fits(types: &[ArgType], args: &[Arg]) -> bool
+    ensures { IsTrue result ↔ Fits (values_of args.now) types.now }
+{
+    if types.len() != args.len() {
+        return false;
+    }
+    for (place, kind) in types.iter().enumerate() {
+        if !kind.takes(args[place]) {
+            return false;
+        }
+    }
+    true
+}
+
+fn signed_of(length: Length) -> ArgType
+    ensures { result ≡ signed_type length }
+{
+    match length {
+        Length::Plain | Length::HH | Length::H => ArgType::Int,
+        _ => ArgType::Long,
+    }
+}
+
+fn unsigned_of(length: Length) -> ArgType
+    ensures { result ≡ unsigned_type length }
+{
+    match length {
+        Length::Plain | Length::HH | Length::H => ArgType::UInt,
+        _ => ArgType::ULong,
+    }
+}
+
+fn converted_of(conversion: Conversion, length: Length) -> ArgType
+    ensures { result ≡ conversion_type conversion length }
+{
+    match conversion {
+        Conversion::D | Conversion::I => signed_of(length),
+        Conversion::O | Conversion::U | Conversion::X | Conversion::UpperX => unsigned_of(length),
+        Conversion::C => ArgType::Int,
+        Conversion::S => ArgType::Text,
+        Conversion::P => ArgType::ULong,
+    }
+}
+
+fn push_field(types: &mut Vec<ArgType>, spec: Spec) -> Result<(), AllocError>
+    ensures { OnOk result (types.new.items ≡ types.old.items ++ field_types spec) }
+{
+    if spec.width == Size::Star {
+        types.push(ArgType::Width)?;
+    }
+    if spec.precision == Size::Star {
+        types.push(ArgType::Precision)?;
+    }
+    types.push(converted_of(spec.conversion, spec.length))?;
+    Ok(())
+}
+
+/// What the pieces take, in order.
+pub(crate) fn types_of(alloc: Global, pieces: &[Piece]) -> Result<Vec<ArgType>, AllocError>
+    ensures { IfOk result (λ types. types.items ≡ Types pieces.now) }
+{
+    let mut types = Vec::new(alloc);
+    for piece in pieces {
+        if let Piece::Field(spec) = *piece {
+            push_field(&mut types, spec)?;
+        }
+    }
+    Ok(types)
+}

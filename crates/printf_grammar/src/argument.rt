@@ -1,0 +1,115 @@
+ghost use Rattle.std.specs.Prelude.{◌≡◌, ◌<◌, ◌≤◌, ◌↔◌, ◌++◌, ◌∷◌, [], length, OnOk, OnErr, IsNone, IfSome, slice_get, Some};
+ghost use Rattle.std.specs.Option.{option_copied};
+
+use crate::bytes::Bytes;
+use arrayvec::ArrayVec;
+use std::alloc::{AllocError, Global};
+use std::marker::Model;
+
+/// An argument that is lent to a call.
+#[derive(Clone, Copy, Debug)]
+pub enum Arg<'a> {
+    Signed(i64),
+    Unsigned(u64),
+    Text(&'a [u8]),
+}
+
+impl Default for Arg<'_> {
+    ghost use Rattle.std.specs.Prelude.{◌≡◌, pos};
+    ghost use Rattle.printf_grammar.specs.declared.argument.Arg.TheVariants.{Signed};
+
+    ghost is_default = { λ arg. arg ≡ Signed (pos 0) };
+
+    fn default() -> Self {
+        Arg::Signed(0)
+    }
+}
+
+/// An argument that is kept.
+#[derive(Debug, Drop)]
+pub enum Value {
+    Signed(i64),
+    Unsigned(u64),
+    Text(Bytes),
+}
+
+/// The arguments of one call, at most 64.
+#[derive(Debug, Drop)]
+pub struct Values {
+    items: Vec<Value>,
+}
+
+impl Model for Values {
+    ghost use Rattle.std.specs.Prelude.{List, length, ◌≤◌};
+    ghost use Rattle.printf_grammar.specs.declared.argument.Value.{Value as ArgValue};
+
+    ghost Value = { List ArgValue };
+
+    ghost view = { λ values. values.items.items };
+
+    ghost invariant = { λ values. length values.items.items ≤ 64 };
+}
+
+impl Value {
+    ghost use Rattle.printf_grammar.specs.Types.{value_of};
+
+    /// The same argument, lent.
+    pub fn arg(&self) -> Arg<'_>
+        ensures { value_of result ≡ self.now }
+    {
+        match self {
+            Value::Signed(number) => Arg::Signed(*number),
+            Value::Unsigned(number) => Arg::Unsigned(*number),
+            Value::Text(text) => Arg::Text(text.as_slice()),
+        }
+    }
+}
+
+impl Values {
+    ghost use Rattle.printf_grammar.specs.Types.{values_of};
+
+    /// No arguments. This takes no memory.
+    pub fn make(alloc: Global) -> Values
+        ensures { result ≡ [] }
+    {
+        Values {
+            items: Vec::new(alloc),
+        }
+    }
+
+    /// Appends the value, which is dropped where there is no memory.
+    pub fn push(&mut self, item: Value) -> Result<(), AllocError>
+        requires { length self.old < 64 }
+        ensures ok { OnOk result (self.new ≡ self.old ++ item ∷ []) }
+        ensures err { OnErr result (self.new ≡ self.old) }
+    {
+        self.items.push(item)?;
+        Ok(())
+    }
+
+    pub fn len(&self) -> usize
+        ensures len { result ≡ length self.now }
+        ensures limit { length self.now ≤ 64 }
+    {
+        self.items.len()
+    }
+
+    pub fn get(&self, place: usize) -> Option<&Value>
+        ensures value { option_copied result ≡ slice_get self.now place }
+        ensures none { IsNone result ↔ (length self.now ≤ place) }
+    {
+        self.items.as_slice().get(place)
+    }
+
+    /// The values as arguments, in order. This takes no memory.
+    pub fn args(&self) -> ArrayVec<Arg<'_>, 64>
+        ensures values { values_of result.items ≡ self.now }
+        ensures limit { length self.now ≤ 64 }
+    {
+        let mut args = ArrayVec::new();
+        for value in self.items.iter() {
+            args.push(value.arg());
+        }
+        args
+    }
+}

@@ -1,0 +1,21 @@
+//! The formats of `fprintf` without floating conversions: their grammar, and the arguments that they take.
+#![tactic(auto)]
+
+mod arg_type;
+mod argument;
+mod bytes;
+mod fault;
+mod format;
+pub mod laws;
+mod parsing;
+mod piece;
+
+pub use arg_type::{ArgType, fits};
+pub use argument::{Arg, Value, Values};
+pub use bytes::Bytes;
+pub use fault::{FormatCause, ParseFault};
+pub use format::{Format, parse};
+pub use piece::{Conversion, Length, Piece, Size, Spec};
+
+#[cfg(test)]
+mod tests;
