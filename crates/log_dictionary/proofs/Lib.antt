@@ -1,0 +1,5 @@
+pub mod Decimals
+pub mod Splits
+pub mod Lines
+pub mod NarrowLines
+pub mod Distinct

@@ -1,0 +1,39 @@
+-- Messages, and the lines that spell them.
+use Rattle.std.specs.Prelude.{◌≡◌, ◌≢◌, ℕ, ◌<◌, ◌^◌, List, [], ◌∷◌, ◌++◌, codes, decimal, All, Any, AllPairs}
+use Rattle.printf_grammar.specs.Spelling.{Spells}
+use Rattle.printf_grammar.specs.Narrow.{IsNarrow}
+use Rattle.log_dictionary.specs.declared.message.Message.{Message}
+use Rattle.log_dictionary.specs.Severities.{severity_name}
+use Rattle.log_dictionary.specs.Texts.{SpellsText}
+
+-- two messages are equal: they stand at one place, with one severity and one format
+pub record SameMessage (a b : Message) : Type 0 where
+  pub file : a.file ≡ b.file
+  pub line : a.line ≡ b.line
+  pub severity : a.severity ≡ b.severity
+  pub format : a.format.bytes ≡ b.format.bytes
+
+-- some of these messages equals the message
+abbrev pub HasMessage : List Message → Message → Type 0
+HasMessage messages message = Any (SameMessage message) messages
+
+-- no two of these messages are equal
+abbrev pub AreDistinct : List Message → Type 0
+AreDistinct messages = AllPairs (λ a b. ¬ (SameMessage a b)) messages
+
+-- the line is `message`, a number, a severity, a number and two texts in quotation marks, and these are the id and the parts of the message
+pub record SpellsMessage (line : List ℕ) (id : ℕ) (message : Message) : Type 0 where
+  pub name : List ℕ
+  pub format : List ℕ
+  pub spelled : line ≡ codes "message " ++ decimal id ++ 32 ∷ severity_name message.severity ++ 32 ∷ decimal message.line ++ codes " \"" ++ name ++ codes "\" \"" ++ format ++ 34 ∷ []
+  pub file : SpellsText name message.file
+  pub bytes : SpellsText format message.format.bytes
+  pub formed : Spells message.format.bytes message.format.pieces
+  pub id_fits : id < 2 ^ 64
+  pub line_fits : message.line < 2 ^ 32
+
+-- the line spells the message with no escape, and the format has only literals, `%%` and plain `%d`
+pub record NarrowLine (line : List ℕ) (id : ℕ) (message : Message) : Type 0 where
+  pub spelled : SpellsMessage line id message
+  pub unescaped : All (λ byte. byte ≢ 92) line
+  pub narrow : IsNarrow message.format.pieces

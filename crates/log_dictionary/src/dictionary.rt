@@ -1,0 +1,160 @@
+//! The messages that calls name by number.
+
+ghost use Rattle.std.specs.Prelude.{◌≡◌, ◌≤◌, ◌↔◌, [], length, slice_get, IsNone, ℕ, ◌⊎◌, IfOk, IfErr, MatchResult, IsTrue, OnOk, OnErr, ◌≢◌, ◌<◌, ◌∷◌, ◌++◌};
+ghost use Rattle.std.specs.Option.{option_copied};
+ghost use Rattle.log_dictionary.specs.declared.message.Message.{Message};
+ghost use Rattle.log_dictionary.specs.Messages.{NarrowLine, HasMessage};
+
+use crate::entry::entry_of;
+use crate::message::Message;
+use printf_grammar::{Bytes, ParseFault, parse};
+use std::alloc::Global;
+use std::marker::Model;
+
+const MOST_MESSAGES: usize = 65_536;
+
+/// At most 65,536 messages, no two of them equal. A message's id is its place, from 0.
+#[derive(Debug, Drop)]
+pub struct Dictionary {
+    messages: Vec<Message>,
+}
+
+/// Why a line gave no message to a dictionary.
+#[derive(Clone, Copy, Debug, PartialEq, Eq)]
+pub enum LineFault {
+    /// The dictionary has 65,536 messages.
+    TooMany,
+    /// The line is no message line, or its message is there already.
+    BadEntry,
+    /// The line's id isn't the number of messages.
+    Order,
+    NoMemory,
+}
+
+impl Model for Dictionary {
+    ghost use Rattle.std.specs.Prelude.{◌≤◌, List, length};
+    ghost use Rattle.log_dictionary.specs.declared.message.Message.{Message};
+    ghost use Rattle.log_dictionary.specs.Messages.{AreDistinct};
+
+    ghost Value = { List Message };
+
+    ghost view = { λ d. d.messages.items };
+
+    ghost invariant = { λ d. (length d.messages.items ≤ 65536) × AreDistinct d.messages.items };
+}
+
+fn is_file_name(name: &[u8]) -> bool
+    ensures { IsTrue result ↔ ((1 ≤ length name.now) × (length name.now ≤ 255)) }
+{
+    !name.is_empty() && name.len() <= 255
+}
+
+/// The id and the message of a message line whose texts have no escape.
+fn message_of(alloc: Global, line: &[u8]) -> Result<(u64, Message), LineFault>
+    ensures found { IfOk result (λ pair. NarrowLine line.now pair.0 pair.1) }
+    ensures only { (id : ℕ) (message : Message) → NarrowLine line.now id message → MatchResult result
+        (λ pair. (pair.0 ≡ id) × (pair.1 ≡ message))
+        (λ fault. fault ≡ LineFault.NoMemory) }
+    ensures fault { IfErr result (λ fault. (fault ≡ LineFault.BadEntry) ⊎ (fault ≡ LineFault.NoMemory)) }
+{
+    let Some(entry) = entry_of(line) else {
+        return Err(LineFault::BadEntry);
+    };
+    if !is_file_name(entry.file) {
+        return Err(LineFault::BadEntry);
+    }
+    let format = match parse(alloc, entry.format) {
+        Ok(format) => format,
+        Err(ParseFault::NotYet) => return Err(LineFault::BadEntry),
+        Err(ParseFault::NoMemory) => return Err(LineFault::NoMemory),
+    };
+    let Ok(file) = Bytes::from_slice(alloc, entry.file) else {
+        return Err(LineFault::NoMemory);
+    };
+    let message = Message {
+        file,
+        line: entry.line,
+        severity: entry.severity,
+        format,
+    };
+    Ok((entry.id, message))
+}
+
+fn has_message(messages: &[Message], message: &Message) -> bool
+    ensures { IsTrue result ↔ HasMessage messages.now message.now }
+{
+    messages.iter().any(|other| message.is_same(other))
+}
+
+impl Dictionary {
+    ghost use Rattle.log_dictionary.specs.Messages.{AreDistinct};
+
+    /// A dictionary with no message. It takes no memory.
+    pub fn make(alloc: Global) -> Dictionary
+        ensures { result ≡ [] }
+    {
+        Dictionary {
+            messages: Vec::new(alloc),
+        }
+    }
+
+    /// The number of messages.
+    pub fn len(&self) -> u32
+        ensures value { result ≡ length self.now }
+        ensures bound { result ≤ 65536 }
+        ensures distinct { AreDistinct self.now }
+    {
+        self.messages.len() as u32
+    }
+
+    /// The message with the id, if the dictionary has one.
+    pub fn get(&self, id: u32) -> Option<&Message>
+        ensures value { option_copied result ≡ slice_get self.now id }
+        ensures none { IsNone result ↔ (length self.now ≤ id) }
+    {
+        self.messages.get(id as usize)
+    }
+
+    /// Adds the message that a message line spells. For now its texts have no escape, and its
+    /// format is a narrow one.
+    pub fn read_line(&mut self, line: &[u8]) -> Result<(), LineFault>
+        ensures ok { OnOk result ((message : Message)
+            × NarrowLine line.now (length self.old) message
+            × (self.new ≡ self.old ++ message ∷ [])) }
+        ensures err { OnErr result (self.new ≡ self.old) }
+
+        // A right line with the next id and a new message is read, unless memory runs out.
+        ensures only { (message : Message) → NarrowLine line.now (length self.old) message
+            → length self.old < 65536 → ¬ (HasMessage self.old message)
+            → MatchResult result
+            (λ _. self.new ≡ self.old ++ message ∷ [])
+            (λ fault. fault ≡ LineFault.NoMemory) }
+        ensures too_many { (result ≡ Err LineFault.TooMany) ↔ (length self.old ≡ 65536) }
+        ensures bad_entry { result ≡ Err LineFault.BadEntry
+            → (id : ℕ) (message : Message) → NarrowLine line.now id message
+            → HasMessage self.old message }
+        ensures order { result ≡ Err LineFault.Order → (id : ℕ) × (message : Message)
+            × NarrowLine line.now id message
+            × (¬ (HasMessage self.old message))
+            × (id ≢ length self.old) }
+    {
+        if self.messages.len() >= MOST_MESSAGES {
+            return Err(LineFault::TooMany);
+        }
+        let alloc = *self.messages.allocator();
+        let (id, message) = match message_of(alloc, line) {
+            Ok(pair) => pair,
+            Err(fault) => return Err(fault),
+        };
+        if has_message(&self.messages, &message) {
+            return Err(LineFault::BadEntry);
+        }
+        if id != self.messages.len() as u64 {
+            return Err(LineFault::Order);
+        }
+        let Ok(()) = self.messages.push(message) else {
+            return Err(LineFault::NoMemory);
+        };
+        Ok(())
+    }
+}

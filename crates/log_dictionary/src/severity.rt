@@ -1,0 +1,39 @@
+//! How grave a message is.
+
+ghost use Rattle.std.specs.Prelude.{◌≡◌};
+ghost use Rattle.log_dictionary.specs.Severities.{severity_name, severity_number};
+
+/// How grave a message is. The gravest comes first.
+#[derive(Clone, Copy, Debug, PartialEq, Eq)]
+pub enum Severity {
+    Error,
+    Warning,
+    Notice,
+    Debug,
+}
+
+impl Severity {
+    /// Its number, from 1 for the gravest to 4. A level keeps the numbers up to its own.
+    pub fn number(self) -> u8
+        ensures { result ≡ severity_number self }
+    {
+        match self {
+            Severity::Error => 1,
+            Severity::Warning => 2,
+            Severity::Notice => 3,
+            Severity::Debug => 4,
+        }
+    }
+
+    /// Its name in traces, dictionaries and printed lines.
+    pub fn name(self) -> &'static str
+        ensures { result.now ≡ severity_name self }
+    {
+        match self {
+            Severity::Error => "ERROR",
+            Severity::Warning => "WARNING",
+            Severity::Notice => "NOTICE",
+            Severity::Debug => "DEBUG",
+        }
+    }
+}
