@@ -1,0 +1,37 @@
+-- The frame of a call: the 64-bit words in which it is staged.
+use Rattle.std.specs.Prelude.{ℕ, ◌+◌, ◌*◌, ◌/◌, List, [], ◌∷◌, length, sum_by}
+use Rattle.std.specs.List.{flat_map}
+use Rattle.std.specs.Int.{w64, cast_unsigned}
+use Rattle.printf_grammar.specs.declared.argument.Value.{Value}
+use Rattle.printf_grammar.specs.declared.argument.Value.TheVariants as values
+
+-- the number that bytes represent, the lowest first
+abbrev pub number_of_bytes : List ℕ → ℕ
+number_of_bytes [] = 0
+number_of_bytes (b ∷ bytes) = b + 256 * number_of_bytes bytes
+
+-- bytes as words, eight to a word, the lowest first; the last word is filled up with zeros
+abbrev pub words_of_bytes : List ℕ → List ℕ
+words_of_bytes [] = []
+words_of_bytes (a ∷ b ∷ c ∷ d ∷ e ∷ f ∷ g ∷ h ∷ bytes) = number_of_bytes (a ∷ b ∷ c ∷ d ∷ e ∷ f ∷ g ∷ h ∷ []) ∷ words_of_bytes bytes
+words_of_bytes bytes = number_of_bytes bytes ∷ []
+
+-- An integer is one word, a signed one in two's complement. A text is its length, and then its bytes.
+abbrev pub words_of_argument : Value → List ℕ
+words_of_argument (values.Signed z) = cast_unsigned w64 z ∷ []
+words_of_argument (values.Unsigned n) = n ∷ []
+words_of_argument (values.Text bytes) = length bytes ∷ words_of_bytes bytes
+
+-- how many words that is
+abbrev pub argument_words : Value → ℕ
+argument_words (values.Signed z) = 1
+argument_words (values.Unsigned n) = 1
+argument_words (values.Text bytes) = 1 + (length bytes + 7) / 8
+
+-- how many words the frame of a call with these arguments has
+abbrev pub FrameLen : List Value → ℕ
+FrameLen args = 2 + sum_by argument_words args
+
+-- the id with the length, the stamp, and the arguments in order
+abbrev pub Frame : ℕ → ℕ → List Value → List ℕ
+Frame id stamp args = (id * 65536 + FrameLen args) ∷ stamp ∷ flat_map words_of_argument args
