@@ -1,0 +1,41 @@
+use Rattle.std.proofs.Common.{◌≡◌, [], ◌++◌, sym, ◌∙◌, ap, arith}
+use Rattle.std.proofs.lemmas.List.{append-nil}
+use Rattle.direct_printf.proofs.Rest.{Rest-start, Rest-end, Rest-at, Rest-argument, Rest-from, Rest-literal, Rest-percent, Rest-field, Rest-value_fits, appended}
+use Rattle.direct_printf.proofs.text.append_text.Goals as goal
+use Rattle.direct_printf.proofs.text.append_text.Goals.{in-Literal+in_ok-extend_from_slice-in-Literal, in-Percent+in_ok-extend_from_slice-in-Percent, in-Field+in_ok-append_decimal-in-Field}
+
+pub loop-piece-init : goal.loop-piece-init
+loop-piece-init c =
+    ([], sym (append-nil c.args.out.now.items), Rest-start c.args.format.now _ _ _ c.bytes-bytes.ensures.bytes c.pieces-piece-items.ensures.pieces c.bytes-bytes.ensures.spelled c.requires.narrow c.requires.fitting)
+
+pub append_decimal-requires : goal.append_decimal-requires
+append_decimal-requires c =
+    Rest-value_fits _ _ _ _ _ _ _ (Rest-argument _ _ _ c.args.args.now c.loop-piece.next _ _ _ (Rest-at _ _ _ _ _ _ _ _ c.loop-piece-test.true c.in-Field.is c.loop-piece.invariant.2))
+
+pub loop-piece-preserved : goal.loop-piece-preserved
+loop-piece-preserved c =
+    let inv = c.loop-piece.invariant in
+    elim c.match-piece.branch [
+      | in-Literal+in_ok-extend_from_slice-in-Literal w ↦
+          let same : c.match-piece.out.items ≡ w.extend_from_slice.new.self.items = cc in (
+            _,
+            same ∙ appended _ _ _ _ _ inv.1 w.in_ok-extend_from_slice-in-Literal.ensures.items,
+            Rest-from _ _ _ _ _ _ _ w.next-is (Rest-literal _ _ _ _ _ _ _ (Rest-at _ _ _ _ _ _ _ _ c.loop-piece-test.true w.in-Literal.is inv.2)),
+          )
+      | in-Percent+in_ok-extend_from_slice-in-Percent w ↦
+          let same : c.match-piece.out.items ≡ w.extend_from_slice-in-Percent.new.self.items = cc in (
+            _,
+            same ∙ appended _ _ _ _ _ inv.1 w.in_ok-extend_from_slice-in-Percent.ensures.items,
+            Rest-from _ _ _ _ _ _ _ w.next-is (Rest-percent _ _ _ _ _ (Rest-at _ _ _ _ _ _ _ _ c.loop-piece-test.true w.in-Percent.is inv.2)),
+          )
+      | in-Field+in_ok-append_decimal-in-Field w ↦
+          let same : c.match-piece.out.items ≡ w.append_decimal.new.out.items = cc in (
+            _,
+            same ∙ appended _ _ _ _ _ inv.1 w.in_ok-append_decimal-in-Field.ensures.ok,
+            Rest-from _ _ _ _ _ _ _ w.next-is (Rest-field _ _ _ _ _ _ _ (Rest-argument _ _ _ c.args.args.now c.loop-piece.next _ _ _ (Rest-at _ _ _ _ _ _ _ _ c.loop-piece-test.true w.in-Field.is inv.2))),
+          )
+    ]
+
+pub returns-clause-ok : goal.returns-clause-ok
+returns-clause-ok c =
+    c.loop-piece.invariant.1 ∙ ap (λ front. c.args.out.now.items ++ front) (Rest-end _ _ c.loop-piece.piece-index _ _ _ (omega arith) c.loop-piece.invariant.2)

@@ -1,0 +1,123 @@
+//! What the definitions give for some formats and arguments, worked by hand.
+#![tactic(auto)]
+
+ghost use Rattle.std.specs.Prelude.{◌≡◌, ◌^◌, ◌-◌, pos, negsuc, true, [], ◌∷◌, codes};
+ghost use Rattle.printf_grammar.specs.declared.piece.Piece.TheVariants as pieces;
+ghost use Rattle.printf_grammar.specs.declared.piece.Size.TheVariants.{Star, Given};
+ghost use Rattle.printf_grammar.specs.declared.piece.Length.TheVariants.{HH, L};
+ghost use Rattle.printf_grammar.specs.declared.piece.Conversion.TheVariants.{O, U, X, UpperX, C, S, P};
+ghost use Rattle.printf_grammar.specs.declared.argument.Value.TheVariants as values;
+ghost use Rattle.printf_grammar.specs.Narrow.{plain_d};
+ghost use Rattle.direct_printf.specs.Fields.{Field, Text};
+
+/// `%5d|%-5d|%05d` of 42, 42 and -42, and `%-05d|` of 42, where the flag `-` leaves the flag `0` no effect.
+pub fn pads_to_the_width()
+    ensures three_ways { Text (record {
+      bytes = codes "%5d|%-5d|%05d";
+      pieces =
+          pieces.Field (record plain_d { width = Given 5 })
+          ∷ pieces.Literal 3 4
+          ∷ pieces.Field (record plain_d { width = Given 5; minus = true })
+          ∷ pieces.Literal 8 9
+          ∷ pieces.Field (record plain_d { width = Given 5; zero = true }) ∷ [];
+    })
+        (values.Signed (pos 42) ∷ values.Signed (pos 42) ∷ values.Signed (negsuc 41) ∷ [])
+        ≡ codes "   42|42   |-0042" }
+    ensures left_before_zeros { Text (record {
+      bytes = codes "%-05d|";
+      pieces =
+          pieces.Field (record plain_d { width = Given 5; minus = true; zero = true })
+          ∷ pieces.Literal 5 6 ∷ [];
+    })
+        (values.Signed (pos 42) ∷ [])
+        ≡ codes "42   |" }
+{}
+
+/// `%.0d`, `%#.0o`, `%#x`, `%+.0d`, `% .0d` and `%#4x` of 0.
+pub fn zero_has_few_digits()
+    ensures no_digits { Field (record plain_d { precision = Given 0 }) (values.Signed (pos 0) ∷ []) ≡ [] }
+    ensures one_octal { Field (record plain_d { conversion = O; sharp = true; precision = Given 0 }) (values.Unsigned 0 ∷ [])
+        ≡ codes "0" }
+    ensures no_prefix { Field (record plain_d { conversion = X; sharp = true }) (values.Unsigned 0 ∷ []) ≡ codes "0" }
+    ensures sign_alone { Field (record plain_d { plus = true; precision = Given 0 }) (values.Signed (pos 0) ∷ []) ≡ codes "+" }
+    ensures space_alone { Field (record plain_d { space = true; precision = Given 0 }) (values.Signed (pos 0) ∷ []) ≡ codes " " }
+    ensures padded_without_prefix { Field (record plain_d { conversion = X; sharp = true; width = Given 4 }) (values.Unsigned 0 ∷ [])
+        ≡ codes "   0" }
+{}
+
+/// `%*d|%.*s` of -6, 7, -1 and `abc`.
+pub fn stars_take_arguments()
+    ensures { Text (record {
+      bytes = codes "%*d|%.*s";
+      pieces =
+          pieces.Field (record plain_d { width = Star })
+          ∷ pieces.Literal 3 4
+          ∷ pieces.Field (record plain_d { precision = Star; conversion = S }) ∷ [];
+    })
+        (values.Signed (negsuc 5) ∷ values.Signed (pos 7) ∷ values.Signed (negsuc 0) ∷ values.Text (codes "abc") ∷ [])
+        ≡ codes "7     |abc" }
+{}
+
+/// `%hhd %hhu %+08.3d` of 300, 4294967295 and 5, and `%hhd` of 200.
+pub fn narrows_by_length()
+    ensures row { Text (record {
+      bytes = codes "%hhd %hhu %+08.3d";
+      pieces =
+          pieces.Field (record plain_d { length = HH })
+          ∷ pieces.Literal 4 5
+          ∷ pieces.Field (record plain_d { length = HH; conversion = U })
+          ∷ pieces.Literal 9 10
+          ∷ pieces.Field (record plain_d { plus = true; zero = true; width = Given 8; precision = Given 3 }) ∷ [];
+    })
+        (values.Signed (pos 300) ∷ values.Unsigned 4294967295 ∷ values.Signed (pos 5) ∷ [])
+        ≡ codes "44 255     +005" }
+    ensures negative { Field (record plain_d { length = HH }) (values.Signed (pos 200) ∷ []) ≡ codes "-56" }
+{}
+
+/// `%8p|%-8p|%p` of 0, 255 and 2^64 - 1.
+pub fn pointers()
+    ensures { Text (record {
+      bytes = codes "%8p|%-8p|%p";
+      pieces =
+          pieces.Field (record plain_d { width = Given 8; conversion = P })
+          ∷ pieces.Literal 3 4
+          ∷ pieces.Field (record plain_d { width = Given 8; minus = true; conversion = P })
+          ∷ pieces.Literal 8 9
+          ∷ pieces.Field (record plain_d { conversion = P }) ∷ [];
+    })
+        (values.Unsigned 0 ∷ values.Unsigned 255 ∷ values.Unsigned 18446744073709551615 ∷ [])
+        ≡ codes "   (nil)|0xff    |0xffffffffffffffff" }
+{}
+
+/// `%.2s|%5s|%c%c` of `abc`, the empty text, 65 and 321.
+pub fn texts_and_bytes()
+    ensures { Text (record {
+      bytes = codes "%.2s|%5s|%c%c";
+      pieces =
+          pieces.Field (record plain_d { precision = Given 2; conversion = S })
+          ∷ pieces.Literal 4 5
+          ∷ pieces.Field (record plain_d { width = Given 5; conversion = S })
+          ∷ pieces.Literal 8 9
+          ∷ pieces.Field (record plain_d { conversion = C })
+          ∷ pieces.Field (record plain_d { conversion = C }) ∷ [];
+    })
+        (values.Text (codes "abc") ∷ values.Text [] ∷ values.Signed (pos 65) ∷ values.Signed (pos 321) ∷ [])
+        ≡ codes "ab|     |AA" }
+{}
+
+/// `%#o %#X %ld` of 8, 255 and -2^63, and `%#.3o` of 8.
+pub fn other_bases()
+    ensures row { Text (record {
+      bytes = codes "%#o %#X %ld";
+      pieces =
+          pieces.Field (record plain_d { sharp = true; conversion = O })
+          ∷ pieces.Literal 3 4
+          ∷ pieces.Field (record plain_d { sharp = true; conversion = UpperX })
+          ∷ pieces.Literal 7 8
+          ∷ pieces.Field (record plain_d { length = L }) ∷ [];
+    })
+        (values.Unsigned 8 ∷ values.Unsigned 255 ∷ values.Signed (negsuc 9223372036854775807) ∷ [])
+        ≡ codes "010 0XFF -9223372036854775808" }
+    ensures precision_gives_the_zero { Field (record plain_d { sharp = true; precision = Given 3; conversion = O }) (values.Unsigned 8 ∷ [])
+        ≡ codes "010" }
+{}

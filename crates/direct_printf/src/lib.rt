@@ -1,0 +1,12 @@
+//! The text that printf writes for a call, and the line of the log that the call makes.
+#![tactic(auto)]
+
+pub mod laws;
+mod log_line;
+mod text;
+
+pub use log_line::line;
+pub use text::render;
+
+#[cfg(test)]
+mod tests;
