@@ -1,0 +1,3 @@
+pub mod Recordings
+pub mod Lines
+pub mod Traces

@@ -1,0 +1,131 @@
+//! Calls and lists of calls.
+
+ghost use Rattle.std.specs.Prelude.{◌≡◌, ◌≤◌, ◌↔◌, [], ◌∷◌, ◌++◌, length, slice_get, IsNone, IsTrue, OnOk, OnErr};
+ghost use Rattle.std.specs.Option.{option_copied};
+
+use printf_grammar::Values;
+use std::alloc::{AllocError, Global};
+use std::marker::Model;
+
+/// A call of a log statement: when it was made, by the ticks of the clock, the id of its message,
+/// and the values that it was given.
+#[derive(Debug, Drop)]
+pub struct Call {
+    pub stamp: u64,
+    pub id: u32,
+    pub args: Values,
+}
+
+/// The calls of one writer, in order.
+#[derive(Debug, Drop)]
+pub struct Calls {
+    items: Vec<Call>,
+}
+
+impl Model for Calls {
+    ghost use Rattle.std.specs.Prelude.{List};
+    ghost use Rattle.trace_text.specs.declared.call.Call.{Call};
+
+    ghost Value = { List Call };
+
+    ghost view = { λ c. c.items.items };
+}
+
+impl Calls {
+    /// No calls. It takes no memory.
+    pub fn make(alloc: Global) -> Calls
+        ensures { result ≡ [] }
+    {
+        Calls {
+            items: Vec::new(alloc),
+        }
+    }
+
+    /// Adds a call at the end. Where that is refused the call is dropped.
+    pub fn push(&mut self, call: Call) -> Result<(), AllocError>
+        ensures ok { OnOk result (self.new ≡ self.old ++ call ∷ []) }
+        ensures err { OnErr result (self.new ≡ self.old) }
+    {
+        self.items.push(call)?;
+        Ok(())
+    }
+
+    /// The number of calls.
+    pub fn len(&self) -> usize
+        ensures { result ≡ length self.now }
+    {
+        self.items.len()
+    }
+
+    /// Whether there are none.
+    pub fn is_empty(&self) -> bool
+        ensures { IsTrue result ↔ (self.now ≡ []) }
+    {
+        self.items.is_empty()
+    }
+
+    /// The call at a place, from 0.
+    pub fn get(&self, place: usize) -> Option<&Call>
+        ensures value { option_copied result ≡ slice_get self.now place }
+        ensures none { IsNone result ↔ (length self.now ≤ place) }
+    {
+        self.items.get(place)
+    }
+}
+
+/// The calls of each writer. A writer's number is its place, from 0.
+#[derive(Debug, Drop)]
+pub struct WriterCalls {
+    items: Vec<Calls>,
+}
+
+impl Model for WriterCalls {
+    ghost use Rattle.std.specs.Prelude.{List};
+    ghost use Rattle.trace_text.specs.declared.call.Call.{Call};
+
+    ghost Value = { List (List Call) };
+
+    ghost view = { λ w. w.items.items };
+}
+
+impl WriterCalls {
+    /// No writers. It takes no memory.
+    pub fn make(alloc: Global) -> WriterCalls
+        ensures { result ≡ [] }
+    {
+        WriterCalls {
+            items: Vec::new(alloc),
+        }
+    }
+
+    /// Adds a writer at the end. Where that is refused its calls are dropped.
+    pub fn push(&mut self, calls: Calls) -> Result<(), AllocError>
+        ensures ok { OnOk result (self.new ≡ self.old ++ calls ∷ []) }
+        ensures err { OnErr result (self.new ≡ self.old) }
+    {
+        self.items.push(calls)?;
+        Ok(())
+    }
+
+    /// The number of writers.
+    pub fn len(&self) -> usize
+        ensures { result ≡ length self.now }
+    {
+        self.items.len()
+    }
+
+    /// Whether there are none.
+    pub fn is_empty(&self) -> bool
+        ensures { IsTrue result ↔ (self.now ≡ []) }
+    {
+        self.items.is_empty()
+    }
+
+    /// The calls of a writer.
+    pub fn get(&self, place: usize) -> Option<&Calls>
+        ensures value { option_copied result ≡ slice_get self.now place }
+        ensures none { IsNone result ↔ (length self.now ≤ place) }
+    {
+        self.items.get(place)
+    }
+}

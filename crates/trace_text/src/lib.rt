@@ -1,0 +1,8 @@
+//! Recorded runs of logging programs, and the text in which they are kept.
+#![tactic(auto)]
+
+mod call;
+mod trace;
+
+pub use call::{Call, Calls, WriterCalls};
+pub use trace::Trace;
