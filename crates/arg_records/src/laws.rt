@@ -1,11 +1,12 @@
-// Laws over the definitions of frames. The functions do nothing: what they ensure is proved of the definitions.
-ghost use Rattle.std.specs.Prelude.{◌≡◌, ◌≤◌, ◌+◌, ℕ, List, [], ◌∷◌, length, replicate, pos, negsuc};
+//! Laws over the definitions of frames. The functions do nothing: what they ensure is proved of the definitions.
+
+ghost use Rattle.std.specs.Prelude.{◌≡◌, ◌+◌, ℕ, List, [], ◌∷◌, length, pos, negsuc};
 ghost use Rattle.printf_grammar.specs.declared.argument.Value.{Value};
 ghost use Rattle.printf_grammar.specs.declared.argument.Value.TheVariants.{Signed, Unsigned, Text};
 ghost use Rattle.arg_records.specs.Frames.{FrameLen, Frame};
 
-/// A call of one integer is three words.
-pub fn one_integer()
+/// The frames of two calls with one integer, and of one with two texts.
+pub fn three_frames()
     ensures positive { Frame 0 1003 (Signed (pos 7) ∷ []) ≡ 3 ∷ 1003 ∷ 7 ∷ [] }
     ensures negative { Frame 2 5 (Signed (negsuc 0) ∷ []) ≡ 131075 ∷ 5 ∷ 18446744073709551615 ∷ [] }
     ensures text { Frame 1 9 (Text (97 ∷ 98 ∷ []) ∷ Text [] ∷ []) ≡ 65541 ∷ 9 ∷ 2 ∷ 25185 ∷ 0 ∷ [] }
@@ -16,12 +17,12 @@ pub fn frame_has_its_length()
     ensures { (id stamp : ℕ) (args : List Value) → length (Frame id stamp args) ≡ FrameLen args }
 {}
 
-/// The longest text takes 501 words, so that a call with one of them has 503, and with two has too many.
+/// The longest text takes 501 words, so that a call with it alone has 503.
 pub fn longest_text_takes_501_words()
     ensures { (text : List ℕ) → length text ≡ 4000 → FrameLen (Text text ∷ []) ≡ 503 }
 {}
 
-/// A call of integers alone has two words more than arguments.
-pub fn integers_take_a_word()
+/// An integer more is a word more.
+pub fn an_integer_takes_a_word()
     ensures { (n : ℕ) (args : List Value) → FrameLen (Unsigned n ∷ args) ≡ FrameLen args + 1 }
 {}

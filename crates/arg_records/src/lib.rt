@@ -4,5 +4,5 @@
 mod laws;
 
 pub use laws::{
-    frame_has_its_length, integers_take_a_word, longest_text_takes_501_words, one_integer,
+    an_integer_takes_a_word, frame_has_its_length, longest_text_takes_501_words, three_frames,
 };
