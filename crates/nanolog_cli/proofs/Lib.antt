@@ -1,0 +1,14 @@
+pub mod SplitLemmas
+pub mod Numbers
+pub mod CallLemmas
+pub mod CallForms
+pub mod ClockLemmas
+pub mod MessageForms
+pub mod RunLemmas
+pub mod BodyLemmas
+pub mod BodyForms
+pub mod PartLemmas
+pub mod TextLemmas
+pub mod TextForms
+pub mod InputLemmas
+pub mod LineLemmas

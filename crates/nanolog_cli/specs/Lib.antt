@@ -1,0 +1,12 @@
+pub mod Parts
+pub mod NarrowCalls
+pub mod NarrowClocks
+pub mod Commands
+pub mod NarrowTraces
+pub mod NarrowMessages
+pub mod NarrowBodies
+pub mod NarrowTexts
+pub mod Statuses
+pub mod Words
+pub mod Outcomes
+pub mod CommandViews
