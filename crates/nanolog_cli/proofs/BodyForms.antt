@@ -8,6 +8,7 @@ use Rattle.log_dictionary.specs.declared.message.Message.{Message}
 use Rattle.trace_text.specs.Recordings.{Recording}
 use Rattle.trace_text.specs.Lines.{clock_line, FitsLine, writers_line}
 use Rattle.nanolog_cli.specs.Parts.{contents}
+use Rattle.nanolog_cli.proofs.Choices.{some_same}
 use Rattle.nanolog_cli.specs.NarrowCalls.{NarrowCalls}
 use Rattle.nanolog_cli.specs.NarrowMessages.{NarrowMessages, EndsMessages, MessagesBefore}
 use Rattle.nanolog_cli.specs.NarrowBodies.{NarrowRun, NarrowBody, sections_at}
@@ -49,14 +50,11 @@ pub no_sections : (body : List (Bor (List ℕ))) (run : Recording) (is : NarrowB
     → None ≡ sections_at (contents (take (length body - count) (drop count body))) → ⊥
 no_sections body run is count messages read ended none = let some = sections_same body run is count messages read ended in cc (none, some)
 
-pairs_same : (a b : List ℕ × List (List ℕ)) → Some a ≡ Some b → a ≡ b
-pairs_same a b e = cc
-
 -- and the run is one of those messages, that clock and those calls
 pub narrow_run : (body : List (Bor (List ℕ))) (run : Recording) (is : NarrowBody (contents body) run) (count : ℕ) (messages : List Message) (clock : List ℕ) (calls : List (List ℕ)) → NarrowMessages 0 (take count (contents body)) messages → EndsMessages (drop count (contents body))
     → Some (clock, calls) ≡ sections_at (contents (take (length body - count) (drop count body))) → NarrowRun messages clock calls run
 narrow_run body run is count messages clock calls read ended found =
-    let both = pairs_same (clock, calls) (clock_line run.clock, is.call_lines) (found ∙ sections_same body run is count messages read ended) in
+    let both = some_same (clock, calls) (clock_line run.clock, is.call_lines) (found ∙ sections_same body run is count messages read ended) in
     let clocks : clock ≡ clock_line run.clock = ap (λ (p : List ℕ × List (List ℕ)). p.0) both in
     let lines : calls ≡ is.call_lines = ap (λ (p : List ℕ × List (List ℕ)). p.1) both in
     record {

@@ -1,5 +1,5 @@
 -- A run and the lines that spell it.
-use Rattle.std.proofs.Common.{◌≡◌, ℕ, ◌-◌, ◌≤◌, List, [], ◌∷◌, ◌++◌, length, take, drop, Some, None, Result, Ok, Err, Bool, true, false, cond, lit<, refl, sym, ap, subst, ◌∙◌, arith}
+use Rattle.std.proofs.Common.{◌≡◌, ℕ, ◌-◌, ◌≤◌, List, [], ◌∷◌, ◌++◌, length, take, drop, Some, Result, Ok, Err, lit<, refl, sym, ap, subst, ◌∙◌, arith}
 use Rattle.std.specs.Prelude.{IfOk, codes}
 use Rattle.std.specs.Str.{bytes_eq}
 use Rattle.std.specs.Borrow.{Bor}
@@ -15,6 +15,7 @@ use Rattle.trace_text.specs.declared.call.Call.{Call}
 use Rattle.trace_text.specs.Recordings.{Recording, IsRecording, IsCall, NeverFalls}
 use Rattle.trace_text.specs.Lines.{clock_line, FitsLine, writers_line}
 use Rattle.nanolog_cli.specs.Parts.{contents}
+use Rattle.nanolog_cli.proofs.Choices.{chosen}
 use Rattle.nanolog_cli.specs.NarrowCalls.{NarrowCalls}
 use Rattle.nanolog_cli.specs.NarrowMessages.{NarrowMessages}
 use Rattle.nanolog_cli.specs.NarrowBodies.{NarrowRun, NarrowBody, sections_at}
@@ -56,10 +57,6 @@ is_run messages clock_text clock lines calls run clock_is clock_fits rate h few 
       one_writer = refl;
       recorded = is_recording messages clock lines calls rate h few;
     })
-
-chosen : (b : Bool) (x y : List ℕ × List (List ℕ)) → cond b (Some x) None ≡ Some y → (b ≡ true) × (x ≡ y)
-chosen true x y e = (refl, cc)
-chosen false x y e = absurd cc
 
 sections_are : (lines : List (List ℕ)) (clock : List ℕ) (calls : List (List ℕ)) → sections_at lines ≡ Some (clock, calls) → lines ≡ clock ∷ codes "writers 1" ∷ calls
 unfolding sections_at

@@ -1,5 +1,5 @@
 -- Calls and the lines that spell them.
-use Rattle.std.proofs.Common.{◌≡◌, ℕ, ◌<◌, ◌≤◌, ◌^◌, ℤ, List, [], ◌∷◌, ◌++◌, length, Some, None, Result, Ok, Err, Bool, true, false, cond, eqb, ◌&&◌, lit<, refl, sym, ap, subst, ◌∙◌, append_assoc, arith}
+use Rattle.std.proofs.Common.{◌≡◌, ℕ, ◌<◌, ◌≤◌, ◌^◌, ℤ, List, [], ◌∷◌, ◌++◌, length, Some, None, Result, Ok, Err, eqb, lit<, refl, sym, ap, subst, ◌∙◌, append_assoc, arith}
 use Rattle.std.specs.Prelude.{map, IfOk, slice_get, codes, sum_by}
 use Rattle.std.specs.Fmt.{decimal, signed_decimal}
 use Rattle.std.specs.Str.{bytes_eq}
@@ -18,6 +18,7 @@ use Rattle.arg_records.specs.Frames.{argument_words, FrameLen}
 use Rattle.trace_text.specs.declared.call.Call.{Call}
 use Rattle.trace_text.specs.Lines.{SpellsCall, SpellsArguments}
 use Rattle.nanolog_cli.specs.Parts.{contents}
+use Rattle.nanolog_cli.proofs.Choices.{some_same, chosen_by_both}
 use Rattle.nanolog_cli.specs.NarrowCalls.{SpellsNumbers, NarrowCall, CallText, CallIs, call_fields_at}
 use Rattle.nanolog_cli.proofs.Numbers.{values_same}
 use Rattle.nanolog_cli.specs.declared.narrow.NarrowFault.{NarrowFault}
@@ -64,11 +65,6 @@ numbers_spelled (z ∷ numbers) = (signed_decimal z, after_spaces (map signed_de
 abbrev pub call_fields : CallText → List (List ℕ)
 call_fields text = codes "call" ∷ codes "0" ∷ text.stamp ∷ text.id ∷ text.args
 
-chosen : (a b : Bool) (x y : CallText) → cond (a && b) (Some x) None ≡ Some y → (a ≡ true) × (b ≡ true) × (x ≡ y)
-chosen true true x y e = (refl, refl, cc)
-chosen true false x y e = absurd cc
-chosen false b x y e = absurd cc
-
 pub fields_are : (fields : List (List ℕ)) (text : CallText) → call_fields_at fields ≡ Some text → fields ≡ call_fields text
 unfolding call_fields_at
 fields_are [] text e = absurd cc
@@ -77,7 +73,7 @@ fields_are (word ∷ writer ∷ []) text e = absurd cc
 fields_are (word ∷ writer ∷ stamp ∷ []) text e = absurd cc
 fields_are (word ∷ writer ∷ stamp ∷ id ∷ args) text e =
     let made : CallText = record { stamp = stamp; id = id; args = args } in
-    let found = chosen (bytes_eq word (codes "call")) (bytes_eq writer (codes "0")) made text e in
+    let found = chosen_by_both (bytes_eq word (codes "call")) (bytes_eq writer (codes "0")) made text e in
     let first : word ≡ codes "call" = (bytes_eq-Decides word (codes "call")).0 found.0 in
     let second : writer ≡ codes "0" = (bytes_eq-Decides writer (codes "0")).0 found.1 in
     ap (λ (w : List ℕ). w ∷ writer ∷ stamp ∷ id ∷ args) first ∙ ap (λ (w : List ℕ). codes "call" ∷ w ∷ stamp ∷ id ∷ args) second ∙ ap call_fields found.2
@@ -103,9 +99,6 @@ pub read_call_is : (messages : List Message) (least : ℕ) (line : List ℕ) (sl
 read_call_is messages least line slices items fields (Err f) parts same found is = tt
 read_call_is messages least line slices items fields (Ok call) parts same found is =
     record { text = fields; parts = ap call_fields_at (sym parts ∙ ap contents (sym same)) ∙ sym found; is = is }
-
-some_same : (a b : CallText) → Some a ≡ Some b → a ≡ b
-some_same a b e = cc
 
 -- what was read of a line's fields is read of the line
 pub call_again : (messages : List Message) (least : ℕ) (line : List ℕ) (slices items : List (Bor (List ℕ))) (fields : CallText) (call : Call) → contents items ≡ slice_split (λ b. eqb b 32) line → slices ≡ items

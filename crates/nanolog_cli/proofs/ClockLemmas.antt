@@ -1,5 +1,5 @@
 -- The line of a clock and its fields.
-use Rattle.std.proofs.Common.{◌≡◌, ℕ, ◌≤◌, List, [], ◌∷◌, ◌++◌, length, Option, Some, None, Result, Bool, true, false, cond, eqb, ◌&&◌, refl, sym, ap, subst, ◌∙◌, append_assoc, arith}
+use Rattle.std.proofs.Common.{◌≡◌, ℕ, ◌≤◌, List, [], ◌∷◌, ◌++◌, length, Option, Some, None, Result, eqb, refl, sym, ap, subst, ◌∙◌, append_assoc, arith}
 use Rattle.std.specs.Prelude.{IfOk, IfSome, IfNone, IsErrOf, codes}
 use Rattle.std.specs.Option.{ok_or}
 use Rattle.std.specs.Fmt.{decimal}
@@ -13,6 +13,7 @@ use Rattle.std.proofs.lemmas.Slice.Eq.{bytes_eq-Decides}
 use Rattle.log_dictionary.specs.declared.clock.Clock.{Clock}
 use Rattle.trace_text.specs.Lines.{clock_line, FitsLine}
 use Rattle.nanolog_cli.specs.Parts.{contents}
+use Rattle.nanolog_cli.proofs.Choices.{some_same, chosen_by_both}
 use Rattle.nanolog_cli.specs.NarrowClocks.{ClockText, ClockIs, clock_fields_at}
 use Rattle.std.proofs.lemmas.Fmt.{decimal_injective}
 use Rattle.nanolog_cli.proofs.SplitLemmas.{split_join, lacks_by_test, lacks_decimal}
@@ -22,11 +23,6 @@ use Rattle.nanolog_cli.specs.declared.narrow.NarrowFault.{NarrowFault}
 abbrev clock_fields : ClockText → List (List ℕ)
 clock_fields text = codes "clock" ∷ text.tick ∷ text.nanos ∷ text.rate ∷ []
 
-chosen : (a b : Bool) (x y : ClockText) → cond (a && b) (Some x) None ≡ Some y → (a ≡ true) × (b ≡ true) × (x ≡ y)
-chosen true true x y e = (refl, refl, cc)
-chosen true false x y e = absurd cc
-chosen false b x y e = absurd cc
-
 fields_are : (fields : List (List ℕ)) (text : ClockText) → clock_fields_at fields ≡ Some text → fields ≡ clock_fields text
 unfolding clock_fields_at
 fields_are [] text e = absurd cc
@@ -35,7 +31,7 @@ fields_are (word ∷ tick ∷ []) text e = absurd cc
 fields_are (word ∷ tick ∷ nanos ∷ []) text e = absurd cc
 fields_are (word ∷ tick ∷ nanos ∷ rate ∷ others) text e =
     let made : ClockText = record { tick = tick; nanos = nanos; rate = rate } in
-    let found = chosen (bytes_eq word (codes "clock")) (eqb (length others) 0) made text e in
+    let found = chosen_by_both (bytes_eq word (codes "clock")) (eqb (length others) 0) made text e in
     let first : word ≡ codes "clock" = (bytes_eq-Decides word (codes "clock")).0 found.0 in
     let nothing : others ≡ [] = nil_from_length others (eqb-true _ _ found.1) in
     ap (λ (w : List ℕ). w ∷ tick ∷ nanos ∷ rate ∷ others) first ∙ ap (λ (o : List (List ℕ)). codes "clock" ∷ tick ∷ nanos ∷ rate ∷ o) nothing ∙ ap clock_fields found.2
@@ -65,9 +61,6 @@ clock_again line clock fits positive is =
     (lacks_decimal 32 clock.tick (omega arith) fits.tick, (lacks_decimal 32 clock.nanos (omega arith) fits.nanos, (lacks_decimal 32 clock.rate (omega arith) fits.rate, tt))))
     ∙ fields_again (spelled_clock clock)
 
-text_same : (a b : ClockText) → Some a ≡ Some b → a ≡ b
-text_same a b e = cc
-
 pub no_clock : (line : List ℕ) (slices items : List (Bor (List ℕ))) (clock : Clock) → contents items ≡ slice_split (λ b. eqb b 32) line → slices ≡ items → None ≡ clock_fields_at (contents slices)
     → line ≡ clock_line clock → FitsLine clock → 1 ≤ clock.rate → ⊥
 no_clock line slices items clock parts same found is fits positive =
@@ -80,12 +73,12 @@ pub not_a_clock : (line : List ℕ) (slices items : List (Bor (List ℕ))) (fiel
 not_a_clock line slices items fields clock (Some c) f r parts same found none made e is fits positive = cc (made, e)
 not_a_clock line slices items fields clock None f r parts same found none made e is fits positive =
     let whole : Some fields ≡ Some (spelled_clock clock) = found ∙ ap clock_fields_at (ap contents same ∙ parts) ∙ clock_again line clock fits positive is in
-    none clock (subst (λ (t : ClockText). ClockIs t clock) (sym (text_same fields (spelled_clock clock) whole)) (spelled_is clock fits positive))
+    none clock (subst (λ (t : ClockText). ClockIs t clock) (sym (some_same fields (spelled_clock clock) whole)) (spelled_is clock fits positive))
 
 -- a line is one clock
 pub clocks_same : (a b : Clock) → clock_line a ≡ clock_line b → FitsLine a → 1 ≤ a.rate → FitsLine b → 1 ≤ b.rate → a ≡ b
 clocks_same a b e fa pa fb pb =
-    let texts : spelled_clock a ≡ spelled_clock b = text_same (spelled_clock a) (spelled_clock b) (sym (clock_again (clock_line a) a fa pa refl) ∙ clock_again (clock_line a) b fb pb e) in
+    let texts : spelled_clock a ≡ spelled_clock b = some_same (spelled_clock a) (spelled_clock b) (sym (clock_again (clock_line a) a fa pa refl) ∙ clock_again (clock_line a) b fb pb e) in
     let ticks : a.tick ≡ b.tick = decimal_injective a.tick b.tick fa.tick fb.tick (ap (λ (t : ClockText). t.tick) texts) in
     let nanos : a.nanos ≡ b.nanos = decimal_injective a.nanos b.nanos fa.nanos fb.nanos (ap (λ (t : ClockText). t.nanos) texts) in
     let rates : a.rate ≡ b.rate = decimal_injective a.rate b.rate fa.rate fb.rate (ap (λ (t : ClockText). t.rate) texts) in

@@ -1,3 +1,4 @@
+pub mod Choices
 pub mod SplitLemmas
 pub mod Numbers
 pub mod CallLemmas

@@ -17,13 +17,11 @@ use Rattle.direct_printf.specs.InOrder.{IsNotAfter, IsInOrder, Direct-sorted, co
 use Rattle.trace_text.specs.declared.call.Call.{Call}
 use Rattle.trace_text.specs.Recordings.{Recording, IsRecording, IsCall, NeverFalls, log_call, writer_calls, calls_of}
 use Rattle.nanolog_cli.specs.Outcomes.{direct_text}
+use Rattle.nanolog_cli.proofs.Choices.{some_same}
 
 pub taken : (calls : List Call) (i : ℕ) (call : Call) → Some call ≡ slice_get calls i → take (i + 1) calls ≡ take i calls ++ call ∷ []
 taken calls i call e =
     take_more calls i call (slice_get_within calls i call (sym e)) ∙ ap (λ (c : Call). take i calls ++ c ∷ []) (get_or_from_slice_get calls i call call (sym e))
-
-some_same : (a b : Call) → Some a ≡ Some b → a ≡ b
-some_same a b e = cc
 
 pub named_at : (messages : List Message) (calls : List Call) (i : ℕ) (call : Call) → AllByRecursion (IsCall messages) calls → Some call ≡ slice_get calls i → IsCall messages call
 named_at messages [] i call h e = absurd cc

@@ -20,6 +20,7 @@ use Rattle.trace_text.specs.Recordings.{Recording, IsCall, NeverFalls}
 use Rattle.trace_text.specs.Lines.{WriterCall, FitsLine, SpellsMessages, SpellsCalls, first_line, last_line, clock_line, writers_line, text_of_lines}
 use Rattle.trace_text.specs.Traces.{calls_by}
 use Rattle.nanolog_cli.specs.NarrowMessages.{NarrowMessages}
+use Rattle.nanolog_cli.proofs.Choices.{some_same}
 use Rattle.nanolog_cli.specs.NarrowCalls.{NarrowCall, NarrowCalls}
 use Rattle.nanolog_cli.specs.NarrowBodies.{NarrowBody}
 use Rattle.nanolog_cli.specs.NarrowTexts.{body_at}
@@ -225,11 +226,8 @@ no_body text slices items run parts same none trace =
     let found : body_at (contents slices) ≡ Some has.body = ap body_at (ap contents same ∙ parts) ∙ has.parts in
     cc (none, found)
 
-bodies_same : (a b : List (List ℕ)) → Some a ≡ Some b → a ≡ b
-bodies_same a b e = cc
-
 -- and the body that was found is the trace's
 pub its_body : (text : List ℕ) (slices items : List (Bor (List ℕ))) (body : List (List ℕ)) (run : Recording) → contents items ≡ slice_split (λ b. eqb b 10) text → slices ≡ items → Some body ≡ body_at (contents slices) → NarrowTrace text run → NarrowBody body run
 its_body text slices items body run parts same found trace =
     let has = has_body text run trace in
-    subst (λ (b : List (List ℕ)). NarrowBody b run) (sym (bodies_same body has.body (found ∙ ap body_at (ap contents same ∙ parts) ∙ has.parts))) has.is
+    subst (λ (b : List (List ℕ)). NarrowBody b run) (sym (some_same body has.body (found ∙ ap body_at (ap contents same ∙ parts) ∙ has.parts))) has.is

@@ -1,11 +1,11 @@
 -- A text and the run that its lines spell.
-use Rattle.std.proofs.Common.{◌≡◌, ℕ, ◌+◌, ◌<◌, ◌≤◌, List, [], ◌∷◌, ◌++◌, length, Option, Some, None, Result, Ok, Err, Bool, true, false, cond, eqb, ◌&&◌, refl, sym, ap, subst, ◌∙◌, append_assoc, arith}
+use Rattle.std.proofs.Common.{◌≡◌, ℕ, ◌+◌, ◌<◌, ◌≤◌, List, [], ◌∷◌, ◌++◌, length, Option, Some, None, Result, Ok, Err, cond, eqb, ◌&&◌, refl, sym, ap, subst, ◌∙◌, append_assoc, arith}
 use Rattle.std.specs.Prelude.{map, IfOk, codes, Contains}
 use Rattle.std.specs.Option.{option_and_then}
 use Rattle.std.specs.Str.{bytes_eq}
 use Rattle.std.specs.Borrow.{Bor}
 use Rattle.std.specs.List.{slice_split, join_with_byte, AllByRecursion, range_with_len}
-use Rattle.std.proofs.lemmas.Bool.{eqb-true}
+use Rattle.std.proofs.lemmas.Bool.{eqb-true, and_parts}
 use Rattle.std.proofs.lemmas.List.{nil_from_length}
 use Rattle.std.proofs.lemmas.List.Splits.{join_with_byte-slice_split}
 use Rattle.std.proofs.lemmas.Slice.Eq.{bytes_eq-Decides}
@@ -16,6 +16,7 @@ use Rattle.trace_text.specs.Recordings.{Recording}
 use Rattle.trace_text.specs.Lines.{WriterCall, SpellsMessages, SpellsCalls, first_line, last_line, clock_line, writers_line, text_of_lines}
 use Rattle.trace_text.specs.Traces.{TraceText, calls_by}
 use Rattle.nanolog_cli.specs.Parts.{contents, last_of}
+use Rattle.nanolog_cli.proofs.Choices.{chosen_by_both}
 use Rattle.nanolog_cli.specs.NarrowMessages.{NarrowMessages}
 use Rattle.nanolog_cli.specs.NarrowCalls.{NarrowCalls}
 use Rattle.nanolog_cli.specs.NarrowBodies.{NarrowBody}
@@ -61,12 +62,6 @@ join_lines [] = refl
 join_lines (line ∷ []) = refl
 join_lines (line ∷ next ∷ lines) = ap (λ (r : List ℕ). line ++ 10 ∷ r) (join_lines (next ∷ lines))
 
-chosen : (a b d : Bool) (x y : List (List ℕ)) → cond (a && b && d) (Some x) None ≡ Some y → (a ≡ true) × (b ≡ true) × (d ≡ true) × (x ≡ y)
-chosen true true true x y e = (refl, refl, refl, cc)
-chosen true true false x y e = absurd cc
-chosen true false d x y e = absurd cc
-chosen false b d x y e = absurd cc
-
 some_part : {A B : Type 0} (o : Option A) (f : A → Option B) (y : B) → option_and_then f o ≡ Some y → (x : A) × (o ≡ Some x) × (f x ≡ Some y)
 some_part None f y e = absurd cc
 some_part (Some x) f y e = (x, refl, e)
@@ -77,13 +72,14 @@ parts_are [] body e = absurd cc
 parts_are (first ∷ others) body e =
     let a = some_part (last_of others) (λ ended. option_and_then (λ last. cond (bytes_eq first (codes "nanolog-trace 1") && bytes_eq last.1 (codes "end") && eqb (length ended.1) 0) (Some last.0) None) (last_of ended.0)) body e in
     let b = some_part (last_of a.0.0) (λ last. cond (bytes_eq first (codes "nanolog-trace 1") && bytes_eq last.1 (codes "end") && eqb (length a.0.1) 0) (Some last.0) None) body a.2 in
-    let found = chosen (bytes_eq first (codes "nanolog-trace 1")) (bytes_eq b.0.1 (codes "end")) (eqb (length a.0.1) 0) b.0.0 body b.2 in
-    let begins : first ≡ first_line = (bytes_eq-Decides first (codes "nanolog-trace 1")).0 found.0 in
-    let ends : b.0.1 ≡ last_line = (bytes_eq-Decides b.0.1 (codes "end")).0 found.1 in
-    let nothing : a.0.1 ≡ [] = nil_from_length a.0.1 (eqb-true _ _ found.2) in
+    let found = chosen_by_both (bytes_eq first (codes "nanolog-trace 1") && bytes_eq b.0.1 (codes "end")) (eqb (length a.0.1) 0) b.0.0 body b.2 in
+    let around = and_parts (bytes_eq first (codes "nanolog-trace 1")) (bytes_eq b.0.1 (codes "end")) found.0 in
+    let begins : first ≡ first_line = (bytes_eq-Decides first (codes "nanolog-trace 1")).0 around.0 in
+    let ends : b.0.1 ≡ last_line = (bytes_eq-Decides b.0.1 (codes "end")).0 around.1 in
+    let nothing : a.0.1 ≡ [] = nil_from_length a.0.1 (eqb-true _ _ found.1) in
     ap (λ (f : List ℕ). f ∷ others) begins
     ∙ ap (λ (o : List (List ℕ)). first_line ∷ o) (last_split others a.0 a.1 ∙ ap (λ (n : List ℕ). a.0.0 ++ n ∷ []) nothing
-    ∙ ap (λ (o : List (List ℕ)). o ++ [] ∷ []) (last_split a.0.0 b.0 b.1 ∙ ap (λ (l : List ℕ). b.0.0 ++ l ∷ []) ends ∙ ap (λ (o : List (List ℕ)). o ++ last_line ∷ []) found.3))
+    ∙ ap (λ (o : List (List ℕ)). o ++ [] ∷ []) (last_split a.0.0 b.0 b.1 ∙ ap (λ (l : List ℕ). b.0.0 ++ l ∷ []) ends ∙ ap (λ (o : List (List ℕ)). o ++ last_line ∷ []) found.2))
 
 text_lines : (text : List ℕ) (parts body : List (List ℕ)) → parts ≡ slice_split (λ b. eqb b 10) text → body_at parts ≡ Some body → text ≡ text_of_lines (first_line ∷ (body ++ last_line ∷ []))
 text_lines text parts body split found =

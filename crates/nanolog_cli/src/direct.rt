@@ -9,13 +9,10 @@ ghost use Rattle.nanolog_cli.specs.Outcomes.{TextOfHeld, DirectDone, DirectBegun
 
 use crate::input::{InputFault, read_file};
 use crate::lines::text_of_run;
-use crate::narrow::{NarrowFault, read_narrow};
+use crate::narrow::{MOST_BYTES, NarrowFault, read_narrow};
 use crate::status::Status;
 use nl_io::{Files, Sink, write_all};
 use std::alloc::Global;
-
-/// The most bytes of a trace that are read.
-const MOST_BYTES: usize = 67_108_864;
 
 /// Why there is no text to print.
 #[derive(Clone, Copy, Debug, PartialEq, Eq)]

@@ -31,7 +31,7 @@ use trace_text::{Call, Calls, Trace, WriterCalls};
 const MOST_CALLS: usize = 128;
 
 /// The most bytes of a trace.
-const MOST_BYTES: usize = 67_108_864;
+pub(crate) const MOST_BYTES: usize = 67_108_864;
 
 /// The most messages of a trace that is read so far.
 const MOST_MESSAGES: u32 = 16;
