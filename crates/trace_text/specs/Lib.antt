@@ -1,3 +1,4 @@
 pub mod Recordings
 pub mod Lines
 pub mod Traces
+pub mod Rows

@@ -2,6 +2,7 @@
 #![tactic(auto)]
 
 mod call;
+pub mod laws;
 mod trace;
 
 pub use call::{Call, Calls, WriterCalls};

@@ -1,0 +1,127 @@
+-- The worked rows are proved from their parts.
+use Rattle.std.proofs.Common.{ℕ, ◌≤◌, lit<, lit≤, List, [], ◌∷◌, refl, inl, inr, arith}
+use Rattle.std.specs.Prelude.{codes}
+use Rattle.std.specs.Fmt.{digits}
+use Rattle.std.specs.List.{AllByRecursion}
+use Rattle.printf_grammar.specs.Spelling.{Spells}
+use Rattle.printf_grammar.proofs.NarrowLaws.{plain_d_spelled}
+use Rattle.log_dictionary.specs.Texts.{IsPlain, SpellsText, itself, quotation_mark, backslash, line_feed, tab, hexadecimal}
+use Rattle.log_dictionary.specs.Messages.{SpellsMessage}
+use Rattle.trace_text.specs.Recordings.{IsCall, IsRecording}
+use Rattle.trace_text.specs.Lines.{SpellsCall}
+use Rattle.trace_text.specs.Traces.{TraceText}
+use Rattle.trace_text.specs.Rows.{row_message, row_call, three_writers, three_writers_text, text_call, text_call_line}
+
+low : (b : ℕ) → 35 ≤ b → b ≤ 91 → IsPlain b
+low b least most = inl (omega (arith, least), omega (arith, most), (λ e. omega (arith, least, e)), (λ e. omega (arith, most, e)))
+
+high : (b : ℕ) → 93 ≤ b → b ≤ 126 → IsPlain b
+high b least most = inl (omega (arith, least), most, (λ e. omega (arith, least, e)), (λ e. omega (arith, least, e)))
+
+-- bytes that stand for themselves
+plain_text : (bytes : List ℕ) → AllByRecursion IsPlain bytes → SpellsText bytes bytes
+plain_text [] all = refl
+plain_text (b ∷ bytes) all = (b ∷ [], bytes, refl, itself all.0 refl, plain_text bytes all.1)
+
+file_spelled : SpellsText (codes "srv.cc") (codes "srv.cc")
+file_spelled = plain_text (codes "srv.cc") (high _ (lit≤ tt) (lit≤ tt), (high _ (lit≤ tt) (lit≤ tt), (high _ (lit≤ tt) (lit≤ tt), (low _ (lit≤ tt) (lit≤ tt), (high _ (lit≤ tt) (lit≤ tt), (high _ (lit≤ tt) (lit≤ tt), tt))))))
+
+format_spelled : SpellsText (codes "x=%d") (codes "x=%d")
+format_spelled = plain_text (codes "x=%d") (high _ (lit≤ tt) (lit≤ tt), (low _ (lit≤ tt) (lit≤ tt), (low _ (lit≤ tt) (lit≤ tt), (high _ (lit≤ tt) (lit≤ tt), tt))))
+
+formed : Spells (codes "x=%d") row_message.format.pieces
+formed = record {
+  short = lit≤ tt;
+  few = lit≤ tt;
+  apart = (tt, tt);
+  spelled = (codes "x=", codes "%d", refl, record { start_is = refl; end_is = refl; nonempty = lit< tt; literal = ((λ h. cc, λ h. cc), ((λ h. cc, λ h. cc), tt)) }, (codes "%d", [], refl, plain_d_spelled, refl));
+}
+
+message_spelled : SpellsMessage (codes "message 0 NOTICE 12 \"srv.cc\" \"x=%d\"") 0 row_message
+unfolding digits
+message_spelled = record { name = codes "srv.cc"; format = codes "x=%d"; spelled = refl; file = file_spelled; bytes = format_spelled; formed = formed; id_fits = lit< tt; line_fits = lit< tt }
+
+second_first : SpellsCall (codes "call 1 1003 0 2") (record { writer = 1; call = row_call 2 })
+unfolding digits
+second_first = record { fields = codes " 2"; spelled = refl; arguments = (codes "2", [], refl, refl, refl); stamp_fits = lit< tt }
+
+first_first : SpellsCall (codes "call 0 1003 0 1") (record { writer = 0; call = row_call 1 })
+unfolding digits
+first_first = record { fields = codes " 1"; spelled = refl; arguments = (codes "1", [], refl, refl, refl); stamp_fits = lit< tt }
+
+second_second : SpellsCall (codes "call 1 1003 0 3") (record { writer = 1; call = row_call 3 })
+unfolding digits
+second_second = record { fields = codes " 3"; spelled = refl; arguments = (codes "3", [], refl, refl, refl); stamp_fits = lit< tt }
+
+is_call : (n : ℕ) → n ≤ 9 → IsCall (row_message ∷ []) (row_call n)
+is_call n small = record { message = row_message; known = refl; fits = (record { sfits = omega (arith, small) }, tt); short = lit≤ tt }
+
+recorded : IsRecording three_writers
+recorded = record {
+  some_writer = lit≤ tt;
+  few_writers = lit≤ tt;
+  few_calls = lit≤ tt;
+  rate = lit≤ tt;
+  calls = ((is_call 1 (lit≤ tt), tt), ((is_call 2 (lit≤ tt), (is_call 3 (lit≤ tt), tt)), (tt, tt)));
+  stamps = ((lit≤ tt, tt), ((lit≤ tt, (lit≤ tt, tt)), (tt, tt)));
+}
+
+pub mixed : TraceText three_writers_text three_writers
+unfolding digits
+mixed = record {
+  short = lit≤ tt;
+  message_lines = codes "message 0 NOTICE 12 \"srv.cc\" \"x=%d\"" ∷ [];
+  call_lines = codes "call 1 1003 0 2" ∷ codes "call 0 1003 0 1" ∷ codes "call 1 1003 0 3" ∷ [];
+  calls = record { writer = 1; call = row_call 2 } ∷ record { writer = 0; call = row_call 1 } ∷ record { writer = 1; call = row_call 3 } ∷ [];
+  whole = refl;
+  messages_spelled = (message_spelled, tt);
+  distinct = λ i j d earlier within. absurd (omega (arith, earlier, within));
+  few_messages = lit≤ tt;
+  clock_fits = record { tick = lit< tt; nanos = lit< tt; rate = lit< tt };
+  calls_spelled = (second_first, (first_first, (second_second, tt)));
+  known_writers = (lit< tt, (lit< tt, (lit< tt, tt)));
+  by_writer = refl;
+  recorded = recorded;
+}
+
+escapes : SpellsText (codes "a\\\"\\\\\\n\\t\\xFe") (97 ∷ 34 ∷ 92 ∷ 10 ∷ 9 ∷ 254 ∷ [])
+escapes = (
+  codes "a",
+  codes "\\\"\\\\\\n\\t\\xFe",
+  refl,
+  itself (high 97 (lit≤ tt) (lit≤ tt)) refl,
+  (
+    codes "\\\"",
+    codes "\\\\\\n\\t\\xFe",
+    refl,
+    quotation_mark refl refl,
+    (
+      codes "\\\\",
+      codes "\\n\\t\\xFe",
+      refl,
+      backslash refl refl,
+      (
+        codes "\\n",
+        codes "\\t\\xFe",
+        refl,
+        line_feed refl refl,
+        (
+          codes "\\t",
+          codes "\\xFe",
+          refl,
+          tab refl refl,
+          (codes "\\xFe", [], refl, hexadecimal 70 101 (inl (inr (lit≤ tt, lit≤ tt))) (inr (lit≤ tt, lit≤ tt)) refl refl, refl),
+        ),
+      ),
+    ),
+  ),
+)
+
+pub escaped : SpellsCall text_call_line text_call
+unfolding digits
+escaped = record {
+  fields = codes " \"a\\\"\\\\\\n\\t\\xFe\" 18446744073709551615";
+  spelled = refl;
+  arguments = (codes "\"a\\\"\\\\\\n\\t\\xFe\"", codes " 18446744073709551615", refl, (codes "a\\\"\\\\\\n\\t\\xFe", refl, escapes), (codes "18446744073709551615", [], refl, refl, refl));
+  stamp_fits = lit< tt;
+}
