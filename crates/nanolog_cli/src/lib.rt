@@ -4,6 +4,7 @@
 mod commands;
 mod direct;
 mod input;
+pub mod laws;
 mod lines;
 mod narrow;
 mod parts;
