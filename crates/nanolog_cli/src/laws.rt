@@ -1,4 +1,4 @@
-//! A worked row of the definitions. The function does nothing: what it ensures is proved of the definitions.
+//! A worked example of the definitions. The function does nothing: what it ensures is proved of the definitions.
 
 ghost use Rattle.std.specs.Prelude.{◌≡◌, ◌++◌, codes};
 ghost use Rattle.trace_text.specs.Rows.{three_writers};

@@ -45,7 +45,7 @@ abbrev pub is_only : ℕ → List ℕ → Bool
 is_only byte [] = false
 is_only byte (first ∷ bytes) = first == byte && is_empty bytes
 
--- the part is or ends with `*`
+-- a `*` stands in the part
 abbrev pub has_star : List ℕ → Bool
 has_star bytes = stands 42 bytes
 

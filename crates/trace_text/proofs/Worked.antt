@@ -1,4 +1,4 @@
--- The worked rows are proved from their parts.
+-- The worked examples are proved from their parts.
 use Rattle.std.proofs.Common.{ℕ, ◌≤◌, lit<, lit≤, List, [], ◌∷◌, refl, inl, inr, arith}
 use Rattle.std.specs.Prelude.{codes}
 use Rattle.std.specs.Fmt.{digits}

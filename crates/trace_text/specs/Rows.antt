@@ -1,4 +1,4 @@
--- Worked rows: a run of three writers, and calls with texts.
+-- Worked examples: a run of three writers, and calls with texts.
 use Rattle.std.specs.Prelude.{ℕ, pos, List, [], ◌∷◌, ◌++◌, codes}
 use Rattle.std.proofs.Common.{lit≤}
 use Rattle.printf_grammar.specs.declared.piece.Piece.TheVariants.{Literal, Field}

@@ -1,4 +1,4 @@
-//! Worked rows of the definitions. The functions do nothing: what they ensure is proved of the definitions.
+//! Worked examples of the definitions. The functions do nothing: what they ensure is proved of the definitions.
 
 ghost use Rattle.trace_text.specs.Traces.{TraceText};
 ghost use Rattle.trace_text.specs.Lines.{SpellsCall};
