@@ -2,3 +2,4 @@ pub mod Ids
 pub mod Contents
 pub mod Tables
 pub mod Shelves
+pub mod Names

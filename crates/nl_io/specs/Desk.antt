@@ -1,5 +1,5 @@
 -- What a set of files means: what each name holds, and which files are open.
-use Rattle.std.specs.Prelude.{◌≡◌, ◌≢◌, ℕ, ◌≤◌, List, [], ◌++◌, Option, Some, None, IfSome, option_map, unwrap_or}
+use Rattle.std.specs.Prelude.{◌≡◌, ◌≢◌, ℕ, ◌≤◌, List, [], ◌++◌, Option, Some, None, IfSome, is_some, option_map, unwrap_or}
 use Rattle.std.specs.Ordering.{nat_cmp}
 use Rattle.std.specs.Cmp.Lexicographic.{slice_cmp}
 use Rattle.std.specs.FinMap as map
@@ -80,6 +80,8 @@ held_at held name = unwrap_or (map.get held name) []
 pub record Puts (old : Desk) (id : ℕ) (bytes : List ℕ) (new : Desk) : Type 0 where
   pub put : (name : List ℕ) → map.get old.made id ≡ Some (Some name)
       → new ≡ record old { held = option_map (λ held. map.insert held name (held_at held name ++ bytes)) old.held; write_faults = new.write_faults }
+  -- whether it is told what names hold
+  pub told : is_some new.held ≡ is_some old.held
   pub rest : new ≡ record old { held = new.held; write_faults = new.write_faults }
   pub count : old.write_faults ≤ new.write_faults
 
@@ -94,3 +96,36 @@ pub record SameButLeft (id : ℕ) (old new : Desk) : Type 0 where
   pub left : (other : ℕ) → other ≢ id → map.get new.left other ≡ map.get old.left other
   pub made : new.made ≡ old.made
   pub write_faults : new.write_faults ≡ old.write_faults
+
+-- what a name holds, where both are told
+abbrev pub held_by : Option Held → Told → Told
+held_by held None = None
+held_by held (Some name) = option_map (λ names. held_at names name) held
+
+-- what the name of a created file holds
+abbrev pub put_by : Desk → ℕ → Told
+put_by desk id = held_by desk.held (unwrap_or (map.get desk.made id) None)
+
+-- what a name holds, or that it isn't there, where that is told
+abbrev pub found_in : Desk → List ℕ → Option (Option (List ℕ))
+found_in desk name = option_map (λ held. map.get held name) desk.held
+
+-- All is as it was but for the bytes that the name of one created file holds and the count of write faults.
+pub record SameButHeld (id : ℕ) (old new : Desk) : Type 0 where
+  -- whether it is told what names hold
+  pub told : is_some new.held ≡ is_some old.held
+  -- its name is still there, and each other name holds what it held
+  pub there : (name : List ℕ) → map.get old.made id ≡ Some (Some name) → found_in old name ≢ Some None → found_in new name ≢ Some None
+  pub held : (name other : List ℕ) → map.get old.made id ≡ Some (Some name) → other ≢ name → found_in new other ≡ found_in old other
+  pub left : new.left ≡ old.left
+  pub made : new.made ≡ old.made
+  pub read_faults : new.read_faults ≡ old.read_faults
+
+-- All is as it was but for what one name holds and the count of write faults, which doesn't fall.
+pub record OnlyName (name : List ℕ) (old new : Desk) : Type 0 where
+  pub told : is_some new.held ≡ is_some old.held
+  pub held : (other : List ℕ) → other ≢ name → found_in new other ≡ found_in old other
+  pub left : new.left ≡ old.left
+  pub made : new.made ≡ old.made
+  pub read_faults : new.read_faults ≡ old.read_faults
+  pub count : old.write_faults ≤ new.write_faults

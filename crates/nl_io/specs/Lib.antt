@@ -6,6 +6,7 @@ pub mod Scripts
 pub mod MemSinks
 pub mod Tables
 pub mod Readings
+pub mod MemSources
 pub mod Shelves
 pub mod Titles
 pub mod MemFiles

@@ -1,4 +1,4 @@
-ghost use Rattle.std.specs.Prelude.{◌≡◌, ◌<◌, ◌≤◌, [], length, take, drop, vec_len};
+ghost use Rattle.std.specs.Prelude.{◌≡◌, ◌<◌, ◌≤◌, [], min, length, take, drop, vec_len};
 
 /// A file that is being read: its bytes as it was opened, and how many of them came.
 #[derive(Drop)]
@@ -20,6 +20,7 @@ impl Reading {
 
     /// Moves bytes to the front of `into`, at most `most`, and answers how many.
     pub(crate) fn take(&mut self, most: usize, into: &mut [u8]) -> usize
+        ensures amount { result ≡ min (min most (length (left_of self.old))) (length into.old) }
         ensures within { result ≤ length into.old }
         ensures there { result ≤ length (left_of self.old) }
         ensures front { take result into.new ≡ take result (left_of self.old) }

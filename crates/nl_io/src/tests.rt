@@ -1,7 +1,12 @@
+ghost use Rattle.std.specs.Prelude.{◌≡◌, ◌≢◌, ◌≤◌, Some, None, IfSome, OnOk};
+ghost use Rattle.std.specs.FinMap as map;
+ghost use Rattle.nl_io.specs.Content.{with_end};
+ghost use Rattle.nl_io.specs.Desk.{put_by, found_in, SameButHeld, OnlyName};
+
 use super::*;
 use std::alloc::Global;
 use std::fs;
-use std::io::{self, ErrorKind, Write};
+use std::io::{self, ErrorKind, Read, Write};
 use std::test::Fail;
 
 /// The name, opened, as a source.
@@ -18,6 +23,41 @@ fn write_file<F: Files>(files: &mut F, name: &str, bytes: &[u8]) -> Result<(), F
     let front = files.write(id, bytes)?;
     files.write(id, &bytes[front..])?;
     files.finish(id)
+}
+
+/// Writes the bytes to a created file, by a sink.
+fn put_all<F: Files>(files: &mut F, id: u32, bytes: &[u8]) -> Result<(), Failed>
+    requires { map.get (F.desk files.old).made id ≢ None }
+    ensures ok { OnOk result (put_by (F.desk files.new) id ≡ with_end bytes.now (put_by (F.desk files.old) id)) }
+    ensures others { SameButHeld id (F.desk files.old) (F.desk files.new) }
+    ensures count { (F.desk files.old).write_faults ≤ (F.desk files.new).write_faults }
+{
+    write_all(&mut FileSink::make(files, id), bytes)
+}
+
+/// Writes a file by a sink. No other name changes.
+fn write_by_sink<F: Files>(files: &mut F, name: &str, bytes: &[u8]) -> Result<(), Failed>
+    ensures holds { OnOk result (IfSome (F.desk files.old).held (λ _. found_in (F.desk files.new) name.now ≡ Some (Some bytes.now))) }
+    ensures only { OnlyName name.now (F.desk files.old) (F.desk files.new) }
+{
+    let id = files.create(name)?;
+    let wrote = put_all(files, id, bytes);
+    let finished = files.finish(id);
+    wrote?;
+    finished
+}
+
+/// Whether the name holds this text.
+fn holds(files: &MemFiles, name: &str, text: &str) -> bool {
+    files.get_file(name) == Some(text.as_bytes())
+}
+
+/// How many bytes come first into three places, and all the others.
+fn read_in_two<S: Source>(alloc: Global, source: &mut S) -> Result<(usize, Vec<u8>), ReadAllFault> {
+    let mut into = [0; 3];
+    let first = source.read(&mut into)?;
+    let others = read_to_limit(alloc, source, 100)?;
+    Ok((first, others))
 }
 
 /// All bytes of a file.
@@ -58,6 +98,88 @@ fn a_listed_call_of_a_sink_fails_and_leaves_a_prefix(rt: HostRuntime) -> Result<
         assert_eq!(rt; sink.bytes(), prefix.as_bytes(), "at {failing}");
         assert_eq!(rt; sink.write("!".as_bytes()), Ok(1));
         assert_eq!(rt; sink.starved(), 0);
+    }
+    Ok(())
+}
+
+#[test]
+fn sources_give_pieces(rt: HostRuntime) -> Result<(), Fail> {
+    for (piece, first, others) in [(1, 1, "ello"), (2, 2, "llo"), (100, 3, "lo")] {
+        assert!(rt; piece >= 1);
+        let mut memory = MemSource::make(rt.alloc(), "hello".as_bytes(), piece, &[])?;
+        let (count, bytes) = read_in_two(rt.alloc(), &mut memory)
+            .ok()
+            .ok_or("it failed")?;
+        assert_eq!(rt; count, first, "by {piece}");
+        assert_eq!(rt; bytes.as_slice(), others.as_bytes(), "by {piece}");
+        assert_eq!(rt; memory.starved(), 0);
+        let mut files = MemFiles::make(rt.alloc(), piece, &[])?;
+        files.put_file("a", "hello".as_bytes())?;
+        let mut file = source(&mut files, "a").ok_or("it isn't there")?;
+        let (count, bytes) = read_in_two(rt.alloc(), &mut file).ok().ok_or("it failed")?;
+        assert_eq!(rt; count, first, "by {piece}");
+        assert_eq!(rt; bytes.as_slice(), others.as_bytes(), "by {piece}");
+        assert_eq!(rt; files.starved(), 0);
+    }
+    Ok(())
+}
+
+#[test]
+fn a_listed_call_of_a_source_fails_and_takes_nothing(rt: HostRuntime) -> Result<(), Fail> {
+    let table = [
+        (1, 0, "hello"),
+        (1, 1, "ello"),
+        (1, 2, "llo"),
+        (1, 3, "lo"),
+        (1, 4, "o"),
+        (1, 5, ""),
+        (2, 0, "hello"),
+        (2, 1, "llo"),
+        (2, 2, "o"),
+        (2, 3, ""),
+        (100, 0, "hello"),
+        (100, 1, ""),
+    ];
+    for (piece, failing, left) in table {
+        assert!(rt; piece >= 1);
+        let mut source = MemSource::make(rt.alloc(), "hello".as_bytes(), piece, &[failing])?;
+        let fault = read_to_limit(rt.alloc(), &mut source, 100).err();
+        assert_eq!(rt; fault, Some(ReadAllFault::Failed), "at {failing}");
+        let bytes = read_to_limit(rt.alloc(), &mut source, 100)
+            .ok()
+            .ok_or("it failed again")?;
+        assert_eq!(rt; bytes.as_slice(), left.as_bytes(), "at {failing}");
+        assert_eq!(rt; source.starved(), 0);
+    }
+    Ok(())
+}
+
+#[test]
+fn a_listed_call_leaves_a_prefix_in_a_file(rt: HostRuntime) -> Result<(), Fail> {
+    let table = [
+        (1, 1, ""),
+        (1, 2, "h"),
+        (1, 3, "he"),
+        (1, 4, "hel"),
+        (1, 5, "hell"),
+        (1, 6, "hello"),
+        (2, 1, ""),
+        (2, 2, "he"),
+        (2, 3, "hell"),
+        (2, 4, "hello"),
+        (100, 1, ""),
+        (100, 2, "hello"),
+    ];
+    for (piece, failing, held) in table {
+        assert!(rt; piece >= 1);
+        let mut files = MemFiles::make(rt.alloc(), piece, &[failing])?;
+        let wrote = write_by_sink(&mut files, "a", "hello".as_bytes());
+        assert_eq!(rt; wrote, Err(Failed), "at {failing}");
+        assert!(rt; holds(&files, "a", held), "at {failing}");
+        let wrote = write_by_sink(&mut files, "a", "you".as_bytes());
+        assert_eq!(rt; wrote, Ok(()), "after {failing}");
+        assert!(rt; holds(&files, "a", "you"), "after {failing}");
+        assert_eq!(rt; files.starved(), 0);
     }
     Ok(())
 }
@@ -168,6 +290,56 @@ fn a_writer_is_tried_again_where_it_was_interrupted(rt: HostRuntime) {
             "after {interruptions}"
         );
     }
+}
+
+/// A reader that is interrupted some times, and then gives some bytes or fails.
+#[derive(Drop)]
+struct FakeReader {
+    interruptions: u32,
+    gives: Option<usize>,
+}
+
+impl Read for FakeReader {
+    fn read(&mut self, into: &mut [u8]) -> io::Result<usize> {
+        if self.interruptions > 0 {
+            self.interruptions -= 1;
+            return Err(io::Error::from(ErrorKind::Interrupted));
+        }
+        match self.gives {
+            Some(most) => Ok(most.min(into.len())),
+            None => Err(io::Error::from(ErrorKind::BrokenPipe)),
+        }
+    }
+}
+
+#[test]
+fn a_reader_is_tried_again_where_it_was_interrupted(rt: HostRuntime) {
+    let table = [
+        (0, Some(3), Ok(3)),
+        (2, Some(3), Ok(3)),
+        (64, Some(3), Ok(3)),
+        (65, Some(3), Err(Failed)),
+        (0, Some(0), Ok(0)),
+        (0, None, Err(Failed)),
+    ];
+    for (interruptions, gives, want) in table {
+        let mut source = StdSource::make(FakeReader {
+            interruptions,
+            gives,
+        });
+        let mut into = [0; 5];
+        assert_eq!(rt; source.read(&mut into), want, "after {interruptions}");
+    }
+}
+
+#[test]
+fn a_slice_gives_all_bytes(rt: HostRuntime) -> Result<(), Fail> {
+    let mut source = StdSource::make("hello".as_bytes());
+    let bytes = read_to_limit(rt.alloc(), &mut source, 5)
+        .ok()
+        .ok_or("it failed")?;
+    assert_eq!(rt; bytes.as_slice(), "hello".as_bytes());
+    Ok(())
 }
 
 #[test]

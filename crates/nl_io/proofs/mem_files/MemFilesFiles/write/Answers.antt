@@ -18,6 +18,7 @@ returns-in-Ok-clause-taken c = record {
       ap (λ (held : Held). record (desk_of c.args.self.now) { held = Some held })
       (c.in-Ok.ensures.ok
       ∙ ap (λ (title : List ℕ). map.insert (held_of c.args.self.now) title (held_at (held_of c.args.self.now) title ++ take c.min-count.result c.args.bytes.now)) same);
+  told = refl;
   rest = refl;
   count = omega arith;
 }
