@@ -3,3 +3,9 @@ pub mod Splits
 pub mod Lines
 pub mod NarrowLines
 pub mod Distinct
+pub mod BinaryNumbers
+pub mod BinaryLaws
+pub mod BinaryReading
+pub mod BinaryCases
+pub mod BinaryWorked
+pub mod Putting

@@ -51,7 +51,7 @@ text_is spelled (b ∷ bytes) lacks (unit, rest, e, byte, text) =
     (e ∙ ap (λ (u : List ℕ). u ++ rest) first.1 ∙ ap (λ (r : List ℕ). b ∷ r) others.0, All-cons IsPlain b bytes first.0 others.1)
 
 -- a text of plain bytes spells itself
-text_again : (bytes : List ℕ) → All IsPlain bytes → SpellsText bytes bytes
+pub text_again : (bytes : List ℕ) → All IsPlain bytes → SpellsText bytes bytes
 text_again [] plain = refl
 text_again (b ∷ bytes) plain = (b ∷ [], bytes, refl, itself (All-head IsPlain b bytes plain) refl, text_again bytes (All-tail IsPlain b bytes plain))
 

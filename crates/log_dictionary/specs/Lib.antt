@@ -3,4 +3,8 @@ pub mod Times
 pub mod Texts
 pub mod Entries
 pub mod Messages
+pub mod Additions
+pub mod BinaryEntries
+pub mod EntryReading
 pub mod Calls
+pub mod Rows

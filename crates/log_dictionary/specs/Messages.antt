@@ -1,5 +1,5 @@
 -- Messages, and the lines that spell them.
-use Rattle.std.specs.Prelude.{◌≡◌, ◌≢◌, ℕ, ◌<◌, ◌^◌, List, [], ◌∷◌, ◌++◌, codes, decimal, All, Any, AllPairs}
+use Rattle.std.specs.Prelude.{◌≡◌, ◌≢◌, ℕ, ◌<◌, ◌^◌, List, [], ◌∷◌, ◌++◌, codes, decimal, All, Any, AllPairs, slice_get, Some}
 use Rattle.printf_grammar.specs.Spelling.{Spells}
 use Rattle.printf_grammar.specs.Narrow.{IsNarrow}
 use Rattle.log_dictionary.specs.declared.message.Message.{Message}
@@ -16,6 +16,10 @@ pub record SameMessage (a b : Message) : Type 0 where
 -- some of these messages equals the message
 abbrev pub HasMessage : List Message → Message → Type 0
 HasMessage messages message = Any (SameMessage message) messages
+
+-- a message that equals the message has the id
+abbrev pub HasId : List Message → Message → ℕ → Type 0
+HasId messages message id = (other : Message) × (slice_get messages id ≡ Some other) × SameMessage message other
 
 -- no two of these messages are equal
 abbrev pub AreDistinct : List Message → Type 0

@@ -1,9 +1,10 @@
 //! The messages that calls name by number.
 
-ghost use Rattle.std.specs.Prelude.{◌≡◌, ◌≤◌, ◌↔◌, [], length, slice_get, IsNone, ℕ, ◌⊎◌, IfOk, IfErr, MatchResult, IsTrue, OnOk, OnErr, ◌≢◌, ◌<◌, ◌∷◌, ◌++◌};
+ghost use Rattle.std.specs.Prelude.{◌≡◌, ◌≤◌, ◌↔◌, [], length, slice_get, IsNone, IfSome, Ok, Err, ℕ, ◌⊎◌, IfOk, IfErr, MatchResult, IsTrue, OnOk, OnErr, ◌≢◌, ◌<◌, ◌∷◌, ◌++◌};
 ghost use Rattle.std.specs.Option.{option_copied};
 ghost use Rattle.log_dictionary.specs.declared.message.Message.{Message};
-ghost use Rattle.log_dictionary.specs.Messages.{NarrowLine, HasMessage};
+ghost use Rattle.log_dictionary.specs.Messages.{NarrowLine, HasMessage, HasId};
+ghost use Rattle.log_dictionary.specs.Additions.{IsAdded};
 
 use crate::entry::entry_of;
 use crate::message::Message;
@@ -28,6 +29,23 @@ pub enum LineFault {
     BadEntry,
     /// The line's id isn't the number of messages.
     Order,
+    NoMemory,
+}
+
+/// What became of a message that was to be added.
+#[derive(Clone, Copy, Debug, PartialEq, Eq)]
+pub enum Added {
+    /// An equal message was there, with this id.
+    Old(u32),
+    /// The message is new, and has this id.
+    New(u32),
+}
+
+/// Why a message wasn't added.
+#[derive(Clone, Copy, Debug, PartialEq, Eq)]
+pub enum AddFault {
+    /// The message is new, and the dictionary has 65,536 messages.
+    TooMany,
     NoMemory,
 }
 
@@ -80,10 +98,18 @@ fn message_of(alloc: Global, line: &[u8]) -> Result<(u64, Message), LineFault>
     Ok((entry.id, message))
 }
 
+// The id of a message that equals the message.
+fn id_of(messages: &[Message], message: &Message) -> Option<usize>
+    ensures some { IfSome result (HasId messages.now message.now) }
+    ensures none { IsNone result ↔ (¬ (HasMessage messages.now message.now)) }
+{
+    messages.iter().position(|other| message.is_same(other))
+}
+
 fn has_message(messages: &[Message], message: &Message) -> bool
     ensures { IsTrue result ↔ HasMessage messages.now message.now }
 {
-    messages.iter().any(|other| message.is_same(other))
+    id_of(messages, message).is_some()
 }
 
 impl Dictionary {
@@ -113,6 +139,29 @@ impl Dictionary {
         ensures none { IsNone result ↔ (length self.now ≤ id) }
     {
         self.messages.get(id as usize)
+    }
+
+    /// Adds a message, unless an equal one is there. It is dropped where it isn't added.
+    pub fn add(&mut self, message: Message) -> Result<Added, AddFault>
+        ensures ok { IfOk result (IsAdded self.old message self.new) }
+
+        // It takes no memory to find one that is there.
+        ensures old { HasMessage self.old message → (id : ℕ) × (result ≡ Ok (Added.Old id)) }
+        ensures err { OnErr result (self.new ≡ self.old) }
+        ensures too_many { (result ≡ Err AddFault.TooMany)
+            ↔ ((¬ (HasMessage self.old message)) × (length self.old ≡ 65536)) }
+    {
+        if let Some(id) = id_of(&self.messages, &message) {
+            return Ok(Added::Old(id as u32));
+        }
+        let id = self.messages.len();
+        if id >= MOST_MESSAGES {
+            return Err(AddFault::TooMany);
+        }
+        let Ok(()) = self.messages.push(message) else {
+            return Err(AddFault::NoMemory);
+        };
+        Ok(Added::New(id as u32))
     }
 
     /// Adds the message that a message line spells. For now its texts have no escape, and its

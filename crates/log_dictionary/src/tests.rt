@@ -130,3 +130,116 @@ fn other_lines_are_refused(rt: HostRuntime) {
     assert_eq!(rt; dictionary.read_line(again), Err(LineFault::BadEntry));
     assert_eq!(rt; dictionary.len(), 1);
 }
+
+// `LINE`'s message as an entry.
+const ENTRY: &[u8] = b"\x03\x0c\x00\x00\x00\x06\x00srv.cc\x04\x00x=%d";
+
+#[test]
+fn a_worked_entry_is_written_and_read(rt: HostRuntime) -> Result<(), Fail> {
+    let mut dictionary = Dictionary::make(rt.alloc());
+    assert_eq!(rt; dictionary.read_line(LINE), Ok(()));
+    let message = dictionary.get(0).ok_or("a message is there")?;
+    assert_eq!(rt; entry_len(message), ENTRY.len());
+    let mut bytes = [0xee; 20];
+    assert_eq!(rt; put_entry(message, &mut bytes), 19);
+    assert_eq!(rt; bytes.strip_prefix(ENTRY), Some([0xee].as_slice()));
+
+    let Ok((read, len)) = read_entry(rt.alloc(), &bytes) else {
+        return Err("the entry is read".into());
+    };
+    assert_eq!(rt; len, 19);
+    assert!(rt; read.is_same(message));
+    Ok(())
+}
+
+#[test]
+fn entries_are_read_as_they_were_written(rt: HostRuntime) -> Result<(), Fail> {
+    for line in [
+        b"message 0 ERROR 0 \"a\" \"\"".as_slice(),
+        b"message 0 WARNING 4294967295 \"src/long name.cc\" \"%d of %d, 100%%\"".as_slice(),
+        b"message 0 DEBUG 65536 \"b.h\" \"plain\"".as_slice(),
+    ] {
+        let mut dictionary = Dictionary::make(rt.alloc());
+        assert_eq!(rt; dictionary.read_line(line), Ok(()));
+        let message = dictionary.get(0).ok_or("a message is there")?;
+        let mut bytes = [0; 64];
+        assert!(rt; entry_len(message) <= 64);
+        let end = put_entry(message, &mut bytes);
+        let Ok((read, len)) = read_entry(rt.alloc(), &bytes) else {
+            return Err("the entry is read".into());
+        };
+        assert_eq!(rt; len, end);
+        assert!(rt; read.is_same(message));
+    }
+    Ok(())
+}
+
+#[test]
+fn an_entry_may_be_cut_anywhere(rt: HostRuntime) {
+    for len in 0..ENTRY.len() {
+        let read = read_entry(rt.alloc(), &ENTRY[..len]);
+        assert!(rt; matches!(read, Err(EntryFault::Cut)));
+    }
+}
+
+#[test]
+fn fields_out_of_range_are_refused(rt: HostRuntime) {
+    for (bytes, fault) in [
+        (b"\x00".as_slice(), EntryFault::BadEntry),
+        (b"\x05".as_slice(), EntryFault::BadEntry),
+        (b"\x05\x0c\x00".as_slice(), EntryFault::BadEntry),
+        // half of a length isn't judged
+        (b"\x03\x0c\x00\x00\x00\x00".as_slice(), EntryFault::Cut),
+        (
+            b"\x03\x0c\x00\x00\x00\x00\x00".as_slice(),
+            EntryFault::BadEntry,
+        ),
+        (
+            b"\x03\x0c\x00\x00\x00\x00\x01".as_slice(),
+            EntryFault::BadEntry,
+        ),
+        (b"\x03\x0c\x00\x00\x00\xff\x00".as_slice(), EntryFault::Cut),
+        (
+            b"\x03\x0c\x00\x00\x00\x01\x00a\x00\x10".as_slice(),
+            EntryFault::BadEntry,
+        ),
+        (
+            b"\x03\x0c\x00\x00\x00\x01\x00a\xff\x0f".as_slice(),
+            EntryFault::Cut,
+        ),
+        // the format is judged once all of it is there
+        (
+            b"\x03\x0c\x00\x00\x00\x01\x00a\x03\x00%n".as_slice(),
+            EntryFault::Cut,
+        ),
+        (
+            b"\x03\x0c\x00\x00\x00\x01\x00a\x02\x00%n".as_slice(),
+            EntryFault::BadEntry,
+        ),
+        (
+            b"\x03\x0c\x00\x00\x00\x01\x00a\x01\x00%d".as_slice(),
+            EntryFault::BadEntry,
+        ),
+    ] {
+        assert_eq!(rt; read_entry(rt.alloc(), bytes).err(), Some(fault));
+    }
+}
+
+#[test]
+fn a_message_is_added_once(rt: HostRuntime) -> Result<(), Fail> {
+    let mut dictionary = Dictionary::make(rt.alloc());
+    let other = b"\x04\x0c\x00\x00\x00\x06\x00srv.cc\x04\x00x=%d";
+    for (bytes, added) in [
+        (ENTRY, Added::New(0)),
+        (other, Added::New(1)),
+        (ENTRY, Added::Old(0)),
+        (other, Added::Old(1)),
+    ] {
+        let Ok((message, _)) = read_entry(rt.alloc(), bytes) else {
+            return Err("the entry is read".into());
+        };
+        assert_eq!(rt; dictionary.add(message), Ok(added));
+    }
+    assert_eq!(rt; dictionary.len(), 2);
+    Ok(())
+}

@@ -1,0 +1,22 @@
+-- What reading an entry's fields says of the bytes.
+use Rattle.std.specs.Prelude.{◌≡◌, List, ℕ, ◌++◌}
+use Rattle.log_dictionary.specs.declared.binary_entry.EntryFault.{EntryFault}
+use Rattle.log_dictionary.specs.declared.binary_entry.EntryFault.TheVariants.{Cut, BadEntry, NoMemory}
+use Rattle.log_dictionary.specs.declared.binary_entry.Fields.{Fields}
+use Rattle.log_dictionary.specs.BinaryEntries.{RawEntry, raw_bytes, IsInRange}
+
+-- the bytes are cut off or wrong, as the fault says; no memory was wanted
+abbrev pub Stops : EntryFault → Type 0 → Type 0 → Type 0
+Stops Cut cut wrong = cut
+Stops BadEntry cut wrong = wrong
+Stops NoMemory cut wrong = ⊥
+
+-- the fields without where they lie in memory
+abbrev pub raw_fields : Fields → RawEntry
+raw_fields fields = record { severity = fields.severity; line = fields.line; file = fields.file.now; format = fields.format.now }
+
+-- the bytes begin with these fields, and each is in range
+pub record IsRead (bytes : List ℕ) (raw : RawEntry) : Type 0 where
+  pub rest : List ℕ
+  pub joined : bytes ≡ raw_bytes raw ++ rest
+  pub in_range : IsInRange raw

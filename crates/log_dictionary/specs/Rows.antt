@@ -1,0 +1,25 @@
+-- A worked message and its entry.
+use Rattle.std.specs.Prelude.{ℕ, List, [], ◌∷◌, ◌++◌, codes}
+use Rattle.std.proofs.Common.{lit≤}
+use Rattle.printf_grammar.specs.declared.piece.Piece.TheVariants.{Literal, Field}
+use Rattle.printf_grammar.specs.Narrow.{plain_d}
+use Rattle.log_dictionary.specs.declared.severity.Severity.TheVariants.{Notice}
+use Rattle.log_dictionary.specs.declared.message.Message.{Message}
+
+-- a message at line 12 of `srv.cc` with the format `x=%d`
+abbrev pub row_message : Message
+row_message = record {
+  file = codes "srv.cc";
+  line = 12;
+  severity = Notice;
+  format = record { bytes = codes "x=%d"; pieces = Literal 0 2 ∷ Field plain_d ∷ [] };
+  file_length = (lit≤ tt, lit≤ tt);
+}
+
+-- its severity and its line
+abbrev pub row_head : List ℕ
+row_head = 3 ∷ 12 ∷ 0 ∷ 0 ∷ 0 ∷ []
+
+-- its entry
+abbrev pub row_entry : List ℕ
+row_entry = row_head ++ 6 ∷ 0 ∷ codes "srv.cc" ++ 4 ∷ 0 ∷ codes "x=%d"
