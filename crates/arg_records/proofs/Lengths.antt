@@ -23,7 +23,7 @@ length-words_of_bytes (a ∷ b ∷ c ∷ d ∷ e ∷ f ∷ []) = refl
 length-words_of_bytes (a ∷ b ∷ c ∷ d ∷ e ∷ f ∷ g ∷ []) = refl
 length-words_of_bytes (a ∷ b ∷ c ∷ d ∷ e ∷ f ∷ g ∷ h ∷ bytes) = one_more (length bytes) (length (words_of_bytes bytes)) (length-words_of_bytes bytes)
 
-length-words_of_argument : (value : Value) → length (words_of_argument value) ≡ argument_words value
+pub length-words_of_argument : (value : Value) → length (words_of_argument value) ≡ argument_words value
 length-words_of_argument (values.Signed z) = refl
 length-words_of_argument (values.Unsigned n) = refl
 length-words_of_argument (values.Text bytes) = omega (arith, length-words_of_bytes bytes)

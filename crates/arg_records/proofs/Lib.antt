@@ -1,1 +1,6 @@
+pub mod Arguments
+pub mod Bytes
+pub mod Fitted
 pub mod Lengths
+pub mod Places
+pub mod Unique

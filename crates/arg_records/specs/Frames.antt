@@ -1,5 +1,5 @@
 -- The frame of a call: the 64-bit words in which it is staged.
-use Rattle.std.specs.Prelude.{ℕ, ◌+◌, ◌*◌, ◌/◌, List, [], ◌∷◌, length, sum_by}
+use Rattle.std.specs.Prelude.{◌≡◌, ℕ, ◌+◌, ◌*◌, ◌/◌, ◌^◌, ◌<◌, ◌≤◌, List, [], ◌∷◌, length, sum_by, ⊤, All}
 use Rattle.std.specs.List.{flat_map}
 use Rattle.std.specs.Int.{w64, cast_unsigned}
 use Rattle.printf_grammar.specs.declared.argument.Value.{Value}
@@ -35,3 +35,26 @@ FrameLen args = 2 + sum_by argument_words args
 -- the id with the length, the stamp, and the arguments in order
 abbrev pub Frame : ℕ → ℕ → List Value → List ℕ
 Frame id stamp args = (id * 65536 + FrameLen args) ∷ stamp ∷ flat_map words_of_argument args
+
+-- ---- which calls have a frame
+
+-- no text above 4,000 bytes
+abbrev pub IsShort : Value → Type 0
+IsShort (values.Text bytes) = length bytes ≤ 4000
+IsShort _ = ⊤
+
+-- the arguments that a call may have
+pub record AreArguments (args : List Value) : Type 0 where
+  pub few : length args ≤ 64
+  pub short : All IsShort args
+
+-- a call that is staged has these ranges
+pub record IsStaged (id stamp : ℕ) (args : List Value) : Type 0 where
+  pub id_in_range : id < 65536
+  pub stamp_in_range : stamp < 2 ^ 64
+  pub arguments : AreArguments args
+  pub within : FrameLen args ≤ 512
+
+-- the words are the frame of a call
+abbrev pub IsFrame : List ℕ → Type 0
+IsFrame words = (id : ℕ) × (stamp : ℕ) × (args : List Value) × IsStaged id stamp args × (words ≡ Frame id stamp args)

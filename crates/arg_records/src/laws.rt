@@ -1,9 +1,12 @@
 //! Laws over the definitions of frames. The functions do nothing: what they ensure is proved of the definitions.
 
-ghost use Rattle.std.specs.Prelude.{◌≡◌, ◌+◌, ℕ, List, [], ◌∷◌, length, pos, negsuc};
+ghost use Rattle.std.specs.Prelude.{◌≡◌, ◌+◌, ◌/◌, ◌%◌, ◌<◌, ◌≤◌, ℕ, List, [], ◌∷◌, length, map, pos, negsuc, All, slice_index};
+ghost use Rattle.printf_grammar.specs.declared.arg_type.ArgType.{ArgType};
 ghost use Rattle.printf_grammar.specs.declared.argument.Value.{Value};
 ghost use Rattle.printf_grammar.specs.declared.argument.Value.TheVariants.{Signed, Unsigned, Text};
+ghost use Rattle.printf_grammar.specs.Types.{Fits};
 ghost use Rattle.arg_records.specs.Frames.{FrameLen, Frame};
+ghost use Rattle.arg_records.specs.Kinds.{kind_of, IsArgument, HoldsBytes};
 
 /// The frames of two calls with one integer, and of one with two texts.
 pub fn three_frames()
@@ -25,4 +28,32 @@ pub fn longest_text_takes_501_words()
 /// An integer more is a word more.
 pub fn an_integer_takes_a_word()
     ensures { (n : ℕ) (args : List Value) → FrameLen (Unsigned n ∷ args) ≡ FrameLen args + 1 }
+{}
+
+/// No frame begins with 0.
+pub fn no_frame_begins_with_zero()
+    ensures { (id stamp : ℕ) (args : List Value) → 0 < slice_index (Frame id stamp args) 0 }
+{}
+
+/// The first word of a frame tells its id and its length.
+pub fn first_word_has_id_and_length()
+    ensures id { (id stamp : ℕ) (args : List Value) → FrameLen args ≤ 512 → slice_index (Frame id stamp args) 0 / 65536 ≡ id }
+    ensures length { (id stamp : ℕ) (args : List Value) → FrameLen args ≤ 512 → slice_index (Frame id stamp args) 0 % 65536 ≡ FrameLen args }
+{}
+
+/// A frame spells one call, once the kinds of its arguments, or their types, are known.
+pub fn one_frame_per_call()
+    ensures by_kinds { (i j s t : ℕ) (a b : List Value)
+        → map kind_of a ≡ map kind_of b
+        → All IsArgument a
+        → All IsArgument b
+        → Frame i s a ≡ Frame j t b
+        → (i ≡ j) × (s ≡ t) × (a ≡ b) }
+    ensures by_types { (types : List ArgType) (i j s t : ℕ) (a b : List Value)
+        → Fits a types
+        → Fits b types
+        → All HoldsBytes a
+        → All HoldsBytes b
+        → Frame i s a ≡ Frame j t b
+        → (i ≡ j) × (s ≡ t) × (a ≡ b) }
 {}

@@ -1,0 +1,76 @@
+-- The words of arguments, one argument behind another.
+use Rattle.std.proofs.Common.{◌≡◌, ℕ, ◌+◌, ◌*◌, ◌<◌, ◌≤◌, List, ◌∷◌, ◌++◌, length, take, drop, get_or, sym, ap, subst, ◌∙◌, arith}
+use Rattle.std.proofs.Math.ListN.{set}
+use Rattle.std.specs.Prelude.{sum_by}
+use Rattle.std.specs.List.{flat_map}
+use Rattle.std.proofs.lemmas.List.{drop_more, get_or-map, length-set, length-map, take_at, drop_at}
+use Rattle.std.proofs.lemmas.List.Sums.{sum_by-cons, sum_by-le}
+use Rattle.std.proofs.lemmas.List.Concat.{flat_map-cons}
+use Rattle.std.proofs.lemmas.List.Elements.{All-weaker}
+use Rattle.printf_grammar.specs.declared.argument.Arg.{Arg}
+use Rattle.printf_grammar.specs.declared.argument.Value.{Value}
+use Rattle.printf_grammar.specs.declared.argument.Value.TheVariants as values
+use Rattle.printf_grammar.specs.Types.{value_of, values_of}
+use Rattle.arg_records.specs.Frames.{IsShort, AreArguments, words_of_argument, argument_words, FrameLen, Frame}
+use Rattle.arg_records.specs.Places.{with_words}
+use Rattle.arg_records.proofs.Lengths.{length-words_of_argument, length-Frame}
+use Rattle.arg_records.proofs.Places.{word_first, words_first}
+
+short_words : (value : Value) → IsShort value → argument_words value ≤ 501
+short_words (values.Signed z) short = omega arith
+short_words (values.Unsigned n) short = omega arith
+short_words (values.Text bytes) short = omega arith
+
+-- at most 64 arguments take few words
+pub FrameLen-bound : (args : List Value) → AreArguments args → FrameLen args ≤ 32066
+FrameLen-bound args are = omega (arith, are.few, sum_by-le argument_words 501 args (All-weaker IsShort (λ value. argument_words value ≤ 501) short_words args are.short))
+
+-- the argument at a place is short
+pub short_at : (args : List Arg) (place : ℕ) (other : Arg) → place < length args → AreArguments (values_of args) → IsShort (value_of (get_or args place other))
+short_at args place other within are =
+    subst IsShort (get_or-map value_of args place other (value_of other) within) (are.short place (value_of other) (omega (arith, length-map args value_of)))
+
+-- the lengths of the arguments from a place on
+pub words_from : (args : List Arg) (place : ℕ) (other : Arg) → place < length args
+    → sum_by argument_words (values_of (drop place args)) ≡ argument_words (value_of (get_or args place other)) + sum_by argument_words (values_of (drop (place + 1) args))
+words_from args place other within =
+    ap (λ (rest : List Arg). sum_by argument_words (values_of rest)) (drop_more args place other within)
+    ∙ sum_by-cons argument_words (value_of (get_or args place other)) (values_of (drop (place + 1) args))
+
+spelled_from : (args : List Arg) (place : ℕ) (other : Arg) → place < length args
+    → flat_map words_of_argument (values_of (drop place args)) ≡ words_of_argument (value_of (get_or args place other)) ++ flat_map words_of_argument (values_of (drop (place + 1) args))
+spelled_from args place other within =
+    ap (λ (rest : List Arg). flat_map words_of_argument (values_of rest)) (drop_more args place other within)
+    ∙ flat_map-cons words_of_argument (value_of (get_or args place other)) (values_of (drop (place + 1) args))
+
+-- an argument was written, and the others behind it are left
+pub others_left : (args : List Arg) (place : ℕ) (other : Arg) (list new : List ℕ) (at end : ℕ) → place < length args → at ≤ length list
+    → new ≡ with_words list at (words_of_argument (value_of (get_or args place other))) → end ≡ at + argument_words (value_of (get_or args place other))
+    → with_words new end (flat_map words_of_argument (values_of (drop (place + 1) args))) ≡ with_words list at (flat_map words_of_argument (values_of (drop place args)))
+others_left args place other list new at end within inside written is =
+    let words : List ℕ = words_of_argument (value_of (get_or args place other)) in
+    let rest : List ℕ = flat_map words_of_argument (values_of (drop (place + 1) args)) in
+    ap (λ (l : List ℕ). with_words l end rest) written
+    ∙ words_first list at end words rest (omega (arith, length-words_of_argument (value_of (get_or args place other)))) inside
+    ∙ ap (with_words list at) (sym (spelled_from args place other within))
+
+-- the head and the arguments are the frame, and the words behind it are as before
+pub frame_written : (old new : List ℕ) (id stamp wide len n : ℕ) (args : List Value) → 2 ≤ length old → wide ≡ id → len ≡ FrameLen args → n ≡ FrameLen args
+    → new ≡ with_words (set (set old 0 (wide * 65536 + len)) 1 stamp) 2 (flat_map words_of_argument args)
+    → (n ≡ FrameLen args) × (take n new ≡ Frame id stamp args) × (drop n new ≡ drop n old)
+frame_written old new id stamp wide len n args two wide_is len_is n_is written =
+    let words : List ℕ = flat_map words_of_argument args in
+    let head : ℕ = wide * 65536 + len in
+    let from_first : 0 + length (Frame id stamp args) ≡ length (Frame id stamp args) = omega arith in
+    let whole : new ≡ Frame id stamp args ++ drop (length (Frame id stamp args)) old =
+    written
+    ∙ word_first (set old 0 head) 1 stamp words (omega (arith, length-set old 0 head))
+    ∙ word_first old 0 head (stamp ∷ words) (omega arith)
+    ∙ ap (λ (w : ℕ). with_words old 0 ((w * 65536 + len) ∷ stamp ∷ words)) wide_is
+    ∙ ap (λ (l : ℕ). with_words old 0 ((id * 65536 + l) ∷ stamp ∷ words)) len_is
+    ∙ ap (λ (k : ℕ). Frame id stamp args ++ drop k old) from_first in
+    let long : length (Frame id stamp args) ≡ n = length-Frame id stamp args ∙ sym n_is in (
+      n_is,
+      ap (take n) whole ∙ take_at (Frame id stamp args) (drop (length (Frame id stamp args)) old) n long,
+      ap (drop n) whole ∙ drop_at (Frame id stamp args) (drop (length (Frame id stamp args)) old) n long ∙ ap (λ (k : ℕ). drop k old) long,
+    )

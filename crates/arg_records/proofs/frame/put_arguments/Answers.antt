@@ -1,0 +1,14 @@
+use Rattle.std.proofs.Common.{◌∙◌, pos, arith}
+use Rattle.printf_grammar.specs.declared.argument.Arg.TheVariants.{Signed}
+use Rattle.arg_records.proofs.Arguments.{others_left, words_from}
+use Rattle.arg_records.proofs.frame.put_arguments.Goals as goal
+
+pub put_argument-end-requires : goal.put_argument-end-requires
+put_argument-end-requires c = omega (arith, c.requires, c.loop-arg.invariant.places, words_from c.args.args.now c.loop-arg.arg-index (Signed (pos 0)) c.loop-arg-test.true)
+
+pub loop-arg-preserved : goal.loop-arg-preserved
+loop-arg-preserved c = record {
+  long = c.put_argument-end.array_long;
+  places = omega (arith, c.put_argument-end.ensures.end, c.loop-arg.invariant.places, words_from c.args.args.now c.loop-arg.arg-index (Signed (pos 0)) c.loop-arg-test.true);
+  left = others_left c.args.args.now c.loop-arg.arg-index (Signed (pos 0)) c.loop-arg.into _ c.loop-arg.end _ c.loop-arg-test.true (omega (arith, c.loop-arg.invariant.long)) c.put_argument-end.ensures.written c.put_argument-end.ensures.end ∙ c.loop-arg.invariant.left;
+}

@@ -1,0 +1,84 @@
+//! Frames: how long they are, writing one, and reading its head.
+
+ghost use Rattle.std.specs.Prelude.{◌≡◌, ◌+◌, ◌<◌, ◌≤◌, ◌↔◌, ◌^◌, ℕ, List, length, take, drop, IfOk, OnErr, IsErr};
+ghost use Rattle.std.specs.List.{flat_map};
+ghost use Rattle.printf_grammar.specs.declared.argument.Value.{Value};
+ghost use Rattle.printf_grammar.specs.Types.{values_of};
+ghost use Rattle.arg_records.specs.Frames.{AreArguments, IsStaged, IsFrame, words_of_argument, FrameLen, Frame};
+ghost use Rattle.arg_records.specs.Places.{with_words};
+
+use crate::words::{put_argument, word_count};
+use printf_grammar::Arg;
+
+/// The most words that a frame has.
+const MAX_WORDS: u64 = 512;
+
+/// The call's frame would have more than 512 words.
+#[derive(Clone, Copy, Debug, PartialEq, Eq)]
+pub struct TooLong;
+
+/// How many words the frame of a call with these arguments has.
+pub fn frame_len(args: &[Arg]) -> u64
+    requires { AreArguments (values_of args.now) }
+    ensures { result ≡ FrameLen (values_of args.now) }
+{
+    let mut len = 2;
+    for arg in args {
+        len += word_count(*arg);
+    }
+    len
+}
+
+/// Writes the arguments' words behind the head of a frame. It answers the frame's length.
+fn put_arguments(args: &[Arg], into: &mut [u64; 512]) -> usize
+    requires { FrameLen (values_of args.now) ≤ 512 }
+    ensures written { into.new ≡ with_words into.old 2 (flat_map words_of_argument (values_of args.now)) }
+    ensures end { result ≡ FrameLen (values_of args.now) }
+{
+    let mut end = 2;
+    for arg in args {
+        end = put_argument(*arg, into, end);
+    }
+    end
+}
+
+/// Writes the frame of a call, and answers its length. The words behind it stay as they were.
+pub fn frame_words(
+    id: u32,
+    stamp: u64,
+    args: &[Arg],
+    into: &mut [u64; 512],
+) -> Result<usize, TooLong>
+    requires id_in_range { id < 65536 }
+    requires arguments { AreArguments (values_of args.now) }
+    ensures ok { IfOk result (λ len.
+        (len ≡ FrameLen (values_of args.now))
+        × (take len into.new ≡ Frame id stamp (values_of args.now))
+        × (drop len into.new ≡ drop len into.old)) }
+    ensures too_long { IsErr result ↔ (512 < FrameLen (values_of args.now)) }
+    ensures unchanged { OnErr result (into.new ≡ into.old) }
+{
+    let len = frame_len(args);
+    if len > MAX_WORDS {
+        return Err(TooLong);
+    }
+    into[0] = u64::from(id) * 65536 + len;
+    into[1] = stamp;
+    Ok(put_arguments(args, into))
+}
+
+/// The id of the call whose frame this is.
+pub fn frame_id(frame: &[u64]) -> u32
+    requires { IsFrame frame.now }
+    ensures { (id stamp : ℕ) (args : List Value) → IsStaged id stamp args → frame.now ≡ Frame id stamp args → result ≡ id }
+{
+    (frame[0] / 65536) as u32
+}
+
+/// The stamp of the call whose frame this is.
+pub fn frame_stamp(frame: &[u64]) -> u64
+    requires { IsFrame frame.now }
+    ensures { (id stamp : ℕ) (args : List Value) → IsStaged id stamp args → frame.now ≡ Frame id stamp args → result ≡ stamp }
+{
+    frame[1]
+}

@@ -1,0 +1,79 @@
+//! The words of one argument.
+
+ghost use Rattle.std.specs.Prelude.{◌≡◌, ◌+◌, ◌/◌, ◌<◌, ◌≤◌, length};
+ghost use Rattle.printf_grammar.specs.declared.argument.Value.TheVariants.{Text as TextValue};
+ghost use Rattle.printf_grammar.specs.Types.{value_of};
+ghost use Rattle.arg_records.specs.Frames.{IsShort, number_of_bytes, words_of_bytes, words_of_argument, argument_words};
+ghost use Rattle.arg_records.specs.Places.{with_words};
+
+use printf_grammar::Arg;
+
+/// How many words an argument takes.
+pub(crate) fn word_count(arg: Arg) -> u64
+    requires { IsShort (value_of arg) }
+    ensures { result ≡ argument_words (value_of arg.entry) }
+{
+    match arg {
+        Arg::Signed(_) | Arg::Unsigned(_) => 1,
+        Arg::Text(text) => 1 + (text.len() as u64).div_ceil(8),
+    }
+}
+
+/// The word of fewer than eight bytes, filled up with zeros.
+fn last_word(bytes: &[u8]) -> u64
+    requires { length bytes.now < 8 }
+    ensures { result ≡ number_of_bytes bytes.now }
+{
+    let mut word = [0; 8];
+    word[..bytes.len()].copy_from_slice(bytes);
+    u64::from_le_bytes(word)
+}
+
+/// Writes bytes as words from a place on. It answers the place behind them.
+fn put_bytes(bytes: &[u8], into: &mut [u64; 512], at: usize) -> usize
+    requires { at + (length bytes.now + 7) / 8 ≤ 512 }
+    ensures written { into.new ≡ with_words into.old at (words_of_bytes bytes.now) }
+    ensures end { result ≡ at + (length bytes.now + 7) / 8 }
+{
+    let mut rest = bytes;
+    let mut end = at;
+    while let Some((front, back)) = rest.split_first_chunk::<8>() {
+        into[end] = u64::from_le_bytes(*front);
+        end += 1;
+        rest = back;
+    }
+    if rest.is_empty() {
+        return end;
+    }
+    into[end] = last_word(rest);
+    end + 1
+}
+
+/// Writes a text's length and its bytes from a place on. It answers the place behind them.
+fn put_text(text: &[u8], into: &mut [u64; 512], at: usize) -> usize
+    requires { at + argument_words (TextValue text.now) ≤ 512 }
+    ensures written { into.new ≡ with_words into.old at (words_of_argument (TextValue text.now)) }
+    ensures end { result ≡ at + argument_words (TextValue text.now) }
+{
+    into[at] = text.len() as u64;
+    put_bytes(text, into, at + 1)
+}
+
+/// Writes an argument's words from a place on. It answers the place behind them.
+pub(crate) fn put_argument(arg: Arg, into: &mut [u64; 512], at: usize) -> usize
+    requires { at + argument_words (value_of arg) ≤ 512 }
+    ensures written { into.new ≡ with_words into.old at (words_of_argument (value_of arg.entry)) }
+    ensures end { result ≡ at + argument_words (value_of arg.entry) }
+{
+    match arg {
+        Arg::Signed(number) => {
+            into[at] = number.cast_unsigned();
+            at + 1
+        }
+        Arg::Unsigned(number) => {
+            into[at] = number;
+            at + 1
+        }
+        Arg::Text(text) => put_text(text, into, at),
+    }
+}
