@@ -1,0 +1,77 @@
+-- Bodies, record by record.
+use Rattle.std.proofs.Common.{◌≡◌, ℕ, ◌<◌, ◌≤◌, List, [], ◌∷◌, ◌++◌, refl, sym, ap, subst, ◌∙◌, append_assoc, arith}
+use Rattle.std.proofs.lemmas.List.{append-nil}
+use Rattle.printf_grammar.specs.Types.{Types}
+use Rattle.log_dictionary.specs.declared.message.Message.{Message}
+use Rattle.buffer_extent.specs.declared.record.LogRecord.{LogRecord}
+use Rattle.buffer_extent.specs.Bodies.{IsBody}
+use Rattle.buffer_extent.specs.Parts.{BeginsWithRecord}
+use Rattle.buffer_extent.specs.RecordLaws.{some_byte, BeginsWithRecord-unique}
+
+no_record : (messages : List Message) (before : ℕ) (bytes : List ℕ) (entry : LogRecord) (back : List ℕ) → BeginsWithRecord messages before bytes entry back → bytes ≡ [] → ⊥
+no_record messages before bytes entry back begins none =
+    some_byte (Types begins.spelled.message.format.pieces) entry.id entry.stamp before entry.args begins.front back begins.spelled.spelled (sym none ∙ begins.parts)
+
+-- a record, and a body behind it
+record_first : (messages : List Message) (before least : ℕ) (bytes : List ℕ) (entry : LogRecord) (more : List LogRecord) (back : List ℕ) → BeginsWithRecord messages before bytes entry back → least ≤ entry.stamp
+    → IsBody messages entry.stamp entry.stamp more back → IsBody messages before least (entry ∷ more) bytes
+record_first messages before least bytes entry more back begins rises body = record {
+  spelled = (begins.front, back, begins.parts, begins.spelled, body.spelled);
+  right = (begins.right, body.right);
+  rising = (rises, body.rising);
+}
+
+-- where bytes are left a body has a record more
+first_record : (messages : List Message) (before least : ℕ) (bytes : List ℕ) (all : List LogRecord) → (bytes ≡ [] → ⊥) → IsBody messages before least all bytes
+    → (entry : LogRecord) × (more : List LogRecord) × (back : List ℕ) × (all ≡ entry ∷ more) × BeginsWithRecord messages before bytes entry back × (least ≤ entry.stamp) × IsBody messages entry.stamp entry.stamp more back
+first_record messages before least bytes [] some body = absurd (some body.spelled)
+first_record messages before least bytes (entry ∷ more) some body =
+    let (front, back, parts, spelled, rest) = body.spelled in
+    (entry, more, back, refl, record { front = front; parts = parts; spelled = spelled; right = body.right.0 }, body.rising.0, record { spelled = rest; right = body.right.1; rising = body.rising.1 })
+
+-- These records were read, and this is left: the records of the rest come behind them, and the body has no others.
+pub record AreReadSoFar (messages : List Message) (tick last : ℕ) (body : List ℕ) (entries : List LogRecord) (before least : ℕ) (rest : List ℕ) : Type 0 where
+  pub so_far : (more : List LogRecord) → IsBody messages before least more rest → IsBody messages tick last (entries ++ more) body
+  pub only : (all : List LogRecord) → IsBody messages tick last all body → (more : List LogRecord) × (all ≡ entries ++ more) × IsBody messages before least more rest
+
+pub none_read : (messages : List Message) (tick last : ℕ) (body : List ℕ) → AreReadSoFar messages tick last body [] tick last body
+none_read messages tick last body = record { so_far = λ more is. is; only = λ all is. (all, refl, is) }
+
+-- one record more was read
+pub one_read : (messages : List Message) (tick last : ℕ) (body : List ℕ) (entries : List LogRecord) (before least : ℕ) (rest : List ℕ) (entry : LogRecord) (back : List ℕ) → AreReadSoFar messages tick last body entries before least rest
+    → BeginsWithRecord messages before rest entry back → least ≤ entry.stamp → AreReadSoFar messages tick last body (entries ++ entry ∷ []) entry.stamp entry.stamp back
+one_read messages tick last body entries before least rest entry back so_far begins rises = record {
+  so_far = λ more is.
+      subst (λ (all : List LogRecord). IsBody messages tick last all body) (sym (append_assoc entries (entry ∷ []) more)) (so_far.so_far (entry ∷ more) (record_first messages before least rest entry more back begins rises is));
+  only = λ all is.
+      let left = so_far.only all is in
+      let first = first_record messages before least rest left.0 (no_record messages before rest entry back begins) left.2 in
+      let same = BeginsWithRecord-unique messages before rest first.0 entry first.2 back first.4 begins in
+      let parts : all ≡ entries ++ entry ∷ [] ++ first.1 =
+      left.1 ∙ ap (λ (more : List LogRecord). entries ++ more) (first.3 ∙ ap (λ (e : LogRecord). e ∷ first.1) same.0) ∙ sym (append_assoc entries (entry ∷ []) first.1) in
+      let behind = subst (λ (e : LogRecord). IsBody messages e.stamp e.stamp first.1 first.2) same.0 first.6 in
+      (first.1, parts, subst (λ (r : List ℕ). IsBody messages entry.stamp entry.stamp first.1 r) same.1 behind);
+}
+
+-- what is left of a body begins with a record
+pub one_left : (messages : List Message) (tick last : ℕ) (body : List ℕ) (entries : List LogRecord) (before least : ℕ) (rest : List ℕ) → AreReadSoFar messages tick last body entries before least rest → (rest ≡ [] → ⊥)
+    → (all : List LogRecord) → IsBody messages tick last all body → (entry : LogRecord) × (back : List ℕ) × BeginsWithRecord messages before rest entry back × (least ≤ entry.stamp)
+one_left messages tick last body entries before least rest so_far some all is =
+    let left = so_far.only all is in
+    let first = first_record messages before least rest left.0 some left.2 in
+    (first.0, first.2, first.4, first.5)
+
+-- a stamp below the last one is in no body
+pub stamp_refused : (messages : List Message) (tick last : ℕ) (body : List ℕ) (entries : List LogRecord) (before least : ℕ) (rest : List ℕ) (entry : LogRecord) (back : List ℕ) → AreReadSoFar messages tick last body entries before least rest
+    → BeginsWithRecord messages before rest entry back → entry.stamp < least → (all : List LogRecord) → IsBody messages tick last all body → ⊥
+stamp_refused messages tick last body entries before least rest entry back so_far begins falls all is =
+    let first = one_left messages tick last body entries before least rest so_far (no_record messages before rest entry back begins) all is in
+    let same = BeginsWithRecord-unique messages before rest first.0 entry first.1 back first.2 begins in
+    let stamps = ap (λ (e : LogRecord). e.stamp) same.0 in
+    let rises = first.3 in
+    omega arith
+
+-- nothing is left
+pub all_read : (messages : List Message) (tick last : ℕ) (body : List ℕ) (entries : List LogRecord) (before least : ℕ) (rest : List ℕ) → AreReadSoFar messages tick last body entries before least rest → rest ≡ [] → IsBody messages tick last entries body
+all_read messages tick last body entries before least rest so_far none =
+    subst (λ (all : List LogRecord). IsBody messages tick last all body) (append-nil entries) (so_far.so_far [] (record { spelled = none; right = tt; rising = tt }))

@@ -1,0 +1,10 @@
+pub mod Codes
+pub mod Numbers
+pub mod Heads
+pub mod Arguments
+pub mod Reading
+pub mod Bodies
+pub mod Packing
+pub mod Writes
+pub mod Putting
+pub mod Worked

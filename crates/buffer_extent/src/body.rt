@@ -1,0 +1,99 @@
+//! Reading the records of a body.
+
+ghost use Rattle.std.specs.Prelude.{◌≡◌, ℕ, ◌<◌, List, slice_get, IfOk, IsSome, MatchResult, Err};
+ghost use Rattle.std.specs.Option.{option_copied};
+ghost use Rattle.buffer_extent.specs.declared.record.LogRecord.{LogRecord};
+ghost use Rattle.buffer_extent.specs.Integers.{TakeIntegers};
+ghost use Rattle.buffer_extent.specs.Parts.{BeginsWithRecord};
+ghost use Rattle.buffer_extent.specs.Bodies.{IsBody};
+
+use crate::fault::{BodyFault, Cause};
+use crate::record::{LogRecord, Records};
+use crate::take::{take_arguments, take_head};
+use log_dictionary::{Dictionary, Message};
+use std::alloc::Global;
+
+fn message_of(dictionary: &Dictionary, id: u64) -> Option<&Message>
+    ensures value { option_copied result ≡ slice_get dictionary.now id }
+    ensures small { IsSome result → id < 65536 }
+{
+    if id >= u64::from(dictionary.len()) {
+        return None;
+    }
+    dictionary.get(id as u32)
+}
+
+/// The record at the front of bytes, and the bytes behind it. Its step counts from `before`.
+fn take_record<'a>(
+    alloc: Global,
+    dictionary: &Dictionary,
+    before: u64,
+    bytes: &'a [u8],
+) -> Result<(LogRecord, &'a [u8]), BodyFault>
+    requires { TakeIntegers dictionary.now }
+    ensures ok { IfOk result (λ pair. BeginsWithRecord dictionary.now before bytes.now pair.0 pair.1.now) }
+    ensures only { (entry : LogRecord) (back : List ℕ) → BeginsWithRecord dictionary.now before bytes.now entry back → MatchResult result
+        (λ pair. (pair.0 ≡ entry) × (pair.1.now ≡ back))
+        (λ fault. fault ≡ BodyFault.NoMemory) }
+{
+    let Some((head, rest)) = take_head(before, bytes) else {
+        return Err(BodyFault::Damaged(Cause::Body));
+    };
+    let Some(message) = message_of(dictionary, head.id) else {
+        return Err(BodyFault::Damaged(Cause::Body));
+    };
+    match take_arguments(alloc, message.format.types(), rest) {
+        Ok((args, back)) => {
+            let entry = LogRecord {
+                stamp: head.stamp,
+                id: head.id as u32,
+                args,
+            };
+            Ok((entry, back))
+        }
+        Err(fault) => Err(fault),
+    }
+}
+
+/// The records of a body. `base` is the tick of the clock, from which the first step counts; `last`
+/// is the last stamp of the writer, or the tick.
+///
+/// For now no message takes a text.
+pub fn read_body(
+    alloc: Global,
+    body: &[u8],
+    dictionary: &Dictionary,
+    base: u64,
+    last: u64,
+) -> Result<Records, BodyFault>
+    requires { TakeIntegers dictionary.now }
+    ensures ok { IfOk result (λ entries. IsBody dictionary.now base last entries body.now) }
+
+    // A body is read, unless memory runs out.
+    ensures only { (entries : List LogRecord) → IsBody dictionary.now base last entries body.now → MatchResult result
+        (λ read. read ≡ entries)
+        (λ fault. fault ≡ BodyFault.NoMemory) }
+    ensures damaged { result ≡ Err (BodyFault.Damaged Cause.Body)
+        → (entries : List LogRecord) → ¬ IsBody dictionary.now base last entries body.now }
+{
+    let mut records = Records::make(alloc);
+    let mut before = base;
+    let mut least = last;
+    let mut rest = body;
+    while !rest.is_empty() {
+        let (entry, back) = match take_record(alloc, dictionary, before, rest) {
+            Ok(pair) => pair,
+            Err(fault) => return Err(fault),
+        };
+        if entry.stamp < least {
+            return Err(BodyFault::Damaged(Cause::Body));
+        }
+        before = entry.stamp;
+        least = entry.stamp;
+        let Ok(()) = records.push(entry) else {
+            return Err(BodyFault::NoMemory);
+        };
+        rest = back;
+    }
+    Ok(records)
+}

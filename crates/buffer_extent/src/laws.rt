@@ -1,0 +1,54 @@
+//! Laws over the definitions of records and bodies. The functions do nothing: what they ensure is proved of the definitions.
+
+ghost use Rattle.std.specs.Prelude.{◌≡◌, ◌≤◌, ℕ, length, List, [], ◌∷◌, ◌++◌, pos, negsuc};
+ghost use Rattle.printf_grammar.specs.declared.arg_type.ArgType.TheVariants.{Int, Text as TextType};
+ghost use Rattle.printf_grammar.specs.declared.argument.Value.TheVariants.{Signed, Text};
+ghost use Rattle.printf_grammar.specs.declared.piece.Piece.{Piece};
+ghost use Rattle.printf_grammar.specs.Narrow.{IsNarrow};
+ghost use Rattle.printf_grammar.specs.Types.{Types};
+ghost use Rattle.log_dictionary.specs.declared.message.Message.{Message};
+ghost use Rattle.buffer_extent.specs.declared.record.LogRecord.{LogRecord};
+ghost use Rattle.buffer_extent.specs.Records.{code_bytes, RecordBytes};
+ghost use Rattle.buffer_extent.specs.Writing.{record_room};
+ghost use Rattle.buffer_extent.specs.Bodies.{SpellsRecord, IsRecord, IsBody};
+
+/// A call of id 0 at the stamp 1003, where the step counts from 1000, with the number 7.
+pub fn a_record_with_a_number()
+    ensures { RecordBytes (Int ∷ []) 0 1003 1000 (Signed (pos 7) ∷ []) (16 ∷ 3 ∷ 1 ∷ 7 ∷ []) }
+{}
+
+/// A call of id 1 at the stamp 9, where the step counts from 5, with the number -1 and the text `ab`:
+/// -1 has code 9 and no bytes, the text has its length among the numbers, and its bytes come last.
+pub fn a_record_with_a_text()
+    ensures { RecordBytes (Int ∷ TextType ∷ []) 1 9 5 (Signed (negsuc 0) ∷ Text (97 ∷ 98 ∷ []) ∷ [])
+        (17 ∷ 1 ∷ 4 ∷ 25 ∷ 2 ∷ 97 ∷ 98 ∷ []) }
+{}
+
+/// Where the number of codes is odd, the last one stands alone in its byte.
+pub fn three_codes_in_two_bytes()
+    ensures { code_bytes (1 ∷ 2 ∷ 3 ∷ []) ≡ 33 ∷ 3 ∷ [] }
+{}
+
+/// No record's spelling is a proper prefix of another's, where both count from one stamp.
+pub fn no_record_begins_another()
+    ensures { (messages : List Message) (before : ℕ) (a b : LogRecord) (front front_too back back_too : List ℕ)
+        → IsRecord messages a
+        → IsRecord messages b
+        → SpellsRecord messages before a front
+        → SpellsRecord messages before b front_too
+        → front ++ back ≡ front_too ++ back_too
+        → (a ≡ b) × (front ≡ front_too) × (back ≡ back_too) }
+{}
+
+/// A body spells one list of records.
+pub fn one_list_per_body()
+    ensures { (messages : List Message) (tick last : ℕ) (a b : List LogRecord) (body : List ℕ)
+        → IsBody messages tick last a body
+        → IsBody messages tick last b body
+        → a ≡ b }
+{}
+
+/// A record of a narrow format has at most 299 bytes.
+pub fn narrow_records_are_short()
+    ensures { (pieces : List Piece) → IsNarrow pieces → length (Types pieces) ≤ 64 → record_room (Types pieces) ≤ 299 }
+{}

@@ -1,0 +1,144 @@
+//! Writing a record.
+
+ghost use Rattle.std.specs.Prelude.{◌≡◌, ℕ, ◌+◌, ◌-◌, ◌*◌, ◌/◌, ◌<◌, ◌≤◌, List, ◌++◌, pos, length, take, drop, map, All, slice_index};
+ghost use Rattle.std.specs.List.{flat_map, AllByRecursion};
+ghost use Rattle.printf_grammar.specs.declared.argument.Value.{Value};
+ghost use Rattle.printf_grammar.specs.Types.{Fits};
+ghost use Rattle.nibble_pack.specs.declared.pack.Packed.{Packed as PackedBytes};
+ghost use Rattle.arg_records.specs.Frames.{Frame};
+ghost use Rattle.arg_records.specs.Places.{with_words};
+ghost use Rattle.buffer_extent.specs.Records.{code_bytes, RecordBytes};
+ghost use Rattle.buffer_extent.specs.Parts.{AreCodes};
+ghost use Rattle.buffer_extent.specs.RecordLaws.{codes_of, bytes_of};
+ghost use Rattle.buffer_extent.specs.Integers.{IsInteger, AreIntegers};
+ghost use Rattle.buffer_extent.specs.Writing.{IsFrameSince, packed_number, packed_numbers, IsWhole, PacksWord, PackWords, HeadBytes, record_room};
+
+use arg_records::{frame_id, frame_stamp};
+use nibble_pack::{Packed, pack_signed, pack_unsigned};
+use printf_grammar::ArgType;
+
+const MOST_TYPES: usize = 64;
+
+const NOTHING: Packed = Packed {
+    code: 0,
+    bytes: [0; 8],
+    len: 0,
+};
+
+fn pack_word(kind: ArgType, word: u64) -> Packed
+    requires { IsInteger kind }
+    ensures { PacksWord kind word result }
+{
+    match kind {
+        ArgType::UInt | ArgType::ULong => pack_unsigned(word),
+        _ => pack_signed(word.cast_signed()),
+    }
+}
+
+/// The numbers of the words, in order. Those behind them are nothing.
+fn pack_words(types: &[ArgType], words: &[u64]) -> [Packed; MOST_TYPES]
+    requires integers { AreIntegers types.now }
+    requires few { length types.now ≤ 64 }
+    requires many { length words.now ≡ length types.now }
+    ensures { PackWords types.now words.now (take (length types.now) result) }
+{
+    let mut numbers = [NOTHING; MOST_TYPES];
+    for (place, kind) in types.iter().enumerate() {
+        numbers[place] = pack_word(*kind, words[place]);
+    }
+    numbers
+}
+
+/// Writes a number's bytes. Each of these calls answers the place behind what it wrote.
+fn put_number(number: &Packed, body: &mut [u8], at: usize) -> usize
+    requires len { number.now.len ≤ 8 }
+    requires room { at + number.now.len ≤ length body.old }
+    ensures written { body.new ≡ with_words body.old at (take number.now.len number.now.bytes) }
+    ensures end { result ≡ at + number.now.len }
+{
+    let end = at + number.len;
+    body[at..end].copy_from_slice(&number.bytes[..number.len]);
+    end
+}
+
+/// Writes the codes of the id and of the step, and the two.
+fn put_head(id: u32, step: u64, body: &mut [u8], at: usize) -> usize
+    requires id { id < 65536 }
+    requires room { at + 11 ≤ length body.old }
+    ensures written { (bytes : List ℕ) × HeadBytes id step bytes × (body.new ≡ with_words body.old at bytes) × (result ≡ at + length bytes) }
+    ensures bound { (at < result) × (result ≤ at + 11) }
+{
+    let id_number = pack_unsigned(u64::from(id));
+    let step_number = pack_unsigned(step);
+    body[at] = id_number.code + 16 * step_number.code;
+    let end = put_number(&id_number, body, at + 1);
+    put_number(&step_number, body, end)
+}
+
+/// Writes the codes of numbers, two to a byte.
+fn put_codes(numbers: &[Packed], body: &mut [u8], at: usize) -> usize
+    requires codes { AreCodes (codes_of (packed_numbers numbers.now)) }
+    requires room { at + (length numbers.now + 1) / 2 ≤ length body.old }
+    ensures written { body.new ≡ with_words body.old at (code_bytes (codes_of (packed_numbers numbers.now))) }
+    ensures end { result ≡ at + (length numbers.now + 1) / 2 }
+{
+    let mut end = at;
+    let mut rest = numbers;
+    while let [low, high, more @ ..] = rest {
+        body[end] = low.code + 16 * high.code;
+        end += 1;
+        rest = more;
+    }
+    if rest.is_empty() {
+        return end;
+    }
+    body[end] = rest[0].code;
+    end + 1
+}
+
+/// Writes the bytes of numbers.
+fn put_numbers(numbers: &[Packed], body: &mut [u8], at: usize) -> usize
+    requires whole { AllByRecursion IsWhole numbers.now }
+    requires room { at + length (bytes_of (packed_numbers numbers.now)) ≤ length body.old }
+    ensures written { body.new ≡ with_words body.old at (bytes_of (packed_numbers numbers.now)) }
+    ensures end { result ≡ at + length (bytes_of (packed_numbers numbers.now)) }
+{
+    let mut end = at;
+    for number in numbers {
+        end = put_number(number, body, end);
+    }
+    end
+}
+
+/// Writes the record of a call at a place, and answers the place behind it. Its step counts from
+/// `before`. The frame is the call's, and the types are those that its message takes.
+///
+/// For now no type is that of a text.
+pub fn put_record(
+    frame: &[u64],
+    types: &[ArgType],
+    before: u64,
+    body: &mut [u8],
+    at: usize,
+) -> usize
+    requires frame { IsFrameSince types.now before frame.now }
+    requires integers { AreIntegers types.now }
+    requires few { length types.now ≤ 64 }
+    requires room { at + 8192 ≤ length body.old }
+
+    // All bytes but the record's stay.
+    ensures written { (id stamp : ℕ) (args : List Value) → Fits args types.now → frame.now ≡ Frame id stamp args
+        → (bytes : List ℕ)
+        × RecordBytes types.now id stamp before args bytes
+        × (body.new ≡ take at body.old ++ bytes ++ drop (at + length bytes) body.old)
+        × (result ≡ at + length bytes) }
+    ensures bound { result ≤ at + record_room types.now }
+    ensures within { (at < result) × (result ≤ at + 555) }
+{
+    let numbers = pack_words(types, &frame[2..]);
+    let numbers = &numbers[..types.len()];
+    let step = frame_stamp(frame) - before;
+    let end = put_head(frame_id(frame), step, body, at);
+    let end = put_codes(numbers, body, end);
+    put_numbers(numbers, body, end)
+}
