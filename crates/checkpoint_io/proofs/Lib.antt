@@ -1,0 +1,6 @@
+pub mod FormatLaws
+pub mod BlockLaws
+pub mod FrontLaws
+pub mod ValidityLaws
+pub mod LogLaws
+pub mod Worked

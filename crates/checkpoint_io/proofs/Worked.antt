@@ -1,0 +1,143 @@
+-- The worked log is proved from its parts.
+use Rattle.std.proofs.Common.{ℕ, zero, suc, ◌<◌, ◌≤◌, ◌^◌, lit<, lit≤, [], ◌∷◌, ◌++◌, refl, inl, arith}
+use Rattle.std.specs.Prelude.{codes}
+use Rattle.std.specs.Hash.{le_bytes}
+use Rattle.printf_grammar.specs.Spelling.{Spells}
+use Rattle.nibble_pack.specs.Packing.{IsLeastCount, small}
+use Rattle.log_dictionary.specs.BinaryEntries.{SpellsEntry}
+use Rattle.buffer_extent.specs.Bodies.{SpellsRecord, IsRecord}
+use Rattle.checkpoint_io.specs.Blocks.{Fragment, Close, SpellsFragment, SpellsExtent, FileOf}
+use Rattle.checkpoint_io.specs.Validity.{Valid}
+use Rattle.checkpoint_io.specs.Logs.{ends, extent, close, LogOf}
+use Rattle.checkpoint_io.specs.Rows.{row_pieces, row_message, row_record, row_header, row_blocks, row_entry_bytes, row_fragment_bytes, row_body, row_extent_bytes, row_bytes}
+
+-- ---- the message
+
+formed : Spells (codes "x=%d") row_pieces
+formed = record {
+  short = lit≤ tt;
+  few = lit≤ tt;
+  apart = (tt, tt);
+  spelled = (
+    codes "x=",
+    codes "%d",
+    refl,
+    record { start_is = refl; end_is = refl; nonempty = lit< tt; literal = ((λ h. cc, λ h. cc), ((λ h. cc, λ h. cc), tt)) },
+    (
+      codes "%d",
+      [],
+      refl,
+      record {
+        flags = [];
+        width = [];
+        precision = [];
+        whole = refl;
+        flags_spelled = record { flags = tt; minus = refl; plus = refl; space = refl; sharp = refl; zero = refl };
+        width_spelled = refl;
+        precision_spelled = refl;
+        takes_length = tt;
+      },
+      refl,
+    ),
+  );
+}
+
+entry_spelled : SpellsEntry row_entry_bytes row_message
+unfolding le_bytes
+entry_spelled = record { spelled = refl; line_fits = lit< tt; formed = formed }
+
+fragment_spelled : SpellsFragment 0 (row_message ∷ []) row_fragment_bytes
+unfolding le_bytes
+fragment_spelled = record {
+  entries = row_entry_bytes;
+  some = lit≤ tt;
+  few = lit≤ tt;
+  first_fits = lit< tt;
+  entries_spelled = (row_entry_bytes, [], refl, entry_spelled, refl);
+  joined = refl;
+}
+
+-- ---- the record
+
+no_byte : IsLeastCount 0 0
+no_byte = record { holds = lit< tt; least = λ fewer h. omega arith }
+
+one_at_least : (n fewer : ℕ) → 1 ≤ n → n < 256 ^ fewer → 1 ≤ fewer
+one_at_least n zero some h = absurd (omega (arith, some, h))
+one_at_least n (suc fewer) some h = omega arith
+
+one_byte : (n : ℕ) → 1 ≤ n → n < 256 → IsLeastCount 1 n
+one_byte n some h = record { holds = omega (arith, h); least = λ fewer below. one_at_least n fewer some below }
+
+record_spelled : SpellsRecord (row_message ∷ []) 1000 row_record row_body
+record_spelled = record {
+  message = row_message;
+  known = refl;
+  spelled = record {
+    id_number = record { code = 0; bytes = [] };
+    step_number = record { code = 1; bytes = 3 ∷ [] };
+    numbers = record { code = 1; bytes = 7 ∷ [] } ∷ [];
+    id_packed = (0, refl, record { fits = lit< tt; count = no_byte; spelled = refl });
+    not_before = lit≤ tt;
+    stamp_fits = lit< tt;
+    step_packed = (3, refl, record { fits = lit< tt; count = one_byte 3 (lit≤ tt) (lit< tt); spelled = refl });
+    packed = (small 7 refl (lit< tt) (one_byte 7 (lit≤ tt) (lit< tt)) refl, tt);
+    joined = refl;
+  };
+}
+
+is_record : IsRecord (row_message ∷ []) row_record
+is_record = record { message = row_message; known = refl; fits = (record { sfits = omega arith }, tt); short = lit≤ tt }
+
+extent_spelled : SpellsExtent (row_message ∷ []) 1000 0 (row_record ∷ []) row_extent_bytes
+unfolding le_bytes
+extent_spelled = record {
+  body = row_body;
+  some = lit≤ tt;
+  short = lit≤ tt;
+  writer_fits = lit< tt;
+  body_spelled = (row_body, [], refl, record_spelled, refl);
+  joined = refl;
+}
+
+-- ---- the file
+
+pub file : FileOf row_header row_blocks row_bytes
+unfolding le_bytes
+file = record {
+  block_bytes = row_fragment_bytes ++ row_extent_bytes ++ 4 ∷ 0 ∷ [];
+  spelled = (
+    row_fragment_bytes,
+    row_extent_bytes ++ 4 ∷ 0 ∷ [],
+    refl,
+    fragment_spelled,
+    (row_extent_bytes, 4 ∷ 0 ∷ [], refl, extent_spelled, (4 ∷ 0 ∷ [], [], refl, record { writer_fits = lit< tt; joined = refl }, refl)),
+  );
+  joined = refl;
+}
+
+pub valid : Valid row_header row_blocks
+valid = record {
+  header_right = record { some_writer = lit≤ tt; few_writers = lit≤ tt; tick_fits = lit< tt; nanos_fits = lit< tt; rate_fits = lit< tt; rate = lit≤ tt };
+  blocks_right = (
+    record { next = refl; distinct = λ i j d earlier within. absurd (omega (arith, earlier, within)); few = lit≤ tt },
+    (
+      record { writer_open = record { known = lit< tt; unclosed = λ e. cc }; right = (is_record, tt); rising = (lit≤ tt, tt) },
+      (record { known = lit< tt; unclosed = λ e. cc }, tt),
+    ),
+  );
+}
+
+pub log : LogOf row_bytes ((row_record ∷ []) ∷ []) (row_message ∷ []) row_header.clock 4096
+log = record {
+  header = row_header;
+  blocks = row_blocks;
+  file = file;
+  valid = valid;
+  clock_is = refl;
+  writers_are = refl;
+  undefined = [];
+  messages_are = refl;
+  records_are = refl;
+  laid_out = extent [] (Fragment 0 (row_message ∷ []) ∷ []) 0 (row_record ∷ []) (Close 0 ∷ []) ([], refl, refl, inl refl, refl) (lit≤ tt) (close _ 0 [] (ends _));
+}

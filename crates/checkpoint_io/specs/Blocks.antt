@@ -1,0 +1,90 @@
+-- What a log file is made of, and the bytes that spell it.
+use Rattle.std.specs.Prelude.{◌≡◌, ℕ, ◌<◌, ◌≤◌, ◌^◌, List, [], ◌∷◌, ◌++◌, length, codes}
+use Rattle.std.specs.List.{flat_map}
+use Rattle.std.specs.Hash.{le_bytes}
+use Rattle.log_dictionary.specs.declared.message.Message.{Message}
+use Rattle.log_dictionary.specs.BinaryEntries.{SpellsEntry}
+use Rattle.buffer_extent.specs.declared.record.LogRecord.{LogRecord}
+use Rattle.buffer_extent.specs.Bodies.{SpellsRecords}
+use Rattle.checkpoint_io.specs.declared.header.Header.{Header}
+
+-- a block: messages with ids that count from the first one, records of a writer, or the mark that closes a writer
+pub data Block : Type 0 where
+  Fragment : (first : ℕ) (messages : List Message) → Block
+  Extent : (writer : ℕ) (entries : List LogRecord) → Block
+  Close : (writer : ℕ) → Block
+
+-- ---- what blocks say together
+
+abbrev pub block_messages : Block → List Message
+block_messages (Fragment first messages) = messages
+block_messages (Extent writer entries) = []
+block_messages (Close writer) = []
+
+-- the messages that blocks define, in the order of their ids
+abbrev pub messages_of : List Block → List Message
+messages_of blocks = flat_map block_messages blocks
+
+-- ---- spellings
+
+-- `NLOG`, the version, the number of writers, and the clock; numbers stand with the low byte first
+abbrev pub header_bytes : Header → List ℕ
+header_bytes header = codes "NLOG" ++ 1 ∷ header.writers ∷ le_bytes 8 header.clock.tick ++ le_bytes 8 header.clock.nanos ++ le_bytes 8 header.clock.rate
+
+-- in front of the entries: the tag 1, the first id and the number of messages
+abbrev pub fragment_head_bytes : ℕ → ℕ → List ℕ
+fragment_head_bytes first count = 1 ∷ le_bytes 4 first ++ le_bytes 2 count
+
+-- in front of a body: the tag 2, the writer and the length of the body
+abbrev pub extent_head_bytes : ℕ → ℕ → List ℕ
+extent_head_bytes writer len = 2 ∷ writer ∷ le_bytes 4 len
+
+-- the whole mark: the tag 4 and the writer
+abbrev pub close_bytes : ℕ → List ℕ
+close_bytes writer = 4 ∷ writer ∷ []
+
+-- the bytes are the entries of the messages, joined
+abbrev pub SpellsEntries : List Message → List ℕ → Type 0
+SpellsEntries [] bytes = bytes ≡ []
+SpellsEntries (message ∷ messages) bytes = (front : List ℕ) × (back : List ℕ) × (bytes ≡ front ++ back) × SpellsEntry front message × SpellsEntries messages back
+
+-- the head, and the entries of the messages, of which there are 1 to 16
+pub record SpellsFragment (first : ℕ) (messages : List Message) (bytes : List ℕ) : Type 0 where
+  pub entries : List ℕ
+  pub some : 1 ≤ length messages
+  pub few : length messages ≤ 16
+  pub first_fits : first < 2 ^ 32
+  pub entries_spelled : SpellsEntries messages entries
+  pub joined : bytes ≡ fragment_head_bytes first (length messages) ++ entries
+
+-- the head, and a body of 1 to 65536 bytes, which is the records' spellings, joined; the first step counts from the tick
+pub record SpellsExtent (messages : List Message) (tick writer : ℕ) (entries : List LogRecord) (bytes : List ℕ) : Type 0 where
+  pub body : List ℕ
+  pub some : 1 ≤ length body
+  pub short : length body ≤ 65536
+  pub writer_fits : writer < 2 ^ 8
+  pub body_spelled : SpellsRecords messages tick entries body
+  pub joined : bytes ≡ extent_head_bytes writer (length body) ++ body
+
+-- the mark
+pub record SpellsClose (writer : ℕ) (bytes : List ℕ) : Type 0 where
+  pub writer_fits : writer < 2 ^ 8
+  pub joined : bytes ≡ close_bytes writer
+
+-- the bytes spell the block, behind blocks that define these messages
+abbrev pub SpellsBlock : List Message → ℕ → Block → List ℕ → Type 0
+SpellsBlock messages tick (Fragment first added) bytes = SpellsFragment first added bytes
+SpellsBlock messages tick (Extent writer entries) bytes = SpellsExtent messages tick writer entries bytes
+SpellsBlock messages tick (Close writer) bytes = SpellsClose writer bytes
+
+-- the bytes are the spellings of the blocks, joined, behind other blocks
+abbrev pub SpellsBlocks : ℕ → List Block → List Block → List ℕ → Type 0
+SpellsBlocks tick before [] bytes = bytes ≡ []
+SpellsBlocks tick before (block ∷ blocks) bytes =
+    (front : List ℕ) × (back : List ℕ) × (bytes ≡ front ++ back) × SpellsBlock (messages_of before) tick block front × SpellsBlocks tick (before ++ block ∷ []) blocks back
+
+-- the bytes are the spellings of the header and of the blocks, joined
+pub record FileOf (header : Header) (blocks : List Block) (bytes : List ℕ) : Type 0 where
+  pub block_bytes : List ℕ
+  pub spelled : SpellsBlocks header.clock.tick [] blocks block_bytes
+  pub joined : bytes ≡ header_bytes header ++ block_bytes

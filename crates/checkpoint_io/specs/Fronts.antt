@@ -1,0 +1,23 @@
+-- The front of a file: as much of it as is a log.
+use Rattle.std.specs.Prelude.{◌≡◌, ℕ, ◌≤◌, List, ◌++◌, length}
+use Rattle.checkpoint_io.specs.declared.header.Header.{Header}
+use Rattle.checkpoint_io.specs.Blocks.{Block, FileOf}
+use Rattle.checkpoint_io.specs.Validity.{Valid}
+
+-- the bytes begin with a log of this header and these blocks, which takes so many bytes
+pub record BeginsWith (bytes : List ℕ) (header : Header) (blocks : List Block) (count : ℕ) : Type 0 where
+  pub prefix : List ℕ
+  pub rest : List ℕ
+  pub whole : bytes ≡ prefix ++ rest
+  pub taken : count ≡ length prefix
+  pub file : FileOf header blocks prefix
+  pub valid : Valid header blocks
+
+-- the header, and the longest list of blocks with which the bytes begin
+pub record Front (bytes : List ℕ) (header : Header) (blocks : List Block) (count : ℕ) : Type 0 where
+  pub begins : BeginsWith bytes header blocks count
+  pub longest : (others : List Block) (less : ℕ) → BeginsWith bytes header others less → length others ≤ length blocks
+
+-- the bytes begin with no header of a log, so that the front is empty
+abbrev pub HasNoHeader : List ℕ → Type 0
+HasNoHeader bytes = (header : Header) (blocks : List Block) (count : ℕ) → ¬ (BeginsWith bytes header blocks count)

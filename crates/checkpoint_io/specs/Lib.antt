@@ -1,0 +1,5 @@
+pub mod Blocks
+pub mod Validity
+pub mod Fronts
+pub mod Logs
+pub mod Rows

@@ -1,0 +1,70 @@
+-- A worked log: one message, and one call of it.
+use Rattle.std.specs.Prelude.{ℕ, pos, List, [], ◌∷◌, ◌++◌, codes, false}
+use Rattle.std.proofs.Common.{lit≤}
+use Rattle.printf_grammar.specs.declared.piece.Piece.{Piece}
+use Rattle.printf_grammar.specs.declared.piece.Piece.TheVariants.{Literal, Field}
+use Rattle.printf_grammar.specs.declared.piece.Size.TheVariants.{Absent}
+use Rattle.printf_grammar.specs.declared.piece.Length.TheVariants.{Plain}
+use Rattle.printf_grammar.specs.declared.piece.Conversion.TheVariants.{D}
+use Rattle.printf_grammar.specs.declared.argument.Value.TheVariants.{Signed}
+use Rattle.log_dictionary.specs.declared.severity.Severity.TheVariants.{Notice}
+use Rattle.log_dictionary.specs.declared.message.Message.{Message}
+use Rattle.buffer_extent.specs.declared.record.LogRecord.{LogRecord}
+use Rattle.checkpoint_io.specs.declared.header.Header.{Header}
+use Rattle.checkpoint_io.specs.Blocks.{Block, Fragment, Extent, Close}
+
+-- `x=`, and `%d` with nothing between
+abbrev pub row_pieces : List Piece
+row_pieces =
+    Literal 0 2 ∷ Field (record { minus = false; plus = false; space = false; sharp = false; zero = false; width = Absent; precision = Absent; length = Plain; conversion = D }) ∷ []
+
+-- a message at line 12 of `srv.cc` with the format `x=%d`
+abbrev pub row_message : Message
+row_message = record {
+  file = codes "srv.cc";
+  line = 12;
+  severity = Notice;
+  format = record { bytes = codes "x=%d"; pieces = row_pieces };
+  file_length = (lit≤ tt, lit≤ tt);
+}
+
+-- a call of it, three ticks after the clock's
+abbrev pub row_record : LogRecord
+row_record = record { stamp = 1003; id = 0; args = Signed (pos 7) ∷ [] }
+
+abbrev pub row_header : Header
+row_header = record { writers = 1; clock = record { tick = 1000; nanos = 1514764800000000000; rate = 2000000000 } }
+
+abbrev pub row_blocks : List Block
+row_blocks = Fragment 0 (row_message ∷ []) ∷ Extent 0 (row_record ∷ []) ∷ Close 0 ∷ []
+
+-- `NLOG`, version 1, one writer, the tick, the nanoseconds and the rate
+abbrev pub row_header_bytes : List ℕ
+row_header_bytes =
+    78 ∷ 76 ∷ 79 ∷ 71 ∷ 1 ∷ 1 ∷ []
+    ++ 232 ∷ 3 ∷ 0 ∷ 0 ∷ 0 ∷ 0 ∷ 0 ∷ 0 ∷ []
+    ++ 0 ∷ 0 ∷ 68 ∷ 94 ∷ 143 ∷ 134 ∷ 5 ∷ 21 ∷ []
+    ++ 0 ∷ 148 ∷ 53 ∷ 119 ∷ 0 ∷ 0 ∷ 0 ∷ 0 ∷ []
+
+-- Notice, line 12, six bytes of name, `srv.cc`, and four bytes, `x=%d`
+abbrev pub row_entry_bytes : List ℕ
+row_entry_bytes =
+    3 ∷ 12 ∷ 0 ∷ 0 ∷ 0 ∷ 6 ∷ 0 ∷ []
+    ++ 115 ∷ 114 ∷ 118 ∷ 46 ∷ 99 ∷ 99 ∷ []
+    ++ 4 ∷ 0 ∷ 120 ∷ 61 ∷ 37 ∷ 100 ∷ []
+
+-- a fragment whose first id is 0, with one entry
+abbrev pub row_fragment_bytes : List ℕ
+row_fragment_bytes = 1 ∷ 0 ∷ 0 ∷ 0 ∷ 0 ∷ 1 ∷ 0 ∷ [] ++ row_entry_bytes
+
+-- the codes of id 0 and step 3, the step, the code of 7, and 7
+abbrev pub row_body : List ℕ
+row_body = 16 ∷ 3 ∷ 1 ∷ 7 ∷ []
+
+-- an extent of writer 0 with four bytes
+abbrev pub row_extent_bytes : List ℕ
+row_extent_bytes = 2 ∷ 0 ∷ 4 ∷ 0 ∷ 0 ∷ 0 ∷ [] ++ row_body
+
+-- the whole file: 68 bytes
+abbrev pub row_bytes : List ℕ
+row_bytes = row_header_bytes ++ row_fragment_bytes ++ row_extent_bytes ++ 4 ∷ 0 ∷ []

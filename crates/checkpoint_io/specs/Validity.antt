@@ -1,0 +1,83 @@
+-- The rules that the blocks of a log file keep.
+use Rattle.std.specs.Prelude.{◌≡◌, ℕ, ◌<◌, ◌≤◌, ◌^◌, Bool, true, false, ◌==◌, if◌then◌else◌, List, [], ◌∷◌, ◌++◌, length}
+use Rattle.std.specs.List.{AllByRecursion, flat_map, list_any}
+use Rattle.log_dictionary.specs.declared.message.Message.{Message}
+use Rattle.log_dictionary.specs.Messages.{AreDistinct}
+use Rattle.buffer_extent.specs.declared.record.LogRecord.{LogRecord}
+use Rattle.buffer_extent.specs.Bodies.{IsRecord, NeverFalls}
+use Rattle.checkpoint_io.specs.declared.header.Header.{Header}
+use Rattle.checkpoint_io.specs.Blocks.{Block, Fragment, Extent, Close, messages_of}
+
+-- the records of a writer in a block
+abbrev pub block_records : ℕ → Block → List LogRecord
+block_records writer (Fragment first messages) = []
+block_records writer (Extent w entries) = if w == writer then entries else []
+block_records writer (Close w) = []
+
+-- the records of a writer's extents, joined
+abbrev pub records_of : ℕ → List Block → List LogRecord
+records_of writer blocks = flat_map (block_records writer) blocks
+
+-- the stamp of the last of the records, or the least stamp where there is none
+abbrev pub last_stamp : ℕ → List LogRecord → ℕ
+last_stamp least [] = least
+last_stamp least (entry ∷ entries) = last_stamp entry.stamp entries
+
+-- the block is the close mark of the writer
+abbrev pub closes : ℕ → Block → Bool
+closes writer (Fragment first messages) = false
+closes writer (Extent w entries) = false
+closes writer (Close w) = w == writer
+
+-- a close mark of the writer stands among the blocks
+abbrev pub IsClosed : ℕ → List Block → Type 0
+IsClosed writer blocks = list_any (closes writer) blocks ≡ true
+
+-- the block is an extent or the close mark of the writer
+abbrev pub IsOf : ℕ → Block → Type 0
+IsOf writer (Fragment first messages) = ⊥
+IsOf writer (Extent w entries) = w ≡ writer
+IsOf writer (Close w) = w ≡ writer
+
+-- the writer may still write: it is one of the log's, and no close mark of it stands before
+pub record IsOpen (header : Header) (before : List Block) (writer : ℕ) : Type 0 where
+  pub known : writer < header.writers
+  pub unclosed : ¬ (IsClosed writer before)
+
+-- the messages are defined with the next ids, and none of them equals another or one before
+pub record DefinesNext (before : List Block) (first : ℕ) (messages : List Message) : Type 0 where
+  pub next : first ≡ length (messages_of before)
+  pub distinct : AreDistinct (messages_of before ++ messages)
+  pub few : length (messages_of before ++ messages) ≤ 65536
+
+-- The records are those of a writer that may still write. Each names a message that was defined before, and no stamp falls.
+pub record GoesOn (header : Header) (before : List Block) (writer : ℕ) (entries : List LogRecord) : Type 0 where
+  pub writer_open : IsOpen header before writer
+  pub right : AllByRecursion (IsRecord (messages_of before)) entries
+  pub rising : NeverFalls (last_stamp header.clock.tick (records_of writer before)) entries
+
+-- the block keeps the rules behind the blocks before it
+abbrev pub IsRightAfter : Header → List Block → Block → Type 0
+IsRightAfter header before (Fragment first messages) = DefinesNext before first messages
+IsRightAfter header before (Extent writer entries) = GoesOn header before writer entries
+IsRightAfter header before (Close writer) = IsOpen header before writer
+
+-- each of the blocks keeps the rules behind those before it
+abbrev pub AreRightAfter : Header → List Block → List Block → Type 0
+AreRightAfter header before [] = Unit {0}
+AreRightAfter header before (block ∷ blocks) = IsRightAfter header before block × AreRightAfter header (before ++ block ∷ []) blocks
+
+-- there are 1 to 64 writers, the clock's numbers are below 2^64, and it ticks
+pub record IsHeader (header : Header) : Type 0 where
+  pub some_writer : 1 ≤ header.writers
+  pub few_writers : header.writers ≤ 64
+  pub tick_fits : header.clock.tick < 2 ^ 64
+  pub nanos_fits : header.clock.nanos < 2 ^ 64
+  pub rate_fits : header.clock.rate < 2 ^ 64
+  pub rate : 1 ≤ header.clock.rate
+
+-- Fragments define ids from 0 without gaps and without equal messages. Each record names a message that is defined before it, and
+-- its arguments fit. Nothing of a writer follows its close mark, its stamps never fall, and none is below the clock's tick.
+pub record Valid (header : Header) (blocks : List Block) : Type 0 where
+  pub header_right : IsHeader header
+  pub blocks_right : AreRightAfter header [] blocks

@@ -1,0 +1,84 @@
+//! The parts of a log that have one length, in bytes: its header, the heads of fragments and
+//! extents, and close marks. Numbers stand with the low byte first.
+
+ghost use Rattle.std.specs.Prelude.{◌≡◌, ◌+◌, ◌<◌, ◌≤◌, ◌++◌, length, take, drop};
+ghost use Rattle.checkpoint_io.specs.Blocks.{header_bytes, fragment_head_bytes, extent_head_bytes, close_bytes};
+
+use crate::header::Header;
+
+const MAGIC: &[u8] = b"NLOG";
+
+const VERSION: u8 = 1;
+
+const FRAGMENT: u8 = 1;
+
+const EXTENT: u8 = 2;
+
+const CLOSE: u8 = 4;
+
+// Copies the bytes to this place, and gives the place after them.
+fn put(into: &mut [u8], at: usize, bytes: &[u8]) -> usize
+    requires room { at + length bytes.now ≤ length into.now }
+    ensures put { into.new ≡ take at into.old ++ bytes.now ++ drop result into.old }
+    ensures after { result ≡ at + length bytes.now }
+    ensures kept { length into.new ≡ length into.old }
+{
+    let end = at + bytes.len();
+    into[at..end].copy_from_slice(bytes);
+    end
+}
+
+/// Writes the header of a log to the front, and gives its length, which is 30. It takes no memory.
+pub fn put_header(header: &Header, into: &mut [u8]) -> usize
+    requires some_writer { 1 ≤ header.now.writers }
+    requires few_writers { header.now.writers ≤ 64 }
+    requires rate { 1 ≤ header.now.clock.rate }
+    requires room { 30 ≤ length into.now }
+    ensures put { into.new ≡ header_bytes header.now ++ drop 30 into.old }
+    ensures len { result ≡ 30 }
+{
+    let at = put(into, 0, MAGIC);
+    let at = put(into, at, &[VERSION, header.writers as u8]);
+    let at = put(into, at, &header.clock.tick.to_le_bytes());
+    let at = put(into, at, &header.clock.nanos.to_le_bytes());
+    put(into, at, &header.clock.rate.to_le_bytes())
+}
+
+/// Writes what stands in front of a fragment's entries to the front, and gives its length, which is
+/// 7: the id of the first message, and the number of messages, from 1 to 16. It takes no memory.
+pub fn put_fragment_head(first: u32, count: u16, into: &mut [u8]) -> usize
+    requires some { 1 ≤ count }
+    requires few { count ≤ 16 }
+    requires room { 7 ≤ length into.now }
+    ensures put { into.new ≡ fragment_head_bytes first count ++ drop 7 into.old }
+    ensures len { result ≡ 7 }
+{
+    let at = put(into, 0, &[FRAGMENT]);
+    let at = put(into, at, &first.to_le_bytes());
+    put(into, at, &count.to_le_bytes())
+}
+
+/// Writes what stands in front of an extent's body to the front, and gives its length, which is 6:
+/// the writer, and the length of the body, from 1 to 65,536. It takes no memory.
+pub fn put_extent_head(writer: u32, len: u32, into: &mut [u8]) -> usize
+    requires known { writer < 64 }
+    requires some { 1 ≤ len }
+    requires short { len ≤ 65536 }
+    requires room { 6 ≤ length into.now }
+    ensures put { into.new ≡ extent_head_bytes writer len ++ drop 6 into.old }
+    ensures len { result ≡ 6 }
+{
+    let at = put(into, 0, &[EXTENT, writer as u8]);
+    put(into, at, &len.to_le_bytes())
+}
+
+/// Writes the close mark of a writer to the front, and gives its length, which is 2. It takes no
+/// memory.
+pub fn put_close(writer: u32, into: &mut [u8]) -> usize
+    requires known { writer < 64 }
+    requires room { 2 ≤ length into.now }
+    ensures put { into.new ≡ close_bytes writer ++ drop 2 into.old }
+    ensures len { result ≡ 2 }
+{
+    put(into, 0, &[CLOSE, writer as u8])
+}
