@@ -1,0 +1,3 @@
+pub mod DecompressionLaws
+pub mod TextLaws
+pub mod Worked

@@ -1,0 +1,5 @@
+use Rattle.decompressor.proofs.DecompressionLaws.{one_text}
+use Rattle.decompressor.proofs.laws.texts_are_one.Goals as goal
+
+pub returns : goal.returns
+returns c = one_text

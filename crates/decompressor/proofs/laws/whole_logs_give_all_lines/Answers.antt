@@ -1,0 +1,5 @@
+use Rattle.decompressor.proofs.DecompressionLaws.{whole_is_text}
+use Rattle.decompressor.proofs.laws.whole_logs_give_all_lines.Goals as goal
+
+pub returns : goal.returns
+returns c = whole_is_text

@@ -1,0 +1,2 @@
+pub mod Decompression
+pub mod Rows

@@ -1,0 +1,43 @@
+-- Worked logs and the lines that they stand for.
+use Rattle.std.specs.Prelude.{ℕ, pos, List, [], ◌∷◌, ◌++◌, codes}
+use Rattle.printf_grammar.specs.declared.argument.Value.TheVariants.{Signed}
+use Rattle.log_dictionary.specs.Calls.{LogCall}
+use Rattle.buffer_extent.specs.declared.record.LogRecord.{LogRecord}
+use Rattle.checkpoint_io.specs.declared.header.Header.{Header}
+use Rattle.checkpoint_io.specs.Blocks.{Block, Fragment, Extent, Close}
+use Rattle.checkpoint_io.specs.Rows.{row_message, row_header}
+
+-- the line of the worked log's one call
+abbrev pub row_line : List ℕ
+row_line = codes "1514764800.000000001 srv.cc:12 NOTICE[0]: x=7\n"
+
+-- a call with this number, three ticks after the clock's
+abbrev pub row_call : ℕ → LogRecord
+row_call n = record { stamp = 1003; id = 0; args = Signed (pos n) ∷ [] }
+
+abbrev pub three_writers : Header
+three_writers = record row_header { writers = 3 }
+
+-- the second writer's two calls stand around the first writer's one, and the third made none
+abbrev pub mixed_blocks : List Block
+mixed_blocks =
+    Fragment 0 (row_message ∷ [])
+    ∷ Extent 1 (row_call 2 ∷ [])
+    ∷ Extent 0 (row_call 1 ∷ [])
+    ∷ Extent 1 (row_call 3 ∷ [])
+    ∷ Close 2
+    ∷ Close 0
+    ∷ Close 1 ∷ []
+
+-- the second writer's calls
+abbrev pub second_calls : List LogCall
+second_calls =
+    record { writer = 1; ordinal = 0; stamp = 1003; message = row_message; args = Signed (pos 2) ∷ [] }
+    ∷ record { writer = 1; ordinal = 1; stamp = 1003; message = row_message; args = Signed (pos 3) ∷ [] } ∷ []
+
+-- all at one time: the first writer's line comes first, and the second writer's in their order
+abbrev pub mixed_lines : List ℕ
+mixed_lines =
+    codes "1514764800.000000001 srv.cc:12 NOTICE[0]: x=1\n"
+    ++ codes "1514764800.000000001 srv.cc:12 NOTICE[1]: x=2\n"
+    ++ codes "1514764800.000000001 srv.cc:12 NOTICE[1]: x=3\n"

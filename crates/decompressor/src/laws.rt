@@ -1,0 +1,44 @@
+//! Laws over what logs stand for. The functions do nothing: what they ensure is proved of the definitions.
+
+ghost use Rattle.std.specs.Prelude.{◌≡◌, ℕ, List};
+ghost use Rattle.log_dictionary.specs.declared.clock.Clock.{Clock};
+ghost use Rattle.log_dictionary.specs.declared.message.Message.{Message};
+ghost use Rattle.buffer_extent.specs.declared.record.LogRecord.{LogRecord};
+ghost use Rattle.checkpoint_io.specs.declared.header.Header.{Header};
+ghost use Rattle.checkpoint_io.specs.Blocks.{Block, FileOf};
+ghost use Rattle.checkpoint_io.specs.Validity.{Valid};
+ghost use Rattle.checkpoint_io.specs.Logs.{LogOf};
+ghost use Rattle.checkpoint_io.specs.Rows.{row_bytes};
+ghost use Rattle.direct_printf.specs.Lines.{Direct};
+ghost use Rattle.decompressor.specs.Decompression.{CallsOf, all_calls, taken_calls, Decompressed};
+ghost use Rattle.decompressor.specs.Rows.{row_line, three_writers, mixed_blocks, second_calls, mixed_lines};
+
+/// The log of one call is its line. Blocks of three writers give the calls of each in their order,
+/// and together the lines of all.
+pub fn worked_logs()
+    ensures one_call { Decompressed row_bytes row_line }
+    ensures calls { CallsOf mixed_blocks 1 ≡ second_calls }
+    ensures mixed_writers { Direct three_writers.clock (all_calls three_writers mixed_blocks) ≡ mixed_lines }
+{}
+
+/// Bytes stand for one text.
+pub fn texts_are_one()
+    ensures { (bytes text other : List ℕ) → Decompressed bytes text
+        → Decompressed bytes other
+        → text ≡ other }
+{}
+
+/// A file that is a log from its first byte to its last stands for the lines of all its calls.
+pub fn whole_logs_give_all_lines()
+    ensures { (header : Header) (blocks : List Block) (bytes : List ℕ)
+        → FileOf header blocks bytes
+        → Valid header blocks
+        → Decompressed bytes (Direct header.clock (all_calls header blocks)) }
+{}
+
+/// A log of calls that were taken stands for the lines of these calls.
+pub fn logs_give_the_calls_taken()
+    ensures { (bytes : List ℕ) (taken : List (List LogRecord)) (dictionary : List Message)
+        (clock : Clock) (batch : ℕ) → LogOf bytes taken dictionary clock batch
+        → Decompressed bytes (Direct clock (taken_calls dictionary taken)) }
+{}

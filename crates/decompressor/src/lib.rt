@@ -1,0 +1,4 @@
+//! The text that a log stands for.
+#![tactic(auto)]
+
+pub mod laws;
