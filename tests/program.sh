@@ -54,7 +54,9 @@ expect 1 '' "$usage"
 expect 1 '' "$usage" direct
 expect 1 '' "$usage" direct --help
 expect 1 '' "$usage" direct t t
-expect 1 '' "$usage" replay t l
+expect 1 '' "$usage" replay t
+expect 1 '' "$usage" replay t t
+expect 1 '' "$usage" decompress
 expect 1 '' "$usage" direct $'\xff'
 
 : >empty
@@ -85,6 +87,25 @@ cmp -s err <(printf 'nanolog: standard output: write fault\n') || fail "to a ful
 ended=$?
 [ "$ended" = 7 ] || fail "words to a full device: status $ended, not 7"
 
+# A log, and the lines that it keeps.
+expect 0 $'accepted 1 dropped 0 filtered 0\n' '' replay t l
+expect 0 "$line" '' decompress l
+log='4e4c4f470101 e803000000000000 0000445e8f860515 0094357700000000 01000000000100 030c0000000600 7372762e6363'
+log+=' 0400783d2564 020004000000 10030107 0400'
+[ "$(od -An -v -tx1 l | tr -d ' \n')" = "${log// /}" ] || fail "the log of t is: $(od -An -v -tx1 l)"
+expect 2 '' $'nanolog: t:0: refused: 99 NotYet\n' decompress t
+expect 2 '' $'nanolog: l:0: refused: 99 NotYet\n' replay l m
+[ -e m ] && fail "a refused trace created a log"
+expect 7 '' $'nanolog: nofile: absent\n' decompress nofile
+expect 5 '' $'nanolog: no/l: write fault\n' replay t no/l
+expect 5 '' $'nanolog: /dev/full: write fault\n' replay t /dev/full
+./nanolog replay t l >/dev/full 2>err
+ended=$?
+[ "$ended" = 5 ] || fail "replay to a full device: status $ended, not 5"
+expect 0 "$line" '' decompress l
+
+./nanolog replay "$top/examples/first.trace" l >out || fail "examples/first.trace isn't replayed"
+cmp -s <(./nanolog decompress l) <(./nanolog direct "$top/examples/first.trace") || fail "the log of examples/first.trace has other lines"
 [ "$(./nanolog direct "$top/examples/first.trace" | wc -l)" = 6 ] || fail "examples/first.trace has six lines"
 
 [ "$failures" = 0 ] && echo "program.sh: all is well"

@@ -1,12 +1,13 @@
 -- What was read is what the name held.
 use Rattle.std.proofs.Common.{◌≡◌, ◌≢◌, ℕ, ◌<◌, List, length, Option, Some, None, Result, Ok, Err, sym, ap, subst, ◌∙◌}
-use Rattle.std.specs.Prelude.{IfOk, IfSome, IsErrOf}
+use Rattle.std.specs.Prelude.{IfOk, IfSome, IsErrOf, OnOk, is_some, option_map}
 use Rattle.std.specs.Global.{Vec}
 use Rattle.std.specs.FinMap as map
 use Rattle.nl_io.specs.Content.{Told}
 use Rattle.nl_io.specs.Desk.{Desk, Held, IsReading, Opens}
 use Rattle.nl_io.specs.DeskLaws.{Opens-content}
 use Rattle.nanolog_cli.specs.Outcomes.{IsHeld, IsLonger}
+use Rattle.nanolog_cli.proofs.Choices.{some_same}
 use Rattle.nanolog_cli.specs.declared.input.InputFault.{InputFault}
 use Rattle.nanolog_cli.specs.declared.input.InputFault.TheVariants.{TooLarge}
 
@@ -36,3 +37,11 @@ pub longer_held : (old : Desk) (name : List ℕ) (id : ℕ) (new : Desk) (limit 
     → (IsErrOf r TooLarge → (content : Told) → IsReading new id content → IfSome content (λ left. limit < length left)) → IsErrOf r TooLarge → IsLonger old name limit
 longer_held old name id new limit r opened long is =
     of_held old.held name opened.content (λ left. limit < length left) opened.holds (long is opened.content (Opens-content old name id new opened))
+
+-- what was written to a name is what it holds
+pub holds_written : {T E : Type 0} (old new : Option Held) (name bytes : List ℕ) (r : Result T E) → is_some new ≡ is_some old → IfSome old (λ _. option_map (λ names. map.get names name) new ≡ Some (Some bytes))
+    → OnOk r (IfSome new (λ held. map.get held name ≡ Some bytes))
+holds_written old new name bytes (Err e) told found = tt
+holds_written old None name bytes (Ok x) told found = tt
+holds_written None (Some after) name bytes (Ok x) told found = absurd cc
+holds_written (Some before) (Some after) name bytes (Ok x) told found = some_same (map.get after name) (Some bytes) found

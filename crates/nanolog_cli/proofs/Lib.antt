@@ -13,3 +13,9 @@ pub mod TextLemmas
 pub mod TextForms
 pub mod InputLemmas
 pub mod LineLemmas
+pub mod LogLemmas
+pub mod RunLogs
+pub mod RunBytes
+pub mod RunFrames
+pub mod LogParts
+pub mod LogForms

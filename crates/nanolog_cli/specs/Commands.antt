@@ -6,23 +6,36 @@ use Rattle.std.specs.Str.{bytes_eq}
 
 -- what the program is asked to do; a name is the bytes of its text
 pub data Command : Type 0 where
-  Direct : (name : List ℕ) → Command
+  Direct : (trace : List ℕ) → Command
+  Replay : (trace log : List ℕ) → Command
+  Decompress : (log : List ℕ) → Command
 
 -- a name is not empty, and doesn't begin with `-`
 abbrev pub is_name : List ℕ → Bool
 is_name [] = false
 is_name (b ∷ bytes) = not (b == 45)
 
--- the command that the words spell, if they spell one: `direct` and a name
+-- the command of this word and a name
+abbrev pub named_command : List ℕ → List ℕ → Option Command
+named_command word name =
+    if is_name name
+    then (if bytes_eq word (codes "direct") then Some (Direct name) else (if bytes_eq word (codes "decompress") then Some (Decompress name) else None))
+    else None
+
+-- the command that the words spell, if they spell one: `direct` or `decompress` and a name, or `replay` and two different names
 abbrev pub command_of : List (List ℕ) → Option Command
-command_of (word ∷ name ∷ []) = if bytes_eq word (codes "direct") && is_name name then Some (Direct name) else None
+command_of (word ∷ name ∷ []) = named_command word name
+command_of (word ∷ trace ∷ log ∷ []) =
+    if bytes_eq word (codes "replay") && is_name trace && is_name log && not (bytes_eq trace log) then Some (Replay trace log) else None
 command_of _ = None
 
 -- the words' texts
 abbrev pub texts_of : {A : Type 0} → List (String A) → List (List ℕ)
 texts_of words = map string_bytes words
 
--- the name of the trace that a command reads; empty where there is no command
-abbrev pub trace_name : Option Command → List ℕ
-trace_name None = []
-trace_name (Some (Direct name)) = name
+-- the name of the file that a command reads; empty where there is no command
+abbrev pub input_name : Option Command → List ℕ
+input_name None = []
+input_name (Some (Direct trace)) = trace
+input_name (Some (Replay trace log)) = trace
+input_name (Some (Decompress log)) = log

@@ -10,3 +10,9 @@ pub mod Statuses
 pub mod Words
 pub mod Outcomes
 pub mod CommandViews
+pub mod Texts
+pub mod NarrowLogs
+pub mod Replays
+pub mod Refusals
+pub mod Appending
+pub mod LogParts

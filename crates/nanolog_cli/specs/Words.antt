@@ -16,13 +16,17 @@ usage_text =
     ++ codes "  nanolog selftest SEED CALLS WRITERS\n"
     ++ codes "  nanolog schedule FILE\n"
 
--- the words that go with the answer to `direct` of this name
+-- the words that go with an answer, which speak of this name
 abbrev pub words_of : Status → List ℕ → List ℕ
 words_of statuses.Done name = []
 words_of statuses.Usage name = usage_text
 words_of statuses.Refused name = codes "nanolog: " ++ name ++ codes ":0: refused: 99 NotYet\n"
 words_of statuses.Damaged name = []
 words_of statuses.ReadFault name = codes "nanolog: " ++ name ++ codes ": read fault\n"
-words_of statuses.WriteFault name = codes "nanolog: standard output: write fault\n"
+words_of statuses.WriteFault name = codes "nanolog: " ++ name ++ codes ": write fault\n"
 words_of statuses.NoMemory name = codes "nanolog: want of memory\n"
 words_of statuses.Absent name = codes "nanolog: " ++ name ++ codes ": absent\n"
+
+-- what a write fault calls the standard output
+abbrev pub standard_output : List ℕ
+standard_output = codes "standard output"

@@ -2,12 +2,14 @@ ghost use Rattle.std.specs.Prelude.{◌≡◌, ◌≢◌, ◌≤◌, ◌↔◌, 
 ghost use Rattle.nl_io.specs.Count.{Rose};
 ghost use Rattle.nl_io.specs.Content.{with_end};
 ghost use Rattle.nl_io.specs.Desk.{IsAbsent, OnlyReadFaults};
-ghost use Rattle.trace_text.specs.Recordings.{Recording};
-ghost use Rattle.nanolog_cli.specs.Commands.{command_of, texts_of, trace_name, Direct};
+ghost use Rattle.nanolog_cli.specs.Commands.{Command as Asked, command_of, texts_of, input_name};
 ghost use Rattle.nanolog_cli.specs.Words.{words_of};
-ghost use Rattle.nanolog_cli.specs.Outcomes.{DirectDone, DirectBegun, HoldsNoRun, HoldsRun};
+ghost use Rattle.nanolog_cli.specs.Outcomes.{Holds, HoldsOther, input_form, IsDone, IsCutOff, WriteFailed, Changes, SpeaksOf};
 
+use crate::answer::Answer;
+use crate::decompress::decompress;
 use crate::direct::direct;
+use crate::replay::replay;
 use crate::report::say;
 use crate::status::Status;
 use crate::words::{Command, command_of};
@@ -16,8 +18,9 @@ use std::alloc::Global;
 
 /// Does what the words after the program's name ask for, and answers how that ended. It waits for nobody.
 ///
-/// So far there is one command, `direct TRACE`, which prints the lines of all calls of the trace. A trace that
-/// isn't read yet is refused, as is a file that is no trace.
+/// So far there are three commands. `direct TRACE` prints the lines of all calls of the trace. `replay TRACE LOG`
+/// writes the log of these calls, and prints how many there are. `decompress LOG` prints the lines of the log. A trace
+/// or log that isn't read yet is refused, as is a file that is none.
 pub fn quick<F: Files, O: Sink, E: Sink>(
     alloc: Global,
     words: &[String],
@@ -25,48 +28,55 @@ pub fn quick<F: Files, O: Sink, E: Sink>(
     out: &mut O,
     err: &mut E,
 ) -> Status
-    // The trace was read to its last byte, and the lines of its calls were printed.
-    ensures done { result ≡ Status.Done → (name : List ℕ) → command_of (texts_of words.now) ≡ Some (Direct name) →
-        DirectDone (F.desk files.old) name (O.put out.old) (O.put out.new) }
+    // The file was read to its last byte, the log was written, where the command has one, and its text was printed.
+    ensures done { result ≡ Status.Done → (asked : Asked) × (command_of (texts_of words.now) ≡ Some asked)
+        × IsDone asked (F.desk files.old) (F.desk files.new) (O.put out.old) (O.put out.new) }
 
     // When each other answer comes.
     ensures usage { (result ≡ Status.Usage) ↔ (command_of (texts_of words.now) ≡ None) }
-    ensures refused { result ≡ Status.Refused → HoldsNoRun (F.desk files.old) (trace_name (command_of (texts_of words.now))) }
+    ensures refused { result ≡ Status.Refused →
+        HoldsOther (F.desk files.old) (input_name (command_of (texts_of words.now))) (input_form (command_of (texts_of words.now))) }
     ensures damaged { result ≢ Status.Damaged }
-    ensures absent { result ≡ Status.Absent → IsAbsent (F.desk files.old) (trace_name (command_of (texts_of words.now))) }
+    ensures absent { result ≡ Status.Absent → IsAbsent (F.desk files.old) (input_name (command_of (texts_of words.now))) }
     ensures read_fault { result ≡ Status.ReadFault → Rose (F.desk files.old).read_faults (F.desk files.new).read_faults }
-    ensures write_fault { result ≡ Status.WriteFault → Rose (O.faults out.old) (O.faults out.new) }
+    ensures write_fault { result ≡ Status.WriteFault → WriteFailed (command_of (texts_of words.now))
+        (Rose (O.faults out.old) (O.faults out.new)) (Rose (F.desk files.old).write_faults (F.desk files.new).write_faults) }
 
-    // So a trace that is held is printed, where no call fails and memory suffices.
-    ensures taken { (name : List ℕ) (run : Recording) → command_of (texts_of words.now) ≡ Some (Direct name) → HoldsRun (F.desk files.old) name run →
-        (Rose (F.desk files.old).read_faults (F.desk files.new).read_faults → ⊥) → (Rose (O.faults out.old) (O.faults out.new) → ⊥) →
+    // So a command whose file is held and of its form is done, where no call fails and memory suffices.
+    ensures taken { (asked : Asked) → command_of (texts_of words.now) ≡ Some asked →
+        Holds (F.desk files.old) (input_name (Some asked)) (input_form (Some asked)) →
+        ¬ (Rose (F.desk files.old).read_faults (F.desk files.new).read_faults) →
+        ¬ (Rose (F.desk files.old).write_faults (F.desk files.new).write_faults) → ¬ (Rose (O.faults out.old) (O.faults out.new)) →
         (result ≡ Status.Done) ⊎ (result ≡ Status.NoMemory) }
 
-    // What was printed otherwise: at a write fault some bytes of those lines, from the front, and else nothing.
-    ensures begun { result ≡ Status.WriteFault →
-        DirectBegun (F.desk files.old) (trace_name (command_of (texts_of words.now))) (O.put out.old) (O.put out.new) }
+    // What was printed otherwise: at a write fault some bytes of the text, from the front, or none, and else nothing.
+    ensures cut_off { result ≡ Status.WriteFault → (asked : Asked) × (command_of (texts_of words.now) ≡ Some asked)
+        × IsCutOff asked (F.desk files.old) (F.desk files.new) (O.put out.old) (O.put out.new) }
     ensures unprinted { result ≢ Status.Done → result ≢ Status.WriteFault → O.put out.new ≡ O.put out.old }
 
     // The words on the standard error are those of the answer.
-    ensures told { (Rose (E.faults err.old) (E.faults err.new) → ⊥) →
-        E.put err.new ≡ with_end (words_of result (trace_name (command_of (texts_of words.now)))) (E.put err.old) }
+    ensures told { ¬ (Rose (E.faults err.old) (E.faults err.new)) → (name : List ℕ)
+        × SpeaksOf result (command_of (texts_of words.now)) (Rose (O.faults out.old) (O.faults out.new))
+        (Rose (F.desk files.old).write_faults (F.desk files.new).write_faults) name
+        × (E.put err.new ≡ with_end (words_of result name) (E.put err.old)) }
 
     // What stays the same, whatever the answer.
-    ensures files { OnlyReadFaults (F.desk files.old) (F.desk files.new) }
+    ensures changed { Changes (command_of (texts_of words.now)) (F.desk files.old) (F.desk files.new) }
+    ensures unchanged { result ≢ Status.Done → result ≢ Status.WriteFault → OnlyReadFaults (F.desk files.old) (F.desk files.new) }
     ensures out_count { O.faults out.old ≤ O.faults out.new }
     ensures out_others { O.rest out.old out.new }
     ensures err_count { E.faults err.old ≤ E.faults err.new }
     ensures err_others { E.rest err.old err.new }
 {
-    match command_of(words) {
-        Some(Command::Direct(name)) => {
-            let status = direct(alloc, files, name, out);
-            let _ = say(err, status, name);
-            status
-        }
-        None => {
-            let _ = say(err, Status::Usage, "");
-            Status::Usage
-        }
-    }
+    let answer = match command_of(words) {
+        Some(Command::Direct(trace)) => direct(alloc, files, trace, out),
+        Some(Command::Replay(trace, log)) => replay(alloc, files, trace, log, out),
+        Some(Command::Decompress(log)) => decompress(alloc, files, log, out),
+        None => Answer {
+            status: Status::Usage,
+            name: "",
+        },
+    };
+    let _ = say(err, answer.status, answer.name);
+    answer.status
 }

@@ -5,14 +5,18 @@ ghost use Rattle.std.specs.FinMap as map;
 ghost use Rattle.nl_io.specs.Count.{Rose};
 ghost use Rattle.nl_io.specs.Content.{Told};
 ghost use Rattle.nl_io.specs.Desk.{IsAbsent, IsReading, SameButLeft, OnlyReadFaults};
-ghost use Rattle.nanolog_cli.specs.Outcomes.{IsHeld, IsLonger};
+ghost use Rattle.nanolog_cli.specs.Outcomes.{IsHeld, IsLonger, HoldsOther, IsTrace, IsLog, HeldRun, HeldNarrowLog};
 
+use crate::answer::Refusal;
+use crate::narrow::{MOST_BYTES as MOST_TRACE_BYTES, NarrowFault, read_narrow};
+use crate::narrow_log::{MOST_LOG_BYTES, ReadLog, read_log};
 use nl_io::{FileSource, Files, ReadAllFault, read_to_limit};
 use std::alloc::Global;
+use trace_text::Trace;
 
 /// Why a file wasn't read.
 #[derive(Clone, Copy, Debug, PartialEq, Eq)]
-pub(crate) enum InputFault {
+enum InputFault {
     Absent,
     Failed,
     TooLarge,
@@ -45,7 +49,7 @@ fn read_open<F: Files>(
 }
 
 /// What the name holds, where that is at most `limit` bytes.
-pub(crate) fn read_file<F: Files>(
+fn read_file<F: Files>(
     alloc: Global,
     files: &mut F,
     name: &str,
@@ -66,4 +70,54 @@ pub(crate) fn read_file<F: Files>(
     let read = read_open(alloc, files, id, limit);
     files.leave(id);
     read
+}
+
+/// The run that the name holds.
+pub(crate) fn run_of_file<F: Files>(
+    alloc: Global,
+    files: &mut F,
+    name: &str,
+) -> Result<Trace, Refusal>
+    ensures found { IfOk result (HeldRun (F.desk files.old) name.now) }
+    ensures absent { IsErrOf result Refusal.Absent → IsAbsent (F.desk files.old) name.now }
+    ensures read { IsErrOf result Refusal.ReadFault → Rose (F.desk files.old).read_faults (F.desk files.new).read_faults }
+    ensures refused { IsErrOf result Refusal.Refused → HoldsOther (F.desk files.old) name.now IsTrace }
+    ensures same { OnlyReadFaults (F.desk files.old) (F.desk files.new) }
+{
+    match read_file(alloc, files, name, MOST_TRACE_BYTES) {
+        Ok(bytes) => match read_narrow(alloc, &bytes) {
+            Ok(run) => Ok(run),
+            Err(NarrowFault::NotYet) => Err(Refusal::Refused),
+            Err(NarrowFault::NoMemory) => Err(Refusal::NoMemory),
+        },
+        Err(InputFault::Absent) => Err(Refusal::Absent),
+        Err(InputFault::Failed) => Err(Refusal::ReadFault),
+        Err(InputFault::TooLarge) => Err(Refusal::Refused),
+        Err(InputFault::NoMemory) => Err(Refusal::NoMemory),
+    }
+}
+
+/// The log that the name holds.
+pub(crate) fn log_of_file<F: Files>(
+    alloc: Global,
+    files: &mut F,
+    name: &str,
+) -> Result<ReadLog, Refusal>
+    ensures found { IfOk result (λ log. HeldNarrowLog (F.desk files.old) name.now log.clock log.dictionary log.records) }
+    ensures absent { IsErrOf result Refusal.Absent → IsAbsent (F.desk files.old) name.now }
+    ensures read { IsErrOf result Refusal.ReadFault → Rose (F.desk files.old).read_faults (F.desk files.new).read_faults }
+    ensures refused { IsErrOf result Refusal.Refused → HoldsOther (F.desk files.old) name.now IsLog }
+    ensures same { OnlyReadFaults (F.desk files.old) (F.desk files.new) }
+{
+    match read_file(alloc, files, name, MOST_LOG_BYTES) {
+        Ok(bytes) => match read_log(alloc, &bytes) {
+            Ok(log) => Ok(log),
+            Err(NarrowFault::NotYet) => Err(Refusal::Refused),
+            Err(NarrowFault::NoMemory) => Err(Refusal::NoMemory),
+        },
+        Err(InputFault::Absent) => Err(Refusal::Absent),
+        Err(InputFault::Failed) => Err(Refusal::ReadFault),
+        Err(InputFault::TooLarge) => Err(Refusal::Refused),
+        Err(InputFault::NoMemory) => Err(Refusal::NoMemory),
+    }
 }

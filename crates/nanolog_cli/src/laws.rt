@@ -2,7 +2,7 @@
 
 ghost use Rattle.std.specs.Prelude.{◌≡◌, ◌++◌, codes};
 ghost use Rattle.trace_text.specs.Rows.{three_writers};
-ghost use Rattle.nanolog_cli.specs.Outcomes.{direct_text};
+ghost use Rattle.nanolog_cli.specs.Texts.{direct_text};
 
 /// Calls of one stamp are printed by writer, and those of one writer in their order.
 pub fn equal_stamps_go_by_writer()

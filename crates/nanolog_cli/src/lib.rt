@@ -1,13 +1,21 @@
 //! The commands of the program `nanolog`.
 #![tactic(auto)]
 
+mod answer;
 mod commands;
+mod decompress;
 mod direct;
 mod input;
 pub mod laws;
 mod lines;
+mod log_of_run;
+#[cfg(test)]
+mod log_tests;
 mod narrow;
+mod narrow_log;
+mod output;
 mod parts;
+mod replay;
 mod report;
 mod status;
 #[cfg(test)]

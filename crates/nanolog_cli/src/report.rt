@@ -23,7 +23,7 @@ fn say_of<E: Sink>(err: &mut E, name: &str, words: &str) -> Result<(), Failed>
     write_all(err, words.as_bytes())
 }
 
-/// Writes the words that go with a command's end; `name` is that of the trace that it reads.
+/// Writes the words that go with a command's end, which speak of this name.
 pub(crate) fn say<E: Sink>(err: &mut E, status: Status, name: &str) -> Result<(), Failed>
     ensures ok { OnOk result (E.put err.new ≡ with_end (words_of status name.now) (E.put err.old)) }
     ensures cause { OnErr result (Rose (E.faults err.old) (E.faults err.new)) }
@@ -35,7 +35,7 @@ pub(crate) fn say<E: Sink>(err: &mut E, status: Status, name: &str) -> Result<()
         Status::Usage => write_all(err, USAGE.as_bytes()),
         Status::Refused => say_of(err, name, ":0: refused: 99 NotYet\n"),
         Status::ReadFault => say_of(err, name, ": read fault\n"),
-        Status::WriteFault => write_all(err, b"nanolog: standard output: write fault\n"),
+        Status::WriteFault => say_of(err, name, ": write fault\n"),
         Status::NoMemory => write_all(err, b"nanolog: want of memory\n"),
         Status::Absent => say_of(err, name, ": absent\n"),
     }

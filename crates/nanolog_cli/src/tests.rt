@@ -8,10 +8,10 @@ use std::process::Abort;
 use std::test::Fail;
 
 /// A trace of one call, and its line.
-const TRACE: &str =
+pub(crate) const TRACE: &str =
     "nanolog-trace 1\nmessage 0 NOTICE 12 \"srv.cc\" \"x=%d\"\nclock 1000 1514764800000000000 2000000000\nwriters 1\ncall 0 1003 0 7\nend\n";
 
-const LINE: &str = "1514764800.000000001 srv.cc:12 NOTICE[0]: x=7\n";
+pub(crate) const LINE: &str = "1514764800.000000001 srv.cc:12 NOTICE[0]: x=7\n";
 
 const REFUSED: &str = "nanolog: t:0: refused: 99 NotYet\n";
 
@@ -27,32 +27,33 @@ const USAGE: &str = "usage:
 ";
 
 /// How many bytes one call on a file or a sink moves at most.
-const PIECE: usize = 16;
+pub(crate) const PIECE: usize = 16;
 
 /// The numbers of the calls that fail: on the files, on the output and on the errors.
 #[derive(Clone, Copy)]
-struct Failing<'a> {
-    files: &'a [u64],
-    out: &'a [u64],
-    err: &'a [u64],
+pub(crate) struct Failing<'a> {
+    pub(crate) files: &'a [u64],
+    pub(crate) out: &'a [u64],
+    pub(crate) err: &'a [u64],
 }
 
-const NONE: Failing<'static> = Failing {
+pub(crate) const NONE: Failing<'static> = Failing {
     files: &[],
     out: &[],
     err: &[],
 };
 
-/// How a run ended, and what it printed.
+/// How a run ended, what it printed, and what the file `l` holds afterwards.
 #[derive(Drop)]
-struct Ran {
-    status: Status,
+pub(crate) struct Ran {
+    pub(crate) status: Status,
     out: String,
     err: String,
+    pub(crate) log: Option<Vec<u8>>,
 }
 
 impl Ran {
-    fn shown(&self) -> (Status, &str, &str) {
+    pub(crate) fn shown(&self) -> (Status, &str, &str) {
         (self.status, self.out.as_str(), self.err.as_str())
     }
 }
@@ -61,7 +62,7 @@ fn text_of(alloc: Global, bytes: &[u8]) -> Result<String, Fail> {
     Ok(String::from_utf8(bytes.to_vec(alloc)?)?)
 }
 
-fn owned_words(alloc: Global, words: &[&str]) -> Result<Vec<String>, AllocError> {
+pub(crate) fn owned_words(alloc: Global, words: &[&str]) -> Result<Vec<String>, AllocError> {
     let mut owned = Vec::new(alloc);
     for word in words {
         owned.push(String::from_str(alloc, word)?)?;
@@ -69,16 +70,24 @@ fn owned_words(alloc: Global, words: &[&str]) -> Result<Vec<String>, AllocError>
     Ok(owned)
 }
 
-/// Runs the words where the file `t` holds the text.
-fn run(
+/// A copy of what the name holds.
+fn copy_of(alloc: Global, files: &MemFiles, name: &str) -> Result<Option<Vec<u8>>, AllocError> {
+    match files.get_file(name) {
+        Some(bytes) => Ok(Some(bytes.to_vec(alloc)?)),
+        None => Ok(None),
+    }
+}
+
+/// Runs the words where one file holds these bytes.
+pub(crate) fn run_over(
     rt: &impl Abort,
     alloc: Global,
     words: &[&str],
-    text: &str,
+    file: (&str, &[u8]),
     failing: Failing<'_>,
 ) -> Result<Ran, Fail> {
     let mut files = MemFiles::make(alloc, PIECE, failing.files)?;
-    files.put_file("t", text.as_bytes())?;
+    files.put_file(file.0, file.1)?;
     let mut out = MemSink::make(alloc, PIECE, failing.out)?;
     let mut err = MemSink::make(alloc, PIECE, failing.err)?;
     let owned = owned_words(alloc, words)?;
@@ -90,7 +99,19 @@ fn run(
         status,
         out: text_of(alloc, out.bytes())?,
         err: text_of(alloc, err.bytes())?,
+        log: copy_of(alloc, &files, "l")?,
     })
+}
+
+/// Runs the words where the file `t` holds the text.
+pub(crate) fn run(
+    rt: &impl Abort,
+    alloc: Global,
+    words: &[&str],
+    text: &str,
+    failing: Failing<'_>,
+) -> Result<Ran, Fail> {
+    run_over(rt, alloc, words, ("t", text.as_bytes()), failing)
 }
 
 /// Asserts that the text is a trace with these lines, or that it is refused.
@@ -132,7 +153,7 @@ fn prints_the_line_of_a_call(rt: HostRuntime) -> Result<(), Fail> {
 
 #[test]
 fn lists_the_forms_of_its_words(rt: HostRuntime) -> Result<(), Fail> {
-    let table: [&[&str]; 11] = [
+    let table: [&[&str]; 17] = [
         &[],
         &[""],
         &["direct"],
@@ -143,7 +164,13 @@ fn lists_the_forms_of_its_words(rt: HostRuntime) -> Result<(), Fail> {
         &["Direct", "t"],
         &["t"],
         &["replay", "t"],
-        &["replay", "t", "l"],
+        &["replay", "t", "t"],
+        &["replay", "t", "-l"],
+        &["replay", "", "l"],
+        &["replay", "t", "l", "m"],
+        &["decompress"],
+        &["decompress", "-t"],
+        &["decompress", "t", "l"],
     ];
     for words in table {
         let ran = run(&rt, rt.alloc(), words, TRACE, NONE)?;
@@ -218,7 +245,11 @@ fn a_failed_word_of_an_error_changes_no_status(rt: HostRuntime) -> Result<(), Fa
 }
 
 /// A trace of so many messages, and so many calls of the first.
-fn counted_trace(alloc: Global, messages: u32, calls: u32) -> Result<String, AllocError> {
+pub(crate) fn counted_trace(
+    alloc: Global,
+    messages: u32,
+    calls: u32,
+) -> Result<String, AllocError> {
     let mut text = String::from_str(alloc, "nanolog-trace 1\n")?;
     for id in 0..messages {
         writeln!(text, "message {id} NOTICE {id} \"srv.cc\" \"x=%d\"")?;
@@ -232,7 +263,7 @@ fn counted_trace(alloc: Global, messages: u32, calls: u32) -> Result<String, All
 }
 
 /// The lines of so many calls.
-fn counted_lines(alloc: Global, calls: u32) -> Result<String, AllocError> {
+pub(crate) fn counted_lines(alloc: Global, calls: u32) -> Result<String, AllocError> {
     let mut lines = String::new(alloc);
     for number in 0..calls {
         writeln!(lines, "1514764800.000000001 srv.cc:0 NOTICE[0]: x={number}")?;
@@ -424,39 +455,4 @@ clock|message 1 NOTICE 13 \"srv.cc\" \"x=%d\";clock|1514764800.000000001 srv.cc:
 clock|message 1 DEBUG 12 \"srv.cc\" \"x=%d\";clock|1514764800.000000001 srv.cc:12 NOTICE[0]: x=7;
 clock|message 0 NOTICE 13 \"srv.cc\" \"x=%d\";clock",
     )
-}
-
-/// With memory enough this is the first row. It has its point in runs that refuse memory.
-#[test]
-fn refused_memory_is_told(rt: HostRuntime) -> Result<(), Fail> {
-    let alloc = rt.alloc();
-    let Ok(mut files) = MemFiles::make(alloc, PIECE, &[]) else {
-        return Ok(());
-    };
-    let Ok(mut out) = MemSink::make(alloc, PIECE, &[]) else {
-        return Ok(());
-    };
-    let Ok(mut err) = MemSink::make(alloc, PIECE, &[]) else {
-        return Ok(());
-    };
-    let Ok(words) = owned_words(alloc, &["direct", "t"]) else {
-        return Ok(());
-    };
-    if files.put_file("t", TRACE.as_bytes()).is_err() {
-        return Ok(());
-    }
-    let status = quick(alloc, &words, &mut files, &mut out, &mut err);
-    if err.starved() == 0 {
-        match status {
-            Status::Done => assert_eq!(&rt; out.bytes(), LINE.as_bytes()),
-            Status::NoMemory => assert_eq!(&rt;
-                err.bytes(),
-                b"nanolog: want of memory\n".as_slice()
-            ),
-            Status::ReadFault => assert_eq!(&rt; files.starved(), 1),
-            Status::WriteFault => assert_eq!(&rt; out.starved(), 1),
-            _ => assert!(&rt; false, "{status:?}"),
-        }
-    }
-    Ok(())
 }

@@ -1,0 +1,290 @@
+-- The bytes of a run's log, and what they are.
+use Rattle.std.proofs.Common.{◌≡◌, ℕ, zero, suc, ◌+◌, ◌<◌, ◌≤◌, true, false, List, [], ◌∷◌, ◌++◌, length, map, take, drop, get_or, Some, inl, refl, sym, ap, subst, ◌∙◌, append_assoc, arith}
+use Rattle.std.specs.Prelude.{slice_get, IsTrue}
+use Rattle.std.specs.List.{flat_map, filter_map, enumerate_from, range_with_len, AllByRecursion, cons_option}
+use Rattle.std.proofs.lemmas.List.{append-nil, take-append-drop, length-append, length-take, length-take-le, length-map, get_or-take}
+use Rattle.std.proofs.lemmas.Option.{slice_get_within}
+use Rattle.log_dictionary.specs.declared.message.Message.{Message}
+use Rattle.log_dictionary.specs.Messages.{SameMessage, AreDistinct}
+use Rattle.buffer_extent.specs.declared.record.LogRecord.{LogRecord}
+use Rattle.buffer_extent.specs.Bodies.{IsRecord, SpellsRecords, NeverFalls}
+use Rattle.checkpoint_io.specs.Blocks.{Block, Fragment, Extent, Close, messages_of, SpellsBlocks, FileOf, header_bytes, fragment_head_bytes, extent_head_bytes, close_bytes}
+use Rattle.checkpoint_io.specs.Validity.{records_of, IsClosed, IsHeader, Valid}
+use Rattle.checkpoint_io.specs.Logs.{ids_used, LogOf, IsLaidOut, ends, extent, close}
+use Rattle.direct_printf.specs.Lines.{Direct}
+use Rattle.trace_text.specs.declared.call.Call.{Call}
+use Rattle.trace_text.specs.Recordings.{Recording, IsRecording, IsCall, log_call, writer_calls, calls_of, NeverFalls as CallsNeverFall}
+use Rattle.decompressor.specs.Decompression.{call_of_record, CallsOf, all_calls, Decompressed}
+use Rattle.decompressor.proofs.DecompressionLaws.{whole_is_text}
+use Rattle.nanolog_cli.specs.NarrowTraces.{IsNarrowRun}
+use Rattle.nanolog_cli.specs.NarrowLogs.{narrow_header}
+use Rattle.nanolog_cli.specs.Texts.{record_of, direct_text}
+use Rattle.nanolog_cli.specs.Replays.{taken_of, LogOfRun}
+use Rattle.nanolog_cli.specs.Appending.{FragmentAndExtent, AppendsCalls}
+use Rattle.nanolog_cli.proofs.LineLemmas.{single}
+
+-- ---- the messages that are used
+
+-- the first messages have the ids that they had
+pub used_same : {A : Type 0} (n : ℕ) (items : List A) (i : ℕ) → i < n → slice_get (take n items) i ≡ slice_get items i
+used_same zero items i within = absurd (omega (arith, within))
+used_same (suc n) [] i within = refl
+used_same (suc n) (x ∷ items) zero within = refl
+used_same (suc n) (x ∷ items) (suc i) within = used_same n items i (omega (arith, within))
+
+first_used : (entry : LogRecord) (entries : List LogRecord) (used : ℕ) → ids_used (entry ∷ entries) ≤ used → entry.id < used
+first_used entry entries used h = grind arith
+
+others_used : (entry : LogRecord) (entries : List LogRecord) (used : ℕ) → ids_used (entry ∷ entries) ≤ used → ids_used entries ≤ used
+others_used entry entries used h = grind arith
+
+-- the records are spelled as they are with all the messages
+pub spelled_with_used : (messages : List Message) (used before : ℕ) (entries : List LogRecord) (bytes : List ℕ) → ids_used entries ≤ used → SpellsRecords messages before entries bytes
+    → SpellsRecords (take used messages) before entries bytes
+spelled_with_used messages used before [] bytes h spelled = spelled
+spelled_with_used messages used before (entry ∷ entries) bytes h (front, back, joined, is, others) = (
+  front,
+  back,
+  joined,
+  record { message = is.message; known = used_same used messages entry.id (first_used entry entries used h) ∙ is.known; spelled = is.spelled },
+  spelled_with_used messages used entry.stamp entries back (others_used entry entries used h) others,
+)
+
+-- the calls, as records, name them
+pub records_right : (messages : List Message) (used : ℕ) (calls : List Call) → ids_used (map record_of calls) ≤ used → AllByRecursion (IsCall messages) calls → AllByRecursion (IsRecord (take used messages)) (map record_of calls)
+records_right messages used [] h named = tt
+records_right messages used (call ∷ calls) h (is, named) = (
+  record { message = is.message; known = used_same used messages call.id (first_used (record_of call) (map record_of calls) used h) ∙ is.known; fits = is.fits; short = is.short },
+  records_right messages used calls (others_used (record_of call) (map record_of calls) used h) named,
+)
+
+pub records_rise : (least : ℕ) (calls : List Call) → CallsNeverFall least calls → NeverFalls least (map record_of calls)
+records_rise least [] later = tt
+records_rise least (call ∷ calls) (is, later) = (is, records_rise call.stamp calls later)
+
+-- and say the same with them
+pub calls_with_used : (messages : List Message) (used n : ℕ) (calls : List Call) → ids_used (map record_of calls) ≤ used
+    → filter_map (log_call (take used messages) 0) (enumerate_from n calls) ≡ filter_map (log_call messages 0) (enumerate_from n calls)
+calls_with_used messages used n [] h = refl
+calls_with_used messages used n (call ∷ calls) h =
+    rw (used_same used messages call.id (first_used (record_of call) (map record_of calls) used h))
+    (ap (cons_option (log_call messages 0 (n, call))) (calls_with_used messages used (n + 1) calls (others_used (record_of call) (map record_of calls) used h)))
+
+-- no id is used that isn't a message's
+pub ids_known : (messages : List Message) (calls : List Call) → AllByRecursion (IsCall messages) calls → ids_used (map record_of calls) ≤ length messages
+ids_known messages [] named = omega arith
+ids_known messages (call ∷ calls) (is, named) =
+    let here = slice_get_within messages call.id is.message is.known in
+    let others = ids_known messages calls named in
+    grind arith
+
+-- the first of distinct messages are distinct
+pub distinct_used : (messages : List Message) (used : ℕ) → AreDistinct messages → AreDistinct (take used messages)
+distinct_used messages used distinct = λ i j d before within.
+    let here : j < used = omega (arith, within, length-take used messages) in
+    let there : j < length messages = omega (arith, within, length-take used messages) in
+    subst (λ (a : Message). ¬ (SameMessage a (get_or (take used messages) j d))) (sym (get_or-take used messages i d (omega (arith, before, here))))
+    (subst (λ (b : Message). ¬ (SameMessage (get_or messages i d) b)) (sym (get_or-take used messages j d here)) (distinct i j d before there))
+
+-- ---- bytes
+
+pub body_some : (messages : List Message) (before : ℕ) (entries : List LogRecord) (body : List ℕ) → 1 ≤ length entries → SpellsRecords messages before entries body → 1 ≤ length body
+body_some messages before [] body some spelled = absurd (omega (arith, some))
+body_some messages before (entry ∷ entries) body some (front, back, joined, is, others) =
+    omega (arith, ap length joined, length-append front back, ap length is.spelled.joined)
+
+pub ids_some : (calls : List Call) → 1 ≤ length calls → 1 ≤ ids_used (map record_of calls)
+ids_some [] some = absurd (omega (arith, some))
+ids_some (call ∷ calls) some = grind arith
+
+joined_parts : (a b c d e f : List ℕ) → a ++ b ++ c ++ d ++ e ++ f ≡ a ++ ((b ++ c) ++ ((d ++ e) ++ f))
+joined_parts a b c d e f =
+    ap (λ (l : List ℕ). l ++ f) (append_assoc (a ++ b ++ c) d e)
+    ∙ append_assoc (a ++ b ++ c) (d ++ e) f
+    ∙ ap (λ (l : List ℕ). l ++ ((d ++ e) ++ f)) (append_assoc a b c)
+    ∙ append_assoc a (b ++ c) ((d ++ e) ++ f)
+
+-- ---- the log of a run
+
+only_closed : (blocks : List Block) (n writer : ℕ) → n ≡ 1 → IsClosed 0 blocks → writer < n → IsClosed writer blocks
+only_closed blocks n zero one closed within = closed
+only_closed blocks n (suc writer) one closed within = absurd (omega (arith, one, within))
+
+-- blocks that are right, are laid out, and have the messages that are used and the records of the calls
+record IsLogOfCalls (run : Recording) (calls : List Call) (blocks : List Block) (bytes : List ℕ) : Type 0 where
+  file : FileOf (narrow_header run.clock) blocks bytes
+  valid : Valid (narrow_header run.clock) blocks
+  messages : messages_of blocks ≡ take (ids_used (map record_of calls)) run.dictionary
+  records : records_of 0 blocks ≡ map record_of calls
+  closed : IsClosed 0 blocks
+  laid_out : IsLaidOut run.dictionary 4096 [] blocks
+
+blocks_calls : (messages : List Message) (n : ℕ) (calls : List Call) → filter_map (call_of_record messages 0) (enumerate_from n (map record_of calls)) ≡ filter_map (log_call messages 0) (enumerate_from n calls)
+blocks_calls messages n [] = refl
+blocks_calls messages n (call ∷ calls) = ap (cons_option (log_call messages 0 (n, call))) (blocks_calls messages (n + 1) calls)
+
+text_of_blocks : (run : Recording) (calls : List Call) (blocks : List Block) (bytes : List ℕ) → run.writers ≡ calls ∷ [] → IsLogOfCalls run calls blocks bytes
+    → Direct run.clock (all_calls (narrow_header run.clock) blocks) ≡ direct_text run
+text_of_blocks run calls blocks bytes one log =
+    let used = ids_used (map record_of calls) in
+    let of_blocks : all_calls (narrow_header run.clock) blocks ≡ writer_calls run.dictionary (0, calls) =
+    append-nil (CallsOf blocks 0)
+    ∙ (λ i. filter_map (call_of_record (log.messages i) 0) (enumerate_from 0 (log.records i)))
+    ∙ blocks_calls (take used run.dictionary) 0 calls
+    ∙ calls_with_used run.dictionary used 0 calls (omega arith) in
+    let of_run : calls_of run ≡ writer_calls run.dictionary (0, calls) =
+    ap (λ (ws : List (List Call)). flat_map (writer_calls run.dictionary) (enumerate_from 0 ws)) one ∙ append-nil (writer_calls run.dictionary (0, calls)) in
+    ap (Direct run.clock) (of_blocks ∙ sym of_run)
+
+log_of_calls : (run : Recording) (calls : List Call) (blocks : List Block) (bytes : List ℕ) → run.writers ≡ calls ∷ [] → IsLogOfCalls run calls blocks bytes → LogOfRun run bytes
+log_of_calls run calls blocks bytes one log =
+    let used = ids_used (map record_of calls) in
+    let taken : taken_of run ≡ map record_of calls ∷ [] = ap (map (map record_of)) one in
+    let lawful : LogOf bytes (taken_of run) run.dictionary run.clock 4096 = record {
+      header = narrow_header run.clock;
+      blocks = blocks;
+      file = log.file;
+      valid = log.valid;
+      clock_is = refl;
+      writers_are = sym (ap length taken);
+      undefined = drop used run.dictionary;
+      messages_are = sym (take-append-drop used run.dictionary) ∙ ap (λ (ms : List Message). ms ++ drop used run.dictionary) (sym log.messages);
+      records_are = taken ∙ ap (λ (rs : List LogRecord). rs ∷ []) (sym log.records) ∙ ap (λ (n : ℕ). map (λ writer. records_of writer blocks) (range_with_len 0 n)) (sym (ap length taken));
+      laid_out = log.laid_out;
+    } in
+    record {
+      lawful = lawful;
+      closed = λ writer within. only_closed blocks (length run.writers) writer (ap length one) log.closed within;
+      text_same = subst (Decompressed bytes) (text_of_blocks run calls blocks bytes one log) (whole_is_text (narrow_header run.clock) blocks bytes log.file log.valid);
+    }
+
+header_right : (run : Recording) → IsNarrowRun run → IsRecording run → IsHeader (narrow_header run.clock)
+header_right run narrow recorded = record {
+  some_writer = omega arith;
+  few_writers = omega arith;
+  tick_fits = narrow.clock_fits.tick;
+  nanos_fits = narrow.clock_fits.nanos;
+  rate_fits = narrow.clock_fits.rate;
+  rate = recorded.rate;
+}
+
+unclosed : {P : Type 0} → false ≡ true → P
+unclosed e = absurd cc
+
+-- a run without calls: a header and a close mark
+empty_log : (run : Recording) (bytes : List ℕ) → IsNarrowRun run → IsRecording run → run.writers ≡ [] ∷ [] → bytes ≡ header_bytes (narrow_header run.clock) ++ close_bytes 0 → LogOfRun run bytes
+empty_log run bytes narrow recorded one is = log_of_calls run [] (Close 0 ∷ []) bytes one (record {
+  file = record { block_bytes = close_bytes 0; spelled = (close_bytes 0, [], refl, record { writer_fits = omega arith; joined = refl }, refl); joined = is };
+  valid = record { header_right = header_right run narrow recorded; blocks_right = (record { known = omega arith; unclosed = unclosed }, tt) };
+  messages = refl;
+  records = refl;
+  closed = refl;
+  laid_out = close [] 0 [] (ends (Close 0 ∷ []));
+})
+
+-- a run with calls: a header, a fragment, an extent and a close mark
+full_log : (run : Recording) (calls : List Call) (after bytes : List ℕ) → IsNarrowRun run → IsRecording run → run.writers ≡ calls ∷ [] → 1 ≤ length calls
+    → FragmentAndExtent run.dictionary run.clock.tick calls (header_bytes (narrow_header run.clock)) after → bytes ≡ after ++ close_bytes 0 → LogOfRun run bytes
+full_log run calls after bytes narrow recorded one some parts closed_by =
+    let used = ids_used (map record_of calls) in
+    let messages = take used run.dictionary in
+    let entries = map record_of calls in
+    let tick = run.clock.tick in
+    let fragment = Fragment 0 messages in
+    let extent_block = Extent 0 entries in
+    let named : AllByRecursion (IsCall run.dictionary) calls = (subst (AllByRecursion (AllByRecursion (IsCall run.dictionary))) one recorded.calls).0 in
+    let later : CallsNeverFall tick calls = (subst (AllByRecursion (CallsNeverFall tick)) one recorded.stamps).0 in
+    let few : length calls ≤ 128 = (subst (AllByRecursion (λ cs. length cs ≤ 128)) one narrow.few_calls).0 in
+    let known = ids_known run.dictionary calls named in
+    let count : length messages ≡ used = length-take-le used run.dictionary known in
+    let some_id = ids_some calls some in
+    let all_there : messages_of (fragment ∷ []) ≡ messages = append-nil messages in
+    let narrow_messages = narrow.few_messages in
+    let spelled : SpellsBlocks tick [] (fragment ∷ extent_block ∷ Close 0 ∷ []) ((fragment_head_bytes 0 used ++ parts.entries) ++ ((extent_head_bytes 0 (length parts.body) ++ parts.body) ++ close_bytes 0)) = (
+      fragment_head_bytes 0 used ++ parts.entries,
+      (extent_head_bytes 0 (length parts.body) ++ parts.body) ++ close_bytes 0,
+      refl,
+      record {
+        entries = parts.entries;
+        some = omega (arith, count, some_id);
+        few = omega (arith, count, known, narrow_messages);
+        first_fits = omega arith;
+        entries_spelled = parts.entries_spelled;
+        joined = ap (λ (n : ℕ). fragment_head_bytes 0 n ++ parts.entries) (sym count);
+      },
+      (
+        extent_head_bytes 0 (length parts.body) ++ parts.body,
+        close_bytes 0,
+        refl,
+        record {
+          body = parts.body;
+          some = body_some run.dictionary tick entries parts.body (omega (arith, some, length-map calls record_of)) parts.body_spelled;
+          short = parts.short;
+          writer_fits = omega arith;
+          body_spelled = subst (λ (ms : List Message). SpellsRecords ms tick entries parts.body) (sym all_there) (spelled_with_used run.dictionary used tick entries parts.body (omega arith) parts.body_spelled);
+          joined = refl;
+        },
+        (close_bytes 0, [], refl, record { writer_fits = omega arith; joined = refl }, refl),
+      ),
+    ) in
+    log_of_calls run calls (fragment ∷ extent_block ∷ Close 0 ∷ []) bytes one (record {
+      file = record {
+        block_bytes = (fragment_head_bytes 0 used ++ parts.entries) ++ ((extent_head_bytes 0 (length parts.body) ++ parts.body) ++ close_bytes 0);
+        spelled = spelled;
+        joined = closed_by ∙ ap (λ (b : List ℕ). b ++ close_bytes 0) parts.joined ∙ joined_parts (header_bytes (narrow_header run.clock)) (fragment_head_bytes 0 used) parts.entries (extent_head_bytes 0 (length parts.body)) parts.body (close_bytes 0);
+      };
+      valid = record {
+        header_right = header_right run narrow recorded;
+        blocks_right = (
+          record { next = refl; distinct = distinct_used run.dictionary used narrow.distinct; few = omega (arith, count, known, narrow_messages) },
+          (
+            record {
+              writer_open = record { known = omega arith; unclosed = unclosed };
+              right = subst (λ (ms : List Message). AllByRecursion (IsRecord ms) entries) (sym all_there) (records_right run.dictionary used calls (omega arith) named);
+              rising = records_rise tick calls later;
+            },
+            (record { known = omega arith; unclosed = unclosed }, tt),
+          ),
+        );
+      };
+      messages = append-nil messages;
+      records = append-nil entries;
+      closed = refl;
+      laid_out = extent [] (fragment ∷ []) 0 entries (Close 0 ∷ []) ([], refl, sym (append-nil messages), inl refl, refl) (omega (arith, few, length-map calls record_of)) (close (fragment ∷ extent_block ∷ []) 0 [] (ends (fragment ∷ extent_block ∷ Close 0 ∷ [])));
+    })
+
+log_of : (run : Recording) (calls : List Call) (after bytes : List ℕ) → IsNarrowRun run → IsRecording run → run.writers ≡ calls ∷ []
+    → AppendsCalls run.dictionary run.clock.tick calls (header_bytes (narrow_header run.clock)) after → bytes ≡ after ++ close_bytes 0 → LogOfRun run bytes
+log_of run [] after bytes narrow recorded one appended is = empty_log run bytes narrow recorded one (is ∙ ap (λ (b : List ℕ). b ++ close_bytes 0) appended)
+log_of run (call ∷ calls) after bytes narrow recorded one parts is = full_log run (call ∷ calls) after bytes narrow recorded one (omega arith) parts is
+
+-- what was appended is the log of the run
+pub whole_log : (seen run : Recording) (calls : List Call) (empty head after bytes : List ℕ) → seen ≡ run → IsNarrowRun run → IsRecording seen → Some calls ≡ slice_get seen.writers 0
+    → empty ≡ [] → head ≡ empty ++ header_bytes (narrow_header seen.clock) → AppendsCalls seen.dictionary seen.clock.tick calls head after → bytes ≡ after ++ close_bytes 0 → LogOfRun run bytes
+whole_log seen run calls empty head after bytes same narrow recorded first nothing headed appended is =
+    let narrow_too = subst IsNarrowRun (sym same) narrow in
+    let one = single seen.writers calls narrow_too.one_writer first in
+    subst (λ (r : Recording). LogOfRun r bytes) same
+    (log_of seen calls after bytes narrow_too recorded one (subst (λ (h : List ℕ). AppendsCalls seen.dictionary seen.clock.tick calls h after) (headed ∙ ap (λ (e : List ℕ). e ++ header_bytes (narrow_header seen.clock)) nothing) appended) is)
+
+-- ---- what is asked of the parts
+
+pub some_records : (calls : List Call) → 1 ≤ length calls → 1 ≤ length (map record_of calls)
+some_records calls some = omega (arith, some, length-map calls record_of)
+
+pub some_calls : (calls : List Call) → (calls ≡ [] → IsTrue false) → 1 ≤ length calls
+some_calls [] some = let e = some refl in absurd cc
+some_calls (call ∷ calls) some = omega arith
+
+pub run_named : (seen run : Recording) (calls : List Call) → seen ≡ run → IsNarrowRun run → IsRecording seen → Some calls ≡ slice_get seen.writers 0 → AllByRecursion (IsCall seen.dictionary) calls
+run_named seen run calls same narrow recorded first =
+    (subst (AllByRecursion (AllByRecursion (IsCall seen.dictionary))) (single seen.writers calls (subst IsNarrowRun (sym same) narrow).one_writer first) recorded.calls).0
+
+pub run_later : (seen run : Recording) (calls : List Call) → seen ≡ run → IsNarrowRun run → IsRecording seen → Some calls ≡ slice_get seen.writers 0 → CallsNeverFall seen.clock.tick calls
+run_later seen run calls same narrow recorded first =
+    (subst (AllByRecursion (CallsNeverFall seen.clock.tick)) (single seen.writers calls (subst IsNarrowRun (sym same) narrow).one_writer first) recorded.stamps).0
+
+pub run_few : (seen run : Recording) (calls : List Call) → seen ≡ run → IsNarrowRun run → Some calls ≡ slice_get seen.writers 0 → length calls ≤ 128
+run_few seen run calls same narrow first =
+    let narrow_too = subst IsNarrowRun (sym same) narrow in
+    (subst (AllByRecursion (λ cs. length cs ≤ 128)) (single seen.writers calls narrow_too.one_writer first) narrow_too.few_calls).0

@@ -1,0 +1,34 @@
+-- The log of a run, and what `replay` prints.
+use Rattle.std.specs.Prelude.{◌≡◌, ◌≢◌, ℕ, ◌<◌, ◌≤◌, List, ◌++◌, length, map, sum_by, codes, is_some}
+use Rattle.std.specs.Fmt.{decimal}
+use Rattle.nl_io.specs.Desk.{Desk, found_in}
+use Rattle.trace_text.specs.Recordings.{Recording}
+use Rattle.buffer_extent.specs.declared.record.LogRecord.{LogRecord}
+use Rattle.checkpoint_io.specs.Validity.{IsClosed}
+use Rattle.checkpoint_io.specs.Logs.{LogOf}
+use Rattle.decompressor.specs.Decompression.{Decompressed}
+use Rattle.nanolog_cli.specs.Texts.{direct_text, record_of}
+
+-- the records of the calls of each writer
+abbrev pub taken_of : Recording → List (List LogRecord)
+taken_of run = map (map record_of) run.writers
+
+-- The bytes are the log of all calls of the run, in extents of at most 4,096 records, with a close mark of each writer. They decompress to the
+-- lines of these calls.
+pub record LogOfRun (run : Recording) (bytes : List ℕ) : Type 0 where
+  pub lawful : LogOf bytes (taken_of run) run.dictionary run.clock 4096
+  pub closed : (writer : ℕ) → writer < length run.writers → IsClosed writer lawful.blocks
+  pub text_same : Decompressed bytes (direct_text run)
+
+-- what `replay` prints where no call was dropped
+abbrev pub accepted_text : Recording → List ℕ
+accepted_text run = codes "accepted " ++ decimal (sum_by length run.writers) ++ codes " dropped 0 filtered 0\n"
+
+-- Of all names only this one may hold other bytes than before. No count fell, and no file was left open.
+pub record OnlyLog (name : List ℕ) (old new : Desk) : Type 0 where
+  pub told : is_some new.held ≡ is_some old.held
+  pub held : (other : List ℕ) → other ≢ name → found_in new other ≡ found_in old other
+  pub left : new.left ≡ old.left
+  pub made : new.made ≡ old.made
+  pub read_faults : old.read_faults ≤ new.read_faults
+  pub write_faults : old.write_faults ≤ new.write_faults

@@ -1,0 +1,312 @@
+//! Whole runs of the commands that write and read logs.
+
+use super::*;
+use crate::tests::{
+    Failing, LINE, NONE, PIECE, TRACE, counted_lines, counted_trace, owned_words, run, run_over,
+};
+use nl_io::{MemFiles, MemSink};
+use std::alloc::Global;
+use std::process::Abort;
+use std::test::Fail;
+
+const ACCEPTED: &str = "accepted 1 dropped 0 filtered 0\n";
+
+const REFUSED_LOG: &str = "nanolog: l:0: refused: 99 NotYet\n";
+
+/// The log of [`TRACE`], a line for each part: the magic, the version and the number of writers; the clock; a fragment with
+/// its message; an extent with its record; and the close mark.
+const LOG: &str = "4e 4c 4f 47 01 01
+e8 03 00 00 00 00 00 00 00 00 44 5e 8f 86 05 15 00 94 35 77 00 00 00 00
+01 00 00 00 00 01 00 03 0c 00 00 00 06 00 73 72 76 2e 63 63 04 00 78 3d 25 64
+02 00 04 00 00 00 10 03 01 07
+04 00";
+
+/// The log of [`TRACE`] without its call.
+const EMPTY_LOG: &str = "4e 4c 4f 47 01 01
+e8 03 00 00 00 00 00 00 00 00 44 5e 8f 86 05 15 00 94 35 77 00 00 00 00
+04 00";
+
+/// The bytes that are written in hexadecimal digits.
+fn bytes_of(alloc: Global, text: &str) -> Result<Vec<u8>, Fail> {
+    let mut bytes = Vec::new(alloc);
+    for field in text.split_whitespace() {
+        bytes.push(u8::from_str_radix(field, 16)?)?;
+    }
+    Ok(bytes)
+}
+
+#[test]
+fn writes_the_log_of_a_call(rt: HostRuntime) -> Result<(), Fail> {
+    let ran = run(&rt, rt.alloc(), &["replay", "t", "l"], TRACE, NONE)?;
+    assert_eq!(rt; ran.shown(), (Status::Done, ACCEPTED, ""));
+    let log = bytes_of(rt.alloc(), LOG)?;
+    assert_eq!(rt; log.len(), 68);
+    assert_eq!(rt; ran.log.as_deref(), Some(log.as_slice()));
+    let ran = run_over(&rt, rt.alloc(), &["decompress", "l"], ("l", &log), NONE)?;
+    assert_eq!(rt; ran.shown(), (Status::Done, LINE, ""));
+    Ok(())
+}
+
+#[test]
+fn a_run_without_calls_has_no_fragment(rt: HostRuntime) -> Result<(), Fail> {
+    let text = TRACE.replacen(rt.alloc(), "call 0 1003 0 7\n", "", 1)?;
+    let ran = run(&rt, rt.alloc(), &["replay", "t", "l"], text.as_str(), NONE)?;
+    let accepted = "accepted 0 dropped 0 filtered 0\n";
+    assert_eq!(rt; ran.shown(), (Status::Done, accepted, ""));
+    let log = bytes_of(rt.alloc(), EMPTY_LOG)?;
+    assert_eq!(rt; log.len(), 32);
+    assert_eq!(rt; ran.log.as_deref(), Some(log.as_slice()));
+    let ran = run_over(&rt, rt.alloc(), &["decompress", "l"], ("l", &log), NONE)?;
+    assert_eq!(rt; ran.shown(), (Status::Done, "", ""));
+    Ok(())
+}
+
+/// Asserts that a command over one file prints these lines.
+fn expect_lines(
+    rt: &impl Abort,
+    alloc: Global,
+    words: &[&str],
+    file: (&str, &[u8]),
+    lines: &str,
+) -> Result<(), Fail> {
+    let ran = run_over(rt, alloc, words, file, NONE)?;
+    let (status, out, err) = ran.shown();
+    assert_eq!(rt; (status, err), (Status::Done, ""));
+    assert!(rt; out == lines, "{out}");
+    Ok(())
+}
+
+/// The log of a trace.
+fn log_of(rt: &impl Abort, alloc: Global, text: &str) -> Result<Vec<u8>, Fail> {
+    let ran = run(rt, alloc, &["replay", "t", "l"], text, NONE)?;
+    assert_eq!(rt; ran.status, Status::Done);
+    Ok(ran.log.as_deref().unwrap_or(&[]).to_vec(alloc)?)
+}
+
+/// Asserts that the trace's log decompresses to the lines, which `direct` prints too.
+fn expect_same_lines(rt: &impl Abort, alloc: Global, text: &str, lines: &str) -> Result<(), Fail> {
+    expect_lines(rt, alloc, &["direct", "t"], ("t", text.as_bytes()), lines)?;
+    let log = log_of(rt, alloc, text)?;
+    expect_lines(
+        rt,
+        alloc,
+        &["decompress", "l"],
+        ("l", log.as_slice()),
+        lines,
+    )
+}
+
+#[test]
+fn the_largest_trace_goes_through_and_back(rt: HostRuntime) -> Result<(), Fail> {
+    for (messages, calls) in [(0, 0), (1, 1), (16, 128)] {
+        let text = counted_trace(rt.alloc(), messages, calls)?;
+        let lines = counted_lines(rt.alloc(), calls)?;
+        expect_same_lines(&rt, rt.alloc(), text.as_str(), lines.as_str())?;
+    }
+    Ok(())
+}
+
+#[test]
+fn only_messages_up_to_the_last_used_are_kept(rt: HostRuntime) -> Result<(), Fail> {
+    let more = "clock";
+    let text = TRACE.replacen(
+        rt.alloc(),
+        more,
+        "message 1 DEBUG 13 \"srv.cc\" \"y\"\nclock",
+        1,
+    )?;
+    let ran = run(&rt, rt.alloc(), &["replay", "t", "l"], text.as_str(), NONE)?;
+    let log = bytes_of(rt.alloc(), LOG)?;
+    assert_eq!(rt; ran.log.as_deref(), Some(log.as_slice()));
+    let last = text.as_str().replacen(rt.alloc(), "1003 0 7", "1003 1", 1)?;
+    let line = "1514764800.000000001 srv.cc:13 DEBUG[0]: y\n";
+    expect_same_lines(&rt, rt.alloc(), last.as_str(), line)
+}
+
+#[test]
+fn each_front_of_a_log_is_refused(rt: HostRuntime) -> Result<(), Fail> {
+    let log = bytes_of(rt.alloc(), LOG)?;
+    for len in 0..log.len() {
+        let front = ("l", &log[..len]);
+        let ran = run_over(&rt, rt.alloc(), &["decompress", "l"], front, NONE)?;
+        assert_eq!(rt;
+            ran.shown(),
+            (Status::Refused, "", REFUSED_LOG),
+            "{len} bytes"
+        );
+    }
+    Ok(())
+}
+
+/// How `decompress` of the bytes ends, and what it prints.
+fn decompressed(alloc: Global, words: &[String], log: &[u8]) -> Result<(Status, Vec<u8>), Fail> {
+    let mut files = MemFiles::make(alloc, 4096, &[])?;
+    files.put_file("l", log)?;
+    let mut out = MemSink::make(alloc, 4096, &[])?;
+    let mut err = MemSink::make(alloc, 4096, &[])?;
+    let status = quick(alloc, words, &mut files, &mut out, &mut err);
+    Ok((status, out.bytes().to_vec(alloc)?))
+}
+
+/// How many of the 255 changes of a byte leave a log of today's form.
+fn count_of_logs(
+    rt: &impl Abort,
+    alloc: Global,
+    log: &mut [u8],
+    place: usize,
+) -> Result<u32, Fail> {
+    let words = owned_words(alloc, &["decompress", "l"])?;
+    let mut count = 0u32;
+    for change in 1..=255 {
+        *log.get_mut(place).ok_or("no such byte")? ^= change;
+        let (status, out) = decompressed(alloc, &words, log)?;
+        *log.get_mut(place).ok_or("no such byte")? ^= change;
+        if status == Status::Done {
+            assert!(rt; out.ends_with(b"\n"));
+            count = count.saturating_add(1);
+        } else {
+            assert_eq!(rt; status, Status::Refused);
+            assert!(rt; out.is_empty());
+        }
+    }
+    Ok(count)
+}
+
+#[test]
+fn each_changed_byte_gives_a_log_or_is_refused(rt: HostRuntime) -> Result<(), Fail> {
+    let mut log = bytes_of(rt.alloc(), LOG)?;
+    // The first and the last place of a part, and how many changes of each of its bytes are logs. A severity is one of
+    // four; NUL and `%` can't stand for the first two bytes of the format; a step or a value with a byte isn't 0; and the
+    // code 1 of the value 7 can be the code 10, of -8.
+    for row in "0 5 0
+6 29 255
+30 36 0
+37 37 3
+38 41 255
+42 43 0
+44 49 255
+50 51 0
+52 53 253
+54 62 0
+63 63 254
+64 64 1
+65 65 254
+66 67 0"
+        .lines()
+    {
+        let mut numbers = row.split(' ');
+        let first = numbers.next().ok_or("a short row")?.parse::<usize>()?;
+        let last = numbers.next().ok_or("a short row")?.parse::<usize>()?;
+        let want = numbers.next().ok_or("a short row")?.parse::<u32>()?;
+        for place in first..=last {
+            let count = count_of_logs(&rt, rt.alloc(), &mut log, place)?;
+            assert_eq!(rt; count, want, "byte {place}");
+        }
+    }
+    Ok(())
+}
+
+#[test]
+fn a_refused_trace_creates_no_log(rt: HostRuntime) -> Result<(), Fail> {
+    let told = "nanolog: t:0: refused: 99 NotYet\n";
+    for text in ["", "nanolog-trace 1\n"] {
+        let ran = run(&rt, rt.alloc(), &["replay", "t", "l"], text, NONE)?;
+        assert_eq!(rt; ran.shown(), (Status::Refused, "", told));
+        assert!(rt; ran.log.is_none());
+    }
+    let ran = run(&rt, rt.alloc(), &["replay", "x", "l"], TRACE, NONE)?;
+    assert_eq!(rt; ran.shown(), (Status::Absent, "", "nanolog: x: absent\n"));
+    assert!(rt; ran.log.is_none());
+    let ran = run(&rt, rt.alloc(), &["decompress", "l"], TRACE, NONE)?;
+    assert_eq!(rt; ran.shown(), (Status::Absent, "", "nanolog: l: absent\n"));
+    Ok(())
+}
+
+#[test]
+fn a_failed_call_of_replay_is_told(rt: HostRuntime) -> Result<(), Fail> {
+    let log = bytes_of(rt.alloc(), LOG)?;
+    // One call opens the trace, one takes each piece of it, one finds its end; one creates the log, one puts each piece of
+    // it, and one ends it.
+    let reads = 2 + TRACE.len().div_ceil(PIECE) as u64;
+    let calls = reads + 2 + log.len().div_ceil(PIECE) as u64;
+    for call in 0..=calls {
+        let failing = Failing {
+            files: &[call],
+            ..NONE
+        };
+        let ran = run(&rt, rt.alloc(), &["replay", "t", "l"], TRACE, failing)?;
+        let (want, kept) = if call < reads {
+            ((Status::ReadFault, "", "nanolog: t: read fault\n"), 0)
+        } else if call == calls {
+            ((Status::Done, ACCEPTED, ""), log.len())
+        } else {
+            let kept = ((call - reads).saturating_sub(1) as usize * PIECE).min(log.len());
+            ((Status::WriteFault, "", "nanolog: l: write fault\n"), kept)
+        };
+        assert_eq!(rt; ran.shown(), want, "call {call}");
+        let held = ran.log.as_deref().unwrap_or(&[]);
+        assert_eq!(rt; held, &log[..kept], "call {call}");
+    }
+    Ok(())
+}
+
+#[test]
+fn a_failed_write_of_the_count_leaves_the_log(rt: HostRuntime) -> Result<(), Fail> {
+    let log = bytes_of(rt.alloc(), LOG)?;
+    let failing = Failing { out: &[1], ..NONE };
+    let ran = run(&rt, rt.alloc(), &["replay", "t", "l"], TRACE, failing)?;
+    let told = "nanolog: standard output: write fault\n";
+    assert_eq!(rt; ran.shown(), (Status::WriteFault, "accepted 1 dropp", told));
+    assert_eq!(rt; ran.log.as_deref(), Some(log.as_slice()));
+    let file = ("l", log.as_slice());
+    let ran = run_over(&rt, rt.alloc(), &["decompress", "l"], file, failing)?;
+    assert_eq!(rt; ran.shown(), (Status::WriteFault, "1514764800.00000", told));
+    Ok(())
+}
+
+/// Runs the words where the file `t` holds [`TRACE`] and `l` holds the log. Where memory is wanting that is told, and else
+/// the text is printed.
+fn expect_told_or_done(
+    rt: &impl Abort,
+    alloc: Global,
+    words: &[&str],
+    log: &[u8],
+    text: &str,
+) -> Result<(), Fail> {
+    let mut files = MemFiles::make(alloc, PIECE, &[])?;
+    let mut out = MemSink::make(alloc, PIECE, &[])?;
+    let mut err = MemSink::make(alloc, PIECE, &[])?;
+    let words = owned_words(alloc, words)?;
+    files.put_file("t", TRACE.as_bytes())?;
+    files.put_file("l", log)?;
+    let status = quick(alloc, &words, &mut files, &mut out, &mut err);
+    if err.starved() > 0 {
+        return Ok(());
+    }
+    match status {
+        Status::Done => assert_eq!(rt; out.bytes(), text.as_bytes()),
+        Status::NoMemory => assert_eq!(rt; err.bytes(), b"nanolog: want of memory\n".as_slice()),
+        Status::ReadFault => assert_eq!(rt; files.starved(), 1),
+        Status::WriteFault => assert!(rt; files.starved() == 1 || out.starved() == 1),
+        _ => assert!(rt; false, "{status:?}"),
+    }
+    Ok(())
+}
+
+/// With memory enough each command is done. These tests have their point in runs that refuse memory, in which what they
+/// set up may fail.
+#[test]
+fn direct_tells_of_refused_memory(rt: HostRuntime) -> Result<(), Fail> {
+    expect_told_or_done(&rt, rt.alloc(), &["direct", "t"], &[], LINE)
+}
+
+#[test]
+fn replay_tells_of_refused_memory(rt: HostRuntime) -> Result<(), Fail> {
+    expect_told_or_done(&rt, rt.alloc(), &["replay", "t", "l"], &[], ACCEPTED)
+}
+
+#[test]
+fn decompress_tells_of_refused_memory(rt: HostRuntime) -> Result<(), Fail> {
+    let log = bytes_of(rt.alloc(), LOG)?;
+    expect_told_or_done(&rt, rt.alloc(), &["decompress", "l"], &log, LINE)
+}
