@@ -61,7 +61,7 @@ unfolding le_bytes
 eight_read bytes front rest n small long is behind read =
     sym (ap (λ (f : List ℕ). f ++ rest) (le_bytes_8 front n (chunk_long 8 bytes front long is) (small_chunk 8 bytes front small is) read) ∙ chunk_joined 8 bytes front rest is behind)
 
-number_length : (k n : ℕ) → length (le_bytes k n) ≡ k
+pub number_length : (k n : ℕ) → length (le_bytes k n) ≡ k
 unfolding le_bytes
 number_length k n = length-bytes_low_first 0 k n
 

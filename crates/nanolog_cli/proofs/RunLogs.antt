@@ -1,14 +1,19 @@
 -- The bytes of a run's log, and what they are.
-use Rattle.std.proofs.Common.{◌≡◌, ℕ, zero, suc, ◌+◌, ◌<◌, ◌≤◌, true, false, List, [], ◌∷◌, ◌++◌, length, map, take, drop, get_or, Some, inl, refl, sym, ap, subst, ◌∙◌, append_assoc, arith}
+use Rattle.std.proofs.Common.{◌≡◌, ℕ, zero, suc, ◌+◌, ◌*◌, ◌<◌, ◌≤◌, true, false, List, [], ◌∷◌, ◌++◌, length, map, take, drop, get_or, Some, inl, refl, sym, ap, subst, ◌∙◌, append_assoc, arith}
 use Rattle.std.specs.Prelude.{slice_get, IsTrue}
 use Rattle.std.specs.List.{flat_map, filter_map, enumerate_from, range_with_len, AllByRecursion, cons_option}
 use Rattle.std.proofs.lemmas.List.{append-nil, take-append-drop, length-append, length-take, length-take-le, length-map, get_or-take}
+use Rattle.std.specs.Hash.{le_bytes}
 use Rattle.std.proofs.lemmas.Option.{slice_get_within}
+use Rattle.log_dictionary.specs.declared.clock.Clock.{Clock}
+use Rattle.checkpoint_io.specs.declared.header.Header.{Header}
 use Rattle.log_dictionary.specs.declared.message.Message.{Message}
 use Rattle.log_dictionary.specs.Messages.{SameMessage, AreDistinct}
+use Rattle.log_dictionary.specs.BinaryEntries.{raw_of}
+use Rattle.log_dictionary.proofs.BinaryLaws.{raw_length}
 use Rattle.buffer_extent.specs.declared.record.LogRecord.{LogRecord}
 use Rattle.buffer_extent.specs.Bodies.{IsRecord, SpellsRecords, NeverFalls}
-use Rattle.checkpoint_io.specs.Blocks.{Block, Fragment, Extent, Close, messages_of, SpellsBlocks, FileOf, header_bytes, fragment_head_bytes, extent_head_bytes, close_bytes}
+use Rattle.checkpoint_io.specs.Blocks.{Block, Fragment, Extent, Close, messages_of, SpellsEntries, SpellsBlocks, FileOf, header_bytes, fragment_head_bytes, extent_head_bytes, close_bytes}
 use Rattle.checkpoint_io.specs.Validity.{records_of, IsClosed, IsHeader, Valid}
 use Rattle.checkpoint_io.specs.Logs.{ids_used, LogOf, IsLaidOut, ends, extent, close}
 use Rattle.direct_printf.specs.Lines.{Direct}
@@ -16,12 +21,13 @@ use Rattle.trace_text.specs.declared.call.Call.{Call}
 use Rattle.trace_text.specs.Recordings.{Recording, IsRecording, IsCall, log_call, writer_calls, calls_of, NeverFalls as CallsNeverFall}
 use Rattle.decompressor.specs.Decompression.{call_of_record, CallsOf, all_calls, Decompressed}
 use Rattle.decompressor.proofs.DecompressionLaws.{whole_is_text}
-use Rattle.nanolog_cli.specs.NarrowTraces.{IsNarrowRun}
-use Rattle.nanolog_cli.specs.NarrowLogs.{narrow_header}
+use Rattle.nanolog_cli.specs.NarrowTraces.{IsNarrowRun, HasNarrowFormats}
+use Rattle.nanolog_cli.specs.NarrowLogs.{narrow_header, narrow_blocks, IsLog}
 use Rattle.nanolog_cli.specs.Texts.{record_of, direct_text}
 use Rattle.nanolog_cli.specs.Replays.{taken_of, LogOfRun}
 use Rattle.nanolog_cli.specs.Appending.{FragmentAndExtent, AppendsCalls}
 use Rattle.nanolog_cli.proofs.LineLemmas.{single}
+use Rattle.nanolog_cli.proofs.LogParts.{number_length}
 
 -- ---- the messages that are used
 
@@ -118,6 +124,7 @@ record IsLogOfCalls (run : Recording) (calls : List Call) (blocks : List Block) 
   records : records_of 0 blocks ≡ map record_of calls
   closed : IsClosed 0 blocks
   laid_out : IsLaidOut run.dictionary 4096 [] blocks
+  is_read : IsLog bytes
 
 blocks_calls : (messages : List Message) (n : ℕ) (calls : List Call) → filter_map (call_of_record messages 0) (enumerate_from n (map record_of calls)) ≡ filter_map (log_call messages 0) (enumerate_from n calls)
 blocks_calls messages n [] = refl
@@ -155,6 +162,7 @@ log_of_calls run calls blocks bytes one log =
     record {
       lawful = lawful;
       closed = λ writer within. only_closed blocks (length run.writers) writer (ap length one) log.closed within;
+      is_read = log.is_read;
       text_same = subst (Decompressed bytes) (text_of_blocks run calls blocks bytes one log) (whole_is_text (narrow_header run.clock) blocks bytes log.file log.valid);
     }
 
@@ -171,11 +179,79 @@ header_right run narrow recorded = record {
 unclosed : {P : Type 0} → false ≡ true → P
 unclosed e = absurd cc
 
+header_length : (header : Header) → length (header_bytes header) ≡ 30
+header_length header =
+    omega (
+      arith,
+      length-append (le_bytes 8 header.clock.tick ++ le_bytes 8 header.clock.nanos) (le_bytes 8 header.clock.rate),
+      length-append (le_bytes 8 header.clock.tick) (le_bytes 8 header.clock.nanos),
+      number_length 8 header.clock.tick,
+      number_length 8 header.clock.nanos,
+      number_length 8 header.clock.rate,
+    )
+
+entries_length : (messages : List Message) (bytes : List ℕ) → SpellsEntries messages bytes → length bytes ≤ 4359 * length messages
+entries_length [] bytes spelled = omega (arith, ap length spelled)
+entries_length (message ∷ messages) bytes (front, back, joined, is, others) =
+    omega (
+      arith,
+      ap length joined,
+      length-append front back,
+      ap length is.spelled,
+      raw_length (raw_of message),
+      message.file_length.1,
+      is.formed.short,
+      entries_length messages back others,
+    )
+
+narrow_used : (messages : List Message) (used : ℕ) → HasNarrowFormats messages → HasNarrowFormats (take used messages)
+narrow_used messages zero narrow = tt
+narrow_used [] (suc used) narrow = tt
+narrow_used (m ∷ messages) (suc used) narrow = (narrow.0, narrow_used messages used narrow.1)
+
+-- a log with so many bytes of entries and of a body isn't long
+log_length : (clock : Clock) (count : ℕ) (entries body bytes : List ℕ) → bytes ≡ header_bytes (narrow_header clock) ++ ((fragment_head_bytes 0 count ++ entries) ++ ((extent_head_bytes 0 (length body) ++ body) ++ close_bytes 0))
+    → length entries ≤ 69744 → length body ≤ 65536 → length bytes ≤ 134217728
+log_length clock count entries body bytes joined entries_short body_short =
+    omega (
+      arith,
+      entries_short,
+      body_short,
+      ap length joined,
+      header_length (narrow_header clock),
+      length-append (header_bytes (narrow_header clock)) ((fragment_head_bytes 0 count ++ entries) ++ ((extent_head_bytes 0 (length body) ++ body) ++ close_bytes 0)),
+      length-append (fragment_head_bytes 0 count ++ entries) ((extent_head_bytes 0 (length body) ++ body) ++ close_bytes 0),
+      length-append (fragment_head_bytes 0 count) entries,
+      length-append (le_bytes 4 0) (le_bytes 2 count),
+      number_length 4 0,
+      number_length 2 count,
+      length-append (extent_head_bytes 0 (length body) ++ body) (close_bytes 0),
+      length-append (extent_head_bytes 0 (length body)) body,
+      number_length 4 (length body),
+    )
+
+-- the blocks of a log with messages and records
+some_blocks : (messages : List Message) (entries : List LogRecord) → 1 ≤ length messages → 1 ≤ length entries → narrow_blocks messages entries ≡ Fragment 0 messages ∷ Extent 0 entries ∷ Close 0 ∷ []
+some_blocks [] entries some some_too = absurd (omega (arith, some))
+some_blocks (m ∷ messages) [] some some_too = absurd (omega (arith, some_too))
+some_blocks (m ∷ messages) (e ∷ entries) some some_too = refl
+
 -- a run without calls: a header and a close mark
 empty_log : (run : Recording) (bytes : List ℕ) → IsNarrowRun run → IsRecording run → run.writers ≡ [] ∷ [] → bytes ≡ header_bytes (narrow_header run.clock) ++ close_bytes 0 → LogOfRun run bytes
-empty_log run bytes narrow recorded one is = log_of_calls run [] (Close 0 ∷ []) bytes one (record {
-  file = record { block_bytes = close_bytes 0; spelled = (close_bytes 0, [], refl, record { writer_fits = omega arith; joined = refl }, refl); joined = is };
-  valid = record { header_right = header_right run narrow recorded; blocks_right = (record { known = omega arith; unclosed = unclosed }, tt) };
+empty_log run bytes narrow recorded one is =
+    let file : FileOf (narrow_header run.clock) (Close 0 ∷ []) bytes = record { block_bytes = close_bytes 0; spelled = (close_bytes 0, [], refl, record { writer_fits = omega arith; joined = refl }, refl); joined = is } in
+    let valid : Valid (narrow_header run.clock) (Close 0 ∷ []) = record { header_right = header_right run narrow recorded; blocks_right = (record { known = omega arith; unclosed = unclosed }, tt) } in
+    log_of_calls run [] (Close 0 ∷ []) bytes one (record {
+  file = file;
+  valid = valid;
+  is_read = (run.clock, [], [], record {
+    file = file;
+    valid = valid;
+    few_messages = omega arith;
+    narrow = tt;
+    few_records = omega arith;
+    short = omega (arith, ap length is, length-append (header_bytes (narrow_header run.clock)) (close_bytes 0), header_length (narrow_header run.clock));
+  });
   messages = refl;
   records = refl;
   closed = refl;
@@ -227,30 +303,39 @@ full_log run calls after bytes narrow recorded one some parts closed_by =
         (close_bytes 0, [], refl, record { writer_fits = omega arith; joined = refl }, refl),
       ),
     ) in
+    let joined = closed_by ∙ ap (λ (b : List ℕ). b ++ close_bytes 0) parts.joined ∙ joined_parts (header_bytes (narrow_header run.clock)) (fragment_head_bytes 0 used) parts.entries (extent_head_bytes 0 (length parts.body)) parts.body (close_bytes 0) in
+    let block_bytes = (fragment_head_bytes 0 used ++ parts.entries) ++ ((extent_head_bytes 0 (length parts.body) ++ parts.body) ++ close_bytes 0) in
+    let file : FileOf (narrow_header run.clock) (fragment ∷ extent_block ∷ Close 0 ∷ []) bytes = record { block_bytes = block_bytes; spelled = spelled; joined = joined } in
+    let valid : Valid (narrow_header run.clock) (fragment ∷ extent_block ∷ Close 0 ∷ []) = record {
+      header_right = header_right run narrow recorded;
+      blocks_right = (
+        record { next = refl; distinct = distinct_used run.dictionary used narrow.distinct; few = omega (arith, count, known, narrow_messages) },
+        (
+          record {
+            writer_open = record { known = omega arith; unclosed = unclosed };
+            right = subst (λ (ms : List Message). AllByRecursion (IsRecord ms) entries) (sym all_there) (records_right run.dictionary used calls (omega arith) named);
+            rising = records_rise tick calls later;
+          },
+          (record { known = omega arith; unclosed = unclosed }, tt),
+        ),
+      );
+    } in
+    let as_narrow = sym (some_blocks messages entries (omega (arith, count, some_id)) (omega (arith, some, length-map calls record_of))) in
     log_of_calls run calls (fragment ∷ extent_block ∷ Close 0 ∷ []) bytes one (record {
-      file = record {
-        block_bytes = (fragment_head_bytes 0 used ++ parts.entries) ++ ((extent_head_bytes 0 (length parts.body) ++ parts.body) ++ close_bytes 0);
-        spelled = spelled;
-        joined = closed_by ∙ ap (λ (b : List ℕ). b ++ close_bytes 0) parts.joined ∙ joined_parts (header_bytes (narrow_header run.clock)) (fragment_head_bytes 0 used) parts.entries (extent_head_bytes 0 (length parts.body)) parts.body (close_bytes 0);
-      };
-      valid = record {
-        header_right = header_right run narrow recorded;
-        blocks_right = (
-          record { next = refl; distinct = distinct_used run.dictionary used narrow.distinct; few = omega (arith, count, known, narrow_messages) },
-          (
-            record {
-              writer_open = record { known = omega arith; unclosed = unclosed };
-              right = subst (λ (ms : List Message). AllByRecursion (IsRecord ms) entries) (sym all_there) (records_right run.dictionary used calls (omega arith) named);
-              rising = records_rise tick calls later;
-            },
-            (record { known = omega arith; unclosed = unclosed }, tt),
-          ),
-        );
-      };
+      file = file;
+      valid = valid;
       messages = append-nil messages;
       records = append-nil entries;
       closed = refl;
       laid_out = extent [] (fragment ∷ []) 0 entries (Close 0 ∷ []) ([], refl, sym (append-nil messages), inl refl, refl) (omega (arith, few, length-map calls record_of)) (close (fragment ∷ extent_block ∷ []) 0 [] (ends (fragment ∷ extent_block ∷ Close 0 ∷ [])));
+      is_read = (run.clock, messages, entries, record {
+        file = subst (λ (bs : List Block). FileOf (narrow_header run.clock) bs bytes) as_narrow file;
+        valid = subst (Valid (narrow_header run.clock)) as_narrow valid;
+        few_messages = omega (arith, count, known, narrow_messages);
+        narrow = narrow_used run.dictionary used narrow.narrow;
+        few_records = omega (arith, few, length-map calls record_of);
+        short = log_length run.clock used parts.entries parts.body bytes joined (omega (arith, entries_length messages parts.entries parts.entries_spelled, count, known, narrow_messages)) parts.short;
+      });
     })
 
 log_of : (run : Recording) (calls : List Call) (after bytes : List ℕ) → IsNarrowRun run → IsRecording run → run.writers ≡ calls ∷ []

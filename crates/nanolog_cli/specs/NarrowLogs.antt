@@ -35,3 +35,7 @@ pub record NarrowLog (bytes : List ℕ) (clock : Clock) (messages : List Message
   pub narrow : HasNarrowFormats messages
   pub few_records : length entries ≤ 128
   pub short : length bytes ≤ 134217728
+
+-- the bytes are such a log
+abbrev pub IsLog : List ℕ → Type 0
+IsLog bytes = (clock : Clock) × (messages : List Message) × (entries : List LogRecord) × NarrowLog bytes clock messages entries

@@ -13,7 +13,7 @@ use Rattle.nanolog_cli.specs.declared.status.Status.{Status}
 use Rattle.nanolog_cli.specs.declared.status.Status.TheVariants as statuses
 use Rattle.nanolog_cli.specs.Commands.{Command, Direct, Replay, Decompress, input_name}
 use Rattle.nanolog_cli.specs.NarrowTraces.{NarrowTrace}
-use Rattle.nanolog_cli.specs.NarrowLogs.{NarrowLog}
+use Rattle.nanolog_cli.specs.NarrowLogs.{NarrowLog, IsLog}
 use Rattle.nanolog_cli.specs.Texts.{direct_text}
 use Rattle.nanolog_cli.specs.Replays.{LogOfRun, accepted_text, OnlyLog}
 use Rattle.nanolog_cli.specs.Words.{standard_output}
@@ -43,10 +43,6 @@ pub record Holds (desk : Desk) (name : List ℕ) (form : List ℕ → Type 0) : 
 -- the bytes spell a run
 abbrev pub IsTrace : List ℕ → Type 0
 IsTrace bytes = (run : Recording) × NarrowTrace bytes run
-
--- the bytes are a log
-abbrev pub IsLog : List ℕ → Type 0
-IsLog bytes = (clock : Clock) × (messages : List Message) × (entries : List LogRecord) × NarrowLog bytes clock messages entries
 
 -- of which form the file must be that a command reads
 abbrev pub input_form : Option Command → (List ℕ → Type 0)

@@ -7,6 +7,7 @@ use Rattle.buffer_extent.specs.declared.record.LogRecord.{LogRecord}
 use Rattle.checkpoint_io.specs.Validity.{IsClosed}
 use Rattle.checkpoint_io.specs.Logs.{LogOf}
 use Rattle.decompressor.specs.Decompression.{Decompressed}
+use Rattle.nanolog_cli.specs.NarrowLogs.{IsLog}
 use Rattle.nanolog_cli.specs.Texts.{direct_text, record_of}
 
 -- the records of the calls of each writer
@@ -14,11 +15,12 @@ abbrev pub taken_of : Recording → List (List LogRecord)
 taken_of run = map (map record_of) run.writers
 
 -- The bytes are the log of all calls of the run, in extents of at most 4,096 records, with a close mark of each writer. They decompress to the
--- lines of these calls.
+-- lines of these calls, and are one of the logs that are read so far.
 pub record LogOfRun (run : Recording) (bytes : List ℕ) : Type 0 where
   pub lawful : LogOf bytes (taken_of run) run.dictionary run.clock 4096
   pub closed : (writer : ℕ) → writer < length run.writers → IsClosed writer lawful.blocks
   pub text_same : Decompressed bytes (direct_text run)
+  pub is_read : IsLog bytes
 
 -- what `replay` prints where no call was dropped
 abbrev pub accepted_text : Recording → List ℕ

@@ -4,7 +4,8 @@ ghost use Rattle.std.specs.Prelude.{◌≡◌, ◌≢◌, ◌≤◌, ◌⊎◌, 
 ghost use Rattle.nl_io.specs.Count.{Rose};
 ghost use Rattle.nl_io.specs.Desk.{IsAbsent, OnlyReadFaults};
 ghost use Rattle.nanolog_cli.specs.Commands.{Command, Decompress};
-ghost use Rattle.nanolog_cli.specs.Outcomes.{Holds, HoldsOther, IsLog, IsDone, IsCutOff, SpeaksOf};
+ghost use Rattle.nanolog_cli.specs.Outcomes.{Holds, HoldsOther, IsDone, IsCutOff, SpeaksOf};
+ghost use Rattle.nanolog_cli.specs.NarrowLogs.{IsLog};
 
 use crate::answer::{Answer, Refusal};
 use crate::input::log_of_file;

@@ -5,7 +5,8 @@ ghost use Rattle.std.specs.FinMap as map;
 ghost use Rattle.nl_io.specs.Count.{Rose};
 ghost use Rattle.nl_io.specs.Content.{Told};
 ghost use Rattle.nl_io.specs.Desk.{IsAbsent, IsReading, SameButLeft, OnlyReadFaults};
-ghost use Rattle.nanolog_cli.specs.Outcomes.{IsHeld, IsLonger, HoldsOther, IsTrace, IsLog, HeldRun, HeldNarrowLog};
+ghost use Rattle.nanolog_cli.specs.Outcomes.{IsHeld, IsLonger, HoldsOther, IsTrace, HeldRun, HeldNarrowLog};
+ghost use Rattle.nanolog_cli.specs.NarrowLogs.{IsLog};
 
 use crate::answer::Refusal;
 use crate::narrow::{MOST_BYTES as MOST_TRACE_BYTES, NarrowFault, read_narrow};
