@@ -1,6 +1,8 @@
 //! Records and bodies worked by hand.
 
-ghost use Rattle.std.specs.Prelude.{IfOk};
+ghost use Rattle.std.specs.Prelude.{◌≡◌, [], ◌∷◌, IfOk, IsTrue};
+ghost use Rattle.printf_grammar.specs.Narrow.{IsNarrow};
+ghost use Rattle.log_dictionary.specs.declared.message.Message.{Message};
 ghost use Rattle.buffer_extent.specs.Integers.{TakeIntegers};
 
 use super::*;
@@ -17,12 +19,28 @@ const OLD: u8 = 77;
 /// Where a record is written.
 const AT: usize = 3;
 
+/// Whether the one message's format is a narrow one.
+fn is_narrow(dictionary: &Dictionary) -> bool
+    ensures { IsTrue result → (message : Message) → dictionary.now ≡ message ∷ [] → IsNarrow message.format.pieces }
+{
+    match dictionary.get(0) {
+        Some(message) => message.format.is_narrow(),
+        None => false,
+    }
+}
+
 fn one_message(alloc: Global, line: &[u8]) -> Result<Dictionary, LineFault>
     ensures { IfOk result (λ dictionary. TakeIntegers dictionary) }
 {
     let mut dictionary = Dictionary::make(alloc);
     match dictionary.read_line(line) {
-        Ok(()) => Ok(dictionary),
+        Ok(()) => {
+            if is_narrow(&dictionary) {
+                Ok(dictionary)
+            } else {
+                Err(LineFault::BadEntry)
+            }
+        }
         Err(fault) => Err(fault),
     }
 }

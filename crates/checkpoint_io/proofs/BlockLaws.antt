@@ -8,14 +8,14 @@ use Rattle.printf_grammar.specs.Pieces.{Parsed}
 use Rattle.printf_grammar.specs.Spelling.{Spells}
 use Rattle.log_dictionary.specs.declared.message.Message.{Message}
 use Rattle.log_dictionary.specs.BinaryEntries.{RawEntry, raw_bytes, raw_of, SpellsEntry}
-use Rattle.log_dictionary.proofs.NarrowLines.{same_message}
+use Rattle.log_dictionary.proofs.UnescapedLines.{same_message}
 use Rattle.log_dictionary.proofs.BinaryLaws.{same_raw, entry_in_range}
 use Rattle.buffer_extent.specs.declared.record.LogRecord.{LogRecord}
 use Rattle.buffer_extent.specs.Bodies.{SpellsRecords, NeverFalls, IsBody}
 use Rattle.buffer_extent.specs.RecordLaws.{IsBody-unique}
 use Rattle.checkpoint_io.specs.declared.header.Header.{Header}
 use Rattle.checkpoint_io.specs.Blocks.{Block, Fragment, Extent, Close, messages_of, fragment_head_bytes, extent_head_bytes, close_bytes, SpellsEntries, SpellsFragment, SpellsExtent, SpellsClose, SpellsBlock}
-use Rattle.checkpoint_io.proofs.FormatLaws.{one_format}
+use Rattle.printf_grammar.proofs.Unique.{spells_once}
 use Rattle.checkpoint_io.specs.Validity.{records_of, last_stamp, GoesOn, IsRightAfter}
 
 -- ---- fronts
@@ -79,7 +79,7 @@ one_entry a b front other rest more p q e =
     let whole : raw_bytes (raw_of a) ++ rest ≡ raw_bytes (raw_of b) ++ more = ap (λ (f : List ℕ). f ++ rest) (sym p.spelled) ∙ e ∙ ap (λ (f : List ℕ). f ++ more) q.spelled in
     let raws = (same_raw (raw_of a) (raw_of b) rest more (entry_in_range front a p) (entry_in_range other b q) whole).0 in
     let bytes : a.format.bytes ≡ b.format.bytes = ap (λ (r : RawEntry). r.format) raws in
-    let pieces = one_format b.format.bytes a.format.pieces b.format.pieces (subst (λ (l : List ℕ). Spells l a.format.pieces) bytes p.formed) q.formed in
+    let pieces = spells_once b.format.bytes a.format.pieces b.format.pieces (subst (λ (l : List ℕ). Spells l a.format.pieces) bytes p.formed) q.formed in
     let formats = same_formats a.format b.format bytes pieces in
     (same_message a b (ap (λ (r : RawEntry). r.file) raws) (ap (λ (r : RawEntry). r.line) raws) (ap (λ (r : RawEntry). r.severity) raws) formats, p.spelled ∙ ap raw_bytes raws ∙ sym q.spelled)
 

@@ -1,4 +1,3 @@
-pub mod FormatLaws
 pub mod BlockLaws
 pub mod FrontLaws
 pub mod ValidityLaws

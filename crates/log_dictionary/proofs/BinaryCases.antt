@@ -6,15 +6,14 @@ use Rattle.std.proofs.lemmas.List.{drop_at, length-append, length-take-le, take-
 use Rattle.std.proofs.lemmas.List.Elements.{All-drop, All-get_or, All-tail}
 use Rattle.printf_grammar.specs.declared.piece.Piece.{Piece}
 use Rattle.printf_grammar.specs.Spelling.{Spells}
-use Rattle.printf_grammar.specs.Narrow.{IsNarrow}
 use Rattle.printf_grammar.specs.Types.{Types}
-use Rattle.printf_grammar.specs.Reading.{narrow_pieces}
-use Rattle.printf_grammar.proofs.NarrowParse.{narrow_spells, narrow_are_narrow, narrow_missing, too_many}
+use Rattle.printf_grammar.proofs.Total.{one_holds}
+use Rattle.printf_grammar.proofs.Unique.{never_both}
 use Rattle.log_dictionary.specs.declared.severity.Severity.{Severity}
 use Rattle.log_dictionary.specs.declared.severity.Severity.TheVariants.{Error, Warning, Notice, Debug}
 use Rattle.log_dictionary.specs.declared.message.Message.{Message}
 use Rattle.log_dictionary.specs.Severities.{severity_number}
-use Rattle.log_dictionary.specs.BinaryEntries.{RawEntry, head_bytes, text_bytes, raw_bytes, NarrowEntry, IsCutText, IsCutEntry, IsBadLength, IsBadEntry, BeginsWithEntry}
+use Rattle.log_dictionary.specs.BinaryEntries.{RawEntry, head_bytes, text_bytes, raw_bytes, SpellsEntry, IsCutText, IsCutEntry, IsBadLength, IsBadEntry, BeginsWithEntry}
 use Rattle.log_dictionary.specs.BinaryEntries.IsCutText.{in_length, in_text}
 use Rattle.log_dictionary.specs.BinaryEntries.IsCutEntry.{in_severity, in_line, in_file, in_format}
 use Rattle.log_dictionary.specs.BinaryEntries.IsBadEntry.{at_severity, at_file, at_format, refused}
@@ -93,29 +92,20 @@ severity_by b false false false false e f g h = inr (not_one_of b (eqb-false b 1
 severity_cases : (b : ℕ) → ((severity : Severity) × (b ≡ severity_number severity)) ⊎ ((severity : Severity) → b ≢ severity_number severity)
 severity_cases b = severity_by b (eqb b 1) (eqb b 2) (eqb b 3) (eqb b 4) refl refl refl refl
 
--- the bytes are a format that is read, or they are none
-format_by : (format : List ℕ) (o : Option (List Piece)) → narrow_pieces 0 format ≡ o → length format ≤ 4095 → ((pieces : List Piece) × Spells format pieces × IsNarrow pieces) ⊎ ((pieces : List Piece) → Spells format pieces → IsNarrow pieces → ⊥)
-format_by format None e short = inr (λ pieces spells narrow. narrow_missing format pieces e spells narrow)
-format_by format (Some read) e short =
-    elim (cases_lt 64 (length (Types read))) [
-      | inl many ↦ inr (λ pieces spells narrow. too_many format read pieces e many spells narrow)
-      | inr few ↦ inl (read, narrow_spells format read e short few, narrow_are_narrow format read e)
-    ]
-
 -- ---- entries
 
 fields_cases : (bytes : List ℕ) (raw : RawEntry) → IsRead bytes raw → IsCutEntry bytes ⊎ IsBadEntry bytes ⊎ BeginsWithEntry bytes
 fields_cases bytes raw read =
-    elim (format_by raw.format (narrow_pieces 0 raw.format) refl read.in_range.short_format) [
-      | inl (pieces, spells, narrow) ↦
+    elim (one_holds raw.format) [
+      | inl (pieces, spells) ↦
           inr (inr (record {
             message = record { file = raw.file; line = raw.line; severity = raw.severity; format = record { bytes = raw.format; pieces = pieces }; file_length = (read.in_range.named, read.in_range.short_name) };
             front = raw_bytes raw;
             rest = read.rest;
             joined = read.joined;
-            entry = record { spelled = record { spelled = refl; line_fits = read.in_range.line_fits; formed = spells }; narrow = narrow };
+            entry = record { spelled = refl; line_fits = read.in_range.line_fits; formed = spells };
           }))
-      | inr none ↦ inr (inl (read_bad bytes raw read none))
+      | inr (cause, place, breaks) ↦ inr (inl (read_bad bytes raw read (λ pieces spells. never_both raw.format pieces cause place spells breaks)))
     ]
 
 behind_file : (bytes : List ℕ) (severity : Severity) (line : ℕ) (file part : List ℕ) → AreBytes part → line < 2 ^ 32 → 1 ≤ length file → length file ≤ 255 → bytes ≡ head_bytes severity line ++ (text_bytes file ++ part) → IsCutEntry bytes ⊎ IsBadEntry bytes ⊎ BeginsWithEntry bytes
@@ -179,7 +169,7 @@ stays_bad bytes more (at_format severity line file rest fits long short wrong is
 stays_bad bytes more (refused raw rest right none is) = refused raw (rest ++ more) right none (ap (λ (b : List ℕ). b ++ more) is ∙ append_assoc (raw_bytes raw) rest more)
 
 -- each proper prefix of an entry is cut
-pub prefix_is_cut : (front more : List ℕ) (message : Message) → AreBytes front → NarrowEntry (front ++ more) message → 1 ≤ length more → IsCutEntry front
+pub prefix_is_cut : (front more : List ℕ) (message : Message) → AreBytes front → SpellsEntry (front ++ more) message → 1 ≤ length more → IsCutEntry front
 prefix_is_cut front more message small whole some =
     elim (entry_cases front small) [
       | inl cut ↦ cut

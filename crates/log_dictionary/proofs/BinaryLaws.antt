@@ -5,18 +5,18 @@ use Rattle.std.specs.Hash.{le_bytes}
 use Rattle.std.proofs.lemmas.Nat.{from_le_bytes-to_le_bytes_2, from_le_bytes-to_le_bytes_4}
 use Rattle.std.proofs.lemmas.List.{take_at, drop_at, length-append}
 use Rattle.printf_grammar.specs.Pieces.{Parsed}
-use Rattle.printf_grammar.specs.Reading.{narrow_pieces}
-use Rattle.printf_grammar.proofs.NarrowParse.{narrow_only}
+use Rattle.printf_grammar.specs.Spelling.{Spells}
+use Rattle.printf_grammar.proofs.Unique.{spells_once}
 use Rattle.log_dictionary.specs.declared.severity.Severity.{Severity}
 use Rattle.log_dictionary.specs.declared.severity.Severity.TheVariants.{Error, Warning, Notice, Debug}
 use Rattle.log_dictionary.specs.declared.message.Message.{Message}
 use Rattle.log_dictionary.specs.Severities.{severity_number}
 use Rattle.log_dictionary.specs.Messages.{SameMessage}
-use Rattle.log_dictionary.specs.BinaryEntries.{RawEntry, head_bytes, text_bytes, raw_bytes, raw_of, IsInRange, SpellsEntry, NarrowEntry, IsCutText, IsCutEntry, IsBadLength, IsBadEntry, BeginsWithEntry}
+use Rattle.log_dictionary.specs.BinaryEntries.{RawEntry, head_bytes, text_bytes, raw_bytes, raw_of, IsInRange, SpellsEntry, IsCutText, IsCutEntry, IsBadLength, IsBadEntry, BeginsWithEntry}
 use Rattle.log_dictionary.specs.BinaryEntries.IsCutText.{in_length, in_text}
 use Rattle.log_dictionary.specs.BinaryEntries.IsCutEntry.{in_severity, in_line, in_file, in_format}
 use Rattle.log_dictionary.specs.BinaryEntries.IsBadEntry.{at_severity, at_file, at_format, refused}
-use Rattle.log_dictionary.proofs.NarrowLines.{same_message}
+use Rattle.log_dictionary.proofs.UnescapedLines.{same_message}
 use Rattle.log_dictionary.proofs.BinaryNumbers.{two_bytes, four_bytes, two_long, four_long}
 
 -- ---- numbers
@@ -132,20 +132,16 @@ one_spelling front other rest other_rest a b first second e =
       },
     )
 
-some_is : {A : Type 0} (x y : A) → (let s : Option A = Some x in s ≡ Some y) → x ≡ y
-some_is x y e = cc
-
 same_formats : (a b : Parsed) → a.bytes ≡ b.bytes → a.pieces ≡ b.pieces → a ≡ b
 same_formats a b bytes pieces = rw (bytes, pieces) refl
 
 -- a format that is read has one list of pieces, so it is one message
-pub one_entry : (front other rest other_rest : List ℕ) (a b : Message) → NarrowEntry front a → NarrowEntry other b → front ++ rest ≡ other ++ other_rest → (a ≡ b) × (front ≡ other)
+pub one_entry : (front other rest other_rest : List ℕ) (a b : Message) → SpellsEntry front a → SpellsEntry other b → front ++ rest ≡ other ++ other_rest → (a ≡ b) × (front ≡ other)
 one_entry front other rest other_rest a b first second e =
-    let spelling = one_spelling front other rest other_rest a b first.spelled second.spelled e in
+    let spelling = one_spelling front other rest other_rest a b first second e in
     let same = spelling.1 in
-    let read = narrow_only a.format.bytes a.format.pieces first.spelled.formed first.narrow in
-    let read_other = narrow_only b.format.bytes b.format.pieces second.spelled.formed second.narrow in
-    let pieces = some_is a.format.pieces b.format.pieces (sym read ∙ ap (narrow_pieces 0) same.format ∙ read_other) in
+    let formed = subst (λ (bytes : List ℕ). Spells bytes a.format.pieces) same.format first.formed in
+    let pieces = spells_once b.format.bytes a.format.pieces b.format.pieces formed second.formed in
     (same_message a b same.file same.line same.severity (same_formats a.format b.format same.format pieces), spelling.0)
 
 -- ---- cut, wrong and whole texts
@@ -210,7 +206,7 @@ cut_not_whole raw rest bytes right is cut =
 
 pub begins_not_cut : (bytes : List ℕ) → BeginsWithEntry bytes → IsCutEntry bytes → ⊥
 begins_not_cut bytes begins cut =
-    cut_not_whole (raw_of begins.message) begins.rest bytes (entry_in_range begins.front begins.message begins.entry.spelled) (begins.joined ∙ ap (λ (f : List ℕ). f ++ begins.rest) begins.entry.spelled.spelled) cut
+    cut_not_whole (raw_of begins.message) begins.rest bytes (entry_in_range begins.front begins.message begins.entry) (begins.joined ∙ ap (λ (f : List ℕ). f ++ begins.rest) begins.entry.spelled) cut
 
 cut_severity : (number : ℕ) (rest bytes : List ℕ) → bytes ≡ number ∷ rest → IsCutEntry bytes → (severity : Severity) × (number ≡ severity_number severity)
 cut_severity number rest bytes is (in_severity e) = absurd (omega (arith, ap length (sym is ∙ e)))
@@ -232,20 +228,20 @@ cut_not_bad bytes cut (at_format severity line file rest fits least most bad e) 
 cut_not_bad bytes cut (refused raw rest right none e) = cut_not_whole raw rest bytes right e cut
 
 -- bytes that begin with a message's entry aren't wrong
-pub bad_not_whole : (front rest bytes : List ℕ) (message : Message) → NarrowEntry front message → bytes ≡ front ++ rest → IsBadEntry bytes → ⊥
+pub bad_not_whole : (front rest bytes : List ℕ) (message : Message) → SpellsEntry front message → bytes ≡ front ++ rest → IsBadEntry bytes → ⊥
 bad_not_whole front rest bytes message narrow is (at_severity number other wrong e) =
-    wrong message.severity (first_is number (severity_number message.severity) other _ (sym e ∙ is ∙ ap (λ (f : List ℕ). f ++ rest) narrow.spelled.spelled))
+    wrong message.severity (first_is number (severity_number message.severity) other _ (sym e ∙ is ∙ ap (λ (f : List ℕ). f ++ rest) narrow.spelled))
 bad_not_whole front rest bytes message narrow is (at_file severity line other fits bad e) =
     let raw = raw_of message in
-    let right = entry_in_range front message narrow.spelled in
-    let same = same_heads severity raw.severity line raw.line other (text_bytes raw.file ++ (text_bytes raw.format ++ rest)) fits right.line_fits (sym e ∙ is ∙ ap (λ (f : List ℕ). f ++ rest) narrow.spelled.spelled ∙ nested raw rest) in
+    let right = entry_in_range front message narrow in
+    let same = same_heads severity raw.severity line raw.line other (text_bytes raw.file ++ (text_bytes raw.format ++ rest)) fits right.line_fits (sym e ∙ is ∙ ap (λ (f : List ℕ). f ++ rest) narrow.spelled ∙ nested raw rest) in
     bad_length_not_whole 1 255 raw.file (text_bytes raw.format ++ rest) (omega (arith, right.short_name)) right.named right.short_name (subst (IsBadLength 1 255) same.2 bad)
 bad_not_whole front rest bytes message narrow is (at_format severity line file other fits least most bad e) =
     let raw = raw_of message in
-    let right = entry_in_range front message narrow.spelled in
-    let same = same_heads severity raw.severity line raw.line (text_bytes file ++ other) (text_bytes raw.file ++ (text_bytes raw.format ++ rest)) fits right.line_fits (sym (three_nested (head_bytes severity line) (text_bytes file) other) ∙ sym e ∙ is ∙ ap (λ (f : List ℕ). f ++ rest) narrow.spelled.spelled ∙ nested raw rest) in
+    let right = entry_in_range front message narrow in
+    let same = same_heads severity raw.severity line raw.line (text_bytes file ++ other) (text_bytes raw.file ++ (text_bytes raw.format ++ rest)) fits right.line_fits (sym (three_nested (head_bytes severity line) (text_bytes file) other) ∙ sym e ∙ is ∙ ap (λ (f : List ℕ). f ++ rest) narrow.spelled ∙ nested raw rest) in
     let files = same_texts file raw.file other (text_bytes raw.format ++ rest) (omega (arith, most)) (omega (arith, right.short_name)) same.2 in
     bad_length_not_whole 0 4095 raw.format rest (omega (arith, right.short_format)) (omega arith) right.short_format (subst (IsBadLength 0 4095) files.1 bad)
 bad_not_whole front rest bytes message narrow is (refused raw other right none e) =
-    let same = same_as_message raw other front rest message right narrow.spelled (sym e ∙ is) in
-    none message (record { spelled = record { spelled = ap raw_bytes same.0; line_fits = narrow.spelled.line_fits; formed = narrow.spelled.formed }; narrow = narrow.narrow })
+    let same = same_as_message raw other front rest message right narrow (sym e ∙ is) in
+    none message (record { spelled = ap raw_bytes same.0; line_fits = narrow.line_fits; formed = narrow.formed })

@@ -7,12 +7,11 @@ use Rattle.log_dictionary.specs.declared.binary_entry.EntryFault.{EntryFault}
 use Rattle.log_dictionary.specs.declared.binary_entry.EntryFault.TheVariants.{Cut, BadEntry, NoMemory}
 use Rattle.printf_grammar.specs.declared.piece.Piece.{Piece}
 use Rattle.printf_grammar.specs.Spelling.{Spells}
-use Rattle.printf_grammar.specs.Narrow.{IsNarrow}
 use Rattle.log_dictionary.specs.declared.message.Message.{Message}
-use Rattle.log_dictionary.specs.BinaryEntries.{RawEntry, raw_bytes, raw_of, entry_bytes, NarrowEntry, IsCutEntry, IsBadEntry}
+use Rattle.log_dictionary.specs.BinaryEntries.{RawEntry, raw_bytes, raw_of, entry_bytes, SpellsEntry, IsCutEntry, IsBadEntry}
 use Rattle.log_dictionary.specs.BinaryEntries.IsBadEntry.{refused}
 use Rattle.log_dictionary.specs.EntryReading.{Stops, IsRead}
-use Rattle.log_dictionary.proofs.NarrowLines.{IsMade}
+use Rattle.log_dictionary.proofs.UnescapedLines.{IsMade}
 use Rattle.log_dictionary.proofs.BinaryLaws.{entry_in_range, same_as_message, one_entry, cut_not_whole, cut_not_bad, bad_not_whole}
 
 widened : (fault : EntryFault) (cut wrong cut_whole wrong_whole : Type 0) → (cut → cut_whole) → (wrong → wrong_whole) → Stops fault cut wrong → Stops fault cut_whole wrong_whole
@@ -37,9 +36,9 @@ pub handed_on : {T : Type 0} (r : Result T EntryFault) (fault : EntryFault) → 
 handed_on r fault err = let p = err_from_is_err_and r err in p.1 ∙ ap (λ (y : EntryFault). Err y) p.2
 
 -- no entry stands there
-pub stopped_only : (bytes : List ℕ) (fault : EntryFault) → Stops fault (IsCutEntry bytes) (IsBadEntry bytes) → (message : Message) (front rest : List ℕ) → NarrowEntry front message → bytes ≡ front ++ rest → ⊥
+pub stopped_only : (bytes : List ℕ) (fault : EntryFault) → Stops fault (IsCutEntry bytes) (IsBadEntry bytes) → (message : Message) (front rest : List ℕ) → SpellsEntry front message → bytes ≡ front ++ rest → ⊥
 stopped_only bytes fault stops message front rest narrow is =
-    not_stopped fault (IsCutEntry bytes) (IsBadEntry bytes) (cut_not_whole (raw_of message) rest bytes (entry_in_range front message narrow.spelled) (is ∙ ap (λ (f : List ℕ). f ++ rest) narrow.spelled.spelled)) (bad_not_whole front rest bytes message narrow is) stops
+    not_stopped fault (IsCutEntry bytes) (IsBadEntry bytes) (cut_not_whole (raw_of message) rest bytes (entry_in_range front message narrow) (is ∙ ap (λ (f : List ℕ). f ++ rest) narrow.spelled)) (bad_not_whole front rest bytes message narrow is) stops
 
 pub stopped_cut : {T : Type 0} (bytes : List ℕ) (r : Result T EntryFault) (fault : EntryFault) → r ≡ Err fault → Stops fault (IsCutEntry bytes) (IsBadEntry bytes) → (r ≡ Err Cut → IsCutEntry bytes) × (IsCutEntry bytes → r ≡ Err Cut)
 stopped_cut bytes r Cut is stops = (λ e. stops, λ cut. is)
@@ -62,35 +61,32 @@ pub read_not_cut : (bytes : List ℕ) (raw : RawEntry) → IsRead bytes raw → 
 read_not_cut bytes raw read cut = cut_not_whole raw read.rest bytes read.in_range read.joined cut
 
 -- the format of these fields is no format
-pub read_bad : (bytes : List ℕ) (raw : RawEntry) → IsRead bytes raw → ((pieces : List Piece) → Spells raw.format pieces → IsNarrow pieces → ⊥) → IsBadEntry bytes
+pub read_bad : (bytes : List ℕ) (raw : RawEntry) → IsRead bytes raw → ((pieces : List Piece) → Spells raw.format pieces → ⊥) → IsBadEntry bytes
 read_bad bytes raw read none =
     refused raw read.rest read.in_range (λ message narrow.
-    let same = same_as_message raw [] (raw_bytes raw) [] message read.in_range narrow.spelled refl in
-    none message.format.pieces (subst (λ (f : List ℕ). Spells f message.format.pieces) (sym (ap (λ (r : RawEntry). r.format) same.0)) narrow.spelled.formed) narrow.narrow) read.joined
+    let same = same_as_message raw [] (raw_bytes raw) [] message read.in_range narrow refl in
+    none message.format.pieces (subst (λ (f : List ℕ). Spells f message.format.pieces) (sym (ap (λ (r : RawEntry). r.format) same.0)) narrow.formed)) read.joined
 
 same_raws : (a b : RawEntry) → a.severity ≡ b.severity → a.line ≡ b.line → a.file ≡ b.file → a.format ≡ b.format → a ≡ b
 same_raws a b severity line file format = rw (severity, line, file, format) refl
 
 -- the bytes begin with the entry of the message that was made of these fields
-pub made_entry : (bytes : List ℕ) (raw : RawEntry) (made : Message) → IsRead bytes raw → IsMade raw.severity raw.line raw.file raw.format made → NarrowEntry (raw_bytes raw) made
+pub made_entry : (bytes : List ℕ) (raw : RawEntry) (made : Message) → IsRead bytes raw → IsMade raw.severity raw.line raw.file raw.format made → SpellsEntry (raw_bytes raw) made
 made_entry bytes raw made read is =
     let same = same_raws raw (raw_of made) (sym is.severity_is) (sym is.line_is) (sym is.file_is) (sym is.bytes_are) in
     record {
-      spelled = record {
-        spelled = ap raw_bytes same;
-        line_fits = subst (λ (n : ℕ). n < 2 ^ 32) (sym is.line_is) read.in_range.line_fits;
-        formed = subst (λ (f : List ℕ). Spells f made.format.pieces) (sym is.bytes_are) is.formed;
-      };
-      narrow = is.narrow;
+      spelled = ap raw_bytes same;
+      line_fits = subst (λ (n : ℕ). n < 2 ^ 32) (sym is.line_is) read.in_range.line_fits;
+      formed = subst (λ (f : List ℕ). Spells f made.format.pieces) (sym is.bytes_are) is.formed;
     }
 
 -- and with no other
 pub read_only : (bytes : List ℕ) (raw : RawEntry) (made : Message) (len : ℕ) → IsRead bytes raw → IsMade raw.severity raw.line raw.file raw.format made → len ≡ length (entry_bytes made)
-    → (message : Message) (front rest : List ℕ) → NarrowEntry front message → bytes ≡ front ++ rest → (made ≡ message) × (len ≡ length front)
+    → (message : Message) (front rest : List ℕ) → SpellsEntry front message → bytes ≡ front ++ rest → (made ≡ message) × (len ≡ length front)
 read_only bytes raw made len read is len_is message front rest narrow joined =
     let mine = made_entry bytes raw made read is in
     let same = one_entry (raw_bytes raw) front read.rest rest made message mine narrow (sym read.joined ∙ joined) in
-    (same.0, len_is ∙ ap length (sym mine.spelled.spelled) ∙ ap length same.1)
+    (same.0, len_is ∙ ap length (sym mine.spelled) ∙ ap length same.1)
 
 pub read_not_bad : (bytes : List ℕ) (raw : RawEntry) (made : Message) → IsRead bytes raw → IsMade raw.severity raw.line raw.file raw.format made → IsBadEntry bytes → ⊥
 read_not_bad bytes raw made read is bad = bad_not_whole (raw_bytes raw) read.rest bytes made (made_entry bytes raw made read is) read.joined bad

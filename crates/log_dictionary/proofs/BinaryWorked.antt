@@ -7,7 +7,7 @@ use Rattle.printf_grammar.proofs.NarrowLaws.{plain_d_spelled}
 use Rattle.log_dictionary.specs.declared.severity.Severity.{Severity}
 use Rattle.log_dictionary.specs.declared.severity.Severity.TheVariants.{Error, Warning, Notice, Debug}
 use Rattle.log_dictionary.specs.Severities.{severity_number}
-use Rattle.log_dictionary.specs.BinaryEntries.{NarrowEntry, SpellsEntry, IsCutEntry, IsBadEntry}
+use Rattle.log_dictionary.specs.BinaryEntries.{SpellsEntry, IsCutEntry, IsBadEntry}
 use Rattle.log_dictionary.specs.BinaryEntries.IsCutText.{in_length, in_text}
 use Rattle.log_dictionary.specs.BinaryEntries.IsCutEntry.{in_file, in_format}
 use Rattle.log_dictionary.specs.BinaryEntries.IsBadEntry.{at_severity, at_file, at_format}
@@ -25,8 +25,8 @@ spelled : SpellsEntry row_entry row_message
 unfolding le_bytes
 spelled = record { spelled = refl; line_fits = lit< tt; formed = formed }
 
-pub whole : NarrowEntry row_entry row_message
-whole = record { spelled = spelled; narrow = (tt, (refl, tt)) }
+pub whole : SpellsEntry row_entry row_message
+whole = spelled
 
 pub half_length : IsCutEntry (row_head ++ 0 ∷ [])
 unfolding le_bytes

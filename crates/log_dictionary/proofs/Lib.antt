@@ -1,7 +1,7 @@
 pub mod Decimals
 pub mod Splits
 pub mod Lines
-pub mod NarrowLines
+pub mod UnescapedLines
 pub mod Distinct
 pub mod BinaryNumbers
 pub mod BinaryLaws

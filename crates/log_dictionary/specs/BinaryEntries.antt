@@ -2,7 +2,6 @@
 use Rattle.std.specs.Prelude.{◌≡◌, ◌≢◌, ◌⊎◌, ℕ, ◌<◌, ◌≤◌, ◌^◌, List, [], ◌∷◌, ◌++◌, length}
 use Rattle.std.specs.Hash.{le_bytes}
 use Rattle.printf_grammar.specs.Spelling.{Spells}
-use Rattle.printf_grammar.specs.Narrow.{IsNarrow}
 use Rattle.log_dictionary.specs.declared.message.Message.{Message}
 use Rattle.log_dictionary.specs.declared.severity.Severity.{Severity}
 use Rattle.log_dictionary.specs.Severities.{severity_number}
@@ -48,18 +47,13 @@ pub record SpellsEntry (bytes : List ℕ) (message : Message) : Type 0 where
   pub line_fits : message.line < 2 ^ 32
   pub formed : Spells message.format.bytes message.format.pieces
 
--- the bytes are the entry of the message, and the format has only literals, `%%` and plain `%d`
-pub record NarrowEntry (bytes : List ℕ) (message : Message) : Type 0 where
-  pub spelled : SpellsEntry bytes message
-  pub narrow : IsNarrow message.format.pieces
-
 -- the bytes begin with the entry of a message
 pub record BeginsWithEntry (bytes : List ℕ) : Type 0 where
   pub message : Message
   pub front : List ℕ
   pub rest : List ℕ
   pub joined : bytes ≡ front ++ rest
-  pub entry : NarrowEntry front message
+  pub entry : SpellsEntry front message
 
 -- ---- where bytes end inside an entry
 
@@ -90,4 +84,4 @@ pub data IsBadEntry (bytes : List ℕ) : Type 0 where
   at_severity : (number : ℕ) (rest : List ℕ) → ((severity : Severity) → number ≢ severity_number severity) → bytes ≡ number ∷ rest → IsBadEntry bytes
   at_file : (severity : Severity) (line : ℕ) (rest : List ℕ) → line < 2 ^ 32 → IsBadLength 1 255 rest → bytes ≡ head_bytes severity line ++ rest → IsBadEntry bytes
   at_format : (severity : Severity) (line : ℕ) (file rest : List ℕ) → line < 2 ^ 32 → 1 ≤ length file → length file ≤ 255 → IsBadLength 0 4095 rest → bytes ≡ head_bytes severity line ++ text_bytes file ++ rest → IsBadEntry bytes
-  refused : (raw : RawEntry) (rest : List ℕ) → IsInRange raw → ((message : Message) → ¬ (NarrowEntry (raw_bytes raw) message)) → bytes ≡ raw_bytes raw ++ rest → IsBadEntry bytes
+  refused : (raw : RawEntry) (rest : List ℕ) → IsInRange raw → ((message : Message) → ¬ (SpellsEntry (raw_bytes raw) message)) → bytes ≡ raw_bytes raw ++ rest → IsBadEntry bytes

@@ -1,7 +1,6 @@
 -- Messages, and the lines that spell them.
 use Rattle.std.specs.Prelude.{◌≡◌, ◌≢◌, ℕ, ◌<◌, ◌^◌, List, [], ◌∷◌, ◌++◌, codes, decimal, All, Any, AllPairs, slice_get, Some}
 use Rattle.printf_grammar.specs.Spelling.{Spells}
-use Rattle.printf_grammar.specs.Narrow.{IsNarrow}
 use Rattle.log_dictionary.specs.declared.message.Message.{Message}
 use Rattle.log_dictionary.specs.Severities.{severity_name}
 use Rattle.log_dictionary.specs.Texts.{SpellsText}
@@ -36,8 +35,7 @@ pub record SpellsMessage (line : List ℕ) (id : ℕ) (message : Message) : Type
   pub id_fits : id < 2 ^ 64
   pub line_fits : message.line < 2 ^ 32
 
--- the line spells the message with no escape, and the format has only literals, `%%` and plain `%d`
-pub record NarrowLine (line : List ℕ) (id : ℕ) (message : Message) : Type 0 where
+-- the line spells the message with no escape
+pub record UnescapedLine (line : List ℕ) (id : ℕ) (message : Message) : Type 0 where
   pub spelled : SpellsMessage line id message
   pub unescaped : All (λ byte. byte ≢ 92) line
-  pub narrow : IsNarrow message.format.pieces

@@ -5,12 +5,13 @@ ghost use Rattle.std.specs.Hash.{le_bytes};
 ghost use Rattle.log_dictionary.specs.declared.message.Message.{Message};
 ghost use Rattle.log_dictionary.specs.declared.severity.Severity.{Severity};
 ghost use Rattle.log_dictionary.specs.Severities.{severity_number};
-ghost use Rattle.log_dictionary.specs.BinaryEntries.{RawEntry, raw_bytes, IsInRange, entry_bytes, SpellsEntry, NarrowEntry, IsCutText, IsCutEntry, IsBadLength, IsBadEntry, text_bytes};
+ghost use Rattle.log_dictionary.specs.BinaryEntries.{RawEntry, raw_bytes, IsInRange, entry_bytes, SpellsEntry, IsCutText, IsCutEntry, IsBadLength, IsBadEntry, text_bytes};
 ghost use Rattle.log_dictionary.specs.EntryReading.{Stops, raw_fields, IsRead};
 
+use crate::formats::{FormatFault, format_of};
 use crate::message::Message;
 use crate::severity::Severity;
-use printf_grammar::{Bytes, ParseFault, parse};
+use printf_grammar::Bytes;
 use std::alloc::Global;
 
 /// The bytes of the severity, the line and the two lengths.
@@ -154,14 +155,13 @@ fn read_fields(bytes: &[u8]) -> Result<Fields<'_>, EntryFault>
     })
 }
 
-/// The message whose entry the bytes begin with, and the length of the entry. For now its format
-/// is a narrow one.
+/// The message whose entry the bytes begin with, and the length of the entry.
 pub fn read_entry(alloc: Global, bytes: &[u8]) -> Result<(Message, usize), EntryFault>
     ensures within { IfOk result (λ read. read.1 ≤ length bytes.now) }
-    ensures ok { IfOk result (λ read. NarrowEntry (take read.1 bytes.now) read.0) }
+    ensures ok { IfOk result (λ read. SpellsEntry (take read.1 bytes.now) read.0) }
 
     // What the bytes begin with is read, unless memory runs out.
-    ensures only { (message : Message) (front rest : List ℕ) → NarrowEntry front message
+    ensures only { (message : Message) (front rest : List ℕ) → SpellsEntry front message
         → bytes.now ≡ front ++ rest
         → MatchResult result
         (λ read. (read.0 ≡ message) × (read.1 ≡ length front))
@@ -173,10 +173,10 @@ pub fn read_entry(alloc: Global, bytes: &[u8]) -> Result<(Message, usize), Entry
         (λ fault. (fault ≡ EntryFault.BadEntry) ⊎ (fault ≡ EntryFault.NoMemory)) }
 {
     let fields = read_fields(bytes)?;
-    let format = match parse(alloc, fields.format) {
+    let format = match format_of(alloc, fields.format) {
         Ok(format) => format,
-        Err(ParseFault::NotYet) => return Err(EntryFault::BadEntry),
-        Err(ParseFault::NoMemory) => return Err(EntryFault::NoMemory),
+        Err(FormatFault::Bad) => return Err(EntryFault::BadEntry),
+        Err(FormatFault::NoMemory) => return Err(EntryFault::NoMemory),
     };
     let Ok(file) = Bytes::from_slice(alloc, fields.file) else {
         return Err(EntryFault::NoMemory);

@@ -3,12 +3,13 @@
 ghost use Rattle.std.specs.Prelude.{◌≡◌, ◌≤◌, ◌↔◌, [], length, slice_get, IsNone, IfSome, Ok, Err, ℕ, ◌⊎◌, IfOk, IfErr, MatchResult, IsTrue, OnOk, OnErr, ◌≢◌, ◌<◌, ◌∷◌, ◌++◌};
 ghost use Rattle.std.specs.Option.{option_copied};
 ghost use Rattle.log_dictionary.specs.declared.message.Message.{Message};
-ghost use Rattle.log_dictionary.specs.Messages.{NarrowLine, HasMessage, HasId};
+ghost use Rattle.log_dictionary.specs.Messages.{UnescapedLine, HasMessage, HasId};
 ghost use Rattle.log_dictionary.specs.Additions.{IsAdded};
 
 use crate::entry::entry_of;
+use crate::formats::{FormatFault, format_of};
 use crate::message::Message;
-use printf_grammar::{Bytes, ParseFault, parse};
+use printf_grammar::Bytes;
 use std::alloc::Global;
 use std::marker::Model;
 
@@ -69,8 +70,8 @@ fn is_file_name(name: &[u8]) -> bool
 
 /// The id and the message of a message line whose texts have no escape.
 fn message_of(alloc: Global, line: &[u8]) -> Result<(u64, Message), LineFault>
-    ensures found { IfOk result (λ pair. NarrowLine line.now pair.0 pair.1) }
-    ensures only { (id : ℕ) (message : Message) → NarrowLine line.now id message → MatchResult result
+    ensures found { IfOk result (λ pair. UnescapedLine line.now pair.0 pair.1) }
+    ensures only { (id : ℕ) (message : Message) → UnescapedLine line.now id message → MatchResult result
         (λ pair. (pair.0 ≡ id) × (pair.1 ≡ message))
         (λ fault. fault ≡ LineFault.NoMemory) }
     ensures fault { IfErr result (λ fault. (fault ≡ LineFault.BadEntry) ⊎ (fault ≡ LineFault.NoMemory)) }
@@ -81,10 +82,10 @@ fn message_of(alloc: Global, line: &[u8]) -> Result<(u64, Message), LineFault>
     if !is_file_name(entry.file) {
         return Err(LineFault::BadEntry);
     }
-    let format = match parse(alloc, entry.format) {
+    let format = match format_of(alloc, entry.format) {
         Ok(format) => format,
-        Err(ParseFault::NotYet) => return Err(LineFault::BadEntry),
-        Err(ParseFault::NoMemory) => return Err(LineFault::NoMemory),
+        Err(FormatFault::Bad) => return Err(LineFault::BadEntry),
+        Err(FormatFault::NoMemory) => return Err(LineFault::NoMemory),
     };
     let Ok(file) = Bytes::from_slice(alloc, entry.file) else {
         return Err(LineFault::NoMemory);
@@ -164,26 +165,25 @@ impl Dictionary {
         Ok(Added::New(id as u32))
     }
 
-    /// Adds the message that a message line spells. For now its texts have no escape, and its
-    /// format is a narrow one.
+    /// Adds the message that a message line spells. For now its texts have no escape.
     pub fn read_line(&mut self, line: &[u8]) -> Result<(), LineFault>
         ensures ok { OnOk result ((message : Message)
-            × NarrowLine line.now (length self.old) message
+            × UnescapedLine line.now (length self.old) message
             × (self.new ≡ self.old ++ message ∷ [])) }
         ensures err { OnErr result (self.new ≡ self.old) }
 
         // A right line with the next id and a new message is read, unless memory runs out.
-        ensures only { (message : Message) → NarrowLine line.now (length self.old) message
+        ensures only { (message : Message) → UnescapedLine line.now (length self.old) message
             → length self.old < 65536 → ¬ (HasMessage self.old message)
             → MatchResult result
             (λ _. self.new ≡ self.old ++ message ∷ [])
             (λ fault. fault ≡ LineFault.NoMemory) }
         ensures too_many { (result ≡ Err LineFault.TooMany) ↔ (length self.old ≡ 65536) }
         ensures bad_entry { result ≡ Err LineFault.BadEntry
-            → (id : ℕ) (message : Message) → NarrowLine line.now id message
+            → (id : ℕ) (message : Message) → UnescapedLine line.now id message
             → HasMessage self.old message }
         ensures order { result ≡ Err LineFault.Order → (id : ℕ) × (message : Message)
-            × NarrowLine line.now id message
+            × UnescapedLine line.now id message
             × (¬ (HasMessage self.old message))
             × (id ≢ length self.old) }
     {

@@ -2,14 +2,14 @@
 
 ghost use Rattle.std.specs.Prelude.{◌≡◌, ◌⊎◌, ℕ, ◌<◌, ◌≤◌, List, [], ◌∷◌, ◌++◌, length, All};
 ghost use Rattle.log_dictionary.specs.declared.message.Message.{Message};
-ghost use Rattle.log_dictionary.specs.BinaryEntries.{SpellsEntry, NarrowEntry, BeginsWithEntry, IsCutEntry, IsBadEntry};
+ghost use Rattle.log_dictionary.specs.BinaryEntries.{SpellsEntry, BeginsWithEntry, IsCutEntry, IsBadEntry};
 ghost use Rattle.log_dictionary.specs.Messages.{SameMessage};
 ghost use Rattle.log_dictionary.specs.Rows.{row_message, row_head, row_entry};
 
 /// A worked entry, and bytes that begin with none. Half of a length isn't judged, even where no
 /// other half makes it right.
 pub fn worked_entries()
-    ensures whole { NarrowEntry row_entry row_message }
+    ensures whole { SpellsEntry row_entry row_message }
     ensures bad_severity { IsBadEntry (5 ∷ []) }
     ensures half_length { IsCutEntry (row_head ++ 0 ∷ []) }
     ensures empty_file { IsBadEntry (row_head ++ 0 ∷ 0 ∷ []) }
@@ -37,9 +37,9 @@ pub fn entries_are_one()
         → SpellsEntry front a → SpellsEntry other b → front ++ rest ≡ other ++ other_rest
         → (front ≡ other) × SameMessage a b }
     ensures one_message { (front other rest other_rest : List ℕ) (a b : Message)
-        → NarrowEntry front a → NarrowEntry other b → front ++ rest ≡ other ++ other_rest
+        → SpellsEntry front a → SpellsEntry other b → front ++ rest ≡ other ++ other_rest
         → (a ≡ b) × (front ≡ other) }
     ensures cut { (front rest : List ℕ) (message : Message) → All (λ byte. byte < 256) front
-        → NarrowEntry (front ++ rest) message → 1 ≤ length rest → IsCutEntry front }
+        → SpellsEntry (front ++ rest) message → 1 ≤ length rest → IsCutEntry front }
     ensures stays_bad { (bytes rest : List ℕ) → IsBadEntry bytes → IsBadEntry (bytes ++ rest) }
 {}

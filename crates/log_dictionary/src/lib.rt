@@ -5,6 +5,7 @@ mod binary_entry;
 mod clock;
 mod dictionary;
 mod entry;
+mod formats;
 pub mod laws;
 mod message;
 mod numbers;

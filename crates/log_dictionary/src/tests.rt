@@ -115,7 +115,7 @@ fn other_lines_are_refused(rt: HostRuntime) {
             LineFault::BadEntry,
         ),
         (
-            b"message 0 NOTICE 12 \"a\" \"%5d\"".as_slice(),
+            b"message 0 NOTICE 12 \"a\" \"%5f\"".as_slice(),
             LineFault::BadEntry,
         ),
         (

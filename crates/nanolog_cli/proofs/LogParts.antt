@@ -13,7 +13,8 @@ use Rattle.printf_grammar.specs.Types.{field_types, Types}
 use Rattle.log_dictionary.specs.declared.clock.Clock.{Clock}
 use Rattle.log_dictionary.specs.declared.message.Message.{Message}
 use Rattle.log_dictionary.specs.Messages.{HasMessage}
-use Rattle.log_dictionary.specs.BinaryEntries.{SpellsEntry, NarrowEntry}
+use Rattle.log_dictionary.specs.BinaryEntries.{SpellsEntry}
+use Rattle.nanolog_cli.specs.NarrowMessages.{NarrowEntry}
 use Rattle.log_dictionary.proofs.BinaryLaws.{one_entry}
 use Rattle.log_dictionary.proofs.Distinct.{still_distinct}
 use Rattle.nibble_pack.specs.Bytes.{length-bytes_low_first}
@@ -154,7 +155,7 @@ message_behind [] (m ∷ messages) f g r s fewer p q none (y, ys, joined, is, ot
 }
 message_behind (a ∷ read) (m ∷ messages) f g r s fewer p q (x, xs, x_joined, x_is, xs_are) (y, ys, y_joined, y_is, ys_are) e =
     let whole : x ++ (xs ++ r) ≡ y ++ (ys ++ s) = sym (append_assoc x xs r) ∙ ap (λ (l : List ℕ). l ++ r) (sym x_joined) ∙ e ∙ ap (λ (l : List ℕ). l ++ s) y_joined ∙ append_assoc y ys s in
-    let first = one_entry x y (xs ++ r) (ys ++ s) a m (record { spelled = x_is; narrow = p.0 }) (record { spelled = y_is; narrow = q.0 }) whole in
+    let first = one_entry x y (xs ++ r) (ys ++ s) a m x_is y_is whole in
     let behind = (same_fronts x y (xs ++ r) (ys ++ s) (ap length first.1) whole).1 in
     let more = message_behind read messages xs ys r s (omega (arith, fewer)) p.1 q.1 xs_are ys_are behind in
     record { next = more.next; others = more.others; front = more.front; back = more.back; whole = (λ i. sym first.0 i ∷ more.whole i); joined = more.joined; entry = more.entry }
@@ -169,7 +170,7 @@ same_messages [] (m ∷ messages) f g r s many p q a b e = absurd (omega (arith,
 same_messages (m ∷ read) [] f g r s many p q a b e = absurd (omega (arith, many))
 same_messages (a ∷ read) (m ∷ messages) f g r s many p q (x, xs, x_joined, x_is, xs_are) (y, ys, y_joined, y_is, ys_are) e =
     let whole : x ++ (xs ++ r) ≡ y ++ (ys ++ s) = sym (append_assoc x xs r) ∙ ap (λ (l : List ℕ). l ++ r) (sym x_joined) ∙ e ∙ ap (λ (l : List ℕ). l ++ s) y_joined ∙ append_assoc y ys s in
-    let first = one_entry x y (xs ++ r) (ys ++ s) a m (record { spelled = x_is; narrow = p.0 }) (record { spelled = y_is; narrow = q.0 }) whole in
+    let first = one_entry x y (xs ++ r) (ys ++ s) a m x_is y_is whole in
     let behind = (same_fronts x y (xs ++ r) (ys ++ s) (ap length first.1) whole).1 in
     let more = same_messages read messages xs ys r s (omega (arith, many)) p.1 q.1 xs_are ys_are behind in
     ((λ i. first.0 i ∷ more.0 i), more.1)

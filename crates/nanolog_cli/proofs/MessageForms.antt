@@ -7,24 +7,23 @@ use Rattle.std.proofs.lemmas.Slice.Eq.{bytes_eq-Decides}
 use Rattle.std.proofs.lemmas.List.{length-append, get_or_append_left, get_or_default}
 use Rattle.std.proofs.Math.Seq.{get_or-append_seam}
 use Rattle.printf_grammar.specs.Spelling.{Spells}
-use Rattle.printf_grammar.proofs.NarrowParse.{narrow_only, narrow_same as pieces_same}
+use Rattle.printf_grammar.proofs.Unique.{spells_once}
 use Rattle.log_dictionary.specs.declared.message.Message.{Message}
-use Rattle.log_dictionary.specs.Messages.{NarrowLine, SameMessage, HasMessage, AreDistinct}
-use Rattle.log_dictionary.proofs.NarrowLines.{narrow_same, same_message}
-use Rattle.nanolog_cli.specs.NarrowMessages.{NarrowMessages, EndsMessages, MessagesBefore}
+use Rattle.log_dictionary.specs.Messages.{SameMessage, HasMessage, AreDistinct}
+use Rattle.log_dictionary.proofs.UnescapedLines.{line_same, same_message}
+use Rattle.nanolog_cli.specs.NarrowMessages.{NarrowLine, NarrowMessages, EndsMessages, MessagesBefore}
 
 -- a line is one message
 one_message : (line : List ℕ) (i j : ℕ) (a b : Message) → NarrowLine line i a → NarrowLine line j b → a ≡ b
 one_message line i j a b x y =
-    let same = (narrow_same line i j a b x y).1 in
+    let same = (line_same line i j a b x.plain y.plain).1 in
     let pieces : a.format.pieces ≡ b.format.pieces =
-    pieces_same a.format.bytes a.format.pieces b.format.pieces (narrow_only a.format.bytes a.format.pieces x.spelled.formed x.narrow)
-    (subst (λ (bytes : List ℕ). Spells bytes b.format.pieces) (sym same.format) y.spelled.formed) y.narrow in
+    spells_once a.format.bytes a.format.pieces b.format.pieces x.plain.spelled.formed (subst (λ (bytes : List ℕ). Spells bytes b.format.pieces) (sym same.format) y.plain.spelled.formed) in
     same_message a b same.file same.line same.severity (λ i. record { bytes = same.format i; pieces = pieces i })
 
 -- the line of a message doesn't end them
 not_ended : (line : List ℕ) (id : ℕ) (message : Message) (lines rest : List (List ℕ)) → NarrowLine line id message → rest ≡ line ∷ lines → EndsMessages rest → ⊥
-not_ended line id message lines rest narrow is ended = subst EndsMessages is ended _ narrow.spelled.spelled
+not_ended line id message lines rest narrow is ended = subst EndsMessages is ended _ narrow.plain.spelled.spelled
 
 -- lines begin with one list of messages
 pub fronts_same : (id : ℕ) (f g r s : List (List ℕ)) (a b : List Message) → f ++ r ≡ g ++ s → NarrowMessages id f a → NarrowMessages id g b → EndsMessages r → EndsMessages s → (f ≡ g) × (r ≡ s) × (a ≡ b)

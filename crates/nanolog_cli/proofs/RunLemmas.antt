@@ -2,8 +2,7 @@
 use Rattle.std.proofs.Common.{◌≡◌, ℕ, ◌+◌, ◌≤◌, List, [], ◌∷◌, ◌++◌, length, add-zero, refl, sym, ap, subst, ◌∙◌, append_assoc, arith}
 use Rattle.std.proofs.lemmas.List.{length-append}
 use Rattle.nanolog_cli.proofs.CallLemmas.{narrow_calls_same}
-use Rattle.log_dictionary.specs.Messages.{NarrowLine}
-use Rattle.nanolog_cli.specs.NarrowMessages.{NarrowMessages}
+use Rattle.nanolog_cli.specs.NarrowMessages.{NarrowLine, NarrowMessages}
 use Rattle.log_dictionary.specs.declared.message.Message.{Message}
 use Rattle.trace_text.specs.declared.call.Call.{Call}
 use Rattle.nanolog_cli.specs.NarrowCalls.{NarrowCall, NarrowCalls}

@@ -242,21 +242,26 @@ empty_log run bytes narrow recorded one is =
     let file : FileOf (narrow_header run.clock) (Close 0 ∷ []) bytes = record { block_bytes = close_bytes 0; spelled = (close_bytes 0, [], refl, record { writer_fits = omega arith; joined = refl }, refl); joined = is } in
     let valid : Valid (narrow_header run.clock) (Close 0 ∷ []) = record { header_right = header_right run narrow recorded; blocks_right = (record { known = omega arith; unclosed = unclosed }, tt) } in
     log_of_calls run [] (Close 0 ∷ []) bytes one (record {
-  file = file;
-  valid = valid;
-  is_read = (run.clock, [], [], record {
-    file = file;
-    valid = valid;
-    few_messages = omega arith;
-    narrow = tt;
-    few_records = omega arith;
-    short = omega (arith, ap length is, length-append (header_bytes (narrow_header run.clock)) (close_bytes 0), header_length (narrow_header run.clock));
-  });
-  messages = refl;
-  records = refl;
-  closed = refl;
-  laid_out = close [] 0 [] (ends (Close 0 ∷ []));
-})
+      file = file;
+      valid = valid;
+      is_read = (
+        run.clock,
+        [],
+        [],
+        record {
+          file = file;
+          valid = valid;
+          few_messages = omega arith;
+          narrow = tt;
+          few_records = omega arith;
+          short = omega (arith, ap length is, length-append (header_bytes (narrow_header run.clock)) (close_bytes 0), header_length (narrow_header run.clock));
+        },
+      );
+      messages = refl;
+      records = refl;
+      closed = refl;
+      laid_out = close [] 0 [] (ends (Close 0 ∷ []));
+    })
 
 -- a run with calls: a header, a fragment, an extent and a close mark
 full_log : (run : Recording) (calls : List Call) (after bytes : List ℕ) → IsNarrowRun run → IsRecording run → run.writers ≡ calls ∷ [] → 1 ≤ length calls
@@ -328,14 +333,19 @@ full_log run calls after bytes narrow recorded one some parts closed_by =
       records = append-nil entries;
       closed = refl;
       laid_out = extent [] (fragment ∷ []) 0 entries (Close 0 ∷ []) ([], refl, sym (append-nil messages), inl refl, refl) (omega (arith, few, length-map calls record_of)) (close (fragment ∷ extent_block ∷ []) 0 [] (ends (fragment ∷ extent_block ∷ Close 0 ∷ [])));
-      is_read = (run.clock, messages, entries, record {
-        file = subst (λ (bs : List Block). FileOf (narrow_header run.clock) bs bytes) as_narrow file;
-        valid = subst (Valid (narrow_header run.clock)) as_narrow valid;
-        few_messages = omega (arith, count, known, narrow_messages);
-        narrow = narrow_used run.dictionary used narrow.narrow;
-        few_records = omega (arith, few, length-map calls record_of);
-        short = log_length run.clock used parts.entries parts.body bytes joined (omega (arith, entries_length messages parts.entries parts.entries_spelled, count, known, narrow_messages)) parts.short;
-      });
+      is_read = (
+        run.clock,
+        messages,
+        entries,
+        record {
+          file = subst (λ (bs : List Block). FileOf (narrow_header run.clock) bs bytes) as_narrow file;
+          valid = subst (Valid (narrow_header run.clock)) as_narrow valid;
+          few_messages = omega (arith, count, known, narrow_messages);
+          narrow = narrow_used run.dictionary used narrow.narrow;
+          few_records = omega (arith, few, length-map calls record_of);
+          short = log_length run.clock used parts.entries parts.body bytes joined (omega (arith, entries_length messages parts.entries parts.entries_spelled, count, known, narrow_messages)) parts.short;
+        },
+      );
     })
 
 log_of : (run : Recording) (calls : List Call) (after bytes : List ℕ) → IsNarrowRun run → IsRecording run → run.writers ≡ calls ∷ []

@@ -12,14 +12,13 @@ use Rattle.log_dictionary.specs.declared.clock.Clock.{Clock}
 use Rattle.log_dictionary.specs.declared.message.Message.{Message}
 use Rattle.log_dictionary.specs.Texts.{IsPlain}
 use Rattle.log_dictionary.specs.Severities.{severity_name}
-use Rattle.log_dictionary.specs.Messages.{NarrowLine}
 use Rattle.log_dictionary.proofs.Lines.{severity_none}
-use Rattle.log_dictionary.proofs.NarrowLines.{narrow_entry}
+use Rattle.log_dictionary.proofs.UnescapedLines.{line_entry}
 use Rattle.trace_text.specs.declared.call.Call.{Call}
 use Rattle.trace_text.specs.Recordings.{Recording, IsCall, NeverFalls}
 use Rattle.trace_text.specs.Lines.{WriterCall, FitsLine, SpellsMessages, SpellsCalls, first_line, last_line, clock_line, writers_line, text_of_lines}
 use Rattle.trace_text.specs.Traces.{calls_by}
-use Rattle.nanolog_cli.specs.NarrowMessages.{NarrowMessages}
+use Rattle.nanolog_cli.specs.NarrowMessages.{NarrowLine, NarrowMessages}
 use Rattle.nanolog_cli.proofs.Choices.{some_same}
 use Rattle.nanolog_cli.specs.NarrowCalls.{NarrowCall, NarrowCalls}
 use Rattle.nanolog_cli.specs.NarrowBodies.{NarrowBody}
@@ -57,7 +56,7 @@ lines_lack c (line ∷ lines) all =
 narrow_messages : (id : ℕ) (lines : List (List ℕ)) (messages : List Message) → SpellsMessages id lines messages → HasNarrowFormats messages → AllByRecursion (Lacks 92) lines → NarrowMessages id lines messages
 narrow_messages id [] [] spelled narrow unescaped = tt
 narrow_messages id (line ∷ lines) (message ∷ messages) spelled narrow unescaped =
-    (record { spelled = spelled.0; unescaped = unescaped.0; narrow = narrow.0 }, narrow_messages (id + 1) lines messages spelled.1 narrow.1 unescaped.1)
+    (record { plain = record { spelled = spelled.0; unescaped = unescaped.0 }; narrow = narrow.0 }, narrow_messages (id + 1) lines messages spelled.1 narrow.1 unescaped.1)
 narrow_messages id [] (message ∷ messages) spelled narrow unescaped = absurd spelled
 narrow_messages id (line ∷ lines) [] spelled narrow unescaped = absurd spelled
 
@@ -73,7 +72,7 @@ plain_low b (inr h) e = omega (arith, h.0, e)
 
 message_lacks : (line : List ℕ) (id : ℕ) (message : Message) → NarrowLine line id message → Lacks 10 line
 message_lacks line id message narrow =
-    let entry = narrow_entry line id message narrow in
+    let entry = line_entry line id message narrow.plain in
     let space : 32 ≢ 10 = λ e. omega (arith, e) in
     let number_fits : message.line < 2 ^ 64 = let small = entry.number_fits in omega (arith, small) in
     let to_id : List ℕ = codes "message " ++ decimal id in

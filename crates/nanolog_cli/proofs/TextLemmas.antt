@@ -28,7 +28,7 @@ use Rattle.nanolog_cli.proofs.PartLemmas.{last_split}
 
 spells_messages : (id : ℕ) (lines : List (List ℕ)) (messages : List Message) → NarrowMessages id lines messages → SpellsMessages id lines messages
 spells_messages id [] [] h = tt
-spells_messages id (line ∷ lines) (message ∷ messages) h = (h.0.spelled, spells_messages (id + 1) lines messages h.1)
+spells_messages id (line ∷ lines) (message ∷ messages) h = (h.0.plain.spelled, spells_messages (id + 1) lines messages h.1)
 spells_messages id [] (message ∷ messages) h = absurd h
 spells_messages id (line ∷ lines) [] h = absurd h
 

@@ -1,7 +1,19 @@
 -- Lines of messages with narrow formats.
 use Rattle.std.specs.Prelude.{◌≡◌, ℕ, ◌+◌, ◌≤◌, List, [], ◌∷◌, ◌++◌, length, codes, ⊤}
 use Rattle.log_dictionary.specs.declared.message.Message.{Message}
-use Rattle.log_dictionary.specs.Messages.{AreDistinct, NarrowLine}
+use Rattle.printf_grammar.specs.Narrow.{IsNarrow}
+use Rattle.log_dictionary.specs.Messages.{AreDistinct, UnescapedLine}
+use Rattle.log_dictionary.specs.BinaryEntries.{SpellsEntry}
+
+-- the line spells the message with no escape, and the format has only literals, `%%` and plain `%d`
+pub record NarrowLine (line : List ℕ) (id : ℕ) (message : Message) : Type 0 where
+  pub plain : UnescapedLine line id message
+  pub narrow : IsNarrow message.format.pieces
+
+-- the bytes are the entry of the message, whose format has only literals, `%%` and plain `%d`
+pub record NarrowEntry (bytes : List ℕ) (message : Message) : Type 0 where
+  pub spelled : SpellsEntry bytes message
+  pub narrow : IsNarrow message.format.pieces
 
 -- the lines spell the messages, one a line, with ids that count from this number
 abbrev pub NarrowMessages : ℕ → List (List ℕ) → List Message → Type 0

@@ -11,10 +11,11 @@ ghost use Rattle.printf_grammar.specs.declared.argument.Value.{Value};
 ghost use Rattle.trace_text.specs.declared.call.Call.{Call as CallRecord};
 ghost use Rattle.log_dictionary.specs.declared.clock.Clock.{Clock as ClockRecord};
 ghost use Rattle.nanolog_cli.specs.Parts.{contents};
-ghost use Rattle.log_dictionary.specs.Messages.{NarrowLine, HasMessage};
+ghost use Rattle.printf_grammar.specs.Narrow.{IsNarrow};
+ghost use Rattle.log_dictionary.specs.Messages.{UnescapedLine, HasMessage};
 ghost use Rattle.trace_text.specs.Lines.{clock_line, FitsLine};
 ghost use Rattle.trace_text.specs.Recordings.{Recording, IsRecording};
-ghost use Rattle.nanolog_cli.specs.NarrowMessages.{NarrowMessages, EndsMessages, MessagesBefore};
+ghost use Rattle.nanolog_cli.specs.NarrowMessages.{NarrowLine, NarrowMessages, EndsMessages, MessagesBefore};
 ghost use Rattle.nanolog_cli.specs.NarrowTexts.{body_at};
 ghost use Rattle.nanolog_cli.specs.NarrowTraces.{NarrowTrace};
 ghost use Rattle.nanolog_cli.specs.NarrowBodies.{NarrowBody, NarrowRun, sections_at};
@@ -259,6 +260,20 @@ fn read_clock(alloc: Global, line: &[u8]) -> Result<Clock, NarrowFault>
     }
 }
 
+/// Whether the last message's format is a narrow one.
+fn is_last_narrow(dictionary: &Dictionary) -> bool
+    ensures { (messages : List Message) (message : Message) → dictionary.now ≡ messages ++ message ∷ [] → IsTrue result ↔ IsNarrow message.format.pieces }
+{
+    let count = dictionary.len();
+    if count == 0 {
+        return false;
+    }
+    match dictionary.get(count - 1) {
+        Some(message) => message.format.is_narrow(),
+        None => false,
+    }
+}
+
 /// Adds the message that the line spells.
 fn read_message(dictionary: &mut Dictionary, line: &[u8]) -> Result<(), NarrowFault>
     ensures found { OnOk result ((message : Message)
@@ -266,7 +281,12 @@ fn read_message(dictionary: &mut Dictionary, line: &[u8]) -> Result<(), NarrowFa
         × (dictionary.new ≡ dictionary.old ++ message ∷ [])) }
     ensures not_yet { IsErrOf result NarrowFault.NotYet → (message : Message) → NarrowLine line.now (length dictionary.old) message → length dictionary.old < 65536 → ¬ (HasMessage dictionary.old message) → ⊥ }
 {
-    Ok(dictionary.read_line(line)?)
+    dictionary.read_line(line)?;
+    if is_last_narrow(dictionary) {
+        Ok(())
+    } else {
+        Err(NarrowFault::NotYet)
+    }
 }
 
 /// The messages that the lines at the front spell, and how many lines that are.

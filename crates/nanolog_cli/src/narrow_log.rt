@@ -1,12 +1,12 @@
 //! Reading the logs that are read so far.
 
-ghost use Rattle.std.specs.Prelude.{◌≡◌, ◌≢◌, ◌<◌, ◌≤◌, ℕ, List, [], ◌∷◌, ◌++◌, length, IfOk, IfSome, IfNone, IsErrOf};
+ghost use Rattle.std.specs.Prelude.{◌≡◌, ◌≢◌, ◌<◌, ◌≤◌, ℕ, List, [], ◌∷◌, ◌++◌, length, IfOk, IfSome, IfNone, IsErrOf, MatchResult, take};
 ghost use Rattle.std.specs.Hash.{le_bytes};
 ghost use Rattle.log_dictionary.specs.declared.clock.Clock.{Clock as ClockRecord};
-ghost use Rattle.log_dictionary.specs.declared.message.Message.{Message};
+ghost use Rattle.log_dictionary.specs.declared.message.Message.{Message as MessageRecord};
 ghost use Rattle.log_dictionary.specs.declared.binary_entry.EntryFault.TheVariants as entry_faults;
 ghost use Rattle.log_dictionary.specs.declared.dictionary.AddFault.TheVariants as add_faults;
-ghost use Rattle.log_dictionary.specs.BinaryEntries.{NarrowEntry};
+ghost use Rattle.nanolog_cli.specs.NarrowMessages.{NarrowEntry};
 ghost use Rattle.log_dictionary.specs.Messages.{HasMessage};
 ghost use Rattle.buffer_extent.specs.declared.record.LogRecord.{LogRecord};
 ghost use Rattle.buffer_extent.specs.Bodies.{IsBody};
@@ -18,7 +18,7 @@ ghost use Rattle.nanolog_cli.specs.LogParts.{BeginsWithHeader, BeginsWithCount, 
 
 use crate::narrow::NarrowFault;
 use buffer_extent::{BodyFault, Records, read_body};
-use log_dictionary::{AddFault, Added, Clock, Dictionary, EntryFault, read_entry};
+use log_dictionary::{AddFault, Added, Clock, Dictionary, EntryFault, Message, read_entry};
 use std::alloc::Global;
 
 /// The most bytes of a log.
@@ -110,6 +110,22 @@ fn read_header(bytes: &[u8]) -> Option<(Clock, &[u8])>
     Some((Clock { tick, nanos, rate }, rest))
 }
 
+/// The message of the entry at the front, and the entry's length. Its format is a narrow one.
+fn read_narrow_entry(alloc: Global, bytes: &[u8]) -> Result<(Message, usize), NarrowFault>
+    ensures within { IfOk result (λ read. read.1 ≤ length bytes.now) }
+    ensures ok { IfOk result (λ read. NarrowEntry (take read.1 bytes.now) read.0) }
+    ensures only { (message : MessageRecord) (front rest : List ℕ) → NarrowEntry front message → bytes.now ≡ front ++ rest → MatchResult result
+        (λ read. (read.0 ≡ message) × (read.1 ≡ length front))
+        (λ fault. fault ≡ NarrowFault.NoMemory) }
+{
+    let (message, len) = read_entry(alloc, bytes)?;
+    if message.format.is_narrow() {
+        Ok((message, len))
+    } else {
+        Err(NarrowFault::NotYet)
+    }
+}
+
 /// Adds the message of the entry at the front, and gives the bytes behind it.
 fn add_entry<'a>(
     alloc: Global,
@@ -117,14 +133,14 @@ fn add_entry<'a>(
     bytes: &'a [u8],
 ) -> Result<&'a [u8], NarrowFault>
     requires { length dictionary.now < 65536 }
-    ensures found { IfOk result (λ rest. (message : Message) × (front : List ℕ)
+    ensures found { IfOk result (λ rest. (message : MessageRecord) × (front : List ℕ)
         × NarrowEntry front message
         × (bytes.now ≡ front ++ rest.now)
         × (¬ (HasMessage dictionary.old message))
         × (dictionary.new ≡ dictionary.old ++ message ∷ [])) }
-    ensures not_yet { IsErrOf result NarrowFault.NotYet → (message : Message) (front rest : List ℕ) → NarrowEntry front message → bytes.now ≡ front ++ rest → ¬ (HasMessage dictionary.old message) → ⊥ }
+    ensures not_yet { IsErrOf result NarrowFault.NotYet → (message : MessageRecord) (front rest : List ℕ) → NarrowEntry front message → bytes.now ≡ front ++ rest → ¬ (HasMessage dictionary.old message) → ⊥ }
 {
-    let (message, len) = read_entry(alloc, bytes)?;
+    let (message, len) = read_narrow_entry(alloc, bytes)?;
     match dictionary.add(message)? {
         Added::New(_) => Ok(&bytes[len..]),
         Added::Old(_) => Err(NarrowFault::NotYet),
@@ -135,7 +151,7 @@ fn add_entry<'a>(
 fn read_entries(alloc: Global, count: u32, bytes: &[u8]) -> Result<(Dictionary, &[u8]), NarrowFault>
     requires { count ≤ MOST_MESSAGES }
     ensures found { IfOk result (λ read. BeginsWithEntries count bytes.now read.0 read.1.now) }
-    ensures not_yet { IsErrOf result NarrowFault.NotYet → (messages : List Message) (rest : List ℕ) → BeginsWithEntries count bytes.now messages rest → ⊥ }
+    ensures not_yet { IsErrOf result NarrowFault.NotYet → (messages : List MessageRecord) (rest : List ℕ) → BeginsWithEntries count bytes.now messages rest → ⊥ }
 {
     let mut dictionary = Dictionary::make(alloc);
     let mut rest = bytes;
@@ -161,7 +177,7 @@ fn read_count(bytes: &[u8]) -> Option<(u32, &[u8])>
 /// The messages of the fragment at the front, none where no fragment is there, and the bytes behind it.
 fn read_messages(alloc: Global, bytes: &[u8]) -> Result<(Dictionary, &[u8]), NarrowFault>
     ensures found { IfOk result (λ read. BeginsWithMessages bytes.now read.0 read.1.now) }
-    ensures not_yet { IsErrOf result NarrowFault.NotYet → (messages : List Message) (rest : List ℕ) → BeginsWithMessages bytes.now messages rest → ⊥ }
+    ensures not_yet { IsErrOf result NarrowFault.NotYet → (messages : List MessageRecord) (rest : List ℕ) → BeginsWithMessages bytes.now messages rest → ⊥ }
 {
     let Some(rest) = bytes.strip_prefix(FRAGMENT) else {
         return Ok((Dictionary::make(alloc), bytes));
@@ -227,7 +243,7 @@ fn read_records<'a>(
 /// The log that the bytes are.
 pub(crate) fn read_log(alloc: Global, bytes: &[u8]) -> Result<ReadLog, NarrowFault>
     ensures found { IfOk result (λ log. NarrowLog bytes.now log.clock log.dictionary log.records) }
-    ensures not_yet { IsErrOf result NarrowFault.NotYet → (clock : ClockRecord) (messages : List Message) (entries : List LogRecord) → NarrowLog bytes.now clock messages entries → ⊥ }
+    ensures not_yet { IsErrOf result NarrowFault.NotYet → (clock : ClockRecord) (messages : List MessageRecord) (entries : List LogRecord) → NarrowLog bytes.now clock messages entries → ⊥ }
 {
     if bytes.len() > MOST_LOG_BYTES {
         return Err(NarrowFault::NotYet);

@@ -1,7 +1,7 @@
 pub mod Breaks
 pub mod Narrow
+pub mod Parts
 pub mod Pieces
-pub mod Reading
 pub mod Rows
 pub mod Spelling
 pub mod Types

@@ -1,10 +1,10 @@
-ghost use Rattle.std.specs.Prelude.{◌≡◌, ◌↔◌, ◌++◌, IsTrue, IfOk, OnOk, FitsSigned};
+ghost use Rattle.std.specs.Prelude.{◌≡◌, ◌↔◌, ◌++◌, IsTrue, OnOk, FitsSigned};
 ghost use Rattle.std.specs.Int.{w32};
-ghost use Rattle.printf_grammar.specs.Types.{values_of, Fits, IsText, signed_type, unsigned_type, conversion_type, field_types, Types};
+ghost use Rattle.printf_grammar.specs.Types.{values_of, Fits, IsText, signed_type, unsigned_type, conversion_type, field_types, piece_types};
 
 use crate::argument::Arg;
 use crate::piece::{Conversion, Length, Piece, Size, Spec};
-use std::alloc::{AllocError, Global};
+use std::alloc::AllocError;
 
 /// What a format takes at one place of its arguments.
 #[derive(Clone, Copy, Debug, PartialEq, Eq)]
@@ -115,15 +115,12 @@ fn push_field(types: &mut Vec<ArgType>, spec: Spec) -> Result<(), AllocError>
     Ok(())
 }
 
-/// What the pieces take, in order.
-pub(crate) fn types_of(alloc: Global, pieces: &[Piece]) -> Result<Vec<ArgType>, AllocError>
-    ensures { IfOk result (λ types. types.items ≡ Types pieces.now) }
+/// Appends the types of what the piece takes. After a refusal some of them may stand there.
+pub(crate) fn push_types(types: &mut Vec<ArgType>, piece: Piece) -> Result<(), AllocError>
+    ensures { OnOk result (types.new.items ≡ types.old.items ++ piece_types piece) }
 {
-    let mut types = Vec::new(alloc);
-    for piece in pieces {
-        if let Piece::Field(spec) = *piece {
-            push_field(&mut types, spec)?;
-        }
+    match piece {
+        Piece::Field(spec) => push_field(types, spec),
+        _ => Ok(()),
     }
-    Ok(types)
 }

@@ -34,9 +34,9 @@ pub enum FormatCause {
 /// Why `parse` gave no format.
 #[derive(Debug, Drop, PartialEq, Eq, Error)]
 pub enum ParseFault {
-    /// The bytes are no format, or one with more than literals, `%%` and plain `%d`.
-    #[error("the format is not supported yet")]
-    NotYet,
+    /// The bytes break the grammar at this place, counted from 0, from this cause.
+    #[error("the format is broken at byte {place}")]
+    Bad { cause: FormatCause, place: usize },
     #[error("there is no memory")]
     NoMemory,
 }

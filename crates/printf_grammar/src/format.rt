@@ -1,21 +1,32 @@
-ghost use Rattle.std.specs.Prelude.{◌≡◌, List, IfOk, MatchResult, Err};
+ghost use Rattle.std.specs.Prelude.{◌≡◌, ◌⊎◌, ℕ, List, IfOk, MatchResult, Err, ◌↔◌, IsTrue};
+ghost use Rattle.printf_grammar.specs.Narrow.{IsNarrowPiece};
 ghost use Rattle.printf_grammar.specs.declared.piece.Piece.{Piece};
 ghost use Rattle.printf_grammar.specs.Spelling.{Spells};
-ghost use Rattle.printf_grammar.specs.Narrow.{IsNarrow};
+ghost use Rattle.printf_grammar.specs.Breaks.{FormatBreak};
 
-use crate::arg_type::{ArgType, types_of};
+use crate::arg_type::ArgType;
 use crate::bytes::Bytes;
-use crate::fault::ParseFault;
+use crate::fault::{FormatCause, ParseFault};
 use crate::parsing::all_pieces;
-use crate::piece::Piece;
+use crate::piece::{Conversion, Length, Piece, Size, Spec};
 use std::alloc::Global;
 use std::marker::Model;
 
 /// The most bytes that a format has.
 const MAX_BYTES: usize = 4095;
 
-/// The most arguments that a format takes.
-const MAX_ARGUMENTS: usize = 64;
+// `%d` with nothing between.
+const PLAIN_D: Spec = Spec {
+    minus: false,
+    plus: false,
+    space: false,
+    sharp: false,
+    zero: false,
+    width: Size::Absent,
+    precision: Size::Absent,
+    length: Length::Plain,
+    conversion: Conversion::D,
+};
 
 /// A format that was parsed: its bytes, its pieces, and the types of the arguments that it takes.
 #[derive(Debug, Drop)]
@@ -40,6 +51,7 @@ impl Model for Format {
 }
 
 impl Format {
+    ghost use Rattle.printf_grammar.specs.Narrow.{IsNarrow};
     ghost use Rattle.printf_grammar.specs.Spelling.{Spells};
     ghost use Rattle.printf_grammar.specs.Types.{Types};
 
@@ -66,29 +78,46 @@ impl Format {
     {
         self.pieces.as_slice()
     }
+
+    /// Whether there are only literals, `%%` and `%d` with nothing between.
+    pub fn is_narrow(&self) -> bool
+        ensures { IsTrue result ↔ IsNarrow self.now.pieces }
+    {
+        self.pieces.iter().all(|piece| is_narrow(*piece))
+    }
 }
 
-/// The format that the bytes spell.
-///
-/// For now a format has only literals, `%%` and `%d` with nothing between; all else is `NotYet`.
-pub fn parse(alloc: Global, bytes: &[u8]) -> Result<Format, ParseFault>
-    ensures found { IfOk result (λ format.
-        (format.bytes ≡ bytes.now) × Spells bytes.now format.pieces × IsNarrow format.pieces) }
+fn is_narrow(piece: Piece) -> bool
+    ensures { IsTrue result ↔ IsNarrowPiece piece }
+{
+    match piece {
+        Piece::Field(spec) => spec == PLAIN_D,
+        _ => true,
+    }
+}
 
-    // What is spelled so is found, unless memory runs out.
-    ensures only { (pieces : List Piece) → Spells bytes.now pieces → IsNarrow pieces → MatchResult result
+/// The format that the bytes spell (C11 7.21.6.1), without floating and wide conversions, `n` and places of arguments
+/// as `1$`. Where they spell none the fault names the first place at which they break, and the first cause there in
+/// the order of `FormatCause`; more than 4,095 bytes come before all else.
+pub fn parse(alloc: Global, bytes: &[u8]) -> Result<Format, ParseFault>
+    ensures found { IfOk result (λ format. (format.bytes ≡ bytes.now) × Spells bytes.now format.pieces) }
+    ensures bad { (cause : FormatCause) (place : ℕ) → result ≡ Err (ParseFault.Bad cause place) → FormatBreak bytes.now cause place }
+
+    // What is spelled so is found, unless memory runs out, and where the bytes break, that is what is answered.
+    ensures only_found { (pieces : List Piece) → Spells bytes.now pieces → MatchResult result
         (λ format. format ≡ record { bytes = bytes.now; pieces = pieces })
         (λ fault. fault ≡ ParseFault.NoMemory) }
-    ensures not_yet { result ≡ Err ParseFault.NotYet → (pieces : List Piece) → Spells bytes.now pieces → ¬ IsNarrow pieces }
+    ensures only_bad { (cause : FormatCause) (place : ℕ) → FormatBreak bytes.now cause place → MatchResult result
+        (λ format. ⊥)
+        (λ fault. (fault ≡ ParseFault.Bad cause place) ⊎ (fault ≡ ParseFault.NoMemory)) }
 {
     if bytes.len() > MAX_BYTES {
-        return Err(ParseFault::NotYet);
+        return Err(ParseFault::Bad {
+            cause: FormatCause::Long,
+            place: MAX_BYTES,
+        });
     }
-    let pieces = all_pieces(alloc, bytes)?;
-    let types = types_of(alloc, &pieces)?;
-    if types.len() > MAX_ARGUMENTS {
-        return Err(ParseFault::NotYet);
-    }
+    let (pieces, types) = all_pieces(alloc, bytes)?;
     Ok(Format {
         bytes: Bytes::from_slice(alloc, bytes)?,
         pieces,

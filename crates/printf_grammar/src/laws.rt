@@ -1,10 +1,20 @@
-ghost use Rattle.std.specs.Prelude.{◌≡◌, ℕ, ◌<◌, List, [], ◌∷◌, ◌++◌, length, codes};
+ghost use Rattle.std.specs.Prelude.{◌≡◌, ◌⊎◌, ℕ, ◌<◌, List, [], ◌∷◌, ◌++◌, length, codes};
 ghost use Rattle.printf_grammar.specs.declared.arg_type.ArgType.TheVariants as types;
+ghost use Rattle.printf_grammar.specs.declared.piece.Piece.{Piece};
+ghost use Rattle.printf_grammar.specs.declared.fault.FormatCause.{FormatCause};
 ghost use Rattle.printf_grammar.specs.declared.fault.FormatCause.TheVariants.{Float, Wide, Store, BadPercent, BadLength, Unknown, TooWide, Ends, Nul, TooManyArgs, Long};
 ghost use Rattle.printf_grammar.specs.Spelling.{Spells};
 ghost use Rattle.printf_grammar.specs.Breaks.{FormatBreak};
 ghost use Rattle.printf_grammar.specs.Rows.{padded_pieces, starred_pieces, plain_ds};
 ghost use Rattle.printf_grammar.specs.Types.{Types};
+
+/// Each text has one reading. It spells one list of pieces, or it breaks at one place from one cause, and not both.
+pub fn one_reading()
+    ensures spells_or_breaks { (bytes : List ℕ) → ((pieces : List Piece) × Spells bytes pieces) ⊎ ((cause : FormatCause) × (place : ℕ) × FormatBreak bytes cause place) }
+    ensures not_both { (bytes : List ℕ) (pieces : List Piece) (cause : FormatCause) (place : ℕ) → Spells bytes pieces → ¬ (FormatBreak bytes cause place) }
+    ensures one_list { (bytes : List ℕ) (pieces others : List Piece) → Spells bytes pieces → Spells bytes others → pieces ≡ others }
+    ensures one_break { (bytes : List ℕ) (cause other : FormatCause) (place at : ℕ) → FormatBreak bytes cause place → FormatBreak bytes other at → (cause ≡ other) × (place ≡ at) }
+{}
 
 /// Worked formats: their pieces and types.
 pub fn worked_formats()

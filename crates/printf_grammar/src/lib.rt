@@ -8,6 +8,7 @@ mod fault;
 mod format;
 pub mod laws;
 mod parsing;
+mod parts;
 mod piece;
 
 pub use arg_type::{ArgType, fits};

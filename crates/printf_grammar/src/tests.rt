@@ -1,7 +1,7 @@
 use super::*;
 use std::test::Fail;
 
-const PLAIN_D: Piece = Piece::Field(Spec {
+const PLAIN_SPEC: Spec = Spec {
     minus: false,
     plus: false,
     space: false,
@@ -11,28 +11,22 @@ const PLAIN_D: Piece = Piece::Field(Spec {
     precision: Size::Absent,
     length: Length::Plain,
     conversion: Conversion::D,
-});
+};
+
+const PLAIN_D: Piece = Piece::Field(PLAIN_SPEC);
 
 #[test]
-fn narrow_formats_are_parsed(rt: HostRuntime) -> Result<(), Fail> {
-    let format = parse(rt.alloc(), b"a%db")?;
-    assert_eq!(rt; format.bytes(), b"a%db".as_slice());
+fn pieces_have_their_places(rt: HostRuntime) -> Result<(), Fail> {
+    let format = parse(rt.alloc(), b"a%d100%%")?;
+    assert_eq!(rt; format.bytes(), b"a%d100%%".as_slice());
     assert_eq!(rt; format.types(), [ArgType::Int].as_slice());
     let pieces = [
         Piece::Literal { start: 0, end: 1 },
         PLAIN_D,
-        Piece::Literal { start: 3, end: 4 },
+        Piece::Literal { start: 3, end: 6 },
+        Piece::Percent,
     ];
     assert_eq!(rt; format.pieces(), pieces.as_slice());
-
-    let format = parse(rt.alloc(), b"x=%d")?;
-    let pieces = [Piece::Literal { start: 0, end: 2 }, PLAIN_D];
-    assert_eq!(rt; format.pieces(), pieces.as_slice());
-
-    let format = parse(rt.alloc(), b"100%%")?;
-    let pieces = [Piece::Literal { start: 0, end: 3 }, Piece::Percent];
-    assert_eq!(rt; format.pieces(), pieces.as_slice());
-    assert_eq!(rt; format.types().len(), 0);
 
     let format = parse(rt.alloc(), b"")?;
     assert_eq!(rt; format.pieces().len(), 0);
@@ -40,24 +34,61 @@ fn narrow_formats_are_parsed(rt: HostRuntime) -> Result<(), Fail> {
 }
 
 #[test]
-fn other_bytes_are_no_narrow_format(rt: HostRuntime) {
-    assert!(rt; matches!(parse(rt.alloc(), b"%5d"), Err(ParseFault::NotYet)));
-    assert!(rt; matches!(parse(rt.alloc(), b"%"), Err(ParseFault::NotYet)));
-    assert!(rt; matches!(parse(rt.alloc(), b"%x"), Err(ParseFault::NotYet)));
-    assert!(rt; matches!(parse(rt.alloc(), &[97, 0]), Err(ParseFault::NotYet)));
-    assert!(rt; matches!(parse(rt.alloc(), &[b'a'; 4096]), Err(ParseFault::NotYet)));
+fn a_field_has_its_parts(rt: HostRuntime) -> Result<(), Fail> {
+    let format = parse(rt.alloc(), b"%-+ #0*.*hhX")?;
+    let piece = Piece::Field(Spec {
+        minus: true,
+        plus: true,
+        space: true,
+        sharp: true,
+        zero: true,
+        width: Size::Star,
+        precision: Size::Star,
+        length: Length::HH,
+        conversion: Conversion::UpperX,
+    });
+    assert_eq!(rt; format.pieces(), [piece].as_slice());
+    let types = [ArgType::Width, ArgType::Precision, ArgType::UInt];
+    assert_eq!(rt; format.types(), types.as_slice());
+
+    let format = parse(rt.alloc(), b"%04095.0004095ld")?;
+    let piece = Piece::Field(Spec {
+        zero: true,
+        width: Size::Given(4095),
+        precision: Size::Given(4095),
+        length: Length::L,
+        ..PLAIN_SPEC
+    });
+    assert_eq!(rt; format.pieces(), [piece].as_slice());
+    Ok(())
+}
+
+/// Whether the bytes break at the place, from the cause.
+fn breaks(rt: &HostRuntime, bytes: &[u8], cause: FormatCause, place: usize) -> bool {
+    parse(rt.alloc(), bytes).err() == Some(ParseFault::Bad { cause, place })
 }
 
 #[test]
-fn sixty_four_arguments_are_taken(rt: HostRuntime) -> Result<(), Fail> {
-    let mut bytes = Vec::new(rt.alloc());
+fn bad_formats_are_refused_at_their_place(rt: HostRuntime) -> Result<(), Fail> {
+    assert!(rt; breaks(&rt, b"%f", FormatCause::Float, 1));
+    assert!(rt; breaks(&rt, b"%Lf", FormatCause::Float, 2));
+    assert!(rt; breaks(&rt, b"%ls", FormatCause::Wide, 2));
+    assert!(rt; breaks(&rt, b"%n", FormatCause::Store, 1));
+    assert!(rt; breaks(&rt, b"%5%", FormatCause::BadPercent, 2));
+    assert!(rt; breaks(&rt, b"%hs", FormatCause::BadLength, 2));
+    assert!(rt; breaks(&rt, b"%1$d", FormatCause::Unknown, 2));
+    assert!(rt; breaks(&rt, b"%4096d", FormatCause::TooWide, 4));
+    assert!(rt; breaks(&rt, b"%-", FormatCause::Ends, 2));
+    assert!(rt; breaks(&rt, &[b'a', 0], FormatCause::Nul, 1));
+    let mut fields = Vec::new(rt.alloc());
     for _ in 0..64u8 {
-        bytes.extend_from_slice(b"%d")?;
+        fields.extend_from_slice(b"%d")?;
     }
-    let format = parse(rt.alloc(), &bytes)?;
-    assert_eq!(rt; format.types().len(), 64);
-    bytes.extend_from_slice(b"%d")?;
-    assert!(rt; matches!(parse(rt.alloc(), &bytes), Err(ParseFault::NotYet)));
+    assert_eq!(rt; parse(rt.alloc(), &fields)?.types().len(), 64);
+    fields.extend_from_slice(b"%d")?;
+    assert!(rt; breaks(&rt, &fields, FormatCause::TooManyArgs, 129));
+    assert!(rt; breaks(&rt, &[b'a'; 4096], FormatCause::Long, 4095));
+    assert_eq!(rt; parse(rt.alloc(), &[b'a'; 4095])?.pieces().len(), 1);
     Ok(())
 }
 
@@ -92,5 +123,88 @@ fn values_are_lent_in_order(rt: HostRuntime) -> Result<(), Fail> {
     assert!(rt; fits(&[ArgType::Width, ArgType::Text], args.as_slice()));
     assert!(rt; !fits(&[ArgType::Width], args.as_slice()));
     assert!(rt; matches!(args.as_slice(), [Arg::Signed(-6), Arg::Text(b"abc")]));
+    Ok(())
+}
+
+/// After each prefix: the bytes that end the format well, those after which it ends too early, and those that are Wide
+/// and BadLength. A float is Float, `n` is Store, NUL is Nul, another `%` is BadPercent, and any other byte Unknown.
+const BYTES_AFTER: &str = "\
+%|diouxXcsp%|-+ #0123456789*.hljztL||
+%-|diouxXcsp|-+ #0123456789*.hljztL||
+%5|diouxXcsp|0123456789.hljztL||
+%.|diouxXcsp|0123456789*hljztL||
+%.5|diouxXcsp|0123456789hljztL||
+%l|diouxX|l|cs|p
+%ll|diouxX|||csp
+%h|diouxX|h||csp
+%hh|diouxX|||csp
+%L||||diouxXcsp";
+
+/// The letter of the one piece, or `%`.
+fn letter_of(pieces: &[Piece]) -> Option<u8> {
+    match pieces {
+        [Piece::Percent] => Some(b'%'),
+        [Piece::Field(spec)] => Some(match spec.conversion {
+            Conversion::D => b'd',
+            Conversion::I => b'i',
+            Conversion::O => b'o',
+            Conversion::U => b'u',
+            Conversion::X => b'x',
+            Conversion::UpperX => b'X',
+            Conversion::C => b'c',
+            Conversion::S => b's',
+            Conversion::P => b'p',
+        }),
+        _ => None,
+    }
+}
+
+/// Whether the text answers as the row of [`BYTES_AFTER`] says of its last byte.
+fn answers(rt: &HostRuntime, text: &[u8], byte: u8, columns: [&[u8]; 4]) -> bool {
+    let [converts, goes_on, wide, bad_length] = columns;
+    let end = text.len();
+    if converts.contains(&byte) {
+        return match parse(rt.alloc(), text) {
+            Ok(format) => letter_of(format.pieces()) == Some(byte),
+            Err(_) => false,
+        };
+    }
+    if goes_on.contains(&byte) {
+        return breaks(rt, text, FormatCause::Ends, end);
+    }
+    let cause = match byte {
+        b'a' | b'A' | b'e' | b'E' | b'f' | b'F' | b'g' | b'G' => FormatCause::Float,
+        b'n' => FormatCause::Store,
+        b'%' => FormatCause::BadPercent,
+        0 => FormatCause::Nul,
+        _ if wide.contains(&byte) => FormatCause::Wide,
+        _ if bad_length.contains(&byte) => FormatCause::BadLength,
+        _ => FormatCause::Unknown,
+    };
+    breaks(rt, text, cause, end.saturating_sub(1))
+}
+
+#[test]
+fn each_byte_is_judged_behind_each_prefix(rt: HostRuntime) -> Result<(), Fail> {
+    for row in BYTES_AFTER.lines() {
+        let mut columns = row.split('|');
+        let prefix = columns.next().ok_or("a row without a prefix")?;
+        let converts = columns.next().ok_or("a row without conversions")?;
+        let goes_on = columns.next().ok_or("a row without bytes that go on")?;
+        let wide = columns.next().ok_or("a row without wide bytes")?;
+        let bad_length = columns.next().ok_or("a row without bad lengths")?;
+        for byte in 0..=255u8 {
+            let mut text = Vec::new(rt.alloc());
+            text.extend_from_slice(prefix.as_bytes())?;
+            text.push(byte)?;
+            let columns = [
+                converts.as_bytes(),
+                goes_on.as_bytes(),
+                wide.as_bytes(),
+                bad_length.as_bytes(),
+            ];
+            assert!(rt; answers(&rt, &text, byte, columns), "{prefix} and {byte}");
+        }
+    }
     Ok(())
 }

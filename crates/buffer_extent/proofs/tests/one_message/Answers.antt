@@ -1,8 +1,10 @@
-use Rattle.std.proofs.Common.{[]}
+use Rattle.std.proofs.Common.{[], ◌∷◌, ◌++◌, List, refl, ap, ◌∙◌}
+use Rattle.log_dictionary.specs.declared.message.Message.{Message}
 use Rattle.buffer_extent.specs.IntegerLaws.{TakeIntegers-push}
 use Rattle.buffer_extent.proofs.tests.one_message.Goals as goal
 
-pub returns-in-Ok : goal.returns-in-Ok
-returns-in-Ok c =
-    let (message, narrow, new) = c.in-Ok.ensures.ok in
-    rw new (rw c.make-dictionary.ensures (TakeIntegers-push [] message tt narrow.narrow))
+pub returns-then-is_narrow : goal.returns-then-is_narrow
+returns-then-is_narrow c =
+    let (message, line, new) = c.in-Ok.ensures.ok in
+    let alone = new ∙ ap (λ (messages : List Message). messages ++ message ∷ []) c.make-dictionary.ensures in
+    rw alone (TakeIntegers-push [] message tt (c.if-is_narrow.ensures refl message alone))

@@ -1,5 +1,5 @@
 use Rattle.std.proofs.Common.{Err, refl, ap}
-use Rattle.printf_grammar.specs.declared.fault.ParseFault.{ParseFault}
+use Rattle.log_dictionary.specs.declared.formats.FormatFault.{FormatFault}
 use Rattle.log_dictionary.specs.declared.message.Message.{Message}
 use Rattle.log_dictionary.specs.declared.binary_entry.EntryFault.TheVariants.{BadEntry}
 use Rattle.log_dictionary.specs.EntryReading.{raw_fields}
@@ -18,18 +18,18 @@ returns-in_err-fields-clause-bad_entry c = stopped_bad c.args.bytes.now c.from_r
 pub returns-in_err-fields-clause-refused : goal.returns-in_err-fields-clause-refused
 returns-in_err-fields-clause-refused c = stopped_refused c.args.bytes.now c.from_residual.result c.in_err-fields.field-0.0 (handed_on _ _ c.from_residual.ensures.1) c.in_err-fields.ensures.err
 
-pub returns-in-Err-NotYet-clause-only : goal.returns-in-Err-NotYet-clause-only
-returns-in-Err-NotYet-clause-only c = λ message front rest narrow is.
-    let wrong = read_bad c.args.bytes.now (raw_fields c.in_ok-fields.fields) c.in_ok-fields.ensures.ok (c.in-Err-NotYet.ensures.not_yet (ap (λ (f : ParseFault). Err f) c.in-Err-NotYet.field-0-is)) in
+pub returns-in-Err-Bad-clause-only : goal.returns-in-Err-Bad-clause-only
+returns-in-Err-Bad-clause-only c = λ message front rest narrow is.
+    let wrong = read_bad c.args.bytes.now (raw_fields c.in_ok-fields.fields) c.in_ok-fields.ensures.ok (c.in-Err-Bad.ensures.bad (ap (λ (f : FormatFault). Err f) c.in-Err-Bad.field-0-is)) in
     absurd (stopped_only c.args.bytes.now BadEntry wrong message front rest narrow is)
 
-pub returns-in-Err-NotYet-clause-cut : goal.returns-in-Err-NotYet-clause-cut
-returns-in-Err-NotYet-clause-cut c =
-    let wrong = read_bad c.args.bytes.now (raw_fields c.in_ok-fields.fields) c.in_ok-fields.ensures.ok (c.in-Err-NotYet.ensures.not_yet (ap (λ (f : ParseFault). Err f) c.in-Err-NotYet.field-0-is)) in
+pub returns-in-Err-Bad-clause-cut : goal.returns-in-Err-Bad-clause-cut
+returns-in-Err-Bad-clause-cut c =
+    let wrong = read_bad c.args.bytes.now (raw_fields c.in_ok-fields.fields) c.in_ok-fields.ensures.ok (c.in-Err-Bad.ensures.bad (ap (λ (f : FormatFault). Err f) c.in-Err-Bad.field-0-is)) in
     stopped_cut c.args.bytes.now (Err BadEntry) BadEntry refl wrong
 
-pub returns-in-Err-NotYet-clause-bad_entry : goal.returns-in-Err-NotYet-clause-bad_entry
-returns-in-Err-NotYet-clause-bad_entry c = λ _. read_bad c.args.bytes.now (raw_fields c.in_ok-fields.fields) c.in_ok-fields.ensures.ok (c.in-Err-NotYet.ensures.not_yet (ap (λ (f : ParseFault). Err f) c.in-Err-NotYet.field-0-is))
+pub returns-in-Err-Bad-clause-bad_entry : goal.returns-in-Err-Bad-clause-bad_entry
+returns-in-Err-Bad-clause-bad_entry c = λ _. read_bad c.args.bytes.now (raw_fields c.in_ok-fields.fields) c.in_ok-fields.ensures.ok (c.in-Err-Bad.ensures.bad (ap (λ (f : FormatFault). Err f) c.in-Err-Bad.field-0-is))
 
 pub returns-in-Err-NoMemory-clause-cut : goal.returns-in-Err-NoMemory-clause-cut
 returns-in-Err-NoMemory-clause-cut c = (λ e. absurd cc, λ cut. absurd (read_not_cut c.args.bytes.now (raw_fields c.in_ok-fields.fields) c.in_ok-fields.ensures.ok cut))
@@ -48,7 +48,6 @@ returns-clause-only c =
       file_is = c.in-Ok-from_slice.ensures;
       bytes_are = c.in-Ok.ensures.found.0;
       formed = c.in-Ok.ensures.found.1;
-      narrow = c.in-Ok.ensures.found.2;
       only = c.in-Ok.ensures.only;
     }) c.entry_len-len.ensures.len
 
@@ -61,6 +60,5 @@ returns-clause-refused c = λ bad.
       file_is = c.in-Ok-from_slice.ensures;
       bytes_are = c.in-Ok.ensures.found.0;
       formed = c.in-Ok.ensures.found.1;
-      narrow = c.in-Ok.ensures.found.2;
       only = c.in-Ok.ensures.only;
     }) bad

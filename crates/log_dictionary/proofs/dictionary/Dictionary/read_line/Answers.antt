@@ -2,7 +2,7 @@ use Rattle.std.proofs.Common.{◌≡◌, List, ℕ, subst, sym, ◌∙◌, ap, a
 use Rattle.std.proofs.lemmas.List.{length_push}
 use Rattle.std.proofs.lemmas.Bool.{false≢true}
 use Rattle.log_dictionary.specs.declared.message.Message.{Message}
-use Rattle.log_dictionary.specs.Messages.{HasMessage, NarrowLine}
+use Rattle.log_dictionary.specs.Messages.{HasMessage, UnescapedLine}
 use Rattle.log_dictionary.proofs.Distinct.{still_distinct}
 use Rattle.log_dictionary.proofs.dictionary.Dictionary.read_line.Goals as goal
 
@@ -45,7 +45,7 @@ pub returns-clause-ok : goal.returns-clause-ok
 returns-clause-ok c =
     let next : c.in-Ok.pair.0 ≡ length c.args.self.now = omega (arith, c.if-id-len.false, c.len-2.ensures, c.self.inside.messages.ok.0, ap length c.self.view_is) in (
       c.in-Ok.pair.1,
-      subst (λ (id : ℕ). NarrowLine c.args.line.now id c.in-Ok.pair.1) next c.in-Ok.ensures.found,
+      subst (λ (id : ℕ). UnescapedLine c.args.line.now id c.in-Ok.pair.1) next c.in-Ok.ensures.found,
       c.in-Ok-push.ensures.items ∙ ap (λ (m : List Message). m ++ c.in-Ok.pair.1 ∷ []) c.self.view_is,
     )
 

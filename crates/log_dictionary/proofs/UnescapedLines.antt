@@ -10,14 +10,13 @@ use Rattle.std.proofs.lemmas.List.Elements.{All-append, All-take, All-drop, All-
 use Rattle.printf_grammar.specs.Pieces.{Parsed}
 use Rattle.printf_grammar.specs.declared.piece.Piece.{Piece}
 use Rattle.printf_grammar.specs.Spelling.{Spells}
-use Rattle.printf_grammar.specs.Narrow.{IsNarrow}
 use Rattle.log_dictionary.specs.declared.severity.Severity.{Severity}
 use Rattle.log_dictionary.specs.declared.severity.Severity.TheVariants.{Error, Warning, Notice, Debug}
 use Rattle.log_dictionary.specs.declared.message.Message.{Message}
 use Rattle.log_dictionary.specs.Severities.{severity_name}
 use Rattle.log_dictionary.specs.Texts.{IsPlain, SpellsByte, SpellsText}
 use Rattle.log_dictionary.specs.Texts.SpellsByte.{itself, quotation_mark, backslash, line_feed, tab, hexadecimal}
-use Rattle.log_dictionary.specs.Messages.{NarrowLine, SameMessage}
+use Rattle.log_dictionary.specs.Messages.{UnescapedLine, SameMessage}
 use Rattle.log_dictionary.specs.Entries.{IsEntry, Parts}
 use Rattle.log_dictionary.proofs.Lines.{severity_none, decimal_none, none_by_test, entry_parts, parts_at-entry}
 
@@ -57,9 +56,9 @@ text_again (b ∷ bytes) plain = (b ∷ [], bytes, refl, itself (All-head IsPlai
 
 -- ---- lines
 
--- a narrow line is an entry
-pub narrow_entry : (line : List ℕ) (id : ℕ) (message : Message) → NarrowLine line id message → IsEntry line id message.severity message.line message.file message.format.bytes
-narrow_entry line id message narrow =
+-- a line without escapes is an entry
+pub line_entry : (line : List ℕ) (id : ℕ) (message : Message) → UnescapedLine line id message → IsEntry line id message.severity message.line message.file message.format.bytes
+line_entry line id message narrow =
     let s = narrow.spelled in
     let start : List ℕ = codes "message " ++ decimal id ++ 32 ∷ severity_name message.severity ++ 32 ∷ decimal message.line ++ codes " \"" in
     let whole : Lacks 92 (start ++ s.name ++ codes "\" \"" ++ s.format ++ 34 ∷ []) = subst (Lacks 92) s.spelled narrow.unescaped in
@@ -88,9 +87,9 @@ text_lacks text e = All-from_recursion (λ x. x ≢ 92) text (none_by_test 92 te
 joined_lacks : (xs ys : List ℕ) → Lacks 92 xs → Lacks 92 ys → Lacks 92 (xs ++ ys)
 joined_lacks xs ys h k = All-append (λ x. x ≢ 92) xs ys h k
 
--- an entry, with its format's narrow pieces, is a narrow line
-pub entry_narrow : (line : List ℕ) (id : ℕ) (message : Message) → IsEntry line id message.severity message.line message.file message.format.bytes → Spells message.format.bytes message.format.pieces → IsNarrow message.format.pieces → NarrowLine line id message
-entry_narrow line id message entry formed narrow =
+-- an entry, with its format's pieces, is a line without escapes
+pub entry_line : (line : List ℕ) (id : ℕ) (message : Message) → IsEntry line id message.severity message.line message.file message.format.bytes → Spells message.format.bytes message.format.pieces → UnescapedLine line id message
+entry_line line id message entry formed =
     let small = entry.number_fits in
     let severity = severity_none 92 refl refl refl refl message.severity in
     let number = decimal_none 92 message.line (inr (omega arith)) (omega arith) in
@@ -122,7 +121,6 @@ entry_narrow line id message entry formed narrow =
         line_fits = entry.number_fits;
       };
       unescaped = subst (Lacks 92) (sym entry.spelled) l8;
-      narrow = narrow;
     }
 
 -- ---- one line has one entry
@@ -187,29 +185,28 @@ pub record IsMade (severity : Severity) (number : ℕ) (file format : List ℕ) 
   pub file_is : message.file ≡ file
   pub bytes_are : message.format.bytes ≡ format
   pub formed : Spells format message.format.pieces
-  pub narrow : IsNarrow message.format.pieces
-  pub only : (pieces : List Piece) → Spells format pieces → IsNarrow pieces → message.format ≡ record { bytes = format; pieces = pieces }
+  pub only : (pieces : List Piece) → Spells format pieces → message.format ≡ record { bytes = format; pieces = pieces }
 
 -- the line spells it
-pub made_found : (line : List ℕ) (id : ℕ) (severity : Severity) (number : ℕ) (file format : List ℕ) (message : Message) → IsEntry line id severity number file format → IsMade severity number file format message → NarrowLine line id message
+pub made_found : (line : List ℕ) (id : ℕ) (severity : Severity) (number : ℕ) (file format : List ℕ) (message : Message) → IsEntry line id severity number file format → IsMade severity number file format message → UnescapedLine line id message
 made_found line id severity number file format message entry made =
     let e1 = subst (λ (s : Severity). IsEntry line id s number file format) (sym made.severity_is) entry in
     let e2 = subst (λ (n : ℕ). IsEntry line id message.severity n file format) (sym made.line_is) e1 in
     let e3 = subst (λ (f : List ℕ). IsEntry line id message.severity message.line f format) (sym made.file_is) e2 in
     let e4 = subst (λ (f : List ℕ). IsEntry line id message.severity message.line message.file f) (sym made.bytes_are) e3 in
-    entry_narrow line id message e4 (subst (λ (f : List ℕ). Spells f message.format.pieces) (sym made.bytes_are) made.formed) made.narrow
+    entry_line line id message e4 (subst (λ (f : List ℕ). Spells f message.format.pieces) (sym made.bytes_are) made.formed)
 
 -- and no other
 pub made_only : (line : List ℕ) (id : ℕ) (severity : Severity) (number : ℕ) (file format : List ℕ) (message : Message) → IsEntry line id severity number file format → IsMade severity number file format message
-    → (other_id : ℕ) (other : Message) → NarrowLine line other_id other → (id ≡ other_id) × (message ≡ other)
+    → (other_id : ℕ) (other : Message) → UnescapedLine line other_id other → (id ≡ other_id) × (message ≡ other)
 made_only line id severity number file format message entry made other_id other narrow =
-    let same = same_entry line id other_id severity other.severity number other.line file other.file format other.format.bytes entry (narrow_entry line other_id other narrow) in
-    let parsed = made.only other.format.pieces (subst (λ (f : List ℕ). Spells f other.format.pieces) (sym same.4) narrow.spelled.formed) narrow.narrow in
+    let same = same_entry line id other_id severity other.severity number other.line file other.file format other.format.bytes entry (line_entry line other_id other narrow) in
+    let parsed = made.only other.format.pieces (subst (λ (f : List ℕ). Spells f other.format.pieces) (sym same.4) narrow.spelled.formed) in
     let format_same : message.format ≡ other.format = parsed ∙ ap (λ (f : List ℕ). record_of f other.format.pieces) same.4 in
     (same.0, same_message message other (made.file_is ∙ same.3) (made.line_is ∙ same.2) (made.severity_is ∙ same.1) format_same)
 
 -- a line spells one id and one message
-pub narrow_same : (line : List ℕ) (i j : ℕ) (a b : Message) → NarrowLine line i a → NarrowLine line j b → (i ≡ j) × SameMessage a b
-narrow_same line i j a b first second =
-    let same = same_entry line i j a.severity b.severity a.line b.line a.file b.file a.format.bytes b.format.bytes (narrow_entry line i a first) (narrow_entry line j b second) in
+pub line_same : (line : List ℕ) (i j : ℕ) (a b : Message) → UnescapedLine line i a → UnescapedLine line j b → (i ≡ j) × SameMessage a b
+line_same line i j a b first second =
+    let same = same_entry line i j a.severity b.severity a.line b.line a.file b.file a.format.bytes b.format.bytes (line_entry line i a first) (line_entry line j b second) in
     (same.0, record { file = same.3; line = same.2; severity = same.1; format = same.4 })
