@@ -1,14 +1,20 @@
--- What a plain `%d` writes.
-use Rattle.std.proofs.Common.{◌≡◌, ℕ, suc, ◌-◌, ◌<◌, ◌^◌, false, List, [], ◌∷◌, ◌++◌, length, take, drop, replicate, ℤ, pos, negsuc, FitsSigned, w32, arith}
+-- What a `%d` without flags, width and precision writes.
+use Rattle.std.proofs.Common.{◌≡◌, ℕ, suc, ◌-◌, ◌<◌, ◌^◌, false, List, [], ◌∷◌, ◌++◌, length, take, drop, replicate, ℤ, pos, negsuc, FitsSigned, w8, w64, None, Bool, cond, neg_ℤ, get_or, ◌∙◌, ap, arith}
+use Rattle.std.specs.Int.{w16, int_wrap}
 use Rattle.std.proofs.Math.Bool.{and-false}
 use Rattle.std.proofs.Math.Nat.{zero-sub}
 use Rattle.std.proofs.lemmas.Bool.Decides.{nat_tests}
+use Rattle.std.proofs.lemmas.Int.{SFits-int_wrap}
 use Rattle.std.proofs.lemmas.List.{length-replicate, drop-replicate, take_all}
-use Rattle.std.proofs.lemmas.Fmt.{decimal_nonempty}
+use Rattle.std.proofs.lemmas.Fmt.{decimal_nonempty, decimal_is_IsNumeral}
+use Rattle.std.proofs.lemmas.Str.Parse.{digit_at, without_leading_plus_none}
 use Rattle.std.specs.Fmt.{decimal, signed_decimal}
+use Rattle.std.specs.Str.Parse.{digits_value, signed_digits_value, starts_with_minus, without_leading_plus}
+use Rattle.printf_grammar.specs.declared.piece.Length.{Length}
+use Rattle.printf_grammar.specs.declared.piece.Length.TheVariants.{Plain, HH, H, L, LL, J, Z, T}
 use Rattle.printf_grammar.specs.declared.argument.Value.TheVariants as values
 use Rattle.printf_grammar.specs.Narrow.{plain_d}
-use Rattle.direct_printf.specs.Fields.{Digits, Field, sign_of}
+use Rattle.direct_printf.specs.Fields.{Digits, Field, narrow_signed, sign_of, signed_number, padded}
 
 -- at precision 1 nothing stands in front of the least spelling
 Digits-one : (n : ℕ) → n < 2 ^ 64 → Digits n 10 false 1 ≡ decimal n
@@ -17,19 +23,56 @@ Digits-one n h =
     let short : 1 - length (decimal n) ≡ 0 = omega (arith, decimal_nonempty n h) in
     rw (and-false, short)
 
--- a number that is not negative has no sign without flags
-sign_of-pos : (n : ℕ) → sign_of plain_d (pos n) ≡ []
-sign_of-pos n = grind (arith, nat_tests)
+-- a narrowed number is still one of 64 bits
+narrow_signed-fits : (length : Length) (z : ℤ) → FitsSigned w64 z → FitsSigned w64 (narrow_signed length z)
+narrow_signed-fits Plain z fits = fits
+narrow_signed-fits HH z fits = let narrow : FitsSigned w8 (int_wrap w8 z) = SFits-int_wrap w8 z in record { sfits = omega (arith, narrow.sfits) }
+narrow_signed-fits H z fits = let narrow : FitsSigned w16 (int_wrap w16 z) = SFits-int_wrap w16 z in record { sfits = omega (arith, narrow.sfits) }
+narrow_signed-fits L z fits = fits
+narrow_signed-fits LL z fits = fits
+narrow_signed-fits J z fits = fits
+narrow_signed-fits Z z fits = fits
+narrow_signed-fits T z fits = fits
 
--- a plain `%d` writes the number's decimal spelling
-pub Field-plain_d : (z : ℤ) → FitsSigned w32 z → Field plain_d (values.Signed z ∷ []) ≡ signed_decimal z
-unfolding Field
-Field-plain_d (pos n) h =
+-- a number that is not negative has no sign without flags
+sign_of-pos : (length : Length) (n : ℕ) → sign_of (record plain_d { length = length }) (pos n) ≡ []
+sign_of-pos length n = grind (arith, nat_tests)
+
+-- the narrowed number's decimal spelling
+plain_number : (length : Length) (z : ℤ) → FitsSigned w64 z → padded false false 0 (signed_number (record plain_d { length = length }) None z) ≡ signed_decimal z
+plain_number length (pos n) h =
     let small : n < 2 ^ 64 = omega (arith, h.sfits) in
-    rw (zero-sub, sign_of-pos, Digits-one n small)
-Field-plain_d (negsuc n) h =
+    rw (zero-sub, sign_of-pos length n, Digits-one n small)
+plain_number length (negsuc n) h =
     let small : suc n < 2 ^ 64 = omega (arith, h.sfits) in
     rw (zero-sub, Digits-one (suc n) small)
+
+Field-plain_d : (length : Length) (z : ℤ) → FitsSigned w64 z → Field (record plain_d { length = length }) (values.Signed z ∷ []) ≡ signed_decimal (narrow_signed length z)
+unfolding Field
+Field-plain_d length z fits = plain_number length (narrow_signed length z) (narrow_signed-fits length z fits)
+
+-- bytes without a sign read as their digits
+value_without_sign : (minus : Bool) (bytes : List ℕ) (n : ℕ) → minus ≡ false → without_leading_plus bytes ≡ bytes → digits_value 10 bytes ≡ n → cond minus (neg_ℤ (pos (digits_value 10 (cond minus (drop 1 bytes) (without_leading_plus bytes))))) (pos (digits_value 10 (cond minus (drop 1 bytes) (without_leading_plus bytes)))) ≡ pos n
+value_without_sign minus bytes n no_minus no_plus value =
+    rw no_minus (ap (λ bs. pos (digits_value 10 bs)) no_plus ∙ ap pos value)
+
+-- which reads back as the number
+signed_digits_value-decimal : (z : ℤ) → FitsSigned w64 z → signed_digits_value 10 (signed_decimal z) ≡ z
+signed_digits_value-decimal (pos n) h =
+    let small : n < 2 ^ 64 = omega (arith, h.sfits) in
+    let numeral = decimal_is_IsNumeral n small in
+    let first = digit_at (decimal n) 0 numeral.0.1 numeral.0.0 in
+    let no_minus : starts_with_minus (decimal n) ≡ false = grind (arith, nat_tests) in
+    let no_plus : get_or (decimal n) 0 0 ≡ 43 → ⊥ = λ plus. absurd (omega (arith, plus, first)) in
+    value_without_sign (starts_with_minus (decimal n)) (decimal n) n no_minus (without_leading_plus_none (decimal n) no_plus) numeral.1
+signed_digits_value-decimal (negsuc n) h =
+    let small : suc n < 2 ^ 64 = omega (arith, h.sfits) in
+    let numeral = decimal_is_IsNumeral (suc n) small in
+    ap (λ k. neg_ℤ (pos k)) numeral.1
+
+pub plain_d_reads_back : (length : Length) (z : ℤ) → FitsSigned w64 z → signed_digits_value 10 (Field (record plain_d { length = length }) (values.Signed z ∷ [])) ≡ narrow_signed length z
+plain_d_reads_back length z fits =
+    ap (signed_digits_value 10) (Field-plain_d length z fits) ∙ signed_digits_value-decimal (narrow_signed length z) (narrow_signed-fits length z fits)
 
 -- nine digits: as many of nine zeros as are wanting, and the least spelling
 pub Digits-nine : (n : ℕ) (text : List ℕ) → text ≡ decimal n → take (9 - length text) (drop (length text) (replicate 9 48)) ++ text ≡ Digits n 10 false 9

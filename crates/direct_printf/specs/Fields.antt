@@ -1,5 +1,5 @@
 -- What printf writes for a format and its arguments (C11 7.21.6.1, paragraphs 4 to 8), as functions of whole values.
-use Rattle.std.specs.Prelude.{ℕ, ◌+◌, ◌-◌, ◌%◌, ◌^◌, Bool, true, false, ◌&&◌, ◌||◌, if◌then◌else◌, ◌==◌, ℤ, pos, unsigned_abs, List, [], ◌∷◌, ◌++◌, length, take, drop, replicate, slice_index, slice_index_or, slice_range, Option, Some, None, is_none, codes}
+use Rattle.std.specs.Prelude.{ℕ, ◌+◌, ◌-◌, ◌%◌, ◌^◌, Bool, true, false, ◌&&◌, ◌||◌, if◌then◌else◌, ◌==◌, ℤ, pos, unsigned_abs, List, [], ◌∷◌, ◌++◌, length, take, drop, replicate, slice_index_or, slice_range, Option, Some, None, is_none, codes}
 use Rattle.std.specs.Option.{unwrap_or}
 use Rattle.std.specs.Int.{w8, w16, int_wrap, int_rem_euclid, is_negative}
 use Rattle.std.specs.Fmt.{digits}
@@ -99,20 +99,36 @@ sign_of spec z = if is_negative z then 45 ∷ [] else (if spec.plus then 43 ∷ 
 abbrev pub signed_number : Spec → Option ℕ → ℤ → Converted
 signed_number spec precision z = record { front = sign_of spec z; body = Digits (unsigned_abs z) 10 false (unwrap_or precision 1) }
 
--- octal digits, with `#` after one 0 more where they do not begin with 0 (paragraph 6)
-abbrev pub octal_number : Bool → List ℕ → Converted
-octal_number sharp spelled = record { front = if sharp then (if slice_index spelled 0 == 48 then [] else 48 ∷ []) else []; body = spelled }
+-- u: the decimal digits alone
+abbrev pub unsigned_number : Option ℕ → ℕ → Converted
+unsigned_number precision n = record { front = []; body = Digits n 10 false (unwrap_or precision 1) }
 
--- hexadecimal digits, with `#` after `0x` or `0X` where the value is not 0 (paragraph 6)
+-- the digits begin with `0`
+abbrev pub begins_with_zero : List ℕ → Bool
+begins_with_zero [] = false
+begins_with_zero (first ∷ others) = first == 48
+
+-- with `#` one 0 more where octal digits do not begin with 0 (paragraph 6)
+abbrev pub octal_front : Bool → List ℕ → List ℕ
+octal_front sharp spelled = if sharp then (if begins_with_zero spelled then [] else 48 ∷ []) else []
+
+-- o: the octal digits
+abbrev pub octal_number : Bool → Option ℕ → ℕ → Converted
+octal_number sharp precision n =
+    let spelled = Digits n 8 false (unwrap_or precision 1) in
+    record { front = octal_front sharp spelled; body = spelled }
+
+-- with `#` the prefix of hexadecimal digits where the value is not 0 (paragraph 6)
+abbrev pub hexadecimal_front : Bool → Bool → ℕ → List ℕ
+hexadecimal_front sharp upper n = if sharp then (if n == 0 then [] else (if upper then codes "0X" else codes "0x")) else []
+
+-- x and X: the hexadecimal digits, in lower case or in capitals
 abbrev pub hexadecimal_number : Bool → Bool → Option ℕ → ℕ → Converted
-hexadecimal_number sharp upper precision n = record {
-  front = if sharp then (if n == 0 then [] else (if upper then codes "0X" else codes "0x")) else [];
-  body = Digits n 16 upper (unwrap_or precision 1);
-}
+hexadecimal_number sharp upper precision n = record { front = hexadecimal_front sharp upper n; body = Digits n 16 upper (unwrap_or precision 1) }
 
--- p: `0x` and the hexadecimal digits, and `(nil)` for 0
-abbrev pub pointer : ℕ → List ℕ
-pointer n = if n == 0 then codes "(nil)" else codes "0x" ++ Digits n 16 false 1
+-- p: the hexadecimal digits after `0x`, and `(nil)` for 0
+abbrev pub pointer : ℕ → Converted
+pointer n = if n == 0 then record { front = []; body = codes "(nil)" } else hexadecimal_number true false None n
 
 -- s: the bytes of the text, at most as many as the precision where there is one (paragraph 8)
 abbrev pub cut : Option ℕ → List ℕ → List ℕ
@@ -123,13 +139,13 @@ cut (Some most) text = take most text
 abbrev pub converted : Conversion → Spec → Option ℕ → Value → Converted
 converted D spec precision argument = signed_number spec precision (narrow_signed spec.length (signed_of argument))
 converted I spec precision argument = signed_number spec precision (narrow_signed spec.length (signed_of argument))
-converted U spec precision argument = record { front = []; body = Digits (narrow_unsigned spec.length (unsigned_of argument)) 10 false (unwrap_or precision 1) }
-converted O spec precision argument = octal_number spec.sharp (Digits (narrow_unsigned spec.length (unsigned_of argument)) 8 false (unwrap_or precision 1))
+converted U spec precision argument = unsigned_number precision (narrow_unsigned spec.length (unsigned_of argument))
+converted O spec precision argument = octal_number spec.sharp precision (narrow_unsigned spec.length (unsigned_of argument))
 converted X spec precision argument = hexadecimal_number spec.sharp false precision (narrow_unsigned spec.length (unsigned_of argument))
 converted UpperX spec precision argument = hexadecimal_number spec.sharp true precision (narrow_unsigned spec.length (unsigned_of argument))
 converted C spec precision argument = record { front = []; body = unsigned_abs (int_rem_euclid (signed_of argument) (pos 256)) ∷ [] }
 converted S spec precision argument = record { front = []; body = cut precision (text_of argument) }
-converted P spec precision argument = record { front = []; body = pointer (unsigned_of argument) }
+converted P spec precision argument = pointer (unsigned_of argument)
 
 -- the conversion spells an integer, so that the flag `0` may pad it (paragraph 6)
 abbrev pub is_integer : Conversion → Bool

@@ -1,14 +1,50 @@
-//! What the definitions give for some formats and arguments, worked by hand.
+//! Laws of what printf writes, and what it is for some formats and arguments, worked by hand.
 #![tactic(auto)]
 
-ghost use Rattle.std.specs.Prelude.{◌≡◌, ◌^◌, ◌-◌, pos, negsuc, true, [], ◌∷◌, codes};
+ghost use Rattle.std.specs.Prelude.{◌≡◌, ◌≤◌, ◌<◌, ◌^◌, ℕ, Bool, ℤ, pos, negsuc, true, List, [], ◌∷◌, ◌++◌, length, codes, FitsSigned};
+ghost use Rattle.std.specs.Int.{w64};
+ghost use Rattle.std.specs.Str.Parse.{digits_value, signed_digits_value};
+ghost use Rattle.printf_grammar.specs.declared.piece.Spec.{Spec};
+ghost use Rattle.printf_grammar.specs.declared.piece.Length.{Length};
+ghost use Rattle.printf_grammar.specs.declared.argument.Value.{Value};
+ghost use Rattle.printf_grammar.specs.Pieces.{Parsed};
+ghost use Rattle.printf_grammar.specs.Spelling.{Spells};
+ghost use Rattle.printf_grammar.specs.Types.{Types, Fits};
 ghost use Rattle.printf_grammar.specs.declared.piece.Piece.TheVariants as pieces;
 ghost use Rattle.printf_grammar.specs.declared.piece.Size.TheVariants.{Star, Given};
 ghost use Rattle.printf_grammar.specs.declared.piece.Length.TheVariants.{HH, L};
 ghost use Rattle.printf_grammar.specs.declared.piece.Conversion.TheVariants.{O, U, X, UpperX, C, S, P};
 ghost use Rattle.printf_grammar.specs.declared.argument.Value.TheVariants as values;
 ghost use Rattle.printf_grammar.specs.Narrow.{plain_d};
-ghost use Rattle.direct_printf.specs.Fields.{Field, Text};
+ghost use Rattle.direct_printf.specs.Fields.{Digits, Field, Text, argument_at, signed_of, width_of, narrow_signed};
+ghost use Rattle.direct_printf.specs.Joined.{joined};
+
+/// A field is never shorter than its width.
+pub fn fields_are_as_wide_as_asked()
+    ensures { (spec : Spec) (arguments : List Value) →
+        width_of spec.width (signed_of (argument_at arguments 0)) ≤ length (Field spec arguments) }
+{}
+
+/// The digits of a number read back in their base at every precision, and are at least as many as
+/// the precision says.
+pub fn digits_spell_the_number()
+    ensures value { (number base precision : ℕ) (upper : Bool) → 2 ≤ base → base ≤ 16 → number < 2 ^ 64 →
+        digits_value base (Digits number base upper precision) ≡ number }
+    ensures many { (number base precision : ℕ) (upper : Bool) → precision ≤ length (Digits number base upper precision) }
+{}
+
+/// `%d` with nothing but a length reads back as the number, narrowed by the length.
+pub fn numbers_read_back()
+    ensures { (length : Length) (number : ℤ) → FitsSigned w64 number →
+        signed_digits_value 10 (Field (record plain_d { length = length }) (values.Signed number ∷ [])) ≡ narrow_signed length number }
+{}
+
+/// Two formats, one behind the other, write what the first writes, and then what the second writes.
+pub fn joined_formats_write_joined_texts()
+    ensures { (first second : Parsed) (before behind : List Value) →
+        Spells first.bytes first.pieces → Fits before (Types first.pieces) →
+        Text (joined first second) (before ++ behind) ≡ Text first before ++ Text second behind }
+{}
 
 /// `%5d|%-5d|%05d` of 42, 42 and -42, and `%-05d|` of 42, where the flag `-` leaves the flag `0` no effect.
 pub fn pads_to_the_width()

@@ -1,8 +1,12 @@
 //! The text that printf writes for a call, and the line of the log that the call makes.
 #![tactic(auto)]
 
+mod conversion;
+mod digits;
+mod field;
 pub mod laws;
 mod log_line;
+mod padding;
 mod text;
 
 pub use log_line::line;

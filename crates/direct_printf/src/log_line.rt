@@ -3,7 +3,6 @@
 ghost use Rattle.std.specs.Prelude.{◌≡◌, ◌≤◌, ◌<◌, ◌^◌, ◌++◌, ◌∷◌, ℕ, OnOk, OnErr, codes, false, take, vec_len};
 ghost use Rattle.std.specs.Fmt.{decimal};
 ghost use Rattle.log_dictionary.specs.Severities.{severity_name};
-ghost use Rattle.printf_grammar.specs.Narrow.{IsNarrow};
 ghost use Rattle.printf_grammar.specs.Types.{Types, Fits, values_of};
 ghost use Rattle.direct_printf.specs.Fields.{Digits};
 ghost use Rattle.direct_printf.specs.Lines.{Line, seconds_text};
@@ -30,7 +29,6 @@ pub fn line(
 ) -> Result<(), AllocError>
     requires not_before { clock.now.tick ≤ stamp }
     requires rate { 1 ≤ clock.now.rate }
-    requires narrow { IsNarrow message.now.format.pieces }
     requires fitting { Fits (values_of args.now) (Types message.now.format.pieces) }
     ensures ok { OnOk result ((ordinal : ℕ) → out.new.items ≡ out.old.items
         ++ Line clock.now (record { writer = writer; ordinal = ordinal; stamp = stamp; message = message.now; args = values_of args.now })) }
@@ -55,7 +53,6 @@ fn append_line(
 ) -> Result<(), AllocError>
     requires not_before { clock.now.tick ≤ stamp }
     requires rate { 1 ≤ clock.now.rate }
-    requires narrow { IsNarrow message.now.format.pieces }
     requires fitting { Fits (values_of args.now) (Types message.now.format.pieces) }
     ensures ok { OnOk result ((ordinal : ℕ) → out.new.items ≡ out.old.items
         ++ Line clock.now (record { writer = writer; ordinal = ordinal; stamp = stamp; message = message.now; args = values_of args.now })) }

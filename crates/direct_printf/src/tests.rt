@@ -1,6 +1,10 @@
-//! Texts and lines worked by hand.
+//! Texts and lines worked by hand, and fields as a C library prints them.
+
+mod fields;
 
 use super::*;
+use arrayvec::ArrayVec;
+use fields::FIELDS;
 use log_dictionary::{Clock, Message, Severity};
 use printf_grammar::{Arg, Bytes, fits, parse};
 use std::alloc::Global;
@@ -34,6 +38,114 @@ fn numbers_and_percent_signs(rt: HostRuntime) -> Result<(), Fail> {
         &[Arg::Signed(1), Arg::Signed(-2), Arg::Signed(3)],
     )?;
     assert_eq!(rt; text.as_slice(), b"1%-2, 3".as_slice());
+    Ok(())
+}
+
+fn check(
+    rt: &impl Abort,
+    alloc: Global,
+    format: &str,
+    args: &[Arg],
+    want: &str,
+) -> Result<(), Fail> {
+    let text = text_of(rt, alloc, format.as_bytes(), args)?;
+    assert_eq!(rt; text.as_slice(), want.as_bytes(), "at {format}");
+    Ok(())
+}
+
+#[test]
+fn widths_flags_and_precisions(rt: HostRuntime) -> Result<(), Fail> {
+    use Arg::{Signed, Text, Unsigned};
+    let alloc = rt.alloc();
+    check(
+        &rt,
+        alloc,
+        "%5d|%-5d|%05d",
+        &[Signed(42), Signed(42), Signed(-42)],
+        "   42|42   |-0042",
+    )?;
+    check(
+        &rt,
+        alloc,
+        "%.0d|%#.0o|%#x",
+        &[Signed(0), Unsigned(0), Unsigned(0)],
+        "|0|0",
+    )?;
+    check(&rt, alloc, "%+.0d|% .0d", &[Signed(0), Signed(0)], "+| ")?;
+    check(
+        &rt,
+        alloc,
+        "%*d|%.*s",
+        &[Signed(-6), Signed(7), Signed(-1), Text(b"abc")],
+        "7     |abc",
+    )?;
+    check(
+        &rt,
+        alloc,
+        "%hhd %hhu %+08.3d",
+        &[Signed(300), Unsigned(4294967295), Signed(5)],
+        "44 255     +005",
+    )?;
+    check(&rt, alloc, "%-05d|", &[Signed(42)], "42   |")?;
+    check(&rt, alloc, "%#.3o", &[Unsigned(8)], "010")?;
+    check(&rt, alloc, "%#4x", &[Unsigned(0)], "   0")
+}
+
+#[test]
+fn pointers_texts_and_bases(rt: HostRuntime) -> Result<(), Fail> {
+    use Arg::{Signed, Text, Unsigned};
+    let alloc = rt.alloc();
+    check(
+        &rt,
+        alloc,
+        "%8p|%-8p|%p",
+        &[Unsigned(0), Unsigned(255), Unsigned(u64::MAX)],
+        "   (nil)|0xff    |0xffffffffffffffff",
+    )?;
+    check(
+        &rt,
+        alloc,
+        "%.2s|%5s|%c%c",
+        &[Text(b"abc"), Text(b""), Signed(65), Signed(321)],
+        "ab|     |AA",
+    )?;
+    check(
+        &rt,
+        alloc,
+        "%#o %#X %ld",
+        &[Unsigned(8), Unsigned(255), Signed(i64::MIN)],
+        "010 0XFF -9223372036854775808",
+    )
+}
+
+// `i` and a signed number, `u` and an unsigned one, or `s` and a text.
+fn argument<'a>(rt: &impl Abort, word: &'a str) -> Arg<'a> {
+    if let Some(number) = word.strip_prefix('i') {
+        Arg::Signed(number.parse().expect(rt, "a number"))
+    } else if let Some(number) = word.strip_prefix('u') {
+        Arg::Unsigned(number.parse().expect(rt, "a number without a sign"))
+    } else {
+        Arg::Text(word.strip_prefix('s').expect(rt, "a text").as_bytes())
+    }
+}
+
+// A row of `FIELDS`.
+fn check_row(rt: &impl Abort, alloc: Global, row: &str) -> Result<(), Fail> {
+    let (format, rest) = row.split_once('|').expect(rt, "arguments");
+    let (words, want) = rest.split_once('|').expect(rt, "a text");
+    let mut args: ArrayVec<Arg, 3> = ArrayVec::new();
+    for word in words.split(',') {
+        assert!(rt; args.len() < 3);
+        args.push(argument(rt, word));
+    }
+    check(rt, alloc, format, &args, want)
+}
+
+#[test]
+fn fields_as_a_c_library_prints_them(rt: HostRuntime) -> Result<(), Fail> {
+    for row in FIELDS.lines() {
+        check_row(&rt, rt.alloc(), row)?;
+    }
     Ok(())
 }
 

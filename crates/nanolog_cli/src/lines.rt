@@ -5,7 +5,6 @@ ghost use Rattle.std.specs.List.{flat_map, AllByRecursion};
 ghost use Rattle.log_dictionary.specs.declared.message.Message.{Message};
 ghost use Rattle.direct_printf.specs.Lines.{Line};
 ghost use Rattle.trace_text.specs.Recordings.{IsCall, NeverFalls, writer_calls};
-ghost use Rattle.nanolog_cli.specs.NarrowTraces.{HasNarrowFormats};
 ghost use Rattle.decompressor.specs.Decompression.{Decompressed};
 ghost use Rattle.nanolog_cli.specs.Texts.{direct_text, call_of};
 ghost use Rattle.nanolog_cli.specs.NarrowLogs.{NarrowLog};
@@ -27,7 +26,6 @@ fn append_call(
     args: &Values,
     text: &mut Vec<u8>,
 ) -> Result<(), AllocError>
-    requires narrow { HasNarrowFormats dictionary.now }
     requires rate { 1 ≤ clock.now.rate }
     requires named { IsCall dictionary.now (record { stamp = stamp; id = id; args = args.now }) }
     requires later { clock.now.tick ≤ stamp }
@@ -47,7 +45,6 @@ fn lines_of(
     clock: &Clock,
     calls: &Calls,
 ) -> Result<Vec<u8>, AllocError>
-    requires narrow { HasNarrowFormats dictionary.now }
     requires rate { 1 ≤ clock.now.rate }
     requires named { AllByRecursion (IsCall dictionary.now) calls.now }
     requires later { NeverFalls clock.now.tick calls.now }
@@ -72,7 +69,6 @@ fn lines_of_records(
     clock: &Clock,
     records: &Records,
 ) -> Result<Vec<u8>, AllocError>
-    requires narrow { HasNarrowFormats dictionary.now }
     requires rate { 1 ≤ clock.now.rate }
     requires named { AllByRecursion (IsCall dictionary.now) (map call_of records.now) }
     requires later { NeverFalls clock.now.tick (map call_of records.now) }
@@ -98,7 +94,6 @@ fn lines_of_records(
 /// The lines of all calls of a run of one writer.
 pub(crate) fn text_of_run(alloc: Global, run: &Trace) -> Result<Vec<u8>, AllocError>
     requires one { length run.now.writers ≡ 1 }
-    requires narrow { HasNarrowFormats run.now.dictionary }
     ensures { IfOk result (λ text. text.items ≡ direct_text run.now) }
 {
     let Some(calls) = run.writers.get(0) else {

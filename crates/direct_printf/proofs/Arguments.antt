@@ -1,0 +1,38 @@
+-- A field's own arguments.
+use Rattle.std.proofs.Common.{◌≡◌, ℕ, ◌+◌, ◌<◌, refl, Bool, ◌&&◌, ◌||◌, List, ◌++◌, length, get_or, Option, is_none, sym, ap, arith, ◌∙◌}
+use Rattle.std.proofs.lemmas.List.{length-append, get_or-map}
+use Rattle.printf_grammar.specs.declared.piece.Spec.{Spec}
+use Rattle.printf_grammar.specs.declared.piece.Size.{Size}
+use Rattle.printf_grammar.specs.declared.piece.Size.TheVariants.{Absent, Star, Given}
+use Rattle.printf_grammar.specs.declared.arg_type.ArgType.{ArgType}
+use Rattle.printf_grammar.specs.declared.arg_type.ArgType.TheVariants.{Width, Precision}
+use Rattle.printf_grammar.specs.declared.argument.Arg.{Arg}
+use Rattle.printf_grammar.specs.declared.argument.Value.{Value}
+use Rattle.printf_grammar.specs.Types.{Fits, size_types, field_types, value_of, values_of}
+use Rattle.printf_grammar.proofs.Fitting.{Fits-length_of_args}
+use Rattle.direct_printf.specs.Fields.{Field, padded, converted, is_integer, width_of, is_left_star, precision_of, stars, argument_at, argument_count, signed_of}
+
+size_types-stars : (type : ArgType) (size : Size) → length (size_types type size) ≡ stars size
+size_types-stars type Absent = refl
+size_types-stars type Star = refl
+size_types-stars type (Given n) = refl
+
+-- a field takes as many arguments as it has types
+pub argument_count-types : (spec : Spec) → length (field_types spec) ≡ argument_count spec
+argument_count-types spec =
+    simp length-append (omega (arith, size_types-stars Width spec.width, size_types-stars Precision spec.precision))
+
+-- and its own arguments are as many
+pub argument_count-args : (spec : Spec) (args : List Arg) → Fits (values_of args) (field_types spec) → length args ≡ argument_count spec
+argument_count-args spec args fits = omega (arith, Fits-length_of_args args (field_types spec) fits, argument_count-types spec)
+
+-- the argument at a place
+pub argument_at-args : (args : List Arg) (n m : ℕ) (d : Arg) → n ≡ m → n < length args → value_of (get_or args n d) ≡ argument_at (values_of args) m
+argument_at-args args n m d same inside =
+    sym (get_or-map value_of args n d _ inside) ∙ ap (argument_at (values_of args)) same
+
+-- a field is its converted argument, padded
+pub Field-appended : (spec : Spec) (values : List Value) (left zeros : Bool) (width : ℕ) (precision : Option ℕ) (argument : Value) (old new : List ℕ) → precision ≡ precision_of spec.precision (signed_of (argument_at values (stars spec.width))) → width ≡ width_of spec.width (signed_of (argument_at values 0)) → left ≡ (spec.minus || is_left_star spec.width (signed_of (argument_at values 0))) → zeros ≡ (spec.zero && is_integer spec.conversion && is_none precision) → argument ≡ argument_at values (stars spec.width + stars spec.precision) → new ≡ old ++ padded left zeros width (converted spec.conversion spec precision argument) → new ≡ old ++ Field spec values
+unfolding Field
+Field-appended spec values left zeros width precision argument old new precision_is width_is left_is zeros_is argument_is is =
+    rw (zeros_is, left_is, width_is, argument_is, precision_is) at is

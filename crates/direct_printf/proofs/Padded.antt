@@ -1,0 +1,27 @@
+-- How a value is padded.
+use Rattle.std.proofs.Common.{◌≡◌, ℕ, ◌+◌, ◌-◌, ◌≤◌, ℤ, Option, is_none, Bool, ◌&&◌, ◌||◌, true, false, List, ◌++◌, length, replicate, arith}
+use Rattle.std.proofs.lemmas.List.{append_assoc, length-append, length-replicate, replicate-append-replicate}
+use Rattle.printf_grammar.specs.declared.piece.Spec.{Spec}
+use Rattle.printf_grammar.specs.declared.argument.Value.{Value}
+use Rattle.direct_printf.specs.Fields.{Converted, Field, padded, converted, width_of, is_left_star, precision_of, is_integer, stars, signed_of, argument_at}
+
+-- the zeros of the padding and those of the precision stand side by side
+pub padded-zeros : (left zeros : Bool) (width missing count : ℕ) (front body : List ℕ) → left ≡ false → zeros ≡ true → missing ≡ width - length front - count - length body → front ++ replicate (missing + count) 48 ++ body ≡ padded left zeros width (record { front = front; body = replicate count 48 ++ body })
+padded-zeros left zeros width missing count front body left_is zeros_is missing_is =
+    let whole : length (front ++ (replicate count 48 ++ body)) ≡ length front + (count + length body) = simp (length-append, length-replicate) in
+    let same : width - length (front ++ (replicate count 48 ++ body)) ≡ missing = omega (arith, whole) in
+    rw (left_is, zeros_is, same, ← replicate-append-replicate {A = ℕ} missing count 48) (simp append_assoc)
+
+-- padded text has the width at least
+padded-width : (left zeros : Bool) (width : ℕ) (text : Converted) → width ≤ length (padded left zeros width text)
+padded-width true zeros width text = simp (length-append, length-replicate) (omega arith)
+padded-width false true width text = simp (length-append, length-replicate) (omega arith)
+padded-width false false width text = simp (length-append, length-replicate) (omega arith)
+
+-- and so has a field
+pub Field-width : (spec : Spec) (arguments : List Value) → width_of spec.width (signed_of (argument_at arguments 0)) ≤ length (Field spec arguments)
+unfolding Field
+Field-width spec arguments =
+    let width : ℤ = signed_of (argument_at arguments 0) in
+    let precision : Option ℕ = precision_of spec.precision (signed_of (argument_at arguments (stars spec.width))) in
+    padded-width (spec.minus || is_left_star spec.width width) (spec.zero && is_integer spec.conversion && is_none precision) (width_of spec.width width) (converted spec.conversion spec precision (argument_at arguments (stars spec.width + stars spec.precision)))

@@ -1,0 +1,13 @@
+use Rattle.std.proofs.Common.{sym, ◌∙◌}
+use Rattle.direct_printf.proofs.Spelling.{Digits-none, Digits-some, has_digits}
+use Rattle.direct_printf.proofs.digits.number.Goals as goal
+use Rattle.direct_printf.proofs.digits.number.Goals.{else-value-eq0-via-then-value-eq0+else-least-eq0, else-value-eq0-via-else-value-eq0}
+
+pub returns-then-least-eq0-clause-digits : goal.returns-then-least-eq0-clause-digits
+returns-then-least-eq0-clause-digits c =
+    λ base upper is. sym (Digits-none c.args.value base _ upper c.if-value-eq0.true (sym c.unwrap_or-least.ensures ∙ c.if-least-eq0.true))
+
+pub returns-clause-digits : goal.returns-clause-digits
+returns-clause-digits c =
+    let some = has_digits c.args.value _ (rw c.unwrap_or-least.ensures at c.else-value-eq0.either) in
+    λ base upper is. rw (c.saturating_sub.ensures, c.unwrap_or-least.ensures) (Digits-some c.args.value base _ upper c.args.spelled.now some is)
