@@ -13,6 +13,7 @@ use crate::take::{take_arguments, take_head};
 use log_dictionary::{Dictionary, Message};
 use std::alloc::Global;
 
+/// The message with the id, if the dictionary has one.
 fn message_of(dictionary: &Dictionary, id: u64) -> Option<&Message>
     ensures value { option_copied result ≡ slice_get dictionary.now id }
     ensures small { IsSome result → id < 65536 }

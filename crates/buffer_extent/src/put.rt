@@ -1,30 +1,32 @@
 //! Writing a record.
 
-ghost use Rattle.std.specs.Prelude.{◌≡◌, ℕ, ◌+◌, ◌-◌, ◌*◌, ◌/◌, ◌<◌, ◌≤◌, List, ◌++◌, pos, length, take, drop, map, All, slice_index};
-ghost use Rattle.std.specs.List.{flat_map, AllByRecursion};
+ghost use Rattle.std.specs.Prelude.{◌≡◌, ℕ, ◌+◌, ◌/◌, ◌<◌, ◌≤◌, List, ◌++◌, length, take, drop};
+ghost use Rattle.std.specs.List.{AllByRecursion};
 ghost use Rattle.printf_grammar.specs.declared.argument.Value.{Value};
 ghost use Rattle.printf_grammar.specs.Types.{Fits};
-ghost use Rattle.nibble_pack.specs.declared.pack.Packed.{Packed as PackedBytes};
 ghost use Rattle.arg_records.specs.Frames.{Frame};
 ghost use Rattle.arg_records.specs.Places.{with_words};
 ghost use Rattle.buffer_extent.specs.Records.{code_bytes, RecordBytes};
 ghost use Rattle.buffer_extent.specs.Parts.{AreCodes};
 ghost use Rattle.buffer_extent.specs.RecordLaws.{codes_of, bytes_of};
 ghost use Rattle.buffer_extent.specs.Integers.{IsInteger, AreIntegers};
-ghost use Rattle.buffer_extent.specs.Writing.{IsFrameSince, packed_number, packed_numbers, IsWhole, PacksWord, PackWords, HeadBytes, record_room};
+ghost use Rattle.buffer_extent.specs.Writing.{IsFrameSince, packed_numbers, IsWhole, PacksWord, PackWords, HeadBytes, record_room};
 
 use arg_records::{frame_id, frame_stamp};
 use nibble_pack::{Packed, pack_signed, pack_unsigned};
 use printf_grammar::ArgType;
 
+/// The most types that a message takes.
 const MOST_TYPES: usize = 64;
 
+/// What stands where no number is yet.
 const NOTHING: Packed = Packed {
     code: 0,
     bytes: [0; 8],
     len: 0,
 };
 
+/// The number of an argument of the type, whose word this is.
 fn pack_word(kind: ArgType, word: u64) -> Packed
     requires { IsInteger kind }
     ensures { PacksWord kind word result }
