@@ -1,6 +1,6 @@
 /* Prints a table of fields as the C library's own snprintf prints them, for the tests of direct_printf:
 
-       cc -o /tmp/fields fields.c && /tmp/fields > ../../crates/direct_printf/src/tests/fields.rt
+       cc -o fields fields.c && ./fields > ../../crates/direct_printf/src/tests/fields.rt
 
    Each row is FORMAT|ARGUMENTS|TEXT, where ARGUMENTS are those of the stars and the value, joined by commas: `i` and a
    signed number, `u` and an unsigned one, or `s` and a text. Only fields that C11 7.21.6.1 defines are in it: no `#` on
