@@ -10,7 +10,7 @@ use Rattle.printf_grammar.specs.declared.argument.Value.TheVariants as values
 use Rattle.printf_grammar.specs.Types.{FitsType, Fits}
 use Rattle.nibble_pack.specs.Packing.{Kind, unsigned, signed, Packed}
 use Rattle.buffer_extent.specs.Records.{PackedNumber, kind_of, number_of, text_of, PacksArguments, code_bytes}
-use Rattle.buffer_extent.specs.Parts.{codes_in, AreCodes, HoldCodes, BeginsWithNumber, BeginsWithArgument, BeginsWithNumbers, BeginsWithArguments}
+use Rattle.buffer_extent.specs.Parts.{codes_in, AreCodes, HoldCodes, BeginsWithNumber, BeginsWithArgument, BeginsWithNumbers, BeginsWithArguments, BeginsWithFirst, StartsArguments}
 use Rattle.buffer_extent.specs.RecordLaws.{codes_of, bytes_of, numbers_are_codes, numbers_are_as_many, same_code_bytes, variant_fits, same_argument, BeginsWithNumber-unique}
 use Rattle.buffer_extent.specs.Integers.{IsInteger, AreIntegers}
 
@@ -155,16 +155,62 @@ pub arguments_codes : (types : List ArgType) (bytes : List ℕ) (args : List Val
 arguments_codes types bytes args back begins =
     (codes_of begins.numbers, bytes_of begins.numbers ++ (flat_map text_of args ++ back), numbers_are_as_many types args begins.numbers begins.packed, numbers_are_codes types args begins.numbers begins.packed, begins.parts)
 
+-- ---- how arguments start
+
+first_of_numbers : (types : List ArgType) (args : List Value) (numbers : List PackedNumber) (behind : List ℕ) → PacksArguments types args numbers → Fits args types → BeginsWithFirst types (codes_of numbers) (bytes_of numbers ++ behind)
+first_of_numbers [] args numbers behind packed fits = tt
+first_of_numbers (type ∷ types) (arg ∷ args) (number ∷ numbers) behind packed fits =
+    (arg, bytes_of numbers ++ behind, record { number = record { front = number.bytes; parts = append_assoc number.bytes (bytes_of numbers) behind; packed = packed.0 }; fits = fits.0 })
+first_of_numbers (type ∷ types) _ _ behind packed fits = absurd packed
+
+-- arguments start as arguments do
+pub arguments_start : (types : List ArgType) (bytes : List ℕ) (args : List Value) (back : List ℕ) → BeginsWithArguments types bytes args back → StartsArguments types bytes
+arguments_start types bytes args back begins = record {
+  codes = codes_of begins.numbers;
+  rest = bytes_of begins.numbers ++ (flat_map text_of args ++ back);
+  many = numbers_are_as_many types args begins.numbers begins.packed;
+  are_codes = numbers_are_codes types args begins.numbers begins.packed;
+  parts = begins.parts;
+  first = first_of_numbers types args begins.numbers (flat_map text_of args ++ back) begins.packed begins.fits;
+}
+
+first_of_taken : (types : List ArgType) (codes bytes : List ℕ) → BeginsWithFirst types codes bytes → BeginsWithFirst types (take (length types) codes) bytes
+first_of_taken [] codes bytes first = tt
+first_of_taken (type ∷ types) [] bytes first = absurd first
+first_of_taken (type ∷ types) (code ∷ codes) bytes first = first
+
+-- codes that were taken, and the first of the numbers behind them
+pub arguments_started : (types : List ArgType) (bytes front rest : List ℕ) → bytes ≡ front ++ rest → HoldCodes (length types) front → BeginsWithFirst types (codes_in front) rest → StartsArguments types bytes
+arguments_started types bytes front rest parts holds first = record {
+  codes = take (length types) (codes_in front);
+  rest = rest;
+  many = length-take-le (length types) (codes_in front) holds.enough;
+  are_codes = are_codes_taken (length types) (codes_in front) holds.codes;
+  parts = parts ∙ ap (λ (f : List ℕ). f ++ rest) (sym holds.exact);
+  first = first_of_taken types (codes_in front) rest first;
+}
+
+-- what is read at the first place is the first argument
+pub first_read : (types : List ArgType) (codes bytes rest : List ℕ) (place : ℕ) (type : ArgType) (code : ℕ) (value : Value) (back : List ℕ) → (place ≡ 0 → rest ≡ bytes) → (0 < place → BeginsWithFirst types codes bytes)
+    → place < length types → type ≡ get_or types place argument_types.Int → place < length codes → code ≡ get_or codes place 0 → BeginsWithArgument type code rest value back → BeginsWithFirst types codes bytes
+first_read types codes bytes rest (suc place) type code value back start before within is code_within code_is here = before (omega arith)
+first_read (first ∷ types) (low ∷ codes) bytes rest zero type code value back start before within is code_within code_is here =
+    let here_too = subst (λ (k : ℕ). BeginsWithArgument first k rest value back) code_is (subst (λ (t : ArgType). BeginsWithArgument t code rest value back) is here) in
+    (value, back, subst (λ (b : List ℕ). BeginsWithArgument first low b value back) (start refl) here_too)
+first_read _ _ bytes rest zero type code value back start before within is code_within code_is here = absurd (omega arith)
+
 -- ---- one number after another
 
 -- These arguments were read, and this is left: what is read of it comes behind them, and nothing else can be read.
 pub record AreReadSoFar (types : List ArgType) (codes bytes : List ℕ) (args : List Value) (place : ℕ) (rest : List ℕ) : Type 0 where
   pub many : length args ≡ place
+  pub at_start : place ≡ 0 → rest ≡ bytes
+  pub first : 0 < place → BeginsWithFirst types codes bytes
   pub so_far : (more : List Value) (back : List ℕ) → BeginsWithNumbers (drop place types) (drop place codes) rest more back → BeginsWithNumbers types codes bytes (args ++ more) back
   pub only : (all : List Value) (back : List ℕ) → BeginsWithNumbers types codes bytes all back → (more : List Value) × (all ≡ args ++ more) × BeginsWithNumbers (drop place types) (drop place codes) rest more back
 
 pub none_read : (types : List ArgType) (codes bytes : List ℕ) → AreReadSoFar types codes bytes [] 0 bytes
-none_read types codes bytes = record { many = refl; so_far = λ more back begins. begins; only = λ all back begins. (all, refl, begins) }
+none_read types codes bytes = record { many = refl; at_start = λ none. refl; first = λ some. absurd (omega arith); so_far = λ more back begins. begins; only = λ all back begins. (all, refl, begins) }
 
 -- what stands at a place
 at_place : (types : List ArgType) (codes bytes : List ℕ) (values : List Value) (back : List ℕ) (place : ℕ) (type : ArgType) (code : ℕ) → place < length types → type ≡ get_or types place argument_types.Int → place < length codes → code ≡ get_or codes place 0
@@ -186,6 +232,8 @@ pub one_read : (types : List ArgType) (codes bytes : List ℕ) (args : List Valu
 one_read types codes bytes args place rest type code value back so_far within is code_within code_is integer here =
     record {
       many = omega (arith, length_push args value, so_far.many);
+      at_start = λ none. absurd (omega arith);
+      first = λ some. first_read types codes bytes rest place type code value back so_far.at_start so_far.first within is code_within code_is here;
       so_far = λ more end begins.
           let at = at_place types codes rest (value ∷ more) end place type code within is code_within code_is in
           let behind : BeginsWithNumbers (drop place types) (drop place codes) rest (value ∷ more) end = subst (λ (T : Type 0). T) (sym at) (back, here, begins) in
@@ -224,3 +272,8 @@ pub integer_at : (types : List ArgType) (place : ℕ) → AreIntegers types → 
 integer_at [] place integers = tt
 integer_at (type ∷ types) zero integers = integers.0
 integer_at (type ∷ types) (suc place) integers = integer_at types place integers.1
+
+-- where all arguments were read, or there is none, the first one was
+pub all_started : (types : List ArgType) (codes bytes : List ℕ) (place : ℕ) → length types ≤ place → (0 < place → BeginsWithFirst types codes bytes) → BeginsWithFirst types codes bytes
+all_started [] codes bytes place past first = tt
+all_started (type ∷ types) codes bytes place past first = first (omega arith)

@@ -1,9 +1,9 @@
 -- The parts of a record, as they stand in front of other bytes.
-use Rattle.std.specs.Prelude.{◌≡◌, ℕ, ℤ, pos, ◌+◌, ◌-◌, ◌*◌, ◌/◌, ◌%◌, ◌<◌, ◌≤◌, ◌^◌, List, [], ◌∷◌, ◌++◌, length, take, map}
+use Rattle.std.specs.Prelude.{◌≡◌, ℕ, ℤ, pos, ◌+◌, ◌-◌, ◌*◌, ◌/◌, ◌%◌, ◌<◌, ◌≤◌, ◌^◌, List, [], ◌∷◌, ◌++◌, length, take, map, ⊤, Some, slice_get}
 use Rattle.std.specs.List.{flat_map, AllByRecursion}
 use Rattle.printf_grammar.specs.declared.arg_type.ArgType.{ArgType}
 use Rattle.printf_grammar.specs.declared.argument.Value.{Value}
-use Rattle.printf_grammar.specs.Types.{FitsType, Fits}
+use Rattle.printf_grammar.specs.Types.{Types, FitsType, Fits}
 use Rattle.nibble_pack.specs.Packing.{Kind, unsigned, Packed}
 use Rattle.log_dictionary.specs.declared.message.Message.{Message}
 use Rattle.buffer_extent.specs.declared.record.LogRecord.{LogRecord}
@@ -70,3 +70,32 @@ pub record BeginsWithRecord (messages : List Message) (before : ℕ) (bytes : Li
   pub parts : bytes ≡ front ++ back
   pub spelled : SpellsRecord messages before entry front
   pub right : IsRecord messages entry
+
+-- ---- how a record starts: what is judged before any memory is wanted
+
+-- the bytes begin with the first argument, if there is one
+abbrev pub BeginsWithFirst : List ArgType → List ℕ → List ℕ → Type 0
+BeginsWithFirst [] codes bytes = ⊤
+BeginsWithFirst (type ∷ types) (code ∷ codes) bytes = (value : Value) × (back : List ℕ) × BeginsWithArgument type code bytes value back
+BeginsWithFirst (type ∷ types) [] bytes = ⊥
+
+-- the bytes begin with as many codes as there are types, and behind them with the first argument, if there is one
+pub record StartsArguments (types : List ArgType) (bytes : List ℕ) : Type 0 where
+  pub codes : List ℕ
+  pub rest : List ℕ
+  pub many : length codes ≡ length types
+  pub are_codes : AreCodes codes
+  pub parts : bytes ≡ code_bytes codes ++ rest
+  pub first : BeginsWithFirst types codes rest
+
+-- The bytes begin with a head and the start of the arguments behind it. The id is that of one of the messages, and the
+-- stamp isn't below the least.
+pub record StartsRecord (messages : List Message) (before least : ℕ) (bytes : List ℕ) : Type 0 where
+  pub id : ℕ
+  pub stamp : ℕ
+  pub message : Message
+  pub rest : List ℕ
+  pub head : BeginsWithHead before bytes id stamp rest
+  pub rises : least ≤ stamp
+  pub known : slice_get messages id ≡ Some message
+  pub arguments : StartsArguments (Types message.format.pieces) rest

@@ -1,10 +1,10 @@
 //! Reading the records of a body.
 
-ghost use Rattle.std.specs.Prelude.{◌≡◌, ℕ, ◌<◌, List, slice_get, IfOk, IsSome, MatchResult, Err};
+ghost use Rattle.std.specs.Prelude.{◌≡◌, ◌≢◌, ℕ, ◌<◌, ◌≤◌, List, [], slice_get, IfOk, IsSome, MatchResult, Ok, Err};
 ghost use Rattle.std.specs.Option.{option_copied};
 ghost use Rattle.buffer_extent.specs.declared.record.LogRecord.{LogRecord};
 ghost use Rattle.buffer_extent.specs.Integers.{TakeIntegers};
-ghost use Rattle.buffer_extent.specs.Parts.{BeginsWithRecord};
+ghost use Rattle.buffer_extent.specs.Parts.{BeginsWithRecord, StartsRecord};
 ghost use Rattle.buffer_extent.specs.Bodies.{IsBody};
 
 use crate::fault::{BodyFault, Cause};
@@ -24,22 +24,33 @@ fn message_of(dictionary: &Dictionary, id: u64) -> Option<&Message>
     dictionary.get(id as u32)
 }
 
-/// The record at the front of bytes, and the bytes behind it. Its step counts from `before`.
+/// The record at the front of bytes, and the bytes behind it. Its step counts from `before`, and its
+/// stamp isn't below `least`.
 fn take_record<'a>(
     alloc: Global,
     dictionary: &Dictionary,
     before: u64,
+    least: u64,
     bytes: &'a [u8],
 ) -> Result<(LogRecord, &'a [u8]), BodyFault>
     requires { TakeIntegers dictionary.now }
     ensures ok { IfOk result (λ pair. BeginsWithRecord dictionary.now before bytes.now pair.0 pair.1.now) }
-    ensures only { (entry : LogRecord) (back : List ℕ) → BeginsWithRecord dictionary.now before bytes.now entry back → MatchResult result
+    ensures rises { IfOk result (λ pair. least ≤ pair.0.stamp) }
+    ensures only { (entry : LogRecord) (back : List ℕ) → BeginsWithRecord dictionary.now before bytes.now entry back
+        → least ≤ entry.stamp → MatchResult result
         (λ pair. (pair.0 ≡ entry) × (pair.1.now ≡ back))
         (λ fault. fault ≡ BodyFault.NoMemory) }
+
+    // How the record starts is judged before any memory is wanted.
+    ensures no_start { ¬ (StartsRecord dictionary.now before least bytes.now)
+        → result ≡ Err (BodyFault.Damaged Cause.Body) }
 {
     let Some((head, rest)) = take_head(before, bytes) else {
         return Err(BodyFault::Damaged(Cause::Body));
     };
+    if head.stamp < least {
+        return Err(BodyFault::Damaged(Cause::Body));
+    }
     let Some(message) = message_of(dictionary, head.id) else {
         return Err(BodyFault::Damaged(Cause::Body));
     };
@@ -76,19 +87,21 @@ pub fn read_body(
         (λ fault. fault ≡ BodyFault.NoMemory) }
     ensures damaged { result ≡ Err (BodyFault.Damaged Cause.Body)
         → (entries : List LogRecord) → ¬ IsBody dictionary.now base last entries body.now }
+
+    // No memory is wanted for no records, and how the first one starts is judged before any is.
+    ensures empty { body.now ≡ [] → result ≡ Ok [] }
+    ensures no_start { body.now ≢ [] → ¬ (StartsRecord dictionary.now base last body.now)
+        → result ≡ Err (BodyFault.Damaged Cause.Body) }
 {
     let mut records = Records::make(alloc);
     let mut before = base;
     let mut least = last;
     let mut rest = body;
     while !rest.is_empty() {
-        let (entry, back) = match take_record(alloc, dictionary, before, rest) {
+        let (entry, back) = match take_record(alloc, dictionary, before, least, rest) {
             Ok(pair) => pair,
             Err(fault) => return Err(fault),
         };
-        if entry.stamp < least {
-            return Err(BodyFault::Damaged(Cause::Body));
-        }
         before = entry.stamp;
         least = entry.stamp;
         let Ok(()) = records.push(entry) else {

@@ -11,6 +11,7 @@ ghost use Rattle.buffer_extent.specs.declared.record.LogRecord.{LogRecord};
 ghost use Rattle.buffer_extent.specs.Records.{code_bytes, RecordBytes};
 ghost use Rattle.buffer_extent.specs.Writing.{record_room};
 ghost use Rattle.buffer_extent.specs.Bodies.{SpellsRecord, IsRecord, IsBody};
+ghost use Rattle.buffer_extent.specs.Parts.{StartsRecord};
 
 /// A call of id 0 at the stamp 1003, where the step counts from 1000, with the number 7.
 pub fn a_record_with_a_number()
@@ -46,6 +47,13 @@ pub fn one_list_per_body()
         → IsBody messages tick last a body
         → IsBody messages tick last b body
         → a ≡ b }
+{}
+
+/// A body that has a record starts as a record does.
+pub fn a_body_starts_with_a_record()
+    ensures { (messages : List Message) (tick last : ℕ) (entry : LogRecord) (entries : List LogRecord) (body : List ℕ)
+        → IsBody messages tick last (entry ∷ entries) body
+        → StartsRecord messages tick last body }
 {}
 
 /// A record of a narrow format has at most 299 bytes.

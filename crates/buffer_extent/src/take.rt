@@ -1,10 +1,10 @@
 //! The parts of a record at the front of bytes. Each call gives the bytes behind what it read.
 
-ghost use Rattle.std.specs.Prelude.{◌≡◌, ℕ, ◌*◌, ◌<◌, ◌≤◌, ℤ, pos, List, ◌++◌, length, get_or, IfOk, IfSome, IfNone, MatchResult};
+ghost use Rattle.std.specs.Prelude.{◌≡◌, ℕ, ◌*◌, ◌<◌, ◌≤◌, ℤ, pos, List, ◌++◌, length, get_or, IfOk, IfSome, IfNone, MatchResult, Err};
 ghost use Rattle.printf_grammar.specs.declared.argument.Value.{Value};
 ghost use Rattle.nibble_pack.specs.Packing.{unsigned, signed};
 ghost use Rattle.buffer_extent.specs.Records.{kind_of, code_bytes};
-ghost use Rattle.buffer_extent.specs.Parts.{BeginsWithNumber, BeginsWithHead, codes_in, AreCodes, HoldCodes, BeginsWithArgument, BeginsWithNumbers, BeginsWithArguments};
+ghost use Rattle.buffer_extent.specs.Parts.{BeginsWithNumber, BeginsWithHead, codes_in, AreCodes, HoldCodes, BeginsWithArgument, BeginsWithNumbers, BeginsWithArguments, BeginsWithFirst, StartsArguments};
 ghost use Rattle.buffer_extent.specs.Integers.{IsInteger, AreIntegers};
 
 use crate::fault::{BodyFault, Cause};
@@ -137,6 +137,10 @@ fn take_integers<'a>(
     ensures only { (args : List Value) (back : List ℕ) → BeginsWithNumbers types.now (codes_in codes.now) bytes.now args back → MatchResult result
         (λ pair. (pair.0 ≡ args) × (pair.1.now ≡ back))
         (λ fault. fault ≡ BodyFault.NoMemory) }
+
+    // The first integer is judged before any memory is wanted.
+    ensures no_first { ¬ (BeginsWithFirst types.now (codes_in codes.now) bytes.now)
+        → result ≡ Err (BodyFault.Damaged Cause.Body) }
 {
     let mut args = Values::make(alloc);
     let mut rest = bytes;
@@ -164,6 +168,9 @@ pub(crate) fn take_arguments<'a>(
     ensures only { (args : List Value) (back : List ℕ) → BeginsWithArguments types.now bytes.now args back → MatchResult result
         (λ pair. (pair.0 ≡ args) × (pair.1.now ≡ back))
         (λ fault. fault ≡ BodyFault.NoMemory) }
+
+    // The codes and the first integer are judged before any memory is wanted.
+    ensures no_start { ¬ (StartsArguments types.now bytes.now) → result ≡ Err (BodyFault.Damaged Cause.Body) }
 {
     let Some((codes, rest)) = take_codes(types.len(), bytes) else {
         return Err(BodyFault::Damaged(Cause::Body));

@@ -1,15 +1,15 @@
 //! Records and bodies worked by hand.
 
-ghost use Rattle.std.specs.Prelude.{◌≡◌, [], ◌∷◌, IfOk, IsTrue};
+ghost use Rattle.std.specs.Prelude.{◌≡◌, ◌+◌, ◌<◌, ◌≤◌, [], ◌∷◌, length, IfOk, IsTrue};
 ghost use Rattle.printf_grammar.specs.Narrow.{IsNarrow};
 ghost use Rattle.log_dictionary.specs.declared.message.Message.{Message};
-ghost use Rattle.buffer_extent.specs.Integers.{TakeIntegers};
+ghost use Rattle.buffer_extent.specs.Integers.{AreIntegers, TakeIntegers};
 
 use super::*;
 use arg_records::frame_words;
 use log_dictionary::{Dictionary, LineFault};
 use printf_grammar::{Arg, ArgType, Value, fits};
-use std::alloc::Global;
+use std::alloc::{AllocError, Global};
 use std::process::Abort;
 use std::test::Fail;
 
@@ -45,6 +45,30 @@ fn one_message(alloc: Global, line: &[u8]) -> Result<Dictionary, LineFault>
     }
 }
 
+/// Writes the record of a call of message 0, whose types these are, and gives the place behind it.
+fn put_call(
+    rt: &impl Abort,
+    types: &[ArgType],
+    before: u64,
+    stamp: u64,
+    args: &[Arg],
+    body: &mut [u8],
+    at: usize,
+) -> usize
+    requires integers { AreIntegers types.now }
+    requires few { length types.now ≤ 64 }
+    requires room { at + 8192 ≤ length body.old }
+    ensures { (at < result) × (result ≤ at + 555) }
+{
+    assert!(rt; fits(types, args));
+    assert!(rt; before <= stamp);
+    let mut frame = [0; 512];
+    let Ok(len) = frame_words(0, stamp, args, &mut frame) else {
+        panic!(rt; "the frame is too long");
+    };
+    put_record(&frame[..len], types, before, body, at)
+}
+
 /// Writes the record of a call of message 0, compares it with the bytes that are wanted, and reads
 /// it again.
 fn round_trip(
@@ -63,14 +87,8 @@ fn round_trip(
         panic!(rt; "no message");
     };
     let types = message.format.types();
-    assert!(rt; fits(types, args));
-    assert!(rt; before <= stamp);
-    let mut frame = [0; 512];
-    let Ok(len) = frame_words(0, stamp, args, &mut frame) else {
-        panic!(rt; "the frame is too long");
-    };
     let mut body = [OLD; 8200];
-    let end = put_record(&frame[..len], types, before, &mut body, AT);
+    let end = put_call(rt, types, before, stamp, args, &mut body, AT);
     assert!(rt; AT < end && end <= body.len());
     assert_eq!(rt; &body[AT..end], want);
     assert!(rt; body[..AT].iter().all(|byte| *byte == OLD));
@@ -161,6 +179,118 @@ fn sixty_four_numbers(rt: HostRuntime) -> Result<(), Fail> {
     }
     let args = [Arg::Signed(0x7fff_ffff); 64];
     round_trip(&rt, alloc, &line, 0, u64::MAX, &args, &want);
+    Ok(())
+}
+
+/// How many fields `%d` the message has, and how many calls there are.
+const MANY_CALLS: &str = "\
+0|1000
+1|1000
+17|1000
+64|1000";
+
+/// The stamp of a call: each is 3 after the one before.
+fn stamp_of(call: u16) -> u64 {
+    3 * u64::from(call) + 3
+}
+
+/// Each argument of a call, from 1 to 100.
+fn number_of(call: u16) -> u8 {
+    (call % 100 + 1) as u8
+}
+
+/// Writes the records of the calls, and gives the place behind them.
+fn put_calls(rt: &impl Abort, types: &[ArgType], calls: u16, body: &mut [u8]) -> usize
+    requires integers { AreIntegers types.now }
+    requires few { length types.now ≤ 64 }
+{
+    let mut end = 0;
+    let mut before = 0;
+    for call in 0..calls {
+        let args = [Arg::Signed(i64::from(number_of(call))); 64];
+        assert!(rt; end <= body.len() && body.len() - end >= 8192);
+        let stamp = stamp_of(call);
+        end = put_call(rt, types, before, stamp, &args[..types.len()], body, end);
+        before = stamp;
+    }
+    end
+}
+
+/// The bytes of the calls' records.
+fn bytes_of_calls(alloc: Global, fields: usize, calls: u16) -> Result<Vec<u8>, AllocError> {
+    let mut bytes = Vec::new(alloc);
+    for call in 0..calls {
+        bytes.extend_from_slice(&[0x10, 3])?;
+        for _ in 0..fields / 2 {
+            bytes.push(0x11)?;
+        }
+        if fields % 2 == 1 {
+            bytes.push(1)?;
+        }
+        for _ in 0..fields {
+            bytes.push(number_of(call))?;
+        }
+    }
+    Ok(bytes)
+}
+
+/// Whether these are the records of the calls.
+fn are_calls(records: &Records, fields: usize, calls: u16) -> bool {
+    for call in 0..calls {
+        let Some(record) = records.get(usize::from(call)) else {
+            return false;
+        };
+        if (record.id, record.stamp, record.args.len()) != (0, stamp_of(call), fields) {
+            return false;
+        }
+        let number = i64::from(number_of(call));
+        for place in 0..fields {
+            if !matches!(record.args.get(place), Some(Value::Signed(read)) if *read == number) {
+                return false;
+            }
+        }
+    }
+    records.len() == usize::from(calls)
+}
+
+/// Writes the records of the calls, compares them with the bytes that are wanted, and reads them
+/// again.
+fn many_calls(rt: &impl Abort, alloc: Global, fields: usize, calls: u16) -> Result<(), Fail> {
+    let mut line = Vec::new(alloc);
+    line.extend_from_slice(b"message 0 NOTICE 12 \"srv.cc\" \"")?;
+    for _ in 0..fields {
+        line.extend_from_slice(b"%d")?;
+    }
+    line.push(b'"')?;
+    let Ok(dictionary) = one_message(alloc, &line) else {
+        panic!(rt; "no message");
+    };
+    let Some(message) = dictionary.get(0) else {
+        panic!(rt; "no message");
+    };
+    let mut body = vec![in alloc; OLD; 110_000]?;
+    let end = put_calls(rt, message.format.types(), calls, &mut body);
+    assert!(rt; end <= body.len());
+    let want = bytes_of_calls(alloc, fields, calls)?;
+    assert_eq!(rt; &body[..end], want.as_slice());
+    let Ok(records) = read_body(alloc, &want, &dictionary, 0, 0) else {
+        panic!(rt; "the body isn't read");
+    };
+    assert!(rt; are_calls(&records, fields, calls));
+    Ok(())
+}
+
+#[test]
+fn many_records_are_written_and_read(rt: HostRuntime) -> Result<(), Fail> {
+    for row in MANY_CALLS.lines() {
+        let (fields, calls) = row.split_once('|').ok_or("a row without calls")?;
+        many_calls(
+            &rt,
+            rt.alloc(),
+            fields.parse::<usize>()?,
+            calls.parse::<u16>()?,
+        )?;
+    }
     Ok(())
 }
 

@@ -1,22 +1,20 @@
 -- Bytes begin with an entry, end inside one, or are wrong: one of the three always holds.
-use Rattle.std.proofs.Common.{◌≡◌, ◌≢◌, ◌⊎◌, ℕ, ◌+◌, ◌-◌, ◌*◌, ◌<◌, ◌≤◌, ◌^◌, Bool, true, false, eqb, List, [], ◌∷◌, ◌++◌, length, get_or, take, drop, All, Option, Some, None, refl, sym, ap, subst, ◌∙◌, inl, inr, arith, append_assoc}
+use Rattle.std.proofs.Common.{◌≡◌, ◌≢◌, ◌⊎◌, ℕ, ◌+◌, ◌-◌, ◌*◌, ◌<◌, ◌≤◌, ◌^◌, Bool, true, false, eqb, List, [], ◌∷◌, ◌++◌, length, get_or, take, drop, All, refl, sym, ap, subst, ◌∙◌, inl, inr, arith, append_assoc}
 use Rattle.std.specs.Hash.{le_bytes}
 use Rattle.std.proofs.lemmas.Bool.{cases_lt, eqb-true, eqb-false}
 use Rattle.std.proofs.lemmas.List.{drop_at, length-append, length-take-le, take-append-drop, append-nil}
 use Rattle.std.proofs.lemmas.List.Elements.{All-drop, All-get_or, All-tail}
-use Rattle.printf_grammar.specs.declared.piece.Piece.{Piece}
-use Rattle.printf_grammar.specs.Spelling.{Spells}
-use Rattle.printf_grammar.specs.Types.{Types}
 use Rattle.printf_grammar.proofs.Total.{one_holds}
 use Rattle.printf_grammar.proofs.Unique.{never_both}
 use Rattle.log_dictionary.specs.declared.severity.Severity.{Severity}
 use Rattle.log_dictionary.specs.declared.severity.Severity.TheVariants.{Error, Warning, Notice, Debug}
 use Rattle.log_dictionary.specs.declared.message.Message.{Message}
 use Rattle.log_dictionary.specs.Severities.{severity_number}
-use Rattle.log_dictionary.specs.BinaryEntries.{RawEntry, head_bytes, text_bytes, raw_bytes, SpellsEntry, IsCutText, IsCutEntry, IsBadLength, IsBadEntry, BeginsWithEntry}
+use Rattle.log_dictionary.specs.BinaryEntries.{RawEntry, head_bytes, text_bytes, raw_bytes, SpellsEntry, IsCutText, IsCutEntry, IsBadLength, IsOutOfRange, IsBadEntry, BeginsWithEntry}
 use Rattle.log_dictionary.specs.BinaryEntries.IsCutText.{in_length, in_text}
 use Rattle.log_dictionary.specs.BinaryEntries.IsCutEntry.{in_severity, in_line, in_file, in_format}
-use Rattle.log_dictionary.specs.BinaryEntries.IsBadEntry.{at_severity, at_file, at_format, refused}
+use Rattle.log_dictionary.specs.BinaryEntries.IsOutOfRange.{at_severity, at_file, at_format}
+use Rattle.log_dictionary.specs.BinaryEntries.IsBadEntry.{out_of_range, refused}
 use Rattle.log_dictionary.specs.EntryReading.{IsRead}
 use Rattle.log_dictionary.proofs.BinaryNumbers.{two_read, four_read}
 use Rattle.log_dictionary.proofs.BinaryLaws.{three_nested, nested, one_entry, bad_not_whole}
@@ -113,7 +111,7 @@ behind_file bytes severity line file part small fits long short is =
     let apart = is ∙ sym (three_nested (head_bytes severity line) (text_bytes file) part) in
     elim (text_cases 0 4095 part small) [
       | inl cut ↦ inl (in_format severity line file part fits long short cut apart)
-      | inr (inl wrong) ↦ inr (inl (at_format severity line file part fits long short wrong apart))
+      | inr (inl wrong) ↦ inr (inl (out_of_range (at_format severity line file part fits long short wrong apart)))
       | inr (inr text) ↦
           let raw : RawEntry = record { severity = severity; line = line; file = file; format = text.text } in
           fields_cases bytes raw (record {
@@ -127,7 +125,7 @@ behind_head : (bytes : List ℕ) (severity : Severity) (line : ℕ) (part : List
 behind_head bytes severity line part small fits is =
     elim (text_cases 1 255 part small) [
       | inl cut ↦ inl (in_file severity line part fits cut is)
-      | inr (inl wrong) ↦ inr (inl (at_file severity line part fits wrong is))
+      | inr (inl wrong) ↦ inr (inl (out_of_range (at_file severity line part fits wrong is)))
       | inr (inr text) ↦ behind_file bytes severity line text.text text.rest (back_bytes part (text_bytes text.text) text.rest text.joined small) fits text.long text.short (is ∙ ap (λ (p : List ℕ). head_bytes severity line ++ p) text.joined)
     ]
 
@@ -151,7 +149,7 @@ entry_cases [] small = inl (in_severity refl)
 entry_cases (b ∷ part) small =
     elim (severity_cases b) [
       | inl (severity, is) ↦ behind_severity (b ∷ part) severity part (All-tail (λ byte. byte < 256) b part small) (ap (λ (x : ℕ). x ∷ part) is)
-      | inr wrong ↦ inr (inl (at_severity b part wrong refl))
+      | inr wrong ↦ inr (inl (out_of_range (at_severity b part wrong refl)))
     ]
 
 -- ---- prefixes
@@ -159,13 +157,16 @@ entry_cases (b ∷ part) small =
 more_wrong : (least most : ℕ) (bytes more : List ℕ) → IsBadLength least most bytes → IsBadLength least most (bytes ++ more)
 more_wrong least most bytes more wrong = record { n = wrong.n; rest = wrong.rest ++ more; fits = wrong.fits; outside = wrong.outside; joined = ap (λ (b : List ℕ). b ++ more) wrong.joined ∙ append_assoc (le_bytes 2 wrong.n) wrong.rest more }
 
+stays_out_of_range : (bytes more : List ℕ) → IsOutOfRange bytes → IsOutOfRange (bytes ++ more)
+stays_out_of_range bytes more (at_severity number rest wrong is) = at_severity number (rest ++ more) wrong (ap (λ (b : List ℕ). b ++ more) is)
+stays_out_of_range bytes more (at_file severity line rest fits wrong is) =
+    at_file severity line (rest ++ more) fits (more_wrong 1 255 rest more wrong) (ap (λ (b : List ℕ). b ++ more) is ∙ append_assoc (head_bytes severity line) rest more)
+stays_out_of_range bytes more (at_format severity line file rest fits long short wrong is) =
+    at_format severity line file (rest ++ more) fits long short (more_wrong 0 4095 rest more wrong) (ap (λ (b : List ℕ). b ++ more) is ∙ append_assoc (head_bytes severity line ++ text_bytes file) rest more)
+
 -- what is wrong stays wrong
 pub stays_bad : (bytes more : List ℕ) → IsBadEntry bytes → IsBadEntry (bytes ++ more)
-stays_bad bytes more (at_severity number rest wrong is) = at_severity number (rest ++ more) wrong (ap (λ (b : List ℕ). b ++ more) is)
-stays_bad bytes more (at_file severity line rest fits wrong is) =
-    at_file severity line (rest ++ more) fits (more_wrong 1 255 rest more wrong) (ap (λ (b : List ℕ). b ++ more) is ∙ append_assoc (head_bytes severity line) rest more)
-stays_bad bytes more (at_format severity line file rest fits long short wrong is) =
-    at_format severity line file (rest ++ more) fits long short (more_wrong 0 4095 rest more wrong) (ap (λ (b : List ℕ). b ++ more) is ∙ append_assoc (head_bytes severity line ++ text_bytes file) rest more)
+stays_bad bytes more (out_of_range wrong) = out_of_range (stays_out_of_range bytes more wrong)
 stays_bad bytes more (refused raw rest right none is) = refused raw (rest ++ more) right none (ap (λ (b : List ℕ). b ++ more) is ∙ append_assoc (raw_bytes raw) rest more)
 
 -- each proper prefix of an entry is cut

@@ -1,5 +1,5 @@
 -- Bytes begin with one entry, end inside one, or begin with none.
-use Rattle.std.proofs.Common.{◌≡◌, ℕ, ◌+◌, ◌<◌, ◌≤◌, ◌^◌, List, ◌∷◌, ◌++◌, length, get_or, take, drop, Some, Option, cond, eqb, refl, sym, ap, subst, ◌∙◌, inl, inr, arith, append_assoc}
+use Rattle.std.proofs.Common.{◌≡◌, ℕ, ◌+◌, ◌<◌, ◌≤◌, ◌^◌, List, ◌∷◌, ◌++◌, length, get_or, take, drop, cond, eqb, refl, sym, ap, subst, ◌∙◌, inl, inr, arith, append_assoc}
 use Rattle.std.specs.Int.{w16, w32, from_le_bytes}
 use Rattle.std.specs.Hash.{le_bytes}
 use Rattle.std.proofs.lemmas.Nat.{from_le_bytes-to_le_bytes_2, from_le_bytes-to_le_bytes_4}
@@ -12,10 +12,11 @@ use Rattle.log_dictionary.specs.declared.severity.Severity.TheVariants.{Error, W
 use Rattle.log_dictionary.specs.declared.message.Message.{Message}
 use Rattle.log_dictionary.specs.Severities.{severity_number}
 use Rattle.log_dictionary.specs.Messages.{SameMessage}
-use Rattle.log_dictionary.specs.BinaryEntries.{RawEntry, head_bytes, text_bytes, raw_bytes, raw_of, IsInRange, SpellsEntry, IsCutText, IsCutEntry, IsBadLength, IsBadEntry, BeginsWithEntry}
+use Rattle.log_dictionary.specs.BinaryEntries.{RawEntry, head_bytes, text_bytes, raw_bytes, raw_of, IsInRange, SpellsEntry, IsCutText, IsCutEntry, IsBadLength, IsOutOfRange, IsBadEntry, BeginsWithEntry}
 use Rattle.log_dictionary.specs.BinaryEntries.IsCutText.{in_length, in_text}
 use Rattle.log_dictionary.specs.BinaryEntries.IsCutEntry.{in_severity, in_line, in_file, in_format}
-use Rattle.log_dictionary.specs.BinaryEntries.IsBadEntry.{at_severity, at_file, at_format, refused}
+use Rattle.log_dictionary.specs.BinaryEntries.IsOutOfRange.{at_severity, at_file, at_format}
+use Rattle.log_dictionary.specs.BinaryEntries.IsBadEntry.{out_of_range, refused}
 use Rattle.log_dictionary.proofs.UnescapedLines.{same_message}
 use Rattle.log_dictionary.proofs.BinaryNumbers.{two_bytes, four_bytes, two_long, four_long}
 
@@ -218,30 +219,34 @@ bad_not_in_texts : (bytes : List ℕ) → IsBadLength 1 255 bytes → IsCutTexts
 bad_not_in_texts bytes bad (first cut) = cut_text_not_bad 1 255 bytes (omega arith) cut bad
 bad_not_in_texts bytes bad (second file part least most cut e) = bad_length_not_whole 1 255 file part (omega (arith, most)) least most (subst (IsBadLength 1 255) e bad)
 
--- bytes that end inside an entry that is right so far aren't wrong
-pub cut_not_bad : (bytes : List ℕ) → IsCutEntry bytes → IsBadEntry bytes → ⊥
-cut_not_bad bytes cut (at_severity number rest wrong e) = let s = cut_severity number rest bytes e cut in wrong s.0 s.1
-cut_not_bad bytes cut (at_file severity line rest fits bad e) = bad_not_in_texts rest bad (cut_behind severity line rest bytes fits e cut)
-cut_not_bad bytes cut (at_format severity line file rest fits least most bad e) =
+-- bytes that end inside an entry that is right so far have no field out of range
+pub cut_in_range : (bytes : List ℕ) → IsCutEntry bytes → IsOutOfRange bytes → ⊥
+cut_in_range bytes cut (at_severity number rest wrong e) = let s = cut_severity number rest bytes e cut in wrong s.0 s.1
+cut_in_range bytes cut (at_file severity line rest fits bad e) = bad_not_in_texts rest bad (cut_behind severity line rest bytes fits e cut)
+cut_in_range bytes cut (at_format severity line file rest fits least most bad e) =
     let behind = cut_behind severity line (text_bytes file ++ rest) bytes fits (e ∙ three_nested (head_bytes severity line) (text_bytes file) rest) cut in
     cut_text_not_bad 0 4095 rest (omega arith) (cut_behind_file file rest _ least most refl behind) bad
+
+-- and aren't wrong
+pub cut_not_bad : (bytes : List ℕ) → IsCutEntry bytes → IsBadEntry bytes → ⊥
+cut_not_bad bytes cut (out_of_range wrong) = cut_in_range bytes cut wrong
 cut_not_bad bytes cut (refused raw rest right none e) = cut_not_whole raw rest bytes right e cut
+
+-- bytes that begin with fields in range have no field out of range
+pub whole_in_range : (raw : RawEntry) (rest bytes : List ℕ) → IsInRange raw → bytes ≡ raw_bytes raw ++ rest → IsOutOfRange bytes → ⊥
+whole_in_range raw rest bytes right is (at_severity number other wrong e) = wrong raw.severity (first_is number (severity_number raw.severity) other _ (sym e ∙ is))
+whole_in_range raw rest bytes right is (at_file severity line other fits bad e) =
+    let same = same_heads severity raw.severity line raw.line other (text_bytes raw.file ++ (text_bytes raw.format ++ rest)) fits right.line_fits (sym e ∙ is ∙ nested raw rest) in
+    bad_length_not_whole 1 255 raw.file (text_bytes raw.format ++ rest) (omega (arith, right.short_name)) right.named right.short_name (subst (IsBadLength 1 255) same.2 bad)
+whole_in_range raw rest bytes right is (at_format severity line file other fits least most bad e) =
+    let same = same_heads severity raw.severity line raw.line (text_bytes file ++ other) (text_bytes raw.file ++ (text_bytes raw.format ++ rest)) fits right.line_fits (sym (three_nested (head_bytes severity line) (text_bytes file) other) ∙ sym e ∙ is ∙ nested raw rest) in
+    let files = same_texts file raw.file other (text_bytes raw.format ++ rest) (omega (arith, most)) (omega (arith, right.short_name)) same.2 in
+    bad_length_not_whole 0 4095 raw.format rest (omega (arith, right.short_format)) (omega arith) right.short_format (subst (IsBadLength 0 4095) files.1 bad)
 
 -- bytes that begin with a message's entry aren't wrong
 pub bad_not_whole : (front rest bytes : List ℕ) (message : Message) → SpellsEntry front message → bytes ≡ front ++ rest → IsBadEntry bytes → ⊥
-bad_not_whole front rest bytes message narrow is (at_severity number other wrong e) =
-    wrong message.severity (first_is number (severity_number message.severity) other _ (sym e ∙ is ∙ ap (λ (f : List ℕ). f ++ rest) narrow.spelled))
-bad_not_whole front rest bytes message narrow is (at_file severity line other fits bad e) =
-    let raw = raw_of message in
-    let right = entry_in_range front message narrow in
-    let same = same_heads severity raw.severity line raw.line other (text_bytes raw.file ++ (text_bytes raw.format ++ rest)) fits right.line_fits (sym e ∙ is ∙ ap (λ (f : List ℕ). f ++ rest) narrow.spelled ∙ nested raw rest) in
-    bad_length_not_whole 1 255 raw.file (text_bytes raw.format ++ rest) (omega (arith, right.short_name)) right.named right.short_name (subst (IsBadLength 1 255) same.2 bad)
-bad_not_whole front rest bytes message narrow is (at_format severity line file other fits least most bad e) =
-    let raw = raw_of message in
-    let right = entry_in_range front message narrow in
-    let same = same_heads severity raw.severity line raw.line (text_bytes file ++ other) (text_bytes raw.file ++ (text_bytes raw.format ++ rest)) fits right.line_fits (sym (three_nested (head_bytes severity line) (text_bytes file) other) ∙ sym e ∙ is ∙ ap (λ (f : List ℕ). f ++ rest) narrow.spelled ∙ nested raw rest) in
-    let files = same_texts file raw.file other (text_bytes raw.format ++ rest) (omega (arith, most)) (omega (arith, right.short_name)) same.2 in
-    bad_length_not_whole 0 4095 raw.format rest (omega (arith, right.short_format)) (omega arith) right.short_format (subst (IsBadLength 0 4095) files.1 bad)
+bad_not_whole front rest bytes message narrow is (out_of_range wrong) =
+    whole_in_range (raw_of message) rest bytes (entry_in_range front message narrow) (is ∙ ap (λ (f : List ℕ). f ++ rest) narrow.spelled) wrong
 bad_not_whole front rest bytes message narrow is (refused raw other right none e) =
     let same = same_as_message raw other front rest message right narrow (sym e ∙ is) in
     none message (record { spelled = ap raw_bytes same.0; line_fits = narrow.line_fits; formed = narrow.formed })

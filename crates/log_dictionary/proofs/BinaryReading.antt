@@ -8,11 +8,11 @@ use Rattle.log_dictionary.specs.declared.binary_entry.EntryFault.TheVariants.{Cu
 use Rattle.printf_grammar.specs.declared.piece.Piece.{Piece}
 use Rattle.printf_grammar.specs.Spelling.{Spells}
 use Rattle.log_dictionary.specs.declared.message.Message.{Message}
-use Rattle.log_dictionary.specs.BinaryEntries.{RawEntry, raw_bytes, raw_of, entry_bytes, SpellsEntry, IsCutEntry, IsBadEntry}
-use Rattle.log_dictionary.specs.BinaryEntries.IsBadEntry.{refused}
+use Rattle.log_dictionary.specs.BinaryEntries.{RawEntry, raw_bytes, raw_of, entry_bytes, SpellsEntry, IsCutEntry, IsOutOfRange, IsBadEntry}
+use Rattle.log_dictionary.specs.BinaryEntries.IsBadEntry.{out_of_range, refused}
 use Rattle.log_dictionary.specs.EntryReading.{Stops, IsRead}
 use Rattle.log_dictionary.proofs.UnescapedLines.{IsMade}
-use Rattle.log_dictionary.proofs.BinaryLaws.{entry_in_range, same_as_message, one_entry, cut_not_whole, cut_not_bad, bad_not_whole}
+use Rattle.log_dictionary.proofs.BinaryLaws.{entry_in_range, same_as_message, one_entry, cut_not_whole, cut_in_range, cut_not_bad, whole_in_range, bad_not_whole}
 
 widened : (fault : EntryFault) (cut wrong cut_whole wrong_whole : Type 0) → (cut → cut_whole) → (wrong → wrong_whole) → Stops fault cut wrong → Stops fault cut_whole wrong_whole
 widened Cut cut wrong cut_whole wrong_whole f g stops = f stops
@@ -30,6 +30,10 @@ not_stopped : (fault : EntryFault) (cut wrong : Type 0) → (cut → ⊥) → (w
 not_stopped Cut cut wrong f g stops = f stops
 not_stopped BadEntry cut wrong f g stops = g stops
 not_stopped NoMemory cut wrong f g stops = stops
+
+-- a field out of range is wrong
+pub stops_bad : (bytes : List ℕ) (fault : EntryFault) → Stops fault (IsCutEntry bytes) (IsOutOfRange bytes) → Stops fault (IsCutEntry bytes) (IsBadEntry bytes)
+stops_bad bytes fault stops = widened fault (IsCutEntry bytes) (IsOutOfRange bytes) (IsCutEntry bytes) (IsBadEntry bytes) (λ cut. cut) (λ wrong. out_of_range wrong) stops
 
 -- the fault that a `?` hands on
 pub handed_on : {T : Type 0} (r : Result T EntryFault) (fault : EntryFault) → IsErrAnd r (λ y. y ≡ fault) → r ≡ Err fault
@@ -55,10 +59,18 @@ stopped_refused bytes r Cut is stops bad = absurd (cut_not_bad bytes stops bad)
 stopped_refused bytes r BadEntry is stops bad = rw is (inl refl)
 stopped_refused bytes r NoMemory is stops bad = absurd stops
 
+pub stopped_out_of_range : {T : Type 0} (bytes : List ℕ) (r : Result T EntryFault) (fault : EntryFault) → r ≡ Err fault → Stops fault (IsCutEntry bytes) (IsOutOfRange bytes) → IsOutOfRange bytes → r ≡ Err BadEntry
+stopped_out_of_range bytes r Cut is stops wrong = absurd (cut_in_range bytes stops wrong)
+stopped_out_of_range bytes r BadEntry is stops wrong = is
+stopped_out_of_range bytes r NoMemory is stops wrong = absurd stops
+
 -- ---- what is answered to bytes that begin with fields in range
 
 pub read_not_cut : (bytes : List ℕ) (raw : RawEntry) → IsRead bytes raw → IsCutEntry bytes → ⊥
 read_not_cut bytes raw read cut = cut_not_whole raw read.rest bytes read.in_range read.joined cut
+
+pub read_in_range : (bytes : List ℕ) (raw : RawEntry) → IsRead bytes raw → IsOutOfRange bytes → ⊥
+read_in_range bytes raw read wrong = whole_in_range raw read.rest bytes read.in_range read.joined wrong
 
 -- the format of these fields is no format
 pub read_bad : (bytes : List ℕ) (raw : RawEntry) → IsRead bytes raw → ((pieces : List Piece) → Spells raw.format pieces → ⊥) → IsBadEntry bytes

@@ -79,9 +79,13 @@ pub record IsBadLength (least most : ℕ) (bytes : List ℕ) : Type 0 where
   pub outside : (n < least) ⊎ (most < n)
   pub joined : bytes ≡ le_bytes 2 n ++ rest
 
--- the first field that isn't right is there as a whole and out of range, or all fields are in range and the format is refused
+-- the first field that isn't right is there as a whole and out of range: the severity, or the length of the file or of the format
+pub data IsOutOfRange (bytes : List ℕ) : Type 0 where
+  at_severity : (number : ℕ) (rest : List ℕ) → ((severity : Severity) → number ≢ severity_number severity) → bytes ≡ number ∷ rest → IsOutOfRange bytes
+  at_file : (severity : Severity) (line : ℕ) (rest : List ℕ) → line < 2 ^ 32 → IsBadLength 1 255 rest → bytes ≡ head_bytes severity line ++ rest → IsOutOfRange bytes
+  at_format : (severity : Severity) (line : ℕ) (file rest : List ℕ) → line < 2 ^ 32 → 1 ≤ length file → length file ≤ 255 → IsBadLength 0 4095 rest → bytes ≡ head_bytes severity line ++ text_bytes file ++ rest → IsOutOfRange bytes
+
+-- a field is out of range, or all fields are in range and the format is refused
 pub data IsBadEntry (bytes : List ℕ) : Type 0 where
-  at_severity : (number : ℕ) (rest : List ℕ) → ((severity : Severity) → number ≢ severity_number severity) → bytes ≡ number ∷ rest → IsBadEntry bytes
-  at_file : (severity : Severity) (line : ℕ) (rest : List ℕ) → line < 2 ^ 32 → IsBadLength 1 255 rest → bytes ≡ head_bytes severity line ++ rest → IsBadEntry bytes
-  at_format : (severity : Severity) (line : ℕ) (file rest : List ℕ) → line < 2 ^ 32 → 1 ≤ length file → length file ≤ 255 → IsBadLength 0 4095 rest → bytes ≡ head_bytes severity line ++ text_bytes file ++ rest → IsBadEntry bytes
+  out_of_range : IsOutOfRange bytes → IsBadEntry bytes
   refused : (raw : RawEntry) (rest : List ℕ) → IsInRange raw → ((message : Message) → ¬ (SpellsEntry (raw_bytes raw) message)) → bytes ≡ raw_bytes raw ++ rest → IsBadEntry bytes

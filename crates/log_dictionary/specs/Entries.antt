@@ -1,5 +1,5 @@
 -- The parts of a message line, from left to right.
-use Rattle.std.specs.Prelude.{◌≡◌, ◌≢◌, ℕ, ◌+◌, ◌<◌, ◌^◌, List, [], ◌∷◌, ◌++◌, length, take, drop, codes, decimal, All, position, Option, None, Some, ◌==◌, if◌then◌else◌}
+use Rattle.std.specs.Prelude.{◌≡◌, ◌≢◌, ℕ, ◌+◌, ◌<◌, ◌≤◌, ◌^◌, List, [], ◌∷◌, ◌++◌, length, take, drop, codes, decimal, All, position, Option, None, Some, ◌==◌, if◌then◌else◌}
 use Rattle.std.specs.Option.{option_map}
 use Rattle.log_dictionary.specs.declared.severity.Severity.{Severity}
 use Rattle.log_dictionary.specs.declared.entry.Fields.{Fields}
@@ -63,3 +63,15 @@ pub record IsEntry (line : List ℕ) (id : ℕ) (severity : Severity) (number : 
   pub plain_format : All IsPlain format
   pub id_fits : id < 2 ^ 64
   pub number_fits : number < 2 ^ 32
+
+-- the line is a message line up to its format: its texts have no escape, its file has 1 to 255 bytes and its format at most 4095, which isn't judged further
+pub record IsEntryLine (line : List ℕ) : Type 0 where
+  pub id : ℕ
+  pub severity : Severity
+  pub number : ℕ
+  pub file : List ℕ
+  pub format : List ℕ
+  pub spelled : IsEntry line id severity number file format
+  pub named : 1 ≤ length file
+  pub short_name : length file ≤ 255
+  pub short_format : length format ≤ 4095

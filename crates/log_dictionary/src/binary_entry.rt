@@ -5,7 +5,7 @@ ghost use Rattle.std.specs.Hash.{le_bytes};
 ghost use Rattle.log_dictionary.specs.declared.message.Message.{Message};
 ghost use Rattle.log_dictionary.specs.declared.severity.Severity.{Severity};
 ghost use Rattle.log_dictionary.specs.Severities.{severity_number};
-ghost use Rattle.log_dictionary.specs.BinaryEntries.{RawEntry, raw_bytes, IsInRange, entry_bytes, SpellsEntry, IsCutText, IsCutEntry, IsBadLength, IsBadEntry, text_bytes};
+ghost use Rattle.log_dictionary.specs.BinaryEntries.{RawEntry, raw_bytes, IsInRange, entry_bytes, SpellsEntry, IsCutText, IsCutEntry, IsBadLength, IsOutOfRange, IsBadEntry, text_bytes};
 ghost use Rattle.log_dictionary.specs.EntryReading.{Stops, raw_fields, IsRead};
 
 use crate::formats::{FormatFault, format_of};
@@ -141,7 +141,7 @@ fn read_text(bytes: &[u8], least: u16, most: u16) -> Result<(&[u8], &[u8]), Entr
 // The fields of the entry that the bytes begin with.
 fn read_fields(bytes: &[u8]) -> Result<Fields<'_>, EntryFault>
     ensures ok { IfOk result (λ fields. IsRead bytes.now (raw_fields fields)) }
-    ensures err { IfErr result (λ fault. Stops fault (IsCutEntry bytes.now) (IsBadEntry bytes.now)) }
+    ensures err { IfErr result (λ fault. Stops fault (IsCutEntry bytes.now) (IsOutOfRange bytes.now)) }
 {
     let (severity, rest) = read_severity(bytes)?;
     let (line, rest) = read_u32(rest)?;
@@ -166,7 +166,12 @@ pub fn read_entry(alloc: Global, bytes: &[u8]) -> Result<(Message, usize), Entry
         → MatchResult result
         (λ read. (read.0 ≡ message) × (read.1 ≡ length front))
         (λ fault. fault ≡ EntryFault.NoMemory) }
+
+    // Where bytes end, and where a field is out of range, is found before any memory is wanted.
     ensures cut { (result ≡ Err EntryFault.Cut) ↔ IsCutEntry bytes.now }
+    ensures out_of_range { IsOutOfRange bytes.now → result ≡ Err EntryFault.BadEntry }
+
+    // A format is refused only once it is parsed, which takes memory.
     ensures bad_entry { result ≡ Err EntryFault.BadEntry → IsBadEntry bytes.now }
     ensures refused { IsBadEntry bytes.now → MatchResult result
         (λ _. ⊥)

@@ -5,6 +5,7 @@ ghost use Rattle.std.specs.Option.{option_copied};
 ghost use Rattle.log_dictionary.specs.declared.message.Message.{Message};
 ghost use Rattle.log_dictionary.specs.Messages.{UnescapedLine, HasMessage, HasId};
 ghost use Rattle.log_dictionary.specs.Additions.{IsAdded};
+ghost use Rattle.log_dictionary.specs.Entries.{IsEntryLine};
 
 use crate::entry::entry_of;
 use crate::formats::{FormatFault, format_of};
@@ -75,6 +76,9 @@ fn message_of(alloc: Global, line: &[u8]) -> Result<(u64, Message), LineFault>
         (λ pair. (pair.0 ≡ id) × (pair.1 ≡ message))
         (λ fault. fault ≡ LineFault.NoMemory) }
     ensures fault { IfErr result (λ fault. (fault ≡ LineFault.BadEntry) ⊎ (fault ≡ LineFault.NoMemory)) }
+
+    // All but what the format spells is judged before any memory is wanted.
+    ensures no_entry { ¬ (IsEntryLine line.now) → result ≡ Err LineFault.BadEntry }
 {
     let Some(entry) = entry_of(line) else {
         return Err(LineFault::BadEntry);
@@ -182,6 +186,10 @@ impl Dictionary {
         ensures bad_entry { result ≡ Err LineFault.BadEntry
             → (id : ℕ) (message : Message) → UnescapedLine line.now id message
             → HasMessage self.old message }
+
+        // All but what the format spells is judged before any memory is wanted.
+        ensures no_entry { ¬ (IsEntryLine line.now) → length self.old < 65536
+            → result ≡ Err LineFault.BadEntry }
         ensures order { result ≡ Err LineFault.Order → (id : ℕ) × (message : Message)
             × UnescapedLine line.now id message
             × (¬ (HasMessage self.old message))

@@ -2,20 +2,20 @@
 
 ghost use Rattle.std.specs.Prelude.{◌≡◌, ◌⊎◌, ℕ, ◌<◌, ◌≤◌, List, [], ◌∷◌, ◌++◌, length, All};
 ghost use Rattle.log_dictionary.specs.declared.message.Message.{Message};
-ghost use Rattle.log_dictionary.specs.BinaryEntries.{SpellsEntry, BeginsWithEntry, IsCutEntry, IsBadEntry};
+ghost use Rattle.log_dictionary.specs.BinaryEntries.{SpellsEntry, BeginsWithEntry, IsCutEntry, IsOutOfRange, IsBadEntry};
 ghost use Rattle.log_dictionary.specs.Messages.{SameMessage};
 ghost use Rattle.log_dictionary.specs.Rows.{row_message, row_head, row_entry};
 
-/// A worked entry, and bytes that begin with none. Half of a length isn't judged, even where no
-/// other half makes it right.
+/// A worked entry, and bytes that begin with none: a field is out of range, or they end inside an
+/// entry. Half of a length isn't judged, even where no other half makes it right.
 pub fn worked_entries()
     ensures whole { SpellsEntry row_entry row_message }
-    ensures bad_severity { IsBadEntry (5 ∷ []) }
+    ensures bad_severity { IsOutOfRange (5 ∷ []) }
     ensures half_length { IsCutEntry (row_head ++ 0 ∷ []) }
-    ensures empty_file { IsBadEntry (row_head ++ 0 ∷ 0 ∷ []) }
-    ensures long_file { IsBadEntry (row_head ++ 0 ∷ 1 ∷ []) }
+    ensures empty_file { IsOutOfRange (row_head ++ 0 ∷ 0 ∷ []) }
+    ensures long_file { IsOutOfRange (row_head ++ 0 ∷ 1 ∷ []) }
     ensures unfinished_file { IsCutEntry (row_head ++ 255 ∷ 0 ∷ []) }
-    ensures long_format { IsBadEntry (row_head ++ 1 ∷ 0 ∷ 97 ∷ 0 ∷ 16 ∷ []) }
+    ensures long_format { IsOutOfRange (row_head ++ 1 ∷ 0 ∷ 97 ∷ 0 ∷ 16 ∷ []) }
     ensures unfinished_format { IsCutEntry (row_head ++ 1 ∷ 0 ∷ 97 ∷ 255 ∷ 15 ∷ []) }
 {}
 

@@ -243,3 +243,112 @@ fn a_message_is_added_once(rt: HostRuntime) -> Result<(), Fail> {
     assert_eq!(rt; dictionary.len(), 2);
     Ok(())
 }
+
+/// The length of the name, a unit of the format, and how often it stands there.
+const LARGE_MESSAGES: &str = "\
+255|%d|64
+1|ten bytes.|103
+255|ten bytes.%%|341
+255|%*.*s and more, |21
+254|x|4095";
+
+/// Appends the number, low byte first, in two bytes.
+fn push_u16(bytes: &mut Vec<u8>, number: usize) -> Result<(), Fail> {
+    bytes.extend_from_slice(&u16::try_from(number)?.to_le_bytes())?;
+    Ok(())
+}
+
+#[test]
+fn large_messages_are_kept_whole(rt: HostRuntime) -> Result<(), Fail> {
+    for row in LARGE_MESSAGES.lines() {
+        let mut columns = row.split('|');
+        let name_len = columns.next().ok_or("a row without a name")?;
+        let name_len = name_len.parse::<usize>()?;
+        let unit = columns.next().ok_or("a row without a unit")?;
+        let times = columns.next().ok_or("a row without a number")?;
+        let times = times.parse::<usize>()?;
+        let mut name = Vec::new(rt.alloc());
+        for _ in 0..name_len {
+            name.push(b'n')?;
+        }
+        let mut format = Vec::new(rt.alloc());
+        for _ in 0..times {
+            format.extend_from_slice(unit.as_bytes())?;
+        }
+        let mut line = Vec::new(rt.alloc());
+        line.extend_from_slice(b"message 0 DEBUG 258 \"")?;
+        line.extend_from_slice(&name)?;
+        line.extend_from_slice(b"\" \"")?;
+        line.extend_from_slice(&format)?;
+        line.push(b'"')?;
+        let mut entry = Vec::new(rt.alloc());
+        entry.extend_from_slice(&[4, 2, 1, 0, 0])?;
+        push_u16(&mut entry, name.len())?;
+        entry.extend_from_slice(&name)?;
+        push_u16(&mut entry, format.len())?;
+        entry.extend_from_slice(&format)?;
+
+        let mut dictionary = Dictionary::make(rt.alloc());
+        assert_eq!(rt; dictionary.read_line(&line), Ok(()), "{row}");
+        let message = dictionary.get(0).ok_or("a message is there")?;
+        assert_eq!(rt; message.file.as_slice(), name.as_slice(), "{row}");
+        assert_eq!(rt; message.format.bytes(), format.as_slice(), "{row}");
+        assert_eq!(rt; entry_len(message), entry.len(), "{row}");
+        let mut bytes = [0; 4359];
+        let len = put_entry(message, &mut bytes);
+        assert!(rt; len <= bytes.len());
+        assert_eq!(rt; &bytes[..len], entry.as_slice(), "{row}");
+        let Ok((read, read_len)) = read_entry(rt.alloc(), &entry) else {
+            return Err("the entry is read".into());
+        };
+        assert_eq!(rt; read_len, entry.len(), "{row}");
+        assert!(rt; read.is_same(message), "{row}");
+    }
+    Ok(())
+}
+
+/// How many messages a dictionary is given.
+const MANY: u32 = 1000;
+
+#[test]
+fn many_lines_are_read(rt: HostRuntime) -> Result<(), Fail> {
+    let mut dictionary = Dictionary::make(rt.alloc());
+    for id in 0..MANY {
+        let line = format!(in rt.alloc(); "message {id} NOTICE 12 \"srv.cc\" \"x{id}=%d\"")?;
+        assert_eq!(rt; dictionary.read_line(line.as_bytes()), Ok(()), "{line}");
+    }
+    assert_eq!(rt; dictionary.len(), MANY);
+    for id in 0..MANY {
+        let format = format!(in rt.alloc(); "x{id}=%d")?;
+        let message = dictionary.get(id).ok_or("a message is there")?;
+        assert_eq!(rt; message.format.bytes(), format.as_bytes());
+    }
+    Ok(())
+}
+
+/// `LINE`'s message, but at this line, as an entry.
+fn entry_at(line: u32) -> [u8; 19] {
+    let mut entry = [0; 19];
+    entry.copy_from_slice(ENTRY);
+    entry[1..5].copy_from_slice(&line.to_le_bytes());
+    entry
+}
+
+#[test]
+fn many_messages_are_added(rt: HostRuntime) -> Result<(), Fail> {
+    let mut dictionary = Dictionary::make(rt.alloc());
+    for line in 0..MANY {
+        let Ok((message, _)) = read_entry(rt.alloc(), &entry_at(line)) else {
+            return Err("the entry is read".into());
+        };
+        assert_eq!(rt; dictionary.add(message), Ok(Added::New(line)));
+    }
+    assert_eq!(rt; dictionary.len(), MANY);
+    for line in [0, 64, 999] {
+        let Ok((message, _)) = read_entry(rt.alloc(), &entry_at(line)) else {
+            return Err("the entry is read".into());
+        };
+        assert_eq!(rt; dictionary.add(message), Ok(Added::Old(line)));
+    }
+    Ok(())
+}

@@ -1,4 +1,4 @@
-ghost use Rattle.std.specs.Prelude.{◌≡◌, ◌⊎◌, ℕ, List, IfOk, MatchResult, Err, ◌↔◌, IsTrue};
+ghost use Rattle.std.specs.Prelude.{◌≡◌, ◌⊎◌, ℕ, ◌<◌, List, length, IfOk, MatchResult, Err, ◌↔◌, IsTrue};
 ghost use Rattle.printf_grammar.specs.Narrow.{IsNarrowPiece};
 ghost use Rattle.printf_grammar.specs.declared.piece.Piece.{Piece};
 ghost use Rattle.printf_grammar.specs.Spelling.{Spells};
@@ -102,6 +102,9 @@ fn is_narrow(piece: Piece) -> bool
 pub fn parse(alloc: Global, bytes: &[u8]) -> Result<Format, ParseFault>
     ensures found { IfOk result (λ format. (format.bytes ≡ bytes.now) × Spells bytes.now format.pieces) }
     ensures bad { (cause : FormatCause) (place : ℕ) → result ≡ Err (ParseFault.Bad cause place) → FormatBreak bytes.now cause place }
+
+    // Too many bytes are refused before any memory is wanted.
+    ensures long { MAX_BYTES < length bytes.now → result ≡ Err (ParseFault.Bad FormatCause.Long MAX_BYTES) }
 
     // What is spelled so is found, unless memory runs out, and where the bytes break, that is what is answered.
     ensures only_found { (pieces : List Piece) → Spells bytes.now pieces → MatchResult result

@@ -208,3 +208,73 @@ fn each_byte_is_judged_behind_each_prefix(rt: HostRuntime) -> Result<(), Fail> {
     }
     Ok(())
 }
+
+/// A unit, how often it stands in the format, how many pieces it has each time, and the types that it takes each time:
+/// I is Int, U UInt, N ULong, L Long, W Width, P Precision and S Text.
+const LONG_FORMATS: &str = "\
+%d|17|1|I
+%d, |33|2|I
+%*.*ld|21|1|WPL
+%d of %s; |32|4|IS
+%c|64|1|I
+%%|2047|1|
+ten bytes.%%|256|2|
+a text that stands before each of its numbers: %lu|64|2|N
+a text of about sixty bytes which is there at most: %-5.3x|64|2|U";
+
+fn type_of(letter: u8) -> ArgType {
+    match letter {
+        b'I' => ArgType::Int,
+        b'U' => ArgType::UInt,
+        b'L' => ArgType::Long,
+        b'N' => ArgType::ULong,
+        b'W' => ArgType::Width,
+        b'P' => ArgType::Precision,
+        _ => ArgType::Text,
+    }
+}
+
+#[test]
+fn long_formats_are_read(rt: HostRuntime) -> Result<(), Fail> {
+    for row in LONG_FORMATS.lines() {
+        let mut columns = row.split('|');
+        let unit = columns.next().ok_or("a row without a unit")?;
+        let times = columns.next().ok_or("a row without a number")?;
+        let times = times.parse::<usize>()?;
+        let pieces = columns.next().ok_or("a row without pieces")?;
+        let pieces = pieces.parse::<usize>()?;
+        let letters = columns.next().ok_or("a row without types")?;
+        let mut text = Vec::new(rt.alloc());
+        let mut types = Vec::new(rt.alloc());
+        for _ in 0..times {
+            text.extend_from_slice(unit.as_bytes())?;
+            for letter in letters.as_bytes() {
+                types.push(type_of(*letter))?;
+            }
+        }
+        let format = parse(rt.alloc(), &text)?;
+        assert_eq!(rt; format.bytes(), text.as_slice(), "{row}");
+        assert_eq!(rt; format.types(), types.as_slice(), "{row}");
+        assert_eq!(rt;
+            Some(format.pieces().len()),
+            times.checked_mul(pieces),
+            "{row}"
+        );
+    }
+    Ok(())
+}
+
+#[test]
+fn faults_have_their_texts(rt: HostRuntime) -> Result<(), Fail> {
+    let bad = ParseFault::Bad {
+        cause: FormatCause::Long,
+        place: 4095,
+    };
+    for (fault, text) in [
+        (bad, "the format is broken at byte 4095"),
+        (ParseFault::NoMemory, "there is no memory"),
+    ] {
+        assert_eq!(rt; format!(in rt.alloc(); "{fault}")?.as_str(), text);
+    }
+    Ok(())
+}

@@ -1,7 +1,7 @@
 use Rattle.std.proofs.Common.{arith}
 use Rattle.std.proofs.lemmas.Result.{IfOk-weaker}
 use Rattle.buffer_extent.proofs.Codes.{length-codes_in}
-use Rattle.buffer_extent.proofs.Arguments.{arguments_made, arguments_read, arguments_codes}
+use Rattle.buffer_extent.proofs.Arguments.{arguments_made, arguments_read, arguments_codes, arguments_started}
 use Rattle.buffer_extent.proofs.take.take_arguments.Goals as goal
 
 pub returns-in_default-clause-only : goal.returns-in_default-clause-only
@@ -21,3 +21,6 @@ returns-clause-ok c =
 pub returns-clause-only : goal.returns-clause-only
 returns-clause-only c = λ args back begins.
     c.take_integers.ensures.only args back (arguments_read c.args.types.now c.args.bytes.now c.in-Some.codes.now c.in-Some.rest.now args back c.requires.integers c.in-Some.ensures.some.0 c.in-Some.ensures.some.1 begins)
+
+pub returns-clause-no_start : goal.returns-clause-no_start
+returns-clause-no_start c = λ none. c.take_integers.ensures.no_first (λ first. none (arguments_started c.args.types.now c.args.bytes.now c.in-Some.codes.now c.in-Some.rest.now c.in-Some.ensures.some.0 c.in-Some.ensures.some.1 first))

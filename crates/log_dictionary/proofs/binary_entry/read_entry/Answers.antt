@@ -3,20 +3,23 @@ use Rattle.log_dictionary.specs.declared.formats.FormatFault.{FormatFault}
 use Rattle.log_dictionary.specs.declared.message.Message.{Message}
 use Rattle.log_dictionary.specs.declared.binary_entry.EntryFault.TheVariants.{BadEntry}
 use Rattle.log_dictionary.specs.EntryReading.{raw_fields}
-use Rattle.log_dictionary.proofs.BinaryReading.{handed_on, stopped_only, stopped_cut, stopped_bad, stopped_refused, read_not_cut, read_bad, read_only, read_not_bad}
+use Rattle.log_dictionary.proofs.BinaryReading.{stops_bad, handed_on, stopped_only, stopped_cut, stopped_bad, stopped_refused, stopped_out_of_range, read_not_cut, read_in_range, read_bad, read_only, read_not_bad}
 use Rattle.log_dictionary.proofs.binary_entry.read_entry.Goals as goal
 
 pub returns-in_err-fields-clause-only : goal.returns-in_err-fields-clause-only
-returns-in_err-fields-clause-only c = λ message front rest narrow is. absurd (stopped_only c.args.bytes.now c.in_err-fields.field-0.0 c.in_err-fields.ensures.err message front rest narrow is)
+returns-in_err-fields-clause-only c = λ message front rest narrow is. absurd (stopped_only c.args.bytes.now c.in_err-fields.field-0.0 (stops_bad _ _ c.in_err-fields.ensures.err) message front rest narrow is)
 
 pub returns-in_err-fields-clause-cut : goal.returns-in_err-fields-clause-cut
-returns-in_err-fields-clause-cut c = stopped_cut c.args.bytes.now c.from_residual.result c.in_err-fields.field-0.0 (handed_on _ _ c.from_residual.ensures.1) c.in_err-fields.ensures.err
+returns-in_err-fields-clause-cut c = stopped_cut c.args.bytes.now c.from_residual.result c.in_err-fields.field-0.0 (handed_on _ _ c.from_residual.ensures.1) (stops_bad _ _ c.in_err-fields.ensures.err)
 
 pub returns-in_err-fields-clause-bad_entry : goal.returns-in_err-fields-clause-bad_entry
-returns-in_err-fields-clause-bad_entry c = stopped_bad c.args.bytes.now c.from_residual.result c.in_err-fields.field-0.0 (handed_on _ _ c.from_residual.ensures.1) c.in_err-fields.ensures.err
+returns-in_err-fields-clause-bad_entry c = stopped_bad c.args.bytes.now c.from_residual.result c.in_err-fields.field-0.0 (handed_on _ _ c.from_residual.ensures.1) (stops_bad _ _ c.in_err-fields.ensures.err)
 
 pub returns-in_err-fields-clause-refused : goal.returns-in_err-fields-clause-refused
-returns-in_err-fields-clause-refused c = stopped_refused c.args.bytes.now c.from_residual.result c.in_err-fields.field-0.0 (handed_on _ _ c.from_residual.ensures.1) c.in_err-fields.ensures.err
+returns-in_err-fields-clause-refused c = stopped_refused c.args.bytes.now c.from_residual.result c.in_err-fields.field-0.0 (handed_on _ _ c.from_residual.ensures.1) (stops_bad _ _ c.in_err-fields.ensures.err)
+
+pub returns-in_err-fields-clause-out_of_range : goal.returns-in_err-fields-clause-out_of_range
+returns-in_err-fields-clause-out_of_range c = stopped_out_of_range c.args.bytes.now c.from_residual.result c.in_err-fields.field-0.0 (handed_on _ _ c.from_residual.ensures.1) c.in_err-fields.ensures.err
 
 pub returns-in-Err-Bad-clause-only : goal.returns-in-Err-Bad-clause-only
 returns-in-Err-Bad-clause-only c = λ message front rest narrow is.
@@ -31,11 +34,20 @@ returns-in-Err-Bad-clause-cut c =
 pub returns-in-Err-Bad-clause-bad_entry : goal.returns-in-Err-Bad-clause-bad_entry
 returns-in-Err-Bad-clause-bad_entry c = λ _. read_bad c.args.bytes.now (raw_fields c.in_ok-fields.fields) c.in_ok-fields.ensures.ok (c.in-Err-Bad.ensures.bad (ap (λ (f : FormatFault). Err f) c.in-Err-Bad.field-0-is))
 
+pub returns-in-Err-NoMemory-clause-out_of_range : goal.returns-in-Err-NoMemory-clause-out_of_range
+returns-in-Err-NoMemory-clause-out_of_range c = λ wrong. absurd (read_in_range c.args.bytes.now (raw_fields c.in_ok-fields.fields) c.in_ok-fields.ensures.ok wrong)
+
 pub returns-in-Err-NoMemory-clause-cut : goal.returns-in-Err-NoMemory-clause-cut
 returns-in-Err-NoMemory-clause-cut c = (λ e. absurd cc, λ cut. absurd (read_not_cut c.args.bytes.now (raw_fields c.in_ok-fields.fields) c.in_ok-fields.ensures.ok cut))
 
+pub returns-in_default-clause-out_of_range : goal.returns-in_default-clause-out_of_range
+returns-in_default-clause-out_of_range c = λ wrong. absurd (read_in_range c.args.bytes.now (raw_fields c.in_ok-fields.fields) c.in_ok-fields.ensures.ok wrong)
+
 pub returns-in_default-clause-cut : goal.returns-in_default-clause-cut
 returns-in_default-clause-cut c = (λ e. absurd cc, λ cut. absurd (read_not_cut c.args.bytes.now (raw_fields c.in_ok-fields.fields) c.in_ok-fields.ensures.ok cut))
+
+pub returns-clause-out_of_range : goal.returns-clause-out_of_range
+returns-clause-out_of_range c = λ wrong. absurd (read_in_range c.args.bytes.now (raw_fields c.in_ok-fields.fields) c.in_ok-fields.ensures.ok wrong)
 
 pub returns-clause-cut : goal.returns-clause-cut
 returns-clause-cut c = (λ e. absurd cc, λ cut. absurd (read_not_cut c.args.bytes.now (raw_fields c.in_ok-fields.fields) c.in_ok-fields.ensures.ok cut))
