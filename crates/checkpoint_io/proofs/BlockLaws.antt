@@ -33,7 +33,7 @@ first_is x y xs ys e = ap (λ (l : List ℕ). get_or l 0 0) e
 pub others_are : (x y : ℕ) (xs ys : List ℕ) → x ∷ xs ≡ y ∷ ys → xs ≡ ys
 others_are x y xs ys e = ap (λ (l : List ℕ). drop 1 l) e
 
-le_length : (k n : ℕ) → length (le_bytes k n) ≡ k
+pub le_length : (k n : ℕ) → length (le_bytes k n) ≡ k
 unfolding le_bytes
 le_length k n = length-bytes_low_first 0 k n
 

@@ -3,3 +3,4 @@ pub mod FrontLaws
 pub mod ValidityLaws
 pub mod LogLaws
 pub mod Worked
+pub mod LimitLaws

@@ -1,5 +1,5 @@
 -- What the rules over a log say of it as a whole.
-use Rattle.std.proofs.Common.{◌≡◌, ℕ, zero, suc, ◌<◌, ◌≤◌, Bool, true, ◌||◌, List, [], ◌∷◌, ◌++◌, length, refl, sym, ap, subst, ◌∙◌, append_assoc, inl, inr, arith, eqb, cond}
+use Rattle.std.proofs.Common.{◌≡◌, ◌≢◌, ℕ, zero, suc, ◌<◌, ◌≤◌, Bool, true, false, ◌||◌, List, [], ◌∷◌, ◌++◌, length, refl, sym, ap, subst, ◌∙◌, append_assoc, inl, inr, arith, eqb, cond}
 use Rattle.std.specs.Prelude.{Some, slice_get}
 use Rattle.std.specs.List.{AllByRecursion, list_any}
 use Rattle.std.proofs.lemmas.Bool.{eq-eqb, or_right}
@@ -30,6 +30,15 @@ AreRightAfter-split header before [] others all = (tt, subst (λ (b : List Block
 AreRightAfter-split header before (block ∷ blocks) others all =
     let rest = AreRightAfter-split header (before ++ block ∷ []) blocks others all.1 in
     ((all.0, rest.0), subst (λ (b : List Block). AreRightAfter header b others) (append_assoc before (block ∷ []) blocks) rest.1)
+
+pub AreRightAfter-append : (header : Header) (before blocks others : List Block) → AreRightAfter header before blocks → AreRightAfter header (before ++ blocks) others → AreRightAfter header before (blocks ++ others)
+AreRightAfter-append header before [] others p q = subst (λ (b : List Block). AreRightAfter header b others) (append-nil before) q
+AreRightAfter-append header before (block ∷ blocks) others p q =
+    (p.0, AreRightAfter-append header (before ++ block ∷ []) blocks others p.1 (subst (λ (b : List Block). AreRightAfter header b others) (sym (append_assoc before (block ∷ []) blocks)) q))
+
+-- a log goes on with a right block
+pub goes_on : (header : Header) (blocks : List Block) (block : Block) → Valid header blocks → IsRightAfter header blocks block → Valid header (blocks ++ block ∷ [])
+goes_on header blocks block valid right = record { header_right = valid.header_right; blocks_right = AreRightAfter-append header [] blocks (block ∷ []) valid.blocks_right (right, tt) }
 
 -- ---- messages
 
@@ -116,6 +125,24 @@ right_after header writer before (block ∷ blocks) all old =
     let here = subst (AllByRecursion (IsRecord (messages_of (before ++ block ∷ [])))) (sym (records-push writer before block)) named in
     subst (λ (b : List Block). AllByRecursion (IsRecord (messages_of b)) (records_of writer b)) (append_assoc before (block ∷ []) blocks) (right_after header writer (before ++ block ∷ []) blocks all.1 here)
 
+-- the records of an extent, and of others
+pub own_records : (writer : ℕ) (before : List Block) (entries : List LogRecord) (others : List Block) → records_of writer (before ++ Extent writer entries ∷ others) ≡ records_of writer before ++ (entries ++ records_of writer others)
+own_records writer before entries others =
+    flat_map-append (block_records writer) before (Extent writer entries ∷ others)
+    ∙ ap (λ (b : Bool). records_of writer before ++ (cond b entries [] ++ records_of writer others)) (eq-eqb writer writer refl)
+
+pub other_records : (writer another : ℕ) (before : List Block) (entries : List LogRecord) (others : List Block) → another ≢ writer → records_of writer (before ++ Extent another entries ∷ others) ≡ records_of writer before ++ records_of writer others
+other_records writer another before entries others differs =
+    flat_map-append (block_records writer) before (Extent another entries ∷ others)
+    ∙ elim (eqb_tells another writer) [
+      | inl own ↦ absurd (differs own.1)
+      | inr other ↦ ap (λ (b : Bool). records_of writer before ++ (cond b entries [] ++ records_of writer others)) other.0
+    ]
+
+pub last_stamp-push : (least : ℕ) (entries : List LogRecord) (entry : LogRecord) → last_stamp least (entries ++ entry ∷ []) ≡ entry.stamp
+last_stamp-push least [] entry = refl
+last_stamp-push least (first ∷ entries) entry = last_stamp-push first.stamp entries entry
+
 -- each record names a message of the log and fits it
 pub records_fit : (header : Header) (blocks : List Block) (writer : ℕ) → Valid header blocks → AllByRecursion (IsRecord (messages_of blocks)) (records_of writer blocks)
 records_fit header blocks writer valid = right_after header writer [] blocks valid.blocks_right tt
@@ -125,10 +152,30 @@ records_fit header blocks writer valid = right_after header writer [] blocks val
 right_at : (header : Header) (before : List Block) (block : Block) (others : List Block) → Valid header (before ++ block ∷ others) → IsRightAfter header before block
 right_at header before block others valid = (AreRightAfter-split header [] before (block ∷ others) valid.blocks_right).1.0
 
-closed_among : (writer : ℕ) (before between : List Block) → IsClosed writer (before ++ Close writer ∷ between)
+-- each record names a message that was defined before it
+pub records_defined : (header : Header) (before : List Block) (writer : ℕ) (entries : List LogRecord) (others : List Block) → Valid header (before ++ Extent writer entries ∷ others) → AllByRecursion (IsRecord (messages_of before)) entries
+records_defined header before writer entries others valid = (right_at header before (Extent writer entries) others valid).right
+
+-- a close mark closes its writer, and nothing else does
+pub closed_among : (writer : ℕ) (before between : List Block) → IsClosed writer (before ++ Close writer ∷ between)
 closed_among writer before between =
     let own : list_any (closes writer) (Close writer ∷ between) ≡ true = ap (λ (b : Bool). b || list_any (closes writer) between) (eq-eqb writer writer refl) in
     list_any-append (closes writer) before (Close writer ∷ between) ∙ or_right (list_any (closes writer) before) (list_any (closes writer) (Close writer ∷ between)) own
+
+no_mark : (writer : ℕ) (block : Block) → block ≢ Close writer → closes writer block ≡ false
+no_mark writer (Fragment first messages) other = refl
+no_mark writer (Extent w entries) other = refl
+no_mark writer (Close w) other =
+    elim (eqb_tells w writer) [
+      | inl own ↦ absurd (other (ap Close own.1))
+      | inr differs ↦ differs.0
+    ]
+
+pub open_without_mark : (writer : ℕ) (blocks : List Block) → AllByRecursion (λ block. block ≢ Close writer) blocks → ¬ (IsClosed writer blocks)
+open_without_mark writer [] others closed = cc
+open_without_mark writer (block ∷ blocks) others closed =
+    let here = no_mark writer block others.0 in
+    open_without_mark writer blocks others.1 (ap (λ (b : Bool). b || list_any (closes writer) blocks) (sym here) ∙ closed)
 
 open_after : (header : Header) (writer : ℕ) (before : List Block) (block : Block) → IsRightAfter header before block → IsOf writer block → IsClosed writer before → ⊥
 open_after header writer before (Fragment first messages) right of closed = of

@@ -8,8 +8,8 @@ use Rattle.log_dictionary.specs.BinaryEntries.{SpellsEntry}
 use Rattle.buffer_extent.specs.Bodies.{SpellsRecord, IsRecord}
 use Rattle.checkpoint_io.specs.Blocks.{Fragment, Close, SpellsFragment, SpellsExtent, FileOf}
 use Rattle.checkpoint_io.specs.Validity.{Valid}
-use Rattle.checkpoint_io.specs.Logs.{ends, extent, close, LogOf}
-use Rattle.checkpoint_io.specs.Rows.{row_pieces, row_message, row_record, row_header, row_blocks, row_entry_bytes, row_fragment_bytes, row_body, row_extent_bytes, row_bytes}
+use Rattle.checkpoint_io.specs.Logs.{IsLaidOut, ends, extent, close, LogOf}
+use Rattle.checkpoint_io.specs.Rows.{row_pieces, row_message, row_record, row_header, row_blocks, row_entry_bytes, row_fragment_bytes, row_body, row_extent_bytes, row_bytes, full_message, full_record, mixed_blocks}
 
 -- ---- the message
 
@@ -128,8 +128,8 @@ valid = record {
   );
 }
 
-pub log : LogOf row_bytes ((row_record ∷ []) ∷ []) (row_message ∷ []) row_header.clock 4096
-log = record {
+pub log : (batch : ℕ) → 1 ≤ batch → LogOf row_bytes ((row_record ∷ []) ∷ []) (row_message ∷ []) row_header.clock batch
+log batch some = record {
   header = row_header;
   blocks = row_blocks;
   file = file;
@@ -139,5 +139,13 @@ log = record {
   undefined = [];
   messages_are = refl;
   records_are = refl;
-  laid_out = extent [] (Fragment 0 (row_message ∷ []) ∷ []) 0 (row_record ∷ []) (Close 0 ∷ []) ([], refl, refl, inl refl, refl) (lit≤ tt) (close _ 0 [] (ends _));
+  laid_out = extent [] (Fragment 0 (row_message ∷ []) ∷ []) 0 (row_record ∷ []) (Close 0 ∷ []) ([], refl, refl, inl refl, refl) some (close _ 0 [] (ends _));
 }
+
+-- ---- two writers
+
+pub mixed : IsLaidOut (row_message ∷ full_message ∷ []) 2 [] mixed_blocks
+mixed =
+    extent [] (Fragment 0 (row_message ∷ []) ∷ []) 0 (row_record ∷ []) _ ([], refl, refl, inl refl, refl) (lit≤ tt)
+    (extent _ (Fragment 1 (full_message ∷ []) ∷ []) 1 (full_record ∷ row_record ∷ []) _ ([], refl, refl, inl refl, refl) (lit≤ tt)
+    (close _ 1 _ (extent _ [] 0 (full_record ∷ []) [] refl (lit≤ tt) (ends _))))

@@ -14,6 +14,12 @@ pub data Block : Type 0 where
   Extent : (writer : ℕ) (entries : List LogRecord) → Block
   Close : (writer : ℕ) → Block
 
+-- the block is one of messages
+abbrev pub IsFragment : Block → Type 0
+IsFragment (Fragment first messages) = Unit {0}
+IsFragment (Extent writer entries) = ⊥
+IsFragment (Close writer) = ⊥
+
 -- ---- what blocks say together
 
 abbrev pub block_messages : Block → List Message

@@ -1,4 +1,4 @@
--- A worked log: one message, and one call of it.
+-- A worked log: one message, and one call of it. And blocks of two messages and two writers.
 use Rattle.std.specs.Prelude.{ℕ, pos, List, [], ◌∷◌, ◌++◌, codes, false}
 use Rattle.std.proofs.Common.{lit≤}
 use Rattle.printf_grammar.specs.declared.piece.Piece.{Piece}
@@ -7,7 +7,7 @@ use Rattle.printf_grammar.specs.declared.piece.Size.TheVariants.{Absent}
 use Rattle.printf_grammar.specs.declared.piece.Length.TheVariants.{Plain}
 use Rattle.printf_grammar.specs.declared.piece.Conversion.TheVariants.{D}
 use Rattle.printf_grammar.specs.declared.argument.Value.TheVariants.{Signed}
-use Rattle.log_dictionary.specs.declared.severity.Severity.TheVariants.{Notice}
+use Rattle.log_dictionary.specs.declared.severity.Severity.TheVariants.{Notice, Warning}
 use Rattle.log_dictionary.specs.declared.message.Message.{Message}
 use Rattle.buffer_extent.specs.declared.record.LogRecord.{LogRecord}
 use Rattle.checkpoint_io.specs.declared.header.Header.{Header}
@@ -37,6 +37,30 @@ row_header = record { writers = 1; clock = record { tick = 1000; nanos = 1514764
 
 abbrev pub row_blocks : List Block
 row_blocks = Fragment 0 (row_message ∷ []) ∷ Extent 0 (row_record ∷ []) ∷ Close 0 ∷ []
+
+-- a message with no field, at line 30 of `disk.cc` with the format `full`
+abbrev pub full_message : Message
+full_message = record {
+  file = codes "disk.cc";
+  line = 30;
+  severity = Warning;
+  format = record { bytes = codes "full"; pieces = Literal 0 4 ∷ [] };
+  file_length = (lit≤ tt, lit≤ tt);
+}
+
+-- a call of it behind the other message
+abbrev pub full_record : LogRecord
+full_record = record { stamp = 1004; id = 1; args = [] }
+
+-- each message stands right in front of the first extent that wants it
+abbrev pub mixed_blocks : List Block
+mixed_blocks =
+    Fragment 0 (row_message ∷ [])
+    ∷ Extent 0 (row_record ∷ [])
+    ∷ Fragment 1 (full_message ∷ [])
+    ∷ Extent 1 (full_record ∷ row_record ∷ [])
+    ∷ Close 1
+    ∷ Extent 0 (full_record ∷ []) ∷ []
 
 -- `NLOG`, version 1, one writer, the tick, the nanoseconds and the rate
 abbrev pub row_header_bytes : List ℕ

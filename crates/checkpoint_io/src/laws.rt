@@ -1,16 +1,19 @@
 //! Laws over the definitions of logs. The functions do nothing: what they ensure is proved of the definitions.
 
-ghost use Rattle.std.specs.Prelude.{◌≡◌, ℕ, ◌<◌, ◌≤◌, List, [], ◌∷◌, ◌++◌, length};
-ghost use Rattle.std.specs.List.{AllByRecursion};
+ghost use Rattle.std.specs.Prelude.{◌≡◌, ◌≢◌, ℕ, ◌+◌, ◌<◌, ◌≤◌, ◌^◌, List, [], ◌∷◌, ◌++◌, length, map};
+ghost use Rattle.std.specs.List.{AllByRecursion, range_with_len};
+ghost use Rattle.log_dictionary.specs.declared.clock.Clock.{Clock};
 ghost use Rattle.log_dictionary.specs.declared.message.Message.{Message};
 ghost use Rattle.log_dictionary.specs.Messages.{AreDistinct};
-ghost use Rattle.buffer_extent.specs.Bodies.{IsRecord, NeverFalls};
+ghost use Rattle.log_dictionary.specs.BinaryEntries.{SpellsEntry};
+ghost use Rattle.buffer_extent.specs.declared.record.LogRecord.{LogRecord};
+ghost use Rattle.buffer_extent.specs.Bodies.{SpellsRecords, IsRecord, NeverFalls};
 ghost use Rattle.checkpoint_io.specs.declared.header.Header.{Header};
-ghost use Rattle.checkpoint_io.specs.Blocks.{Block, Fragment, Close, messages_of, header_bytes, SpellsBlock, FileOf};
-ghost use Rattle.checkpoint_io.specs.Fronts.{Front};
-ghost use Rattle.checkpoint_io.specs.Logs.{HasAtMost, IsLaidOut, LogOf};
-ghost use Rattle.checkpoint_io.specs.Rows.{row_header, row_blocks, row_bytes, row_message, row_record};
-ghost use Rattle.checkpoint_io.specs.Validity.{records_of, IsOf, IsRightAfter, IsHeader, Valid};
+ghost use Rattle.checkpoint_io.specs.Blocks.{Block, Fragment, Extent, Close, IsFragment, messages_of, header_bytes, fragment_head_bytes, extent_head_bytes, close_bytes, SpellsEntries, SpellsFragment, SpellsExtent, SpellsClose, SpellsBlock, FileOf};
+ghost use Rattle.checkpoint_io.specs.Fronts.{Front, HasNoHeader};
+ghost use Rattle.checkpoint_io.specs.Logs.{ids_used, new_messages, AreFragments, HasAtMost, IsLaidOut, LogOf};
+ghost use Rattle.checkpoint_io.specs.Rows.{row_header, row_blocks, row_bytes, row_message, row_record, full_message, full_record, mixed_blocks};
+ghost use Rattle.checkpoint_io.specs.Validity.{records_of, last_stamp, IsClosed, IsOf, IsRightAfter, IsHeader, Valid};
 
 /// A log of 68 bytes: a message, a call of it, and a close mark.
 pub fn worked_log()
@@ -18,6 +21,78 @@ pub fn worked_log()
     ensures file { FileOf row_header row_blocks row_bytes }
     ensures valid { Valid row_header row_blocks }
     ensures log { LogOf row_bytes ((row_record ∷ []) ∷ []) (row_message ∷ []) row_header.clock 4096 }
+    ensures log_of_small_batches { LogOf row_bytes ((row_record ∷ []) ∷ []) (row_message ∷ []) row_header.clock 1 }
+{}
+
+/// A header has 1 to 64 writers, numbers of 64 bits, and a clock that ticks.
+pub fn headers_are_within_limits()
+    ensures right { (header : Header) → 1 ≤ header.writers → header.writers ≤ 64
+        → header.clock.tick < 2 ^ 64
+        → header.clock.nanos < 2 ^ 64
+        → header.clock.rate < 2 ^ 64
+        → 1 ≤ header.clock.rate
+        → IsHeader header }
+    ensures no_writer { (header : Header) → header.writers ≡ 0 → ¬ (IsHeader header) }
+    ensures too_many_writers { (header : Header) → 64 < header.writers → ¬ (IsHeader header) }
+    ensures no_ticks { (header : Header) → header.clock.rate ≡ 0 → ¬ (IsHeader header) }
+    ensures tick_fits { (header : Header) → IsHeader header → header.clock.tick < 2 ^ 64 }
+    ensures nanos_fits { (header : Header) → IsHeader header → header.clock.nanos < 2 ^ 64 }
+    ensures rate_fits { (header : Header) → IsHeader header → header.clock.rate < 2 ^ 64 }
+{}
+
+/// A fragment has 1 to 16 messages, and a first id of 32 bits.
+pub fn fragments_are_within_limits()
+    ensures right { (first : ℕ) (messages : List Message) (entries : List ℕ) → 1 ≤ length messages
+        → length messages ≤ 16
+        → first < 2 ^ 32
+        → SpellsEntries messages entries
+        → SpellsFragment first messages (fragment_head_bytes first (length messages) ++ entries) }
+    ensures some { (first : ℕ) (messages : List Message) (bytes : List ℕ)
+        → SpellsFragment first messages bytes → 1 ≤ length messages }
+    ensures few { (first : ℕ) (messages : List Message) (bytes : List ℕ)
+        → SpellsFragment first messages bytes → length messages ≤ 16 }
+    ensures fits { (first : ℕ) (messages : List Message) (bytes : List ℕ)
+        → SpellsFragment first messages bytes → first < 2 ^ 32 }
+{}
+
+/// An extent has a record, and a body of 1 to 65,536 bytes behind a head of six. Its writer fits a
+/// byte, and so does that of a close mark.
+pub fn extents_are_within_limits()
+    ensures right { (messages : List Message) (tick writer : ℕ) (entries : List LogRecord) (body : List ℕ)
+        → 1 ≤ length body
+        → length body ≤ 65536
+        → writer < 2 ^ 8
+        → SpellsRecords messages tick entries body
+        → SpellsExtent messages tick writer entries (extent_head_bytes writer (length body) ++ body) }
+    ensures some { (messages : List Message) (tick writer : ℕ) (entries : List LogRecord) (bytes : List ℕ)
+        → SpellsExtent messages tick writer entries bytes → 6 < length bytes }
+    ensures short { (messages : List Message) (tick writer : ℕ) (entries : List LogRecord) (bytes : List ℕ)
+        → SpellsExtent messages tick writer entries bytes → length bytes ≤ 6 + 65536 }
+    ensures some_record { (messages : List Message) (tick writer : ℕ) (bytes : List ℕ)
+        → ¬ (SpellsExtent messages tick writer [] bytes) }
+    ensures fits { (messages : List Message) (tick writer : ℕ) (entries : List LogRecord) (bytes : List ℕ)
+        → SpellsExtent messages tick writer entries bytes → writer < 2 ^ 8 }
+    ensures right_close { (writer : ℕ) → writer < 2 ^ 8 → SpellsClose writer (close_bytes writer) }
+    ensures close_fits { (writer : ℕ) (bytes : List ℕ) → SpellsClose writer bytes → writer < 2 ^ 8 }
+{}
+
+/// The entries of a fragment stand one behind the other.
+pub fn entries_are_joined()
+    ensures none { SpellsEntries [] [] }
+    ensures more { (message : Message) (messages : List Message) (front back : List ℕ)
+        → SpellsEntry front message
+        → SpellsEntries messages back
+        → SpellsEntries (message ∷ messages) (front ++ back) }
+{}
+
+/// A file begins with its header, and goes on with the spelling of a block, whose messages were
+/// defined before it.
+pub fn files_go_on()
+    ensures empty { (header : Header) → FileOf header [] (header_bytes header) }
+    ensures more { (header : Header) (blocks : List Block) (block : Block) (bytes spelled : List ℕ)
+        → FileOf header blocks bytes
+        → SpellsBlock (messages_of blocks) header.clock.tick block spelled
+        → FileOf header (blocks ++ block ∷ []) (bytes ++ spelled) }
 {}
 
 /// Bytes begin with one header.
@@ -55,6 +130,69 @@ pub fn whole_files_are_fronts()
         → Front bytes header blocks (length bytes) }
 {}
 
+/// Where bytes are a log, and no right block goes on behind it, that log is their front.
+pub fn fronts_end_where_no_block_goes_on()
+    ensures { (header : Header) (blocks : List Block) (bytes rest : List ℕ)
+        → FileOf header blocks bytes
+        → Valid header blocks
+        → ((block : Block) (front back : List ℕ) → IsRightAfter header blocks block
+        → SpellsBlock (messages_of blocks) header.clock.tick block front
+        → rest ≢ front ++ back)
+        → Front (bytes ++ rest) header blocks (length bytes) }
+{}
+
+/// Bytes have no header exactly where no right header's spelling stands at their front. A header
+/// has 30 bytes.
+pub fn headers_stand_at_the_front()
+    ensures some { (header : Header) (rest : List ℕ) → IsHeader header
+        → ¬ (HasNoHeader (header_bytes header ++ rest)) }
+    ensures none { (bytes : List ℕ)
+        → ((header : Header) (rest : List ℕ) → IsHeader header → bytes ≢ header_bytes header ++ rest)
+        → HasNoHeader bytes }
+    ensures short { (bytes : List ℕ) → length bytes < 30 → HasNoHeader bytes }
+    ensures front { (bytes : List ℕ) (header : Header) (blocks : List Block) (count : ℕ)
+        → Front bytes header blocks count
+        → ¬ (HasNoHeader bytes) }
+{}
+
+/// A log may go on with messages that have the next ids, with the records of a writer that is known
+/// and not closed, and with the close mark of such a writer.
+pub fn logs_go_on()
+    ensures empty { (header : Header) → IsHeader header → Valid header [] }
+    ensures more { (header : Header) (blocks : List Block) (block : Block) → Valid header blocks
+        → IsRightAfter header blocks block
+        → Valid header (blocks ++ block ∷ []) }
+    ensures fragment { (header : Header) (before : List Block) (messages : List Message)
+        → AreDistinct (messages_of before ++ messages)
+        → length (messages_of before ++ messages) ≤ 65536
+        → IsRightAfter header before (Fragment (length (messages_of before)) messages) }
+    ensures extent { (header : Header) (before : List Block) (writer : ℕ) (entries : List LogRecord)
+        → writer < header.writers
+        → ¬ (IsClosed writer before)
+        → AllByRecursion (IsRecord (messages_of before)) entries
+        → NeverFalls (last_stamp header.clock.tick (records_of writer before)) entries
+        → IsRightAfter header before (Extent writer entries) }
+    ensures close { (header : Header) (before : List Block) (writer : ℕ) → writer < header.writers
+        → ¬ (IsClosed writer before)
+        → IsRightAfter header before (Close writer) }
+{}
+
+/// A writer's records are those of its extents, in the order of the blocks, and its last stamp is
+/// that of the last of them.
+pub fn extents_have_the_records_of_their_writers()
+    ensures own { (writer : ℕ) (before : List Block) (entries : List LogRecord) (others : List Block)
+        → records_of writer (before ++ Extent writer entries ∷ others)
+        ≡ records_of writer before ++ (entries ++ records_of writer others) }
+    ensures another { (writer another : ℕ) (before : List Block) (entries : List LogRecord)
+        (others : List Block) → another ≢ writer
+        → records_of writer (before ++ Extent another entries ∷ others)
+        ≡ records_of writer before ++ records_of writer others }
+    ensures worked { records_of 0 mixed_blocks ≡ row_record ∷ full_record ∷ [] }
+    ensures no_stamp { (least : ℕ) → last_stamp least [] ≡ least }
+    ensures stamp { (least : ℕ) (entries : List LogRecord) (entry : LogRecord)
+        → last_stamp least (entries ++ entry ∷ []) ≡ entry.stamp }
+{}
+
 /// No two messages of a log are equal, and there are at most 65,536. A fragment's ids go on where
 /// those before it end.
 pub fn messages_have_one_id()
@@ -67,17 +205,31 @@ pub fn messages_have_one_id()
         → first ≡ length (messages_of before) }
 {}
 
-/// Each record of a log names a message of it and fits it. No writer's stamps fall, and none is
-/// below the clock's tick.
+/// Each record of a log names a message that was defined before it and fits it. No writer's stamps
+/// fall, and none is below the clock's tick.
 pub fn records_are_right()
+    ensures defined { (header : Header) (before : List Block) (writer : ℕ) (entries : List LogRecord)
+        (others : List Block) → Valid header (before ++ Extent writer entries ∷ others)
+        → AllByRecursion (IsRecord (messages_of before)) entries }
     ensures fits { (header : Header) (blocks : List Block) (writer : ℕ) → Valid header blocks
         → AllByRecursion (IsRecord (messages_of blocks)) (records_of writer blocks) }
     ensures rises { (header : Header) (blocks : List Block) (writer : ℕ) → Valid header blocks
         → NeverFalls header.clock.tick (records_of writer blocks) }
 {}
 
+/// A writer is closed exactly where its close mark stands, which no other block is.
+pub fn close_marks_close_their_writer()
+    ensures closed { (writer : ℕ) (before others : List Block)
+        → IsClosed writer (before ++ Close writer ∷ others) }
+    ensures open { (writer : ℕ) (blocks : List Block)
+        → AllByRecursion (λ block. block ≢ Close writer) blocks
+        → ¬ (IsClosed writer blocks) }
+{}
+
 /// Extents and close marks are of the log's writers, and none of a writer follows its close mark.
 pub fn closed_writers_write_no_more()
+    ensures of_extent { (writer : ℕ) (entries : List LogRecord) → IsOf writer (Extent writer entries) }
+    ensures of_close { (writer : ℕ) → IsOf writer (Close writer) }
     ensures known { (header : Header) (writer : ℕ) (before : List Block) (block : Block)
         (others : List Block) → Valid header (before ++ block ∷ others)
         → IsOf writer block
@@ -90,9 +242,11 @@ pub fn closed_writers_write_no_more()
 
 /// No extent of a log has more records than a batch.
 pub fn extents_are_within_a_batch()
-    ensures { (dictionary : List Message) (batch : ℕ) (before blocks : List Block)
+    ensures all { (dictionary : List Message) (batch : ℕ) (before blocks : List Block)
         → IsLaidOut dictionary batch before blocks
         → AllByRecursion (HasAtMost batch) blocks }
+    ensures extent { (batch writer : ℕ) (entries : List LogRecord) → HasAtMost batch (Extent writer entries)
+        → length entries ≤ batch }
 {}
 
 /// Blocks that are laid out behind blocks that are laid out are so together.
@@ -101,4 +255,93 @@ pub fn layouts_join()
         → IsLaidOut dictionary batch before blocks
         → IsLaidOut dictionary batch (before ++ blocks) more
         → IsLaidOut dictionary batch before (blocks ++ more) }
+{}
+
+/// Fragments of messages define these and no others, with ids that go on, and all but the last have
+/// 16.
+pub fn fragments_are_full_but_the_last()
+    ensures messages { (first : ℕ) (messages : List Message) (blocks : List Block)
+        → AreFragments first messages blocks
+        → messages_of blocks ≡ messages }
+    ensures alone { (first : ℕ) (messages : List Message) (blocks : List Block)
+        → AreFragments first messages blocks
+        → AllByRecursion IsFragment blocks }
+    ensures ids { (first id : ℕ) (messages front : List Message) (before others : List Block)
+        → AreFragments first messages (before ++ Fragment id front ∷ others)
+        → id ≡ first + length (messages_of before) }
+    ensures full { (first id next : ℕ) (messages front : List Message) (message : Message)
+        (more : List Message) (before others : List Block)
+        → AreFragments first messages (before ++ Fragment id front ∷ Fragment next (message ∷ more) ∷ others)
+        → length front ≡ 16 }
+    ensures none { (first : ℕ) → AreFragments first [] [] }
+    ensures last { (first : ℕ) (messages : List Message) → 1 ≤ length messages → length messages ≤ 16
+        → AreFragments first messages (Fragment first messages ∷ []) }
+    ensures sixteen { (first : ℕ) (front back : List Message) (blocks : List Block) → length front ≡ 16
+        → AreFragments (first + 16) back blocks
+        → AreFragments first (front ++ back) (Fragment first front ∷ blocks) }
+{}
+
+/// Records use the ids up to their greatest one. Of the messages of these ids those are new that
+/// stand behind the ones that are defined.
+pub fn records_want_the_messages_up_to_their_ids()
+    ensures below { (entries : List LogRecord) → AllByRecursion (λ entry. entry.id < ids_used entries) entries }
+    ensures least { (entries : List LogRecord) (count : ℕ)
+        → AllByRecursion (λ entry. entry.id < count) entries
+        → ids_used entries ≤ count }
+    ensures new { (defined wanted others : List Message) (entries : List LogRecord)
+        → ids_used entries ≡ length (defined ++ wanted)
+        → new_messages (defined ++ wanted ++ others) (length defined) entries ≡ wanted }
+    ensures known { (dictionary : List Message) (defined : ℕ) (entries : List LogRecord)
+        → ids_used entries ≤ defined
+        → new_messages dictionary defined entries ≡ [] }
+{}
+
+/// In front of an extent stand the fragments of the messages that it wants, and no others. Behind
+/// the last extent there are none.
+pub fn fragments_stand_in_front_of_their_extent()
+    ensures worked { IsLaidOut (row_message ∷ full_message ∷ []) 2 [] mixed_blocks }
+    ensures wanted { (dictionary : List Message) (batch : ℕ) (before fragments : List Block) (writer : ℕ)
+        (entries : List LogRecord) (others : List Block)
+        → IsLaidOut dictionary batch before (fragments ++ Extent writer entries ∷ others)
+        → AllByRecursion IsFragment fragments
+        → AreFragments (length (messages_of before))
+        (new_messages dictionary (length (messages_of before)) entries) fragments }
+    ensures behind { (dictionary : List Message) (batch : ℕ) (before fragments : List Block) (writer : ℕ)
+        (entries : List LogRecord) (others : List Block)
+        → IsLaidOut dictionary batch before (fragments ++ Extent writer entries ∷ others)
+        → AllByRecursion IsFragment fragments
+        → IsLaidOut dictionary batch (before ++ fragments ++ Extent writer entries ∷ []) others }
+    ensures no_others { (dictionary : List Message) (batch : ℕ) (before fragments : List Block)
+        → IsLaidOut dictionary batch before fragments
+        → AllByRecursion IsFragment fragments
+        → fragments ≡ [] }
+{}
+
+/// A log of a run tells of the run: its front is all of it, with the run's clock, its writers, the
+/// records of each, and messages from the front of the dictionary.
+pub fn logs_tell_of_their_run()
+    ensures whole { (bytes : List ℕ) (taken : List (List LogRecord)) (dictionary : List Message) (clock : Clock)
+        (batch : ℕ) (header : Header) (blocks : List Block) (count : ℕ)
+        → LogOf bytes taken dictionary clock batch → Front bytes header blocks count
+        → count ≡ length bytes }
+    ensures clock { (bytes : List ℕ) (taken : List (List LogRecord)) (dictionary : List Message) (clock : Clock)
+        (batch : ℕ) (header : Header) (blocks : List Block) (count : ℕ)
+        → LogOf bytes taken dictionary clock batch → Front bytes header blocks count
+        → header.clock ≡ clock }
+    ensures writers { (bytes : List ℕ) (taken : List (List LogRecord)) (dictionary : List Message) (clock : Clock)
+        (batch : ℕ) (header : Header) (blocks : List Block) (count : ℕ)
+        → LogOf bytes taken dictionary clock batch → Front bytes header blocks count
+        → header.writers ≡ length taken }
+    ensures messages { (bytes : List ℕ) (taken : List (List LogRecord)) (dictionary : List Message) (clock : Clock)
+        (batch : ℕ) (header : Header) (blocks : List Block) (count : ℕ)
+        → LogOf bytes taken dictionary clock batch → Front bytes header blocks count
+        → (undefined : List Message) × (dictionary ≡ messages_of blocks ++ undefined) }
+    ensures records { (bytes : List ℕ) (taken : List (List LogRecord)) (dictionary : List Message) (clock : Clock)
+        (batch : ℕ) (header : Header) (blocks : List Block) (count : ℕ)
+        → LogOf bytes taken dictionary clock batch → Front bytes header blocks count
+        → taken ≡ map (λ writer. records_of writer blocks) (range_with_len 0 (length taken)) }
+    ensures layout { (bytes : List ℕ) (taken : List (List LogRecord)) (dictionary : List Message) (clock : Clock)
+        (batch : ℕ) (header : Header) (blocks : List Block) (count : ℕ)
+        → LogOf bytes taken dictionary clock batch → Front bytes header blocks count
+        → IsLaidOut dictionary batch [] blocks }
 {}

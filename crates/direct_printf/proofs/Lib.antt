@@ -6,3 +6,4 @@ pub mod Rest
 pub mod Arguments
 pub mod Formats
 pub mod Joining
+pub mod Sorting

@@ -1,7 +1,7 @@
 //! Laws of what printf writes, and what it is for some formats and arguments, worked by hand.
 #![tactic(auto)]
 
-ghost use Rattle.std.specs.Prelude.{◌≡◌, ◌≤◌, ◌<◌, ◌^◌, ℕ, Bool, ℤ, pos, negsuc, true, List, [], ◌∷◌, ◌++◌, length, codes, FitsSigned};
+ghost use Rattle.std.specs.Prelude.{◌≡◌, ◌≤◌, ◌<◌, ◌^◌, ℕ, Bool, ℤ, pos, negsuc, true, List, [], ◌∷◌, ◌++◌, length, codes, FitsSigned, IsTrue, IsPermutation};
 ghost use Rattle.std.specs.Int.{w64};
 ghost use Rattle.std.specs.Str.Parse.{digits_value, signed_digits_value};
 ghost use Rattle.printf_grammar.specs.declared.piece.Spec.{Spec};
@@ -16,8 +16,12 @@ ghost use Rattle.printf_grammar.specs.declared.piece.Length.TheVariants.{HH, L};
 ghost use Rattle.printf_grammar.specs.declared.piece.Conversion.TheVariants.{O, U, X, UpperX, C, S, P};
 ghost use Rattle.printf_grammar.specs.declared.argument.Value.TheVariants as values;
 ghost use Rattle.printf_grammar.specs.Narrow.{plain_d};
+ghost use Rattle.log_dictionary.specs.Calls.{LogCall};
 ghost use Rattle.direct_printf.specs.Fields.{Digits, Field, Text, argument_at, signed_of, width_of, narrow_signed};
 ghost use Rattle.direct_printf.specs.Joined.{joined};
+ghost use Rattle.direct_printf.specs.Lines.{comes_before, in_order, Direct};
+ghost use Rattle.direct_printf.specs.InOrder.{IsInOrder};
+ghost use Rattle.direct_printf.specs.Rows.{row_clock, earlier_call, later_call, row_lines};
 
 /// A field is never shorter than its width.
 pub fn fields_are_as_wide_as_asked()
@@ -156,4 +160,28 @@ pub fn other_bases()
         ≡ codes "010 0XFF -9223372036854775808" }
     ensures precision_gives_the_zero { Field (record plain_d { sharp = true; precision = Given 3; conversion = O }) (values.Unsigned 8 ∷ [])
         ≡ codes "010" }
+{}
+
+/// Of two calls the one with the smaller stamp comes first, whatever the writers are. At equal
+/// stamps it is that of the writer with the smaller number, and of two calls of one writer that
+/// with the smaller ordinal. No call comes before itself, nor do two before one another.
+pub fn calls_go_by_stamp_then_writer_then_ordinal()
+    ensures stamp { (a b : LogCall) → a.stamp < b.stamp → IsTrue (comes_before a b) }
+    ensures writer { (a b : LogCall) → a.stamp ≡ b.stamp → a.writer < b.writer → IsTrue (comes_before a b) }
+    ensures ordinal { (a b : LogCall) → a.stamp ≡ b.stamp → a.writer ≡ b.writer → a.ordinal < b.ordinal
+        → IsTrue (comes_before a b) }
+    ensures itself { (call : LogCall) → ¬ (IsTrue (comes_before call call)) }
+    ensures one_way { (a b : LogCall) → IsTrue (comes_before a b) → ¬ (IsTrue (comes_before b a)) }
+{}
+
+/// Calls put in order are the same calls, and none of them comes before the one in front of it.
+pub fn calls_are_put_in_order()
+    ensures same { (calls : List LogCall) → IsPermutation (in_order calls) calls }
+    ensures ordered { (calls : List LogCall) → IsInOrder (in_order calls) }
+{}
+
+/// The second writer's call is the earlier one: its line comes first.
+pub fn earlier_calls_come_first()
+    ensures order { in_order (later_call ∷ earlier_call ∷ []) ≡ earlier_call ∷ later_call ∷ [] }
+    ensures lines { Direct row_clock (later_call ∷ earlier_call ∷ []) ≡ row_lines }
 {}

@@ -184,3 +184,23 @@ fn lines_with_their_times(rt: HostRuntime) -> Result<(), Fail> {
     }
     Ok(())
 }
+
+// Seventeen fields of 4,095 bytes: a text that is longer than 65,536 bytes.
+#[test]
+fn a_long_text(rt: HostRuntime) -> Result<(), Fail> {
+    let alloc = rt.alloc();
+    let mut format = Vec::new(alloc);
+    let mut args = Vec::new(alloc);
+    for number in 10..27 {
+        format.extend_from_slice(b"%4095d")?;
+        args.push(Arg::Signed(number))?;
+    }
+    let text = text_of(&rt, alloc, &format, &args)?;
+    assert_eq!(rt; text.len(), 69_615);
+    for (field, number) in text.chunks(4_095).zip(10..27) {
+        let want = format!(in alloc; "   {number}")?;
+        assert!(rt; field.ends_with(want.as_bytes()), "at {number}");
+        assert_eq!(rt; field.iter().filter(|byte| **byte == b' ').count(), 4_093);
+    }
+    Ok(())
+}

@@ -7,3 +7,6 @@ mod trace;
 
 pub use call::{Call, Calls, WriterCalls};
 pub use trace::Trace;
+
+#[cfg(test)]
+mod tests;

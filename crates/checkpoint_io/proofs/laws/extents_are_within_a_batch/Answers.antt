@@ -1,5 +1,5 @@
 use Rattle.checkpoint_io.proofs.LogLaws.{extents_within}
 use Rattle.checkpoint_io.proofs.laws.extents_are_within_a_batch.Goals as goal
 
-pub returns : goal.returns
-returns c = extents_within
+pub returns-clause-all : goal.returns-clause-all
+returns-clause-all c = extents_within

@@ -1,0 +1,5 @@
+use Rattle.checkpoint_io.proofs.LimitLaws.{fragment_within}
+use Rattle.checkpoint_io.proofs.laws.fragments_are_within_limits.Goals as goal
+
+pub returns-clause-right : goal.returns-clause-right
+returns-clause-right c = fragment_within

@@ -1,0 +1,96 @@
+-- Which runs are recordings, and which aren't.
+use Rattle.std.proofs.Common.{◌≡◌, ℕ, zero, suc, ◌<◌, ◌≤◌, ◌≢◌, lit≤, List, [], ◌∷◌, ◌++◌, length, replicate, refl, ap, subst, arith}
+use Rattle.std.specs.Prelude.{Some, slice_get, sum_by}
+use Rattle.std.specs.List.{AllByRecursion}
+use Rattle.std.proofs.lemmas.List.{length-replicate}
+use Rattle.std.proofs.lemmas.List.Sums.{sum_by-cons}
+use Rattle.printf_grammar.specs.Types.{Types, Fits, IsText}
+use Rattle.log_dictionary.specs.declared.message.Message.{Message}
+use Rattle.trace_text.specs.declared.call.Call.{Call}
+use Rattle.trace_text.specs.Recordings.{Recording, IsCall, NeverFalls, IsRecording}
+use Rattle.trace_text.specs.Rows.{row_message, row_call, full_message, full_call, two_messages, texts_message, texts_call}
+
+-- what holds of an element holds of each of its copies
+all_copies : {X : Type 0} (P : X → Type 0) (x : X) (n : ℕ) → P x → AllByRecursion P (replicate n x)
+all_copies P x zero h = tt
+all_copies P x (suc n) h = (h, all_copies P x n h)
+
+-- ---- stamps
+
+pub falls : (least : ℕ) (before : List Call) (call next : Call) (others : List Call) → next.stamp < call.stamp → ¬ (NeverFalls least (before ++ call ∷ next ∷ others))
+falls least [] call next others fall h = omega (arith, fall, h.1.0)
+falls least (first ∷ before) call next others fall h = falls first.stamp before call next others fall h.1
+
+copies_rise : (least : ℕ) (call : Call) (n : ℕ) → least ≤ call.stamp → NeverFalls least (replicate n call)
+copies_rise least call zero h = tt
+copies_rise least call (suc n) h = (h, copies_rise call.stamp call n (omega arith))
+
+-- ---- calls
+
+row_is_call : (others : List Message) (n : ℕ) → n ≤ 9 → IsCall (row_message ∷ others) (row_call n)
+row_is_call others n small = record { message = row_message; known = refl; fits = (record { sfits = omega (arith, small) }, tt); short = lit≤ tt }
+
+full_is_call : (stamp : ℕ) → IsCall (row_message ∷ full_message ∷ []) (full_call stamp)
+full_is_call stamp = record { message = full_message; known = refl; fits = tt; short = lit≤ tt }
+
+copies_are_text : (n : ℕ) → n ≤ 4000 → IsText (replicate n 97)
+copies_are_text n small = record { short = omega (arith, length-replicate {A = ℕ} n 97, small); no_nul = all_copies (λ b. b ≢ 0) 97 n (λ e. omega (arith, e)) }
+
+pub texts_are_call : (n : ℕ) → n ≤ 64 → IsCall (texts_message ∷ []) (texts_call n)
+texts_are_call n few = record {
+  message = texts_message;
+  known = refl;
+  fits = (copies_are_text 4000 (lit≤ tt), (copies_are_text n (omega (arith, few)), tt));
+  short = omega (arith, length-replicate {A = ℕ} n 97, length-replicate {A = ℕ} 4000 97, few);
+}
+
+pub unfit : (messages : List Message) (call : Call) (message : Message) → slice_get messages call.id ≡ Some message → ¬ (Fits call.args (Types message.format.pieces)) → ¬ (IsCall messages call)
+unfit messages call message known wrong is = wrong (subst (λ (m : Message). Fits call.args (Types m.format.pieces)) (let same : is.message ≡ message = cc (is.known, known) in same) is.fits)
+
+-- ---- runs
+
+pub two_messages_recorded : IsRecording two_messages
+two_messages_recorded = record {
+  some_writer = lit≤ tt;
+  few_writers = lit≤ tt;
+  few_calls = lit≤ tt;
+  rate = lit≤ tt;
+  calls = (
+    (row_is_call (full_message ∷ []) 1 (lit≤ tt), (full_is_call 1004, tt)),
+    ((full_is_call 1000, (row_is_call (full_message ∷ []) 2 (lit≤ tt), tt)), ((row_is_call (full_message ∷ []) 3 (lit≤ tt), tt), tt)),
+  );
+  stamps = ((lit≤ tt, (lit≤ tt, tt)), ((lit≤ tt, (lit≤ tt, tt)), ((lit≤ tt, tt), tt)));
+}
+
+pub slowest_recorded : IsRecording (record two_messages { clock = record two_messages.clock { rate = 1 } })
+slowest_recorded = let run = two_messages_recorded in record { some_writer = run.some_writer; few_writers = run.few_writers; few_calls = run.few_calls; rate = lit≤ tt; calls = run.calls; stamps = run.stamps }
+
+sum_of_none : (n : ℕ) → let none : List Call = [] in sum_by length (replicate n none) ≡ 0
+sum_of_none zero = refl
+sum_of_none (suc n) = let none : List Call = [] in omega (arith, sum_by-cons length none (replicate n none), sum_of_none n)
+
+pub writers_recorded : (n : ℕ) → 1 ≤ n → n ≤ 64 → IsRecording (record two_messages { writers = replicate n [] })
+writers_recorded n some few =
+    let none : List Call = [] in
+    let long : length (replicate n none) ≡ n = length-replicate n none in
+    record {
+      some_writer = omega (arith, long, some);
+      few_writers = omega (arith, long, few);
+      few_calls = omega (arith, sum_of_none n);
+      rate = lit≤ tt;
+      calls = all_copies (AllByRecursion (IsCall two_messages.dictionary)) none n tt;
+      stamps = all_copies (NeverFalls 1000) none n tt;
+    }
+
+pub calls_recorded : (n : ℕ) → n ≤ 4194304 → IsRecording (record two_messages { writers = replicate n (row_call 1) ∷ [] })
+calls_recorded n few = record {
+  some_writer = lit≤ tt;
+  few_writers = lit≤ tt;
+  few_calls = omega (arith, sum_by-cons length (replicate n (row_call 1)) [], length-replicate n (row_call 1), few);
+  rate = lit≤ tt;
+  calls = (all_copies (IsCall two_messages.dictionary) (row_call 1) n (row_is_call (full_message ∷ []) 1 (lit≤ tt)), tt);
+  stamps = (copies_rise 1000 (row_call 1) n (lit≤ tt), tt);
+}
+
+pub no_writer : (run : Recording) → run.writers ≡ [] → ¬ (IsRecording run)
+no_writer run none is = omega (arith, is.some_writer, ap length none)

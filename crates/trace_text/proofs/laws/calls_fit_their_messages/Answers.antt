@@ -1,0 +1,8 @@
+use Rattle.trace_text.proofs.RecordingLaws.{texts_are_call, unfit}
+use Rattle.trace_text.proofs.laws.calls_fit_their_messages.Goals as goal
+
+pub returns-clause-within : goal.returns-clause-within
+returns-clause-within c = texts_are_call
+
+pub returns-clause-unfit : goal.returns-clause-unfit
+returns-clause-unfit c = unfit
