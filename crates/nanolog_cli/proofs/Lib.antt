@@ -19,3 +19,6 @@ pub mod RunBytes
 pub mod RunFrames
 pub mod LogParts
 pub mod LogForms
+pub mod Fronts
+pub mod Endings
+pub mod EndLaws

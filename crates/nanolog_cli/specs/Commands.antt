@@ -33,9 +33,14 @@ command_of _ = None
 abbrev pub texts_of : {A : Type 0} → List (String A) → List (List ℕ)
 texts_of words = map string_bytes words
 
--- the name of the file that a command reads; empty where there is no command
-abbrev pub input_name : Option Command → List ℕ
-input_name None = []
-input_name (Some (Direct trace)) = trace
-input_name (Some (Replay trace log)) = trace
-input_name (Some (Decompress log)) = log
+-- the name of the file that a command reads
+abbrev pub input_name : Command → List ℕ
+input_name (Direct trace) = trace
+input_name (Replay trace log) = trace
+input_name (Decompress log) = log
+
+-- the name of the file that it writes, if it writes one
+abbrev pub output_name : Command → Option (List ℕ)
+output_name (Direct trace) = None
+output_name (Replay trace log) = Some log
+output_name (Decompress log) = None

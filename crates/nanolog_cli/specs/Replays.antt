@@ -1,7 +1,6 @@
 -- The log of a run, and what `replay` prints.
-use Rattle.std.specs.Prelude.{◌≡◌, ◌≢◌, ℕ, ◌<◌, ◌≤◌, List, ◌++◌, length, map, sum_by, codes, is_some}
+use Rattle.std.specs.Prelude.{ℕ, ◌<◌, List, ◌++◌, length, map, sum_by, codes}
 use Rattle.std.specs.Fmt.{decimal}
-use Rattle.nl_io.specs.Desk.{Desk, found_in}
 use Rattle.trace_text.specs.Recordings.{Recording}
 use Rattle.buffer_extent.specs.declared.record.LogRecord.{LogRecord}
 use Rattle.checkpoint_io.specs.Validity.{IsClosed}
@@ -25,12 +24,3 @@ pub record LogOfRun (run : Recording) (bytes : List ℕ) : Type 0 where
 -- what `replay` prints where no call was dropped
 abbrev pub accepted_text : Recording → List ℕ
 accepted_text run = codes "accepted " ++ decimal (sum_by length run.writers) ++ codes " dropped 0 filtered 0\n"
-
--- Of all names only this one may hold other bytes than before. No count fell, and no file was left open.
-pub record OnlyLog (name : List ℕ) (old new : Desk) : Type 0 where
-  pub told : is_some new.held ≡ is_some old.held
-  pub held : (other : List ℕ) → other ≢ name → found_in new other ≡ found_in old other
-  pub left : new.left ≡ old.left
-  pub made : new.made ≡ old.made
-  pub read_faults : old.read_faults ≤ new.read_faults
-  pub write_faults : old.write_faults ≤ new.write_faults

@@ -1,16 +1,13 @@
 //! The command `direct`.
 
-ghost use Rattle.std.specs.Prelude.{◌≡◌, ◌≢◌, ◌≤◌, ◌⊎◌, ℕ, List, Some};
-ghost use Rattle.nl_io.specs.Count.{Rose};
-ghost use Rattle.nl_io.specs.Desk.{IsAbsent, OnlyReadFaults};
-ghost use Rattle.nanolog_cli.specs.Commands.{Command, Direct};
-ghost use Rattle.nanolog_cli.specs.Outcomes.{Holds, HoldsOther, IsTrace, IsDone, IsCutOff, SpeaksOf};
+ghost use Rattle.nanolog_cli.specs.Commands.{Direct};
+ghost use Rattle.nanolog_cli.specs.Outcomes.{scene};
+ghost use Rattle.nanolog_cli.specs.Refusals.{EndsWith};
 
-use crate::answer::{Answer, Refusal};
 use crate::input::run_of_file;
 use crate::lines::text_of_run;
 use crate::output::print;
-use crate::status::Status;
+use crate::refusal::Refusal;
 use nl_io::{Files, Sink};
 use std::alloc::Global;
 
@@ -20,32 +17,13 @@ pub(crate) fn direct<'a, F: Files, O: Sink>(
     files: &mut F,
     name: &'a str,
     out: &mut O,
-) -> Answer<'a>
-    ensures done { result.status ≡ Status.Done → IsDone (Direct name.now) (F.desk files.old) (F.desk files.new) (O.put out.old) (O.put out.new) }
-    ensures usage { result.status ≢ Status.Usage }
-    ensures damaged { result.status ≢ Status.Damaged }
-    ensures absent { result.status ≡ Status.Absent → IsAbsent (F.desk files.old) name.now }
-    ensures read_fault { result.status ≡ Status.ReadFault → Rose (F.desk files.old).read_faults (F.desk files.new).read_faults }
-    ensures refused { result.status ≡ Status.Refused → HoldsOther (F.desk files.old) name.now IsTrace }
-    ensures write_fault { result.status ≡ Status.WriteFault → Rose (O.faults out.old) (O.faults out.new) }
-    ensures taken { Holds (F.desk files.old) name.now IsTrace →
-        ¬ (Rose (F.desk files.old).read_faults (F.desk files.new).read_faults) → ¬ (Rose (O.faults out.old) (O.faults out.new)) →
-        (result.status ≡ Status.Done) ⊎ (result.status ≡ Status.NoMemory) }
-    ensures cut_off { result.status ≡ Status.WriteFault →
-        IsCutOff (Direct name.now) (F.desk files.old) (F.desk files.new) (O.put out.old) (O.put out.new) }
-    ensures unprinted { result.status ≢ Status.Done → result.status ≢ Status.WriteFault → O.put out.new ≡ O.put out.old }
-    ensures speaks { SpeaksOf result.status (Some (Direct name.now))
-        (Rose (O.faults out.old) (O.faults out.new)) (Rose (F.desk files.old).write_faults (F.desk files.new).write_faults) result.name.now }
-    ensures same { OnlyReadFaults (F.desk files.old) (F.desk files.new) }
-    ensures count { O.faults out.old ≤ O.faults out.new }
-    ensures others { O.rest out.old out.new }
+) -> Result<(), Refusal<'a>>
+    ensures ends { EndsWith (Direct name.now) (scene (F.desk files.old) (O.put out.old) (O.faults out.old))
+        (scene (F.desk files.new) (O.put out.new) (O.faults out.new)) result }
+    ensures files_others { F.rest files.old files.new }
+    ensures out_others { O.rest out.old out.new }
 {
-    let run = match run_of_file(alloc, files, name) {
-        Ok(run) => run,
-        Err(refusal) => return refusal.answer(name),
-    };
-    match text_of_run(alloc, &run) {
-        Ok(text) => print(out, &text, name),
-        Err(_) => Refusal::NoMemory.answer(name),
-    }
+    let run = run_of_file(alloc, files, name)?;
+    let text = text_of_run(alloc, &run)?;
+    print(out, &text)
 }

@@ -1,7 +1,6 @@
 //! The commands of the program `nanolog`.
 #![tactic(auto)]
 
-mod answer;
 mod commands;
 mod decompress;
 mod direct;
@@ -15,6 +14,7 @@ mod narrow;
 mod narrow_log;
 mod output;
 mod parts;
+mod refusal;
 mod replay;
 mod report;
 mod status;

@@ -107,6 +107,15 @@ fn the_largest_trace_goes_through_and_back(rt: HostRuntime) -> Result<(), Fail> 
 }
 
 #[test]
+fn a_long_format_goes_through_and_back(rt: HostRuntime) -> Result<(), Fail> {
+    let letters = "y".repeat(rt.alloc(), 4_000)?;
+    let text = TRACE.replacen(rt.alloc(), "x=%d", letters.as_str(), 1)?;
+    let text = text.as_str().replacen(rt.alloc(), "0 7\n", "0\n", 1)?;
+    let line = LINE.replacen(rt.alloc(), "x=7", letters.as_str(), 1)?;
+    expect_same_lines(&rt, rt.alloc(), text.as_str(), line.as_str())
+}
+
+#[test]
 fn only_messages_up_to_the_last_used_are_kept(rt: HostRuntime) -> Result<(), Fail> {
     let more = "clock";
     let text = TRACE.replacen(

@@ -1,33 +1,27 @@
 //! The standard output.
 
-ghost use Rattle.std.specs.Prelude.{◌≡◌, ◌≤◌, ◌⊎◌};
+ghost use Rattle.std.specs.Prelude.{◌≡◌, OnOk, OnErr, IfErr};
 ghost use Rattle.nl_io.specs.Count.{Rose};
 ghost use Rattle.nl_io.specs.Content.{with_end, PutsFront};
 ghost use Rattle.nanolog_cli.specs.Words.{standard_output};
+ghost use Rattle.nanolog_cli.specs.declared.status.Status.TheVariants.{WriteFault};
+ghost use Rattle.nanolog_cli.specs.Refusals.{status_of, name_of};
 
-use crate::answer::Answer;
-use crate::status::Status;
+use crate::refusal::Refusal;
 use nl_io::{Sink, write_all};
 
-/// Prints the text of a command that read the name.
-pub(crate) fn print<'a, O: Sink>(out: &mut O, text: &[u8], name: &'a str) -> Answer<'a>
-    ensures ends { (result.status ≡ Status.Done) ⊎ (result.status ≡ Status.WriteFault) }
-    ensures printed { result.status ≡ Status.Done → O.put out.new ≡ with_end text.now (O.put out.old) }
-    ensures cut_off { result.status ≡ Status.WriteFault → PutsFront text.now (O.put out.old) (O.put out.new) }
-    ensures cause { result.status ≡ Status.WriteFault → Rose (O.faults out.old) (O.faults out.new) }
-    ensures done_name { result.status ≡ Status.Done → result.name.now ≡ name.now }
-    ensures fault_name { result.status ≡ Status.WriteFault → result.name.now ≡ standard_output }
-    ensures count { O.faults out.old ≤ O.faults out.new }
+/// Prints a text.
+pub(crate) fn print<O: Sink>(out: &mut O, text: &[u8]) -> Result<(), Refusal<'static>>
+    ensures printed { OnOk result (O.put out.new ≡ with_end text.now (O.put out.old)) }
+    ensures counted { OnOk result (O.faults out.new ≡ O.faults out.old) }
+    ensures status { IfErr result (λ refusal. status_of refusal ≡ WriteFault) }
+    ensures name { IfErr result (λ refusal. name_of refusal ≡ standard_output) }
+    ensures cut_off { OnErr result (PutsFront text.now (O.put out.old) (O.put out.new)) }
+    ensures cause { OnErr result (Rose (O.faults out.old) (O.faults out.new)) }
     ensures others { O.rest out.old out.new }
 {
     match write_all(out, text) {
-        Ok(()) => Answer {
-            status: Status::Done,
-            name,
-        },
-        Err(_) => Answer {
-            status: Status::WriteFault,
-            name: "standard output",
-        },
+        Ok(()) => Ok(()),
+        Err(_) => Err(Refusal::WriteFault("standard output")),
     }
 }

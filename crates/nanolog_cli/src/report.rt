@@ -1,11 +1,13 @@
 //! The words on the standard error.
 
-ghost use Rattle.std.specs.Prelude.{◌≡◌, ◌≤◌, ◌++◌, OnOk, OnErr, codes};
+ghost use Rattle.std.specs.Prelude.{◌≡◌, ◌++◌, OnOk, OnErr, codes};
 ghost use Rattle.nl_io.specs.Count.{Rose};
-ghost use Rattle.nl_io.specs.Content.{with_end};
+ghost use Rattle.nl_io.specs.Content.{with_end, PutsFront};
 ghost use Rattle.nanolog_cli.specs.Words.{words_of};
+ghost use Rattle.nanolog_cli.specs.Refusals.{status_of, name_of};
+ghost use Rattle.nanolog_cli.specs.Outcomes.{Says};
 
-use crate::status::Status;
+use crate::refusal::Refusal;
 use nl_io::{Failed, Sink, write_all};
 
 const USAGE: &str =
@@ -14,8 +16,9 @@ const USAGE: &str =
 /// Writes `nanolog: `, a name and what is said of it.
 fn say_of<E: Sink>(err: &mut E, name: &str, words: &str) -> Result<(), Failed>
     ensures ok { OnOk result (E.put err.new ≡ with_end (codes "nanolog: " ++ name.now ++ words.now) (E.put err.old)) }
+    ensures counted { OnOk result (E.faults err.new ≡ E.faults err.old) }
+    ensures front { OnErr result (PutsFront (codes "nanolog: " ++ name.now ++ words.now) (E.put err.old) (E.put err.new)) }
     ensures cause { OnErr result (Rose (E.faults err.old) (E.faults err.new)) }
-    ensures count { E.faults err.old ≤ E.faults err.new }
     ensures others { E.rest err.old err.new }
 {
     write_all(err, b"nanolog: ")?;
@@ -23,20 +26,17 @@ fn say_of<E: Sink>(err: &mut E, name: &str, words: &str) -> Result<(), Failed>
     write_all(err, words.as_bytes())
 }
 
-/// Writes the words that go with a command's end, which speak of this name.
-pub(crate) fn say<E: Sink>(err: &mut E, status: Status, name: &str) -> Result<(), Failed>
-    ensures ok { OnOk result (E.put err.new ≡ with_end (words_of status name.now) (E.put err.old)) }
-    ensures cause { OnErr result (Rose (E.faults err.old) (E.faults err.new)) }
-    ensures count { E.faults err.old ≤ E.faults err.new }
+/// Writes the words that go with a refusal. That they can't be written changes nothing else.
+pub(crate) fn say<E: Sink>(err: &mut E, refusal: Refusal<'_>)
+    ensures said { Says (words_of (status_of refusal.entry) (name_of refusal.entry)) (E.put err.old) (E.put err.new) (E.faults err.old) (E.faults err.new) }
     ensures others { E.rest err.old err.new }
 {
-    match status {
-        Status::Done | Status::Damaged => Ok(()),
-        Status::Usage => write_all(err, USAGE.as_bytes()),
-        Status::Refused => say_of(err, name, ":0: refused: 99 NotYet\n"),
-        Status::ReadFault => say_of(err, name, ": read fault\n"),
-        Status::WriteFault => say_of(err, name, ": write fault\n"),
-        Status::NoMemory => write_all(err, b"nanolog: want of memory\n"),
-        Status::Absent => say_of(err, name, ": absent\n"),
-    }
+    let _ = match refusal {
+        Refusal::Usage => write_all(err, USAGE.as_bytes()),
+        Refusal::Absent(name) => say_of(err, name, ": absent\n"),
+        Refusal::ReadFault(name) => say_of(err, name, ": read fault\n"),
+        Refusal::Refused(name) => say_of(err, name, ":0: refused: 99 NotYet\n"),
+        Refusal::WriteFault(name) => say_of(err, name, ": write fault\n"),
+        Refusal::NoMemory => write_all(err, b"nanolog: want of memory\n"),
+    };
 }

@@ -289,6 +289,25 @@ fn counts_messages_and_calls(rt: HostRuntime) -> Result<(), Fail> {
     Ok(())
 }
 
+#[test]
+fn long_formats_have_their_lines(rt: HostRuntime) -> Result<(), Fail> {
+    // A format of 4,000 letters, and one of 64 arguments.
+    let letters = "y".repeat(rt.alloc(), 4_000)?;
+    let text = TRACE.replacen(rt.alloc(), "x=%d", letters.as_str(), 1)?;
+    let text = text.as_str().replacen(rt.alloc(), "0 7\n", "0\n", 1)?;
+    let line = LINE.replacen(rt.alloc(), "x=7", letters.as_str(), 1)?;
+    expect_lines(&rt, rt.alloc(), text.as_str(), Some(line.as_str()))?;
+    let fields = "%d".repeat(rt.alloc(), 64)?;
+    let numbers = " 8".repeat(rt.alloc(), 64)?;
+    let text = TRACE.replacen(rt.alloc(), "x=%d", fields.as_str(), 1)?;
+    let text = text
+        .as_str()
+        .replacen(rt.alloc(), " 7", numbers.as_str(), 1)?;
+    let eights = "8".repeat(rt.alloc(), 64)?;
+    let line = LINE.replacen(rt.alloc(), "x=7", eights.as_str(), 1)?;
+    expect_lines(&rt, rt.alloc(), text.as_str(), Some(line.as_str()))
+}
+
 /// One change of a line.
 #[derive(Clone, Copy, Debug)]
 enum Change {

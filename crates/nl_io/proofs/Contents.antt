@@ -1,8 +1,8 @@
 -- What came from a source, and what went to a sink, over several calls.
-use Rattle.std.proofs.Common.{◌≡◌, ℕ, ◌+◌, ◌<◌, ◌≤◌, List, [], ◌++◌, length, take, drop, Some, None, refl, sym, ap, subst, ◌∙◌, append_assoc, arith}
-use Rattle.std.specs.Prelude.{IfSome}
+use Rattle.std.proofs.Common.{◌≡◌, ℕ, ◌+◌, ◌<◌, ◌≤◌, List, [], ◌++◌, length, take, drop, Some, None, Result, Ok, Err, refl, sym, ap, subst, ◌∙◌, append_assoc, arith}
+use Rattle.std.specs.Prelude.{IfSome, OnErr}
 use Rattle.std.proofs.lemmas.List.{append-nil, take-append-drop, length-append}
-use Rattle.std.proofs.Math.Seq.{take-add}
+use Rattle.std.proofs.Math.Seq.{take-add, drop-append_seam}
 use Rattle.nl_io.specs.Content.{Told, without_front, with_end, IsFront, IsAtEnd, Came}
 
 pub Came-none : (old : Told) → Came [] old old
@@ -36,3 +36,13 @@ with_end-more bytes done n (Some content) mid new fits so_far more =
 pub with_end-none : (bytes : List ℕ) (old : Told) → old ≡ with_end (take 0 bytes) old
 with_end-none bytes None = refl
 with_end-none bytes (Some content) = ap Some (sym (append-nil content))
+
+-- what is left behind bytes that came
+pub Came-front : (bytes : List ℕ) (old now : Told) → Came bytes old now → now ≡ without_front (length bytes) old
+Came-front bytes None now came = came
+Came-front bytes (Some content) now (others, whole, is) = is ∙ ap Some (sym (drop-append_seam bytes others) ∙ ap (drop (length bytes)) (sym whole))
+
+-- what holds in any case holds at a refusal
+pub at_refusal : {T E P : Type 0} (r : Result T E) → P → OnErr r P
+at_refusal (Ok x) p = tt
+at_refusal (Err e) p = p

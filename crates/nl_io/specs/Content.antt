@@ -30,3 +30,7 @@ PutsFront bytes old new = (n : ℕ) × (n ≤ length bytes) × (new ≡ with_end
 abbrev pub Came : List ℕ → Told → Told → Type 0
 Came bytes None new = new ≡ None
 Came bytes (Some content) new = (others : List ℕ) × (content ≡ bytes ++ others) × (new ≡ Some others)
+
+-- at most so many bytes were taken, from the front
+abbrev pub TakesFront : ℕ → Told → Told → Type 0
+TakesFront most old new = (n : ℕ) × (n ≤ most) × (new ≡ without_front n old)

@@ -48,8 +48,7 @@ pub record Opens (old : Desk) (name : List ℕ) (id : ℕ) (new : Desk) : Type 0
   pub content : Told
   pub holds : IfSome old.held (λ held. (bytes : List ℕ) × (map.get held name ≡ Some bytes) × (content ≡ Some bytes))
   pub unused : IsNewId old id
-  pub opened : new ≡ record old { left = map.insert old.left id content; read_faults = new.read_faults }
-  pub count : old.read_faults ≤ new.read_faults
+  pub opened : new ≡ record old { left = map.insert old.left id content }
 
 -- the name isn't there, where that is told
 abbrev pub IsAbsent : Desk → List ℕ → Type 0
@@ -57,8 +56,7 @@ IsAbsent desk name = IfSome desk.held (λ held. map.get held name ≡ None)
 
 -- n bytes of the file were taken
 pub record Takes (old : Desk) (id n : ℕ) (new : Desk) : Type 0 where
-  pub taken : (content : Told) → IsReading old id content → new ≡ record old { left = map.insert old.left id (without_front n content); read_faults = new.read_faults }
-  pub count : old.read_faults ≤ new.read_faults
+  pub taken : (content : Told) → IsReading old id content → new ≡ record old { left = map.insert old.left id (without_front n content) }
 
 -- the file is no longer being read
 abbrev pub Leaves : Desk → ℕ → Desk → Type 0
@@ -69,8 +67,7 @@ pub record Creates (old : Desk) (name : List ℕ) (id : ℕ) (new : Desk) : Type
   pub title : Told
   pub named : IfSome old.held (λ _. title ≡ Some name)
   pub unused : IsNewId old id
-  pub created : new ≡ record old { held = option_map (λ held. map.insert held name []) old.held; made = map.insert old.made id title; write_faults = new.write_faults }
-  pub count : old.write_faults ≤ new.write_faults
+  pub created : new ≡ record old { held = option_map (λ held. map.insert held name []) old.held; made = map.insert old.made id title }
 
 -- what a name holds: nothing where it isn't there
 abbrev pub held_at : Held → List ℕ → List ℕ
@@ -79,13 +76,12 @@ held_at held name = unwrap_or (map.get held name) []
 -- The bytes were put at the end of the name of the created file.
 pub record Puts (old : Desk) (id : ℕ) (bytes : List ℕ) (new : Desk) : Type 0 where
   pub put : (name : List ℕ) → map.get old.made id ≡ Some (Some name)
-      → new ≡ record old { held = option_map (λ held. map.insert held name (held_at held name ++ bytes)) old.held; write_faults = new.write_faults }
+      → new ≡ record old { held = option_map (λ held. map.insert held name (held_at held name ++ bytes)) old.held }
   -- whether it is told what names hold
   pub told : is_some new.held ≡ is_some old.held
-  pub rest : new ≡ record old { held = new.held; write_faults = new.write_faults }
-  pub count : old.write_faults ≤ new.write_faults
+  pub rest : new ≡ record old { held = new.held }
 
--- the file is no longer being made
+-- The file is no longer being made. Only the count of write faults may have changed beside that, and it doesn't fall.
 pub record Finishes (old : Desk) (id : ℕ) (new : Desk) : Type 0 where
   pub finished : new ≡ record old { made = map.remove old.made id; write_faults = new.write_faults }
   pub count : old.write_faults ≤ new.write_faults

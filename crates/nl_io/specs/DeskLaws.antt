@@ -124,8 +124,16 @@ visited old name id opened read new opens same count leaves =
     let faults : new.read_faults ≡ read.read_faults = ap (λ (d : Desk). d.read_faults) leaves in
     record {
       same = λ i. record { held = held i; left = left i; made = made i; read_faults = new.read_faults; write_faults = write_faults i };
-      count = omega (arith, opens.count, count, faults);
+      count = omega (arith, ap (λ (d : Desk). d.read_faults) opens.opened, count, faults);
     }
+
+-- where no call failed in between, all is as it was
+pub visited-whole : (old : Desk) (name : List ℕ) (id : ℕ) (opened read new : Desk) → Opens old name id opened → SameButLeft id opened read → read.read_faults ≡ opened.read_faults → Leaves read id new
+    → new ≡ old
+visited-whole old name id opened read new opens same faults leaves =
+    let only : OnlyReadFaults old new = visited old name id opened read new opens same (omega (arith, faults)) leaves in
+    let unrisen : new.read_faults ≡ old.read_faults = ap (λ (d : Desk). d.read_faults) leaves ∙ faults ∙ ap (λ (d : Desk). d.read_faults) opens.opened in
+    only.same ∙ ap (λ (n : ℕ). record old { read_faults = n }) unrisen
 
 is_some-option_map : {A B : Type 0} (f : A → B) (o : Option A) → is_some (option_map f o) ≡ is_some o
 is_some-option_map f None = refl
@@ -160,7 +168,7 @@ written old name id created put new creates same count finishes =
       made = ap (λ (d : Desk). d.made) finishes.finished
           ∙ map.same_map nat_cmp_total map.nat_cmp-IsAntisymmetric (map.remove put.made id) old.made (λ other. get-removed old.made id other creates.unused.unmade (eq_by_cmp nat_cmp other id) refl put.made (other_made other));
       read_faults = ap (λ (d : Desk). d.read_faults) finishes.finished ∙ same.read_faults ∙ ap (λ (d : Desk). d.read_faults) creates.created;
-      count = omega (arith, creates.count, count, finishes.count);
+      count = omega (arith, ap (λ (d : Desk). d.write_faults) creates.created, count, finishes.count);
     }
 
 holds_found : (o : Option (List ℕ)) (bytes : List ℕ) → Some o ≢ Some None → Some (unwrap_or o []) ≡ Some bytes → Some o ≡ Some (Some bytes)

@@ -1,5 +1,5 @@
 -- What a set of files in memory means.
-use Rattle.std.specs.Prelude.{ℕ, List, Some}
+use Rattle.std.specs.Prelude.{◌≡◌, ℕ, List, Some}
 use Rattle.nl_io.specs.declared.mem_files.MemFiles.{MemFiles}
 use Rattle.nl_io.specs.declared.script.Script.{Script}
 use Rattle.nl_io.specs.declared.script.Faults.{Faults}
@@ -46,3 +46,7 @@ read_faults_of files = files.read_faults
 -- how many calls for writing failed
 abbrev pub write_faults_of : MemFiles → Faults
 write_faults_of files = files.write_faults
+
+-- the same piece, and the same calls fail
+abbrev pub IsSameFiles : MemFiles → MemFiles → Type 0
+IsSameFiles a b = (piece_of b ≡ piece_of a) × (failing_of b ≡ failing_of a)

@@ -1,11 +1,8 @@
 -- Objects in memory, whose failing calls are listed beforehand by their numbers, from 0.
-use Rattle.std.specs.Prelude.{◌≡◌, ℕ, ◌+◌, ◌-◌, ◌^◌, min, Contains}
+use Rattle.std.specs.Prelude.{◌≡◌, ℕ, ◌+◌, Contains}
 use Rattle.nl_io.specs.declared.script.Script.{Script}
 use Rattle.nl_io.specs.declared.script.Faults.{Faults}
-
--- one more, in a u64, which stops at its last value
-abbrev pub counted : ℕ → ℕ
-counted n = min (n + 1) (2 ^ 64 - 1)
+use Rattle.nl_io.specs.Count.{counted}
 
 -- the next call is one of the listed ones
 abbrev pub IsListed : Script → Type 0

@@ -34,14 +34,15 @@ impl<'f, F: Files> Sink for FileSink<'f, F> {
     ghost faults = { λ s. (F.desk s.files.now).write_faults };
 
     ghost rest = { λ a b. (a.files.ghost_name ≡ b.files.ghost_name) × (a.id ≡ b.id)
-        × SameButHeld a.id (F.desk a.files.now) (F.desk b.files.now) };
+        × SameButHeld a.id (F.desk a.files.now) (F.desk b.files.now) × F.rest a.files.now b.files.now };
 
-    ghost rest_same = { λ a. (refl, refl, SameButHeld-same _ _) };
+    ghost rest_same = { λ a. (refl, refl, SameButHeld-same _ _, F.rest_same a.files.now) };
 
     ghost rest_then = { λ a b c first second. (
       first.0 ∙ second.0,
       first.1 ∙ second.1,
       SameButHeld-then _ _ _ _ _ first.1 first.2 second.2,
+      F.rest_then _ _ _ first.3 second.3,
     ) };
 
     fn write(&mut self, bytes: &[u8]) -> Result<usize, Failed> {

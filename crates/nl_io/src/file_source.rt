@@ -34,14 +34,15 @@ impl<'f, F: Files> Source for FileSource<'f, F> {
     ghost faults = { λ s. (F.desk s.files.now).read_faults };
 
     ghost rest = { λ a b. (a.files.ghost_name ≡ b.files.ghost_name) × (a.id ≡ b.id)
-        × SameButLeft a.id (F.desk a.files.now) (F.desk b.files.now) };
+        × SameButLeft a.id (F.desk a.files.now) (F.desk b.files.now) × F.rest a.files.now b.files.now };
 
-    ghost rest_same = { λ a. (refl, refl, SameButLeft-same _ _) };
+    ghost rest_same = { λ a. (refl, refl, SameButLeft-same _ _, F.rest_same a.files.now) };
 
     ghost rest_then = { λ a b c first second. (
       first.0 ∙ second.0,
       first.1 ∙ second.1,
       SameButLeft-then _ _ _ _ _ first.1 first.2 second.2,
+      F.rest_then _ _ _ first.3 second.3,
     ) };
 
     fn read(&mut self, into: &mut [u8]) -> Result<usize, Failed> {

@@ -1,5 +1,6 @@
-ghost use Rattle.std.specs.Prelude.{◌≡◌, ◌≢◌, ◌+◌, ◌-◌, ◌^◌, ◌<◌, ◌≤◌, ◌⊎◌, min, length, take, Some, None, IfOk, IfSome, IfNone, OnOk, OnErr, option_map};
+ghost use Rattle.std.specs.Prelude.{◌≡◌, ◌≢◌, ◌+◌, ◌-◌, ◌^◌, ◌<◌, ◌≤◌, ◌⊎◌, ℕ, List, min, length, take, refl, Some, None, IfOk, IfSome, IfNone, OnOk, OnErr, option_map};
 ghost use Rattle.std.specs.FinMap as map;
+ghost use Rattle.std.proofs.Common.{◌∙◌};
 ghost use Rattle.nl_io.specs.Count.{Rose};
 ghost use Rattle.nl_io.specs.Content.{Told, IsFront, IsAtEnd};
 ghost use Rattle.nl_io.specs.Desk.{IsReading, IsAbsent, OnlyReadFaults, OnlyWriteFaults, Opens, Takes, Leaves, Creates, Puts, Finishes};
@@ -87,16 +88,23 @@ impl MemFiles {
 }
 
 impl Files for MemFiles {
-    ghost use Rattle.nl_io.specs.MemFiles.{desk_of, piece_of, script_of, read_faults_of, write_faults_of};
+    ghost use Rattle.nl_io.specs.MemFiles.{desk_of, piece_of, script_of, read_faults_of, write_faults_of, IsSameFiles};
 
     ghost desk = { desk_of };
+
+    ghost rest = { IsSameFiles };
+
+    ghost rest_same = { λ a. (refl, refl) };
+
+    ghost rest_then = { λ a b c first second. (second.0 ∙ first.0, second.1 ∙ first.1) };
 
     fn open_read(&mut self, name: &str) -> Result<Option<u32>, Failed>
         ensures opened { IfOk result (λ found. IfSome found (λ id. Opens (desk_of self.old) name.now id (desk_of self.new))) }
         ensures absent { IfOk result (λ found. IfNone found (IsAbsent (desk_of self.old) name.now)) }
-        ensures absent_same { IfOk result (λ found. IfNone found (OnlyReadFaults (desk_of self.old) (desk_of self.new))) }
+        ensures absent_same { IfOk result (λ found. IfNone found (desk_of self.new ≡ desk_of self.old)) }
         ensures cause { OnErr result (Rose (desk_of self.old).read_faults (desk_of self.new).read_faults) }
         ensures err { OnErr result (OnlyReadFaults (desk_of self.old) (desk_of self.new)) }
+        ensures others { IsSameFiles self.old self.new }
 
         // Which calls fail.
         ensures number { script_of self.new ≡ called (script_of self.old) }
@@ -119,12 +127,14 @@ impl Files for MemFiles {
 
     fn read(&mut self, id: u32, into: &mut [u8]) -> Result<usize, Failed>
         requires { map.get (desk_of self.old).left id ≢ None }
+        ensures amount { IfOk result (λ n. (left : List ℕ) → IsReading (desk_of self.old) id (Some left) → n ≡ min (min (piece_of self.old) (length left)) (length into.old)) }
         ensures within { IfOk result (λ n. n ≤ length into.old) }
         ensures front { IfOk result (λ n. (content : Told) → IsReading (desk_of self.old) id content → IsFront n (take n into.new) content) }
         ensures moved { IfOk result (λ n. Takes (desk_of self.old) id n (desk_of self.new)) }
         ensures end { IfOk result (λ n. (content : Told) → IsReading (desk_of self.old) id content → n ≡ 0 → 0 < length into.old → IsAtEnd content) }
         ensures cause { OnErr result (Rose (desk_of self.old).read_faults (desk_of self.new).read_faults) }
         ensures err { OnErr result (OnlyReadFaults (desk_of self.old) (desk_of self.new)) }
+        ensures others { IsSameFiles self.old self.new }
 
         // Which calls fail.
         ensures number { script_of self.new ≡ called (script_of self.old) }
@@ -140,6 +150,7 @@ impl Files for MemFiles {
 
     fn leave(&mut self, id: u32)
         ensures left { Leaves (desk_of self.old) id (desk_of self.new) }
+        ensures others { IsSameFiles self.old self.new }
         ensures uncounted { script_of self.new ≡ script_of self.old }
         ensures read_faults { read_faults_of self.new ≡ read_faults_of self.old }
         ensures write_faults { write_faults_of self.new ≡ write_faults_of self.old }
@@ -151,6 +162,7 @@ impl Files for MemFiles {
         ensures created { IfOk result (λ id. Creates (desk_of self.old) name.now id (desk_of self.new)) }
         ensures cause { OnErr result (Rose (desk_of self.old).write_faults (desk_of self.new).write_faults) }
         ensures err { OnErr result (OnlyWriteFaults (desk_of self.old) (desk_of self.new)) }
+        ensures others { IsSameFiles self.old self.new }
 
         // Which calls fail.
         ensures number { script_of self.new ≡ called (script_of self.old) }
@@ -176,11 +188,13 @@ impl Files for MemFiles {
 
     fn write(&mut self, id: u32, bytes: &[u8]) -> Result<usize, Failed>
         requires { map.get (desk_of self.old).made id ≢ None }
+        ensures amount { IfOk result (λ n. n ≡ min (piece_of self.old) (length bytes.now)) }
         ensures within { IfOk result (λ n. n ≤ length bytes.now) }
         ensures some { IfOk result (λ n. 0 < length bytes.now → 0 < n) }
         ensures taken { IfOk result (λ n. Puts (desk_of self.old) id (take n bytes.now) (desk_of self.new)) }
         ensures cause { OnErr result (Rose (desk_of self.old).write_faults (desk_of self.new).write_faults) }
         ensures err { OnErr result (OnlyWriteFaults (desk_of self.old) (desk_of self.new)) }
+        ensures others { IsSameFiles self.old self.new }
 
         // Which calls fail.
         ensures number { script_of self.new ≡ called (script_of self.old) }
@@ -203,7 +217,9 @@ impl Files for MemFiles {
     fn finish(&mut self, id: u32) -> Result<(), Failed>
         requires { map.get (desk_of self.old).made id ≢ None }
         ensures finished { Finishes (desk_of self.old) id (desk_of self.new) }
+        ensures counted { OnOk result ((desk_of self.new).write_faults ≡ (desk_of self.old).write_faults) }
         ensures cause { OnErr result (Rose (desk_of self.old).write_faults (desk_of self.new).write_faults) }
+        ensures others { IsSameFiles self.old self.new }
 
         // Which calls fail.
         ensures number { script_of self.new ≡ called (script_of self.old) }

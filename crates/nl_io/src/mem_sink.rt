@@ -1,4 +1,4 @@
-ghost use Rattle.std.specs.Prelude.{◌≡◌, ◌<◌, ◌≤◌, ◌++◌, ◌⊎◌, [], length, take, Some, IfOk, OnOk, OnErr, refl};
+ghost use Rattle.std.specs.Prelude.{◌≡◌, ◌<◌, ◌≤◌, ◌++◌, ◌⊎◌, [], min, length, take, Some, IfOk, OnOk, OnErr, refl};
 ghost use Rattle.std.proofs.Common.{◌∙◌};
 ghost use Rattle.nl_io.specs.Count.{Rose};
 ghost use Rattle.nl_io.specs.Scripts.{called, all_faults, Passes, FailsListed, Starves};
@@ -56,7 +56,7 @@ impl MemSink {
 }
 
 impl Sink for MemSink {
-    ghost use Rattle.nl_io.specs.MemSinks.{bytes_of, script_of, faults_of, IsSameSink};
+    ghost use Rattle.nl_io.specs.MemSinks.{bytes_of, piece_of, script_of, faults_of, IsSameSink};
 
     ghost put = { λ s. Some (bytes_of s) };
 
@@ -69,9 +69,11 @@ impl Sink for MemSink {
     ghost rest_then = { λ a b c first second. (second.0 ∙ first.0, second.1 ∙ first.1) };
 
     fn write(&mut self, bytes: &[u8]) -> Result<usize, Failed>
+        ensures amount { IfOk result (λ n. n ≡ min (piece_of self.old) (length bytes.now)) }
         ensures within { IfOk result (λ n. n ≤ length bytes.now) }
         ensures some { IfOk result (λ n. 0 < length bytes.now → 0 < n) }
         ensures taken { IfOk result (λ n. bytes_of self.new ≡ bytes_of self.old ++ take n bytes.now) }
+        ensures counted { OnOk result (all_faults (faults_of self.new) ≡ all_faults (faults_of self.old)) }
         ensures cause { OnErr result (Rose (all_faults (faults_of self.old)) (all_faults (faults_of self.new))) }
         ensures err { OnErr result (bytes_of self.new ≡ bytes_of self.old) }
         ensures count { all_faults (faults_of self.old) ≤ all_faults (faults_of self.new) }

@@ -76,6 +76,7 @@ impl Source for MemSource {
         ensures front { IfOk result (λ n. (n ≤ length (left_of self.old)) × (take n into.new ≡ take n (left_of self.old))) }
         ensures moved { IfOk result (λ n. left_of self.new ≡ drop n (left_of self.old)) }
         ensures end { IfOk result (λ n. n ≡ 0 → 0 < length into.old → left_of self.old ≡ []) }
+        ensures counted { OnOk result (all_faults (faults_of self.new) ≡ all_faults (faults_of self.old)) }
         ensures cause { OnErr result (Rose (all_faults (faults_of self.old)) (all_faults (faults_of self.new))) }
         ensures err { OnErr result (left_of self.new ≡ left_of self.old) }
         ensures count { all_faults (faults_of self.old) ≤ all_faults (faults_of self.new) }

@@ -1,17 +1,26 @@
-ghost use Rattle.std.specs.Prelude.{◌≡◌, None, Some, IfOk, IfSome, OnErr};
+ghost use Rattle.std.specs.Prelude.{◌≡◌, ◌↔◌, ◌<◌, ◌^◌, ℕ, IsTrue, None, Some, IfOk, IfSome, IfNone, OnErr};
 ghost use Rattle.std.specs.Ordering.{nat_cmp};
 ghost use Rattle.std.specs.BTreeMap.{get, Updates, IsUnchanged};
+ghost use Rattle.nl_io.specs.Tables.{IsOpen};
 
 use std::alloc::AllocError;
 use std::collections::BTreeMap;
+
+/// Whether one of the two tables has the id.
+fn is_open<V: Drop, W: Drop>(table: &BTreeMap<u32, V>, other: &BTreeMap<u32, W>, id: u32) -> bool
+    ensures { IsTrue result ↔ IsOpen table.now other.now id }
+{
+    table.contains_key(&id) || other.contains_key(&id)
+}
 
 /// The least id that is in neither table.
 fn unused_id<V: Drop, W: Drop>(table: &BTreeMap<u32, V>, other: &BTreeMap<u32, W>) -> Option<u32>
     ensures here { IfSome result (λ id. get nat_cmp table.now id ≡ None) }
     ensures there { IfSome result (λ id. get nat_cmp other.now id ≡ None) }
+    ensures none { IfNone result ((id : ℕ) → id < 2 ^ 32 → IsOpen table.now other.now id) }
 {
     for id in 0..=u32::MAX {
-        if !table.contains_key(&id) && !other.contains_key(&id) {
+        if !is_open(table, other, id) {
             return Some(id);
         }
     }

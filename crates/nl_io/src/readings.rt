@@ -1,4 +1,4 @@
-ghost use Rattle.std.specs.Prelude.{◌≡◌, ◌≢◌, ◌<◌, ◌≤◌, length, take, Some, None, IfOk, OnErr};
+ghost use Rattle.std.specs.Prelude.{◌≡◌, ◌≢◌, ◌<◌, ◌≤◌, ℕ, List, min, length, take, Some, None, IfOk, OnErr};
 ghost use Rattle.std.specs.FinMap as map;
 ghost use Rattle.nl_io.specs.Content.{Told, without_front, IsFront, IsAtEnd};
 ghost use Rattle.nl_io.specs.Readings.{left_in};
@@ -34,6 +34,7 @@ pub(crate) fn take_from(
 ) -> usize
     requires reading { map.get (left_in table.old) id ≢ None }
     requires moves { 0 < most }
+    ensures amount { (left : List ℕ) → map.get (left_in table.old) id ≡ Some (Some left) → result ≡ min (min most (length left)) (length into.old) }
     ensures within { result ≤ length into.old }
     ensures front { (content : Told) → map.get (left_in table.old) id ≡ Some content → IsFront result (take result into.new) content }
     ensures moved { (content : Told) → map.get (left_in table.old) id ≡ Some content → left_in table.new ≡ map.insert (left_in table.old) id (without_front result content) }

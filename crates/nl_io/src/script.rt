@@ -1,4 +1,5 @@
-ghost use Rattle.std.specs.Prelude.{◌≡◌, ◌+◌, ◌-◌, ◌^◌, ◌≤◌, ◌↔◌, min, IsTrue, IfOk, Contains};
+ghost use Rattle.std.specs.Prelude.{◌≡◌, ◌≤◌, ◌↔◌, IsTrue, IfOk, Contains};
+ghost use Rattle.nl_io.specs.Count.{counted};
 
 use crate::failed::Failed;
 use std::alloc::{AllocError, Global};
@@ -23,7 +24,7 @@ impl Script {
     /// Counts a call, and says whether it is listed.
     pub(crate) fn next_call(&mut self) -> bool
         ensures listed { IsTrue result ↔ Contains self.old.failing.items self.old.calls }
-        ensures counted { self.new ≡ record self.old { calls = min (self.old.calls + 1) (2 ^ 64 - 1) } }
+        ensures counted { self.new ≡ record self.old { calls = counted self.old.calls } }
     {
         let listed = self.failing.as_slice().contains(&self.calls);
         self.calls = self.calls.saturating_add(1);
@@ -52,7 +53,7 @@ impl Faults {
 
     /// Counts a listed call.
     pub(crate) fn fail(&mut self) -> Failed
-        ensures counted { self.new ≡ record self.old { listed = min (self.old.listed + 1) (2 ^ 64 - 1) } }
+        ensures counted { self.new ≡ record self.old { listed = counted self.old.listed } }
         ensures more { self.old.listed ≤ self.new.listed }
     {
         self.listed = self.listed.saturating_add(1);
@@ -61,7 +62,7 @@ impl Faults {
 
     /// Counts a call that wanted memory.
     pub(crate) fn starve(&mut self) -> Failed
-        ensures counted { self.new ≡ record self.old { starved = min (self.old.starved + 1) (2 ^ 64 - 1) } }
+        ensures counted { self.new ≡ record self.old { starved = counted self.old.starved } }
         ensures more { self.old.starved ≤ self.new.starved }
     {
         self.starved = self.starved.saturating_add(1);

@@ -20,6 +20,7 @@ pub trait Sink {
         ensures within { IfOk result (λ n. n ≤ length bytes.now) }
         ensures some { IfOk result (λ n. 0 < length bytes.now → 0 < n) }
         ensures taken { IfOk result (λ n. put self.new ≡ with_end (take n bytes.now) (put self.old)) }
+        ensures counted { OnOk result (faults self.new ≡ faults self.old) }
         ensures cause { OnErr result (Rose (faults self.old) (faults self.new)) }
         ensures err { OnErr result (put self.new ≡ put self.old) }
         ensures count { faults self.old ≤ faults self.new }
@@ -35,6 +36,7 @@ pub trait Sink {
 /// Writes all the bytes. After a refusal some of them, from the front, went out.
 pub fn write_all<K: Sink>(sink: &mut K, bytes: &[u8]) -> Result<(), Failed>
     ensures ok { OnOk result (K.put sink.new ≡ with_end bytes.now (K.put sink.old)) }
+    ensures counted { OnOk result (K.faults sink.new ≡ K.faults sink.old) }
     ensures cause { OnErr result (Rose (K.faults sink.old) (K.faults sink.new)) }
     ensures err { OnErr result (PutsFront bytes.now (K.put sink.old) (K.put sink.new)) }
     ensures count { K.faults sink.old ≤ K.faults sink.new }

@@ -1,6 +1,6 @@
 ghost use Rattle.std.specs.Prelude.{◌≡◌, ◌+◌, ◌-◌, ◌<◌, ◌≤◌, ℕ, length, take, Some, IfOk, IfSome, OnOk, OnErr, IsErrOf, vec_len};
 ghost use Rattle.nl_io.specs.Count.{Rose};
-ghost use Rattle.nl_io.specs.Content.{Told, without_front, IsFront, IsAtEnd};
+ghost use Rattle.nl_io.specs.Content.{Told, without_front, IsFront, IsAtEnd, TakesFront};
 ghost use Rattle.nl_io.specs.declared.source.ReadAllFault.TheVariants as faults;
 
 use crate::failed::Failed;
@@ -24,6 +24,7 @@ pub trait Source {
         ensures front { IfOk result (λ n. IsFront n (take n into.new) (left self.old)) }
         ensures moved { IfOk result (λ n. left self.new ≡ without_front n (left self.old)) }
         ensures end { IfOk result (λ n. n ≡ 0 → 0 < length into.old → IsAtEnd (left self.old)) }
+        ensures counted { OnOk result (faults self.new ≡ faults self.old) }
         ensures cause { OnErr result (Rose (faults self.old) (faults self.new)) }
         ensures err { OnErr result (left self.new ≡ left self.old) }
         ensures count { faults self.old ≤ faults self.new }
@@ -73,7 +74,8 @@ impl<T: Drop> From<AllocFailed<T>> for ReadAllFault {
     }
 }
 
-/// All that is left of a source, where that is at most `limit` bytes.
+/// All that is left of a source, where that is at most `limit` bytes. Where it is more, at most one piece more than the
+/// limit is taken.
 pub fn read_to_limit<S: Source>(
     alloc: Global,
     source: &mut S,
@@ -82,8 +84,12 @@ pub fn read_to_limit<S: Source>(
     ensures all { IfOk result (λ bytes. IfSome (S.left source.old) (λ left. bytes.items ≡ left)) }
     ensures within { IfOk result (λ bytes. vec_len bytes ≤ limit) }
     ensures end { OnOk result (IsAtEnd (S.left source.new)) }
+    ensures taken { IfOk result (λ bytes. S.left source.new ≡ without_front (vec_len bytes) (S.left source.old)) }
     ensures failed { IsErrOf result ReadAllFault.Failed → Rose (S.faults source.old) (S.faults source.new) }
+    ensures failed_within { IsErrOf result ReadAllFault.Failed → TakesFront limit (S.left source.old) (S.left source.new) }
     ensures too_large { IsErrOf result ReadAllFault.TooLarge → IfSome (S.left source.old) (λ left. limit < length left) }
+    ensures err { OnErr result (TakesFront (limit + PIECE) (S.left source.old) (S.left source.new)) }
+    ensures counted { ¬ (IsErrOf result ReadAllFault.Failed) → S.faults source.new ≡ S.faults source.old }
     ensures count { S.faults source.old ≤ S.faults source.new }
     ensures others { S.rest source.old source.new }
 {

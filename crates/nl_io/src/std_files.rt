@@ -1,4 +1,4 @@
-ghost use Rattle.std.specs.Prelude.{◌≡◌, ◌+◌, ◌-◌, ◌^◌, ◌≤◌, min, None};
+ghost use Rattle.std.specs.Prelude.{◌≡◌, None};
 ghost use Rattle.std.specs.FinMap as map;
 
 use crate::failed::Failed;
@@ -37,39 +37,28 @@ impl<R: rt::Files + Drop> StdFiles<R> {
     }
 }
 
-/// Counts a failed call.
-fn count(faults: &mut u64) -> Failed
-    ensures counted { faults.new ≡ min (faults.old + 1) (2 ^ 64 - 1) }
-    ensures more { faults.old ≤ faults.new }
-{
-    *faults = faults.saturating_add(1);
-    Failed
-}
-
 impl<R: rt::Files + Drop> Files for StdFiles<R> {
     ghost use Rattle.nl_io.specs.Untold.{ids_in};
 
     ghost desk = { λ s. record { held = None; left = ids_in s.reading; made = ids_in s.made; read_faults = s.read_faults; write_faults = s.write_faults } };
 
+    ghost rest = { λ _ _. Unit {0} };
+
+    ghost rest_same = { λ _. tt };
+
+    ghost rest_then = { λ _ _ _ _ _. tt };
+
     /// `None` is the answer exactly where the system says that the name isn't found.
     fn open_read(&mut self, name: &str) -> Result<Option<u32>, Failed> {
-        let Ok(found) = open(&self.rt, name) else {
-            return Err(count(&mut self.read_faults));
-        };
-        let Some(file) = found else {
+        let Some(file) = open(&self.rt, name, &mut self.read_faults)? else {
             return Ok(None);
         };
-        match keep(&mut self.reading, &self.made, file) {
-            Ok(id) => Ok(Some(id)),
-            Err(_) => Err(count(&mut self.read_faults)),
-        }
+        let id = keep(&mut self.reading, &self.made, file, &mut self.read_faults)?;
+        Ok(Some(id))
     }
 
     fn read(&mut self, id: u32, into: &mut [u8]) -> Result<usize, Failed> {
-        match read_from(&mut self.reading, id, into) {
-            Ok(count) => Ok(count),
-            Err(_) => Err(count(&mut self.read_faults)),
-        }
+        read_from(&mut self.reading, id, into, &mut self.read_faults)
     }
 
     fn leave(&mut self, id: u32) {
@@ -77,26 +66,15 @@ impl<R: rt::Files + Drop> Files for StdFiles<R> {
     }
 
     fn create(&mut self, name: &str) -> Result<u32, Failed> {
-        let Ok(file) = create(&self.rt, name) else {
-            return Err(count(&mut self.write_faults));
-        };
-        match keep(&mut self.made, &self.reading, file) {
-            Ok(id) => Ok(id),
-            Err(_) => Err(count(&mut self.write_faults)),
-        }
+        let file = create(&self.rt, name, &mut self.write_faults)?;
+        keep(&mut self.made, &self.reading, file, &mut self.write_faults)
     }
 
     fn write(&mut self, id: u32, bytes: &[u8]) -> Result<usize, Failed> {
-        match write_to(&mut self.made, id, bytes) {
-            Ok(count) => Ok(count),
-            Err(_) => Err(count(&mut self.write_faults)),
-        }
+        write_to(&mut self.made, id, bytes, &mut self.write_faults)
     }
 
     fn finish(&mut self, id: u32) -> Result<(), Failed> {
-        match close(&mut self.made, id) {
-            Ok(()) => Ok(()),
-            Err(_) => Err(count(&mut self.write_faults)),
-        }
+        close(&mut self.made, id, &mut self.write_faults)
     }
 }

@@ -36,12 +36,6 @@ impl<W: Write + Drop> Sink for StdSink<W> {
     ghost rest_then = { λ _ _ _ _ _. tt };
 
     fn write(&mut self, bytes: &[u8]) -> Result<usize, Failed> {
-        match write_some(&mut self.writer, bytes) {
-            Ok(count) => Ok(count),
-            Err(failed) => {
-                self.faults = self.faults.saturating_add(1);
-                Err(failed)
-            }
-        }
+        write_some(&mut self.writer, bytes, &mut self.faults)
     }
 }

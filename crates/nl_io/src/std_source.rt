@@ -35,12 +35,6 @@ impl<R: Read + Drop> Source for StdSource<R> {
     ghost rest_then = { λ _ _ _ _ _. tt };
 
     fn read(&mut self, into: &mut [u8]) -> Result<usize, Failed> {
-        match read_some(&mut self.reader, into) {
-            Ok(count) => Ok(count),
-            Err(failed) => {
-                self.faults = self.faults.saturating_add(1);
-                Err(failed)
-            }
-        }
+        read_some(&mut self.reader, into, &mut self.faults)
     }
 }

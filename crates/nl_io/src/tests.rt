@@ -155,6 +155,20 @@ fn a_listed_call_of_a_source_fails_and_takes_nothing(rt: HostRuntime) -> Result<
 }
 
 #[test]
+fn a_source_is_read_no_further_than_its_end(rt: HostRuntime) -> Result<(), Fail> {
+    // The first call that isn't needed fails.
+    for (piece, failing) in [(1, 6), (2, 4), (100, 2)] {
+        assert!(rt; piece >= 1);
+        let mut source = MemSource::make(rt.alloc(), "hello".as_bytes(), piece, &[failing])?;
+        let bytes = read_to_limit(rt.alloc(), &mut source, 5)
+            .ok()
+            .ok_or("it was read on")?;
+        assert_eq!(rt; bytes.as_slice(), "hello".as_bytes(), "by {piece}");
+    }
+    Ok(())
+}
+
+#[test]
 fn a_listed_call_leaves_a_prefix_in_a_file(rt: HostRuntime) -> Result<(), Fail> {
     let table = [
         (1, 1, ""),
@@ -243,6 +257,59 @@ fn a_source_is_read_to_its_limit(rt: HostRuntime) -> Result<(), Fail> {
     let failed = read_file(rt.alloc(), &mut files, "a", 5).err();
     assert_eq!(rt; failed, Some(ReadAllFault::Failed));
     Ok(())
+}
+
+/// Opens a name so many times, and tells whether each id is new.
+fn opens_apart<F: Files>(alloc: Global, files: &mut F, name: &str, times: usize) -> Option<bool> {
+    let mut ids = Vec::new(alloc);
+    for _ in 0..times {
+        let Ok(Some(id)) = files.open_read(name) else {
+            return None;
+        };
+        if ids.as_slice().contains(&id) || ids.push(id).is_err() {
+            return Some(false);
+        }
+    }
+    Some(true)
+}
+
+#[test]
+fn many_files_are_open_at_once(rt: HostRuntime) -> Result<(), Fail> {
+    let mut files = MemFiles::make(rt.alloc(), 2, &[])?;
+    files.put_file("a", "hello".as_bytes())?;
+    assert_eq!(rt; opens_apart(rt.alloc(), &mut files, "a", 40), Some(true));
+    assert_eq!(rt; files.starved(), 0);
+    let mut files = StdFiles::make(&rt, rt.alloc());
+    assert_eq!(rt;
+        write_file(&mut files, "opened_by_a_test", "hello".as_bytes()),
+        Ok(())
+    );
+    let apart = opens_apart(rt.alloc(), &mut files, "opened_by_a_test", 40);
+    fs::remove_file(&rt, "opened_by_a_test")?;
+    assert_eq!(rt; apart, Some(true));
+    Ok(())
+}
+
+#[test]
+fn large_files_are_read_whole(rt: HostRuntime) -> Result<(), Fail> {
+    let content = vec![in rt.alloc(); 7u8; 200_000]?;
+    let mut files = MemFiles::make(rt.alloc(), 100_000, &[])?;
+    assert_eq!(rt; write_by_sink(&mut files, "a", &content), Ok(()));
+    let bytes = read_file(rt.alloc(), &mut files, "a", 200_000)
+        .ok()
+        .ok_or("it failed")?;
+    assert!(rt; bytes.as_slice() == content.as_slice());
+    assert_eq!(rt; files.starved(), 0);
+    Ok(())
+}
+
+#[test]
+fn a_full_device_takes_nothing(rt: HostRuntime) {
+    let mut files = StdFiles::make(&rt, rt.alloc());
+    assert_eq!(rt;
+        write_file(&mut files, "/dev/full", "hello".as_bytes()),
+        Err(Failed)
+    );
 }
 
 /// A writer that is interrupted some times, and then takes some bytes or fails.

@@ -1,15 +1,31 @@
-use Rattle.nl_io.specs.DeskLaws.{visited}
-use Rattle.nanolog_cli.proofs.InputLemmas.{is_open, all_held, longer_held}
+use Rattle.std.proofs.Common.{refl, rules}
+use Rattle.nl_io.specs.DeskLaws.{visited, visited-whole}
+use Rattle.nanolog_cli.proofs.InputLemmas.{is_open, all_held, longer_held, opened_there}
 use Rattle.nanolog_cli.proofs.input.read_file.Goals as goal
 
 pub read_open-read-requires : goal.read_open-read-requires
 read_open-read-requires g c = is_open _ _ _ _ (rw c.in-Ok-Some.field-0-is at c.in-Ok-Some.ensures.opened)
 
-pub returns-clause-all : goal.returns-clause-all
-returns-clause-all g c = all_held _ _ _ _ c.read_open-read.result (rw c.in-Ok-Some.field-0-is at c.in-Ok-Some.ensures.opened) c.read_open-read.ensures.all
+pub returns-in-Ok-clause-all : goal.returns-in-Ok-clause-all
+returns-in-Ok-clause-all g c = all_held _ _ _ _ _ (rw c.in-Ok-Some.field-0-is at c.in-Ok-Some.ensures.opened) c.in-Ok.ensures.all
 
-pub returns-clause-too_large : goal.returns-clause-too_large
-returns-clause-too_large g c = longer_held _ _ _ _ _ c.read_open-read.result (rw c.in-Ok-Some.field-0-is at c.in-Ok-Some.ensures.opened) c.read_open-read.ensures.too_large
+pub returns-in-Ok-clause-same : goal.returns-in-Ok-clause-same
+returns-in-Ok-clause-same g c =
+    visited-whole _ _ _ _ _ _ (rw c.in-Ok-Some.field-0-is at c.in-Ok-Some.ensures.opened) c.read_open-read.ensures.same (c.read_open-read.ensures.counted (search rules)) c.leave.ensures.left
 
-pub returns-clause-same : goal.returns-clause-same
-returns-clause-same g c = visited _ _ _ _ _ _ (rw c.in-Ok-Some.field-0-is at c.in-Ok-Some.ensures.opened) c.read_open-read.ensures.others c.read_open-read.ensures.count c.leave.ensures
+pub returns-in-Err-TooLarge-clause-longer : goal.returns-in-Err-TooLarge-clause-longer
+returns-in-Err-TooLarge-clause-longer g c =
+    longer_held _ _ _ _ _ (rw c.in-Ok-Some.field-0-is at c.in-Ok-Some.ensures.opened) (c.read_open-read.ensures.too_large (search rules))
+
+pub returns-in-Err-TooLarge-clause-same : goal.returns-in-Err-TooLarge-clause-same
+returns-in-Err-TooLarge-clause-same g c =
+    visited-whole _ _ _ _ _ _ (rw c.in-Ok-Some.field-0-is at c.in-Ok-Some.ensures.opened) c.read_open-read.ensures.same (c.read_open-read.ensures.counted (search rules)) c.leave.ensures.left
+
+pub returns-in-Err-Failed-clause-unread : goal.returns-in-Err-Failed-clause-unread
+returns-in-Err-Failed-clause-unread g c = (refl, visited _ _ _ _ _ _ (rw c.in-Ok-Some.field-0-is at c.in-Ok-Some.ensures.opened) c.read_open-read.ensures.same c.read_open-read.ensures.count c.leave.ensures.left, search rules)
+
+pub returns-in-Err-NoMemory-clause-unread : goal.returns-in-Err-NoMemory-clause-unread
+returns-in-Err-NoMemory-clause-unread g c = (
+  visited-whole _ _ _ _ _ _ (rw c.in-Ok-Some.field-0-is at c.in-Ok-Some.ensures.opened) c.read_open-read.ensures.same (c.read_open-read.ensures.counted (search rules)) c.leave.ensures.left,
+  opened_there _ _ _ _ (rw c.in-Ok-Some.field-0-is at c.in-Ok-Some.ensures.opened),
+)

@@ -1,4 +1,4 @@
-use Rattle.std.proofs.Common.{ℕ, List, Some, ◌∙◌, ap, sym, subst, take, rules}
+use Rattle.std.proofs.Common.{ℕ, List, Some, ◌∙◌, ap, sym, subst, take, rules, min, length, ◌≡◌}
 use Rattle.std.specs.Option.{option_copied_mut}
 use Rattle.std.specs.FinMap as map
 use Rattle.nl_io.specs.Content.{Told, without_front, IsFront, IsAtEnd}
@@ -28,3 +28,10 @@ returns-clause-end c = λ content is none room.
     let found = sym c.get_mut.ensures.value ∙ ap option_copied_mut c.unwrap-reading.ensures in
     let told = by_id-content (λ reading. Some (left_of reading)) c.args.table.now c.args.id c.unwrap-reading.result.now content found is in
     subst IsAtEnd (sym told) (c.take.ensures.end c.requires.moves none room)
+
+pub returns-clause-amount : goal.returns-clause-amount
+returns-clause-amount c = λ left is.
+    let found = sym c.get_mut.ensures.value ∙ ap option_copied_mut c.unwrap-reading.ensures in
+    let told = by_id-content (λ reading. Some (left_of reading)) c.args.table.now c.args.id c.unwrap-reading.result.now (Some left) found is in
+    let same : left ≡ left_of c.unwrap-reading.result.now = cc in
+    c.take.ensures.amount ∙ ap (λ (bytes : List ℕ). min (min c.args.most (length bytes)) (length c.args.into.now)) (sym same)

@@ -1,4 +1,4 @@
-use Rattle.std.proofs.Common.{arith, ◌≤◌, length, length-drop, ◌+◌}
+use Rattle.std.proofs.Common.{◌∙◌, arith, ◌≤◌, length, length-drop, ◌+◌}
 use Rattle.std.proofs.lemmas.List.{take_rest}
 use Rattle.nl_io.proofs.Contents.{with_end-more}
 use Rattle.nl_io.proofs.sink.write_all.Goals as goal
@@ -9,6 +9,6 @@ loop-done-preserved g c =
     record {
       within = fits;
       taken = with_end-more c.args.bytes.now c.loop-done.done c.in_ok-done.field-0 _ _ _ fits c.loop-done.invariant.taken (rw take_rest at c.in_ok-done.ensures.taken);
-      count = omega (arith, c.write.ensures.count);
+      counted = c.in_ok-done.ensures.counted ∙ c.loop-done.invariant.counted;
       others = g.met.K.Sink.rest_then _ _ _ c.loop-done.invariant.others c.write.ensures.others;
     }

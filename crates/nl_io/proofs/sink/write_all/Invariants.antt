@@ -6,7 +6,7 @@ abbrev pub invariant-loop-done : goal.invariant-loop-done
 invariant-loop-done g l = record {
   within : l.done ≤ length l.bytes;
   taken : g.K.Sink.put l.sink ≡ with_end (take l.done l.bytes) (g.K.Sink.put l.fn.sink);
-  count : g.K.Sink.faults l.fn.sink ≤ g.K.Sink.faults l.sink;
+  counted : g.K.Sink.faults l.sink ≡ g.K.Sink.faults l.fn.sink;
   others : g.K.Sink.rest l.fn.sink l.sink;
 }
 

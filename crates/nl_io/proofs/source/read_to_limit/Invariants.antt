@@ -6,7 +6,8 @@ abbrev pub invariant-loop-piece : goal.invariant-loop-piece
 invariant-loop-piece g l = record {
   room : length l.piece ≡ 65536;
   came : Came l.bytes.items (g.S.Source.left l.fn.source) (g.S.Source.left l.source);
-  count : g.S.Source.faults l.fn.source ≤ g.S.Source.faults l.source;
+  counted : g.S.Source.faults l.source ≡ g.S.Source.faults l.fn.source;
+  within : vec_len l.bytes ≤ l.limit + 65536;
   others : g.S.Source.rest l.fn.source l.source;
 }
 

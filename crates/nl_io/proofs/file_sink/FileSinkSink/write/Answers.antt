@@ -12,4 +12,4 @@ pub returns-clause-err : goal.returns-clause-err
 returns-clause-err g c = kept_put c.write.result _ _ c.args.self.now.id c.write.ensures.err
 
 pub returns-clause-others : goal.returns-clause-others
-returns-clause-others g c = (refl, refl, puts_same c.write.result _ _ c.args.self.now.id c.args.bytes.now c.write.ensures.taken c.write.ensures.err)
+returns-clause-others g c = (refl, refl, puts_same c.write.result _ _ c.args.self.now.id c.args.bytes.now c.write.ensures.taken c.write.ensures.err, c.write.ensures.others)

@@ -9,4 +9,4 @@ pub returns-clause-moved : goal.returns-clause-moved
 returns-clause-moved g c = moved_left c.read.result _ _ c.args.self.now.id c.args.self.now.reading c.read.ensures.moved
 
 pub returns-clause-others : goal.returns-clause-others
-returns-clause-others g c = (refl, refl, takes_same c.read.result _ _ c.args.self.now.id c.args.self.now.reading c.read.ensures.moved c.read.ensures.err)
+returns-clause-others g c = (refl, refl, takes_same c.read.result _ _ c.args.self.now.id c.args.self.now.reading c.read.ensures.moved c.read.ensures.err, c.read.ensures.others)

@@ -1,4 +1,4 @@
-use Rattle.std.proofs.Common.{ℕ, List, Some, ◌≡◌, ◌++◌, ◌∙◌, ap, sym, take, arith, refl, string_bytes}
+use Rattle.std.proofs.Common.{ℕ, List, Some, ◌≡◌, ◌++◌, ◌∙◌, ap, sym, take, refl, string_bytes}
 use Rattle.std.specs.Prelude.{option_copied}
 use Rattle.std.specs.FinMap as map
 use Rattle.nl_io.specs.Desk.{Held, held_at}
@@ -20,5 +20,4 @@ returns-in-Ok-clause-taken c = record {
       ∙ ap (λ (title : List ℕ). map.insert (held_of c.args.self.now) title (held_at (held_of c.args.self.now) title ++ take c.min-count.result c.args.bytes.now)) same);
   told = refl;
   rest = refl;
-  count = omega arith;
 }
