@@ -1,0 +1,86 @@
+//! The program `nanolog` but for its `main`: its words, its files and its outputs.
+//!
+//! Two programs are made of it: `nanolog`, and `nanolog_absent`, which is there for a second stored run.
+#![tactic(auto)]
+
+ghost use Rattle.std.specs.Prelude.{◌≡◌, ◌≢◌, ◌⊎◌, ℕ, List, Option};
+ghost use Rattle.std.specs.Process.{exit_status};
+ghost use Rattle.nanolog_cli.specs.Commands.{Command};
+ghost use Rattle.nanolog_cli.specs.Outcomes.{scene, Answers, Says};
+ghost use Rattle.nanolog_cli.specs.Statuses.{status_number};
+ghost use Rattle.nanolog_cli.specs.Words.{words_of as said_of};
+
+use nanolog_cli::{Status, quick};
+use nl_io::{Files, Sink, StdFiles, StdSink, write_all};
+use std::env;
+use std::io::{self, Eprint, ErrorKind};
+use std::marker::Model;
+use std::process::{ExitCode, Termination};
+use std::rt::{self, Env, Stderr, Stdout};
+
+#[cfg(test)]
+mod tests;
+
+/// How the program ended. Only [`run`] makes one, and it can't be let go, so that `main` ends with what `run` answers.
+pub struct Ended {
+    status: Status,
+}
+
+impl Model for Ended {
+    ghost use Rattle.nanolog_cli.specs.declared.status.Status.{Status};
+
+    ghost Value = { Status };
+
+    ghost view = { λ ended. ended.status };
+}
+
+impl Termination for Ended {
+    fn report<R: Eprint>(self, _rt: &R) -> ExitCode
+        ensures { exit_status result ≡ status_number self }
+    {
+        let Ended { status } = self;
+        ExitCode::from(status.number())
+    }
+}
+
+/// The words after the program's name. Where one of them isn't UTF-8 there are none, as no command has such a word.
+fn words_of(rt: &(impl Env + AllocGlobal)) -> io::Result<Vec<String>> {
+    match env::args(rt) {
+        Ok(args) => Ok(args.skip(1).collect(rt.alloc())?),
+        Err(error) if error.kind() == ErrorKind::InvalidData => Ok(Vec::new(rt.alloc())),
+        Err(error) => Err(error),
+    }
+}
+
+/// Does what the words after the program's name ask for. Which words these are is told to no contract.
+fn run_words<R: Env + AllocGlobal, F: Files, O: Sink, E: Sink>(
+    rt: &R,
+    files: &mut F,
+    out: &mut O,
+    err: &mut E,
+) -> Status
+    // It ends as a command does, or as words that spell none, or there was no memory for the words.
+    ensures ends { (command : Option Command) × (name : List ℕ) ×
+        ((Answers command (scene (F.desk files.old) (O.put out.old) (O.faults out.old))
+        (scene (F.desk files.new) (O.put out.new) (O.faults out.new)) result name)
+        ⊎ ((result ≡ Status.NoMemory) × (F.desk files.new ≡ F.desk files.old) × (O.put out.new ≡ O.put out.old)))
+        × Says (said_of result name) (E.put err.old) (E.put err.new) (E.faults err.old) (E.faults err.new) }
+{
+    let Ok(words) = words_of(rt) else {
+        let _ = write_all(err, b"nanolog: want of memory\n");
+        return Status::NoMemory;
+    };
+    quick(rt.alloc(), &words, files, out, err)
+}
+
+/// Runs the program over the files of the system. What these hold, and what the outputs get, is told to no contract.
+pub fn run<R: rt::Files + Env + AllocGlobal + Copy + Drop>(rt: R, out: Stdout, err: Stderr) -> Ended
+    ensures { result ≢ Status.Damaged }
+{
+    let mut files = StdFiles::make(rt, rt.alloc());
+    let mut out = StdSink::make(out);
+    let mut err = StdSink::make(err);
+    Ended {
+        status: run_words(&rt, &mut files, &mut out, &mut err),
+    }
+}
