@@ -4,3 +4,4 @@ pub mod Fitted
 pub mod Lengths
 pub mod Places
 pub mod Unique
+pub mod CallLaws

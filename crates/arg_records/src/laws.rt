@@ -1,10 +1,14 @@
-//! Laws over the definitions of frames. The functions do nothing: what they ensure is proved of the definitions.
+//! Laws over the definitions of frames and of calls. The functions do nothing: what they ensure is proved of the definitions.
 
-ghost use Rattle.std.specs.Prelude.{◌≡◌, ◌+◌, ◌/◌, ◌%◌, ◌<◌, ◌≤◌, ℕ, List, [], ◌∷◌, length, map, pos, negsuc, All, slice_index};
+ghost use Rattle.std.specs.Prelude.{◌≡◌, ◌+◌, ◌/◌, ◌%◌, ◌<◌, ◌≤◌, ℕ, List, [], ◌∷◌, ◌++◌, length, map, pos, negsuc, All, slice_index, slice_get, Some};
 ghost use Rattle.printf_grammar.specs.declared.arg_type.ArgType.{ArgType};
 ghost use Rattle.printf_grammar.specs.declared.argument.Value.{Value};
 ghost use Rattle.printf_grammar.specs.declared.argument.Value.TheVariants.{Signed, Unsigned, Text};
-ghost use Rattle.printf_grammar.specs.Types.{Fits};
+ghost use Rattle.printf_grammar.specs.Types.{Types, Fits};
+ghost use Rattle.log_dictionary.specs.declared.message.Message.{Message};
+ghost use Rattle.arg_records.specs.declared.call.Call.{Call};
+ghost use Rattle.arg_records.specs.Calls.{IsCall, NeverFalls, calls_by_writer};
+ghost use Rattle.arg_records.specs.Rows.{row_message, row_call, full_message, mixed_calls, mixed_log_calls, texts_message, texts_call};
 ghost use Rattle.arg_records.specs.Frames.{FrameLen, Frame};
 ghost use Rattle.arg_records.specs.Kinds.{kind_of, IsArgument, HoldsBytes};
 
@@ -56,4 +60,38 @@ pub fn one_frame_per_call()
         → All HoldsBytes b
         → Frame i s a ≡ Frame j t b
         → (i ≡ j) × (s ≡ t) × (a ≡ b) }
+{}
+
+/// Calls go writer by writer. Each has its writer's number, its place among its writer's calls, from
+/// 0, and the message that its id names.
+pub fn calls_have_numbers_and_messages()
+    ensures { calls_by_writer (row_message ∷ full_message ∷ []) mixed_calls ≡ mixed_log_calls }
+{}
+
+/// Stamps that are equal or rise never fall, and no others.
+pub fn stamps_fall_or_never_do()
+    ensures none { (least : ℕ) → NeverFalls least [] }
+    ensures rising { (least : ℕ) (call : Call) (calls : List Call) → least ≤ call.stamp
+        → NeverFalls call.stamp calls
+        → NeverFalls least (call ∷ calls) }
+    ensures too_early { (least : ℕ) (call : Call) (calls : List Call) → call.stamp < least
+        → ¬ (NeverFalls least (call ∷ calls)) }
+    ensures falling { (least : ℕ) (before : List Call) (call next : Call) (others : List Call)
+        → next.stamp < call.stamp
+        → ¬ (NeverFalls least (before ++ call ∷ next ∷ others)) }
+{}
+
+/// A call names one of the messages and fits it, and its frame has at most 512 words. The frame of
+/// two texts of 4,000 and 64 bytes has as many.
+pub fn calls_fit_their_messages()
+    ensures within { (n : ℕ) → n ≤ 64 → IsCall (texts_message ∷ []) (texts_call n) }
+    ensures too_long { (messages : List Message) (call : Call) → 512 < FrameLen call.args
+        → ¬ (IsCall messages call) }
+    ensures unknown { (messages : List Message) (call : Call) → length messages ≤ call.id
+        → ¬ (IsCall messages call) }
+    ensures unfit { (messages : List Message) (call : Call) (message : Message)
+        → slice_get messages call.id ≡ Some message
+        → ¬ (Fits call.args (Types message.format.pieces))
+        → ¬ (IsCall messages call) }
+    ensures other_kind { ¬ (IsCall (row_message ∷ []) (record (row_call 1) { args = Unsigned 1 ∷ [] })) }
 {}

@@ -3,8 +3,10 @@ ghost use Rattle.printf_grammar.specs.Types.{values_of};
 ghost use Rattle.arg_records.specs.Frames.{AreArguments};
 
 use super::*;
-use printf_grammar::Arg;
+use printf_grammar::{Arg, Value, Values};
+use std::alloc::{AllocError, Global};
 use std::process::Abort;
+use std::test::Fail;
 
 /// Each word of an array before a frame is written over it.
 const OLD: u64 = 77;
@@ -81,4 +83,48 @@ fn two_long_texts_are_too_long(rt: HostRuntime) {
     assert_eq!(rt; frame_len(&args), 1004);
     assert_eq!(rt; frame_words(0, 0, &args, &mut into), Err(TooLong));
     assert!(rt; into.iter().all(|word| *word == OLD));
+}
+
+/// A call whose stamp, id and arguments tell its number.
+fn numbered_call(alloc: Global, number: u32) -> Result<Call, AllocError> {
+    let mut args = Values::make(alloc);
+    args.push(Value::Unsigned(u64::from(number)))?;
+    args.push(Value::Signed(-i64::from(number)))?;
+    Ok(Call {
+        stamp: u64::from(number),
+        id: number / 100,
+        args,
+    })
+}
+
+fn check_call(rt: &impl Abort, call: &Call, number: u32) {
+    assert_eq!(rt; call.stamp, u64::from(number));
+    assert_eq!(rt; call.id, number / 100);
+    assert_eq!(rt; call.args.len(), 2);
+    assert!(rt; matches!(call.args.get(0), Some(Value::Unsigned(n)) if *n == u64::from(number)));
+    assert!(rt; matches!(call.args.get(1), Some(Value::Signed(z)) if *z == -i64::from(number)));
+    assert!(rt; call.args.get(2).is_none());
+}
+
+#[test]
+fn a_thousand_calls(rt: HostRuntime) -> Result<(), Fail> {
+    let mut calls = Calls::make(rt.alloc());
+    for number in 0..1_000 {
+        calls.push(numbered_call(rt.alloc(), number)?)?;
+    }
+    assert_eq!(rt; calls.len(), 1_000);
+    for number in 0..1_000 {
+        let call = calls.get(number as usize).expect(&rt, "a call");
+        check_call(&rt, call, number);
+    }
+    assert!(rt; calls.get(1_000).is_none());
+    for (number, call) in calls.iter().enumerate() {
+        assert_eq!(rt; call.stamp, number as u64);
+    }
+    let mut ids = 0;
+    for call in &calls {
+        ids = call.id.max(ids);
+    }
+    assert_eq!(rt; ids, 9);
+    Ok(())
 }

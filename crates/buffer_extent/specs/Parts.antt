@@ -6,9 +6,10 @@ use Rattle.printf_grammar.specs.declared.argument.Value.{Value}
 use Rattle.printf_grammar.specs.Types.{Types, FitsType, Fits}
 use Rattle.nibble_pack.specs.Packing.{Kind, unsigned, Packed}
 use Rattle.log_dictionary.specs.declared.message.Message.{Message}
-use Rattle.buffer_extent.specs.declared.record.LogRecord.{LogRecord}
+use Rattle.arg_records.specs.declared.call.Call.{Call}
 use Rattle.buffer_extent.specs.Records.{PackedNumber, kind_of, number_of, PacksArguments, code_bytes, text_of}
-use Rattle.buffer_extent.specs.Bodies.{SpellsRecord, IsRecord}
+use Rattle.buffer_extent.specs.Bodies.{SpellsRecord}
+use Rattle.arg_records.specs.Calls.{IsCall}
 
 -- the bytes begin with those of the number, and these bytes follow
 pub record BeginsWithNumber (kind : Kind) (code : ℕ) (bytes : List ℕ) (z : ℤ) (back : List ℕ) : Type 0 where
@@ -65,11 +66,11 @@ pub record BeginsWithArguments (types : List ArgType) (bytes : List ℕ) (args :
   pub parts : bytes ≡ code_bytes (map (λ number. number.code) numbers) ++ (flat_map (λ number. number.bytes) numbers ++ (flat_map text_of args ++ back))
 
 -- the bytes begin with the spelling of a record that keeps the rules, and these bytes follow
-pub record BeginsWithRecord (messages : List Message) (before : ℕ) (bytes : List ℕ) (entry : LogRecord) (back : List ℕ) : Type 0 where
+pub record BeginsWithRecord (messages : List Message) (before : ℕ) (bytes : List ℕ) (entry : Call) (back : List ℕ) : Type 0 where
   pub front : List ℕ
   pub parts : bytes ≡ front ++ back
   pub spelled : SpellsRecord messages before entry front
-  pub right : IsRecord messages entry
+  pub right : IsCall messages entry
 
 -- ---- how a record starts: what is judged before any memory is wanted
 

@@ -12,9 +12,10 @@ use Rattle.printf_grammar.specs.Types.{Types, FitsType, Fits}
 use Rattle.log_dictionary.specs.declared.message.Message.{Message}
 use Rattle.nibble_pack.specs.Packing.{Kind, unsigned, Packed}
 use Rattle.nibble_pack.specs.PackingLaws.{Packed-code, IsCode-lt, same_front}
-use Rattle.buffer_extent.specs.declared.record.LogRecord.{LogRecord}
+use Rattle.arg_records.specs.declared.call.Call.{Call}
 use Rattle.buffer_extent.specs.Records.{PackedNumber, kind_of, number_of, text_of, PacksArguments, code_bytes, RecordBytes}
-use Rattle.buffer_extent.specs.Bodies.{SpellsRecord, SpellsRecords, IsRecord, IsBody}
+use Rattle.buffer_extent.specs.Bodies.{SpellsRecord, SpellsRecords, IsBody}
+use Rattle.arg_records.specs.Calls.{IsCall}
 use Rattle.buffer_extent.specs.Parts.{AreCodes, BeginsWithNumber, BeginsWithHead, BeginsWithArguments, BeginsWithRecord}
 
 -- ---- fronts
@@ -232,7 +233,7 @@ record_joined types id stamp before args bytes rest back head arguments =
     )
 
 -- a record that bytes begin with is a head, and arguments of its message
-pub record_parts : (messages : List Message) (before : ℕ) (bytes : List ℕ) (entry : LogRecord) (back : List ℕ) → BeginsWithRecord messages before bytes entry back
+pub record_parts : (messages : List Message) (before : ℕ) (bytes : List ℕ) (entry : Call) (back : List ℕ) → BeginsWithRecord messages before bytes entry back
     → (message : Message) × (rest : List ℕ) × (slice_get messages entry.id ≡ Some message) × BeginsWithHead before bytes entry.id entry.stamp rest × BeginsWithArguments (Types message.format.pieces) rest entry.args back
 record_parts messages before bytes entry back begins =
     let message : Message = begins.spelled.message in
@@ -242,7 +243,7 @@ record_parts messages before bytes entry back begins =
     (message, parts.0, begins.spelled.known, parts.1, parts.2)
 
 -- where the head and its message are known, the arguments are what is left
-pub arguments_left : (messages : List Message) (before : ℕ) (bytes : List ℕ) (id stamp : ℕ) (message : Message) (rest : List ℕ) (entry : LogRecord) (back : List ℕ)
+pub arguments_left : (messages : List Message) (before : ℕ) (bytes : List ℕ) (id stamp : ℕ) (message : Message) (rest : List ℕ) (entry : Call) (back : List ℕ)
     → BeginsWithHead before bytes id stamp rest → slice_get messages id ≡ Some message → BeginsWithRecord messages before bytes entry back
     → (entry.id ≡ id) × (entry.stamp ≡ stamp) × BeginsWithArguments (Types message.format.pieces) rest entry.args back
 arguments_left messages before bytes id stamp message rest entry back head known begins =
@@ -253,7 +254,7 @@ arguments_left messages before bytes id stamp message rest entry back head known
     (same.0, same.1, subst (λ (r : List ℕ). BeginsWithArguments (Types message.format.pieces) r entry.args back) same.2 of_message)
 
 -- bytes begin with one record
-pub BeginsWithRecord-unique : (messages : List Message) (before : ℕ) (bytes : List ℕ) (a b : LogRecord) (r s : List ℕ) → BeginsWithRecord messages before bytes a r → BeginsWithRecord messages before bytes b s
+pub BeginsWithRecord-unique : (messages : List Message) (before : ℕ) (bytes : List ℕ) (a b : Call) (r s : List ℕ) → BeginsWithRecord messages before bytes a r → BeginsWithRecord messages before bytes b s
     → (a ≡ b) × (r ≡ s)
 BeginsWithRecord-unique messages before bytes a b r s p q =
     let parts = record_parts messages before bytes b s q in
@@ -262,7 +263,7 @@ BeginsWithRecord-unique messages before bytes a b r s p q =
     ((λ t. record { stamp = left.1 t; id = left.0 t; args = arguments.0 t }), arguments.1)
 
 -- no record's spelling is a proper prefix of another's
-pub SpellsRecord-unique : (messages : List Message) (before : ℕ) (a b : LogRecord) (x y r s : List ℕ) → IsRecord messages a → IsRecord messages b → SpellsRecord messages before a x → SpellsRecord messages before b y → x ++ r ≡ y ++ s
+pub SpellsRecord-unique : (messages : List Message) (before : ℕ) (a b : Call) (x y r s : List ℕ) → IsCall messages a → IsCall messages b → SpellsRecord messages before a x → SpellsRecord messages before b y → x ++ r ≡ y ++ s
     → (a ≡ b) × (x ≡ y) × (r ≡ s)
 SpellsRecord-unique messages before a b x y r s right right_too p q same =
     let one = BeginsWithRecord-unique messages before (x ++ r) a b r s (record { front = x; parts = refl; spelled = p; right = right }) (record { front = y; parts = same; spelled = q; right = right_too }) in
@@ -276,7 +277,7 @@ some_byte types id stamp before args front back spelled none =
     let is = none ∙ ap (λ (f : List ℕ). f ++ back) spelled.joined in cc
 
 -- bytes spell one list of records that keep the rules
-pub SpellsRecords-unique : (messages : List Message) (before : ℕ) (xs ys : List LogRecord) (bytes : List ℕ) → AllByRecursion (IsRecord messages) xs → AllByRecursion (IsRecord messages) ys
+pub SpellsRecords-unique : (messages : List Message) (before : ℕ) (xs ys : List Call) (bytes : List ℕ) → AllByRecursion (IsCall messages) xs → AllByRecursion (IsCall messages) ys
     → SpellsRecords messages before xs bytes → SpellsRecords messages before ys bytes → xs ≡ ys
 SpellsRecords-unique messages before [] [] bytes all all_too p q = refl
 SpellsRecords-unique messages before [] (y ∷ ys) bytes all all_too p (front, back, parts, spelled, rest) =
@@ -286,10 +287,10 @@ SpellsRecords-unique messages before (x ∷ xs) [] bytes all all_too (front, bac
 SpellsRecords-unique messages before (x ∷ xs) (y ∷ ys) bytes all all_too (front, back, parts, spelled, rest) (front_too, back_too, parts_too, spelled_too, rest_too) =
     let one = SpellsRecord-unique messages before x y front front_too back back_too all.0 all_too.0 spelled spelled_too (sym parts ∙ parts_too) in
     let more = subst (λ (r : List ℕ). SpellsRecords messages y.stamp ys r) (sym one.2) rest_too in
-    let more_too = subst (λ (e : LogRecord). SpellsRecords messages e.stamp ys back) (sym one.0) more in
+    let more_too = subst (λ (e : Call). SpellsRecords messages e.stamp ys back) (sym one.0) more in
     let others = SpellsRecords-unique messages x.stamp xs ys back all.1 all_too.1 rest more_too in
     λ t. one.0 t ∷ others t
 
 -- a body spells one list of records
-pub IsBody-unique : (messages : List Message) (tick last : ℕ) (xs ys : List LogRecord) (body : List ℕ) → IsBody messages tick last xs body → IsBody messages tick last ys body → xs ≡ ys
+pub IsBody-unique : (messages : List Message) (tick last : ℕ) (xs ys : List Call) (body : List ℕ) → IsBody messages tick last xs body → IsBody messages tick last ys body → xs ≡ ys
 IsBody-unique messages tick last xs ys body p q = SpellsRecords-unique messages tick xs ys body p.right q.right p.spelled q.spelled

@@ -2,14 +2,14 @@
 
 ghost use Rattle.std.specs.Prelude.{◌≡◌, ◌≢◌, ℕ, ◌<◌, ◌≤◌, List, [], slice_get, IfOk, IsSome, MatchResult, Ok, Err};
 ghost use Rattle.std.specs.Option.{option_copied};
-ghost use Rattle.buffer_extent.specs.declared.record.LogRecord.{LogRecord};
+ghost use Rattle.arg_records.specs.declared.call.Call.{Call};
 ghost use Rattle.buffer_extent.specs.Integers.{TakeIntegers};
 ghost use Rattle.buffer_extent.specs.Parts.{BeginsWithRecord, StartsRecord};
 ghost use Rattle.buffer_extent.specs.Bodies.{IsBody};
 
 use crate::fault::{BodyFault, Cause};
-use crate::record::{LogRecord, Records};
 use crate::take::{take_arguments, take_head};
+use arg_records::{Call, Calls};
 use log_dictionary::{Dictionary, Message};
 use std::alloc::Global;
 
@@ -32,11 +32,11 @@ fn take_record<'a>(
     before: u64,
     least: u64,
     bytes: &'a [u8],
-) -> Result<(LogRecord, &'a [u8]), BodyFault>
+) -> Result<(Call, &'a [u8]), BodyFault>
     requires { TakeIntegers dictionary.now }
     ensures ok { IfOk result (λ pair. BeginsWithRecord dictionary.now before bytes.now pair.0 pair.1.now) }
     ensures rises { IfOk result (λ pair. least ≤ pair.0.stamp) }
-    ensures only { (entry : LogRecord) (back : List ℕ) → BeginsWithRecord dictionary.now before bytes.now entry back
+    ensures only { (entry : Call) (back : List ℕ) → BeginsWithRecord dictionary.now before bytes.now entry back
         → least ≤ entry.stamp → MatchResult result
         (λ pair. (pair.0 ≡ entry) × (pair.1.now ≡ back))
         (λ fault. fault ≡ BodyFault.NoMemory) }
@@ -56,7 +56,7 @@ fn take_record<'a>(
     };
     match take_arguments(alloc, message.format.types(), rest) {
         Ok((args, back)) => {
-            let entry = LogRecord {
+            let entry = Call {
                 stamp: head.stamp,
                 id: head.id as u32,
                 args,
@@ -77,23 +77,23 @@ pub fn read_body(
     dictionary: &Dictionary,
     base: u64,
     last: u64,
-) -> Result<Records, BodyFault>
+) -> Result<Calls, BodyFault>
     requires { TakeIntegers dictionary.now }
     ensures ok { IfOk result (λ entries. IsBody dictionary.now base last entries body.now) }
 
     // A body is read, unless memory runs out.
-    ensures only { (entries : List LogRecord) → IsBody dictionary.now base last entries body.now → MatchResult result
+    ensures only { (entries : List Call) → IsBody dictionary.now base last entries body.now → MatchResult result
         (λ read. read ≡ entries)
         (λ fault. fault ≡ BodyFault.NoMemory) }
     ensures damaged { result ≡ Err (BodyFault.Damaged Cause.Body)
-        → (entries : List LogRecord) → ¬ IsBody dictionary.now base last entries body.now }
+        → (entries : List Call) → ¬ IsBody dictionary.now base last entries body.now }
 
     // No memory is wanted for no records, and how the first one starts is judged before any is.
     ensures empty { body.now ≡ [] → result ≡ Ok [] }
     ensures no_start { body.now ≢ [] → ¬ (StartsRecord dictionary.now base last body.now)
         → result ≡ Err (BodyFault.Damaged Cause.Body) }
 {
-    let mut records = Records::make(alloc);
+    let mut records = Calls::make(alloc);
     let mut before = base;
     let mut least = last;
     let mut rest = body;

@@ -7,10 +7,11 @@ ghost use Rattle.printf_grammar.specs.declared.piece.Piece.{Piece};
 ghost use Rattle.printf_grammar.specs.Narrow.{IsNarrow};
 ghost use Rattle.printf_grammar.specs.Types.{Types};
 ghost use Rattle.log_dictionary.specs.declared.message.Message.{Message};
-ghost use Rattle.buffer_extent.specs.declared.record.LogRecord.{LogRecord};
+ghost use Rattle.arg_records.specs.declared.call.Call.{Call};
 ghost use Rattle.buffer_extent.specs.Records.{code_bytes, RecordBytes};
 ghost use Rattle.buffer_extent.specs.Writing.{record_room};
-ghost use Rattle.buffer_extent.specs.Bodies.{SpellsRecord, IsRecord, IsBody};
+ghost use Rattle.buffer_extent.specs.Bodies.{SpellsRecord, IsBody};
+ghost use Rattle.arg_records.specs.Calls.{IsCall};
 ghost use Rattle.buffer_extent.specs.Parts.{StartsRecord};
 
 /// A call of id 0 at the stamp 1003, where the step counts from 1000, with the number 7.
@@ -32,9 +33,9 @@ pub fn three_codes_in_two_bytes()
 
 /// No record's spelling is a proper prefix of another's, where both count from one stamp.
 pub fn no_record_begins_another()
-    ensures { (messages : List Message) (before : ℕ) (a b : LogRecord) (front front_too back back_too : List ℕ)
-        → IsRecord messages a
-        → IsRecord messages b
+    ensures { (messages : List Message) (before : ℕ) (a b : Call) (front front_too back back_too : List ℕ)
+        → IsCall messages a
+        → IsCall messages b
         → SpellsRecord messages before a front
         → SpellsRecord messages before b front_too
         → front ++ back ≡ front_too ++ back_too
@@ -43,7 +44,7 @@ pub fn no_record_begins_another()
 
 /// A body spells one list of records.
 pub fn one_list_per_body()
-    ensures { (messages : List Message) (tick last : ℕ) (a b : List LogRecord) (body : List ℕ)
+    ensures { (messages : List Message) (tick last : ℕ) (a b : List Call) (body : List ℕ)
         → IsBody messages tick last a body
         → IsBody messages tick last b body
         → a ≡ b }
@@ -51,7 +52,7 @@ pub fn one_list_per_body()
 
 /// A body that has a record starts as a record does.
 pub fn a_body_starts_with_a_record()
-    ensures { (messages : List Message) (tick last : ℕ) (entry : LogRecord) (entries : List LogRecord) (body : List ℕ)
+    ensures { (messages : List Message) (tick last : ℕ) (entry : Call) (entries : List Call) (body : List ℕ)
         → IsBody messages tick last (entry ∷ entries) body
         → StartsRecord messages tick last body }
 {}

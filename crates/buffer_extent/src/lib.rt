@@ -5,9 +5,9 @@ mod body;
 mod fault;
 mod laws;
 mod put;
-mod record;
 mod take;
 
+pub use arg_records::{Call as LogRecord, Calls as Records};
 pub use body::read_body;
 pub use fault::{BodyFault, Cause};
 pub use laws::{
@@ -15,7 +15,6 @@ pub use laws::{
     no_record_begins_another, one_list_per_body, three_codes_in_two_bytes,
 };
 pub use put::put_record;
-pub use record::{LogRecord, Records};
 
 #[cfg(test)]
 mod tests;

@@ -6,7 +6,7 @@ ghost use Rattle.log_dictionary.specs.declared.message.Message.{Message};
 ghost use Rattle.buffer_extent.specs.Integers.{AreIntegers, TakeIntegers};
 
 use super::*;
-use arg_records::frame_words;
+use arg_records::{Calls, frame_words};
 use log_dictionary::{Dictionary, LineFault};
 use printf_grammar::{Arg, ArgType, Value, fits};
 use std::alloc::{AllocError, Global};
@@ -235,7 +235,7 @@ fn bytes_of_calls(alloc: Global, fields: usize, calls: u16) -> Result<Vec<u8>, A
 }
 
 /// Whether these are the records of the calls.
-fn are_calls(records: &Records, fields: usize, calls: u16) -> bool {
+fn are_calls(records: &Calls, fields: usize, calls: u16) -> bool {
     for call in 0..calls {
         let Some(record) = records.get(usize::from(call)) else {
             return false;

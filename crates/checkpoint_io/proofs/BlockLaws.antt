@@ -10,8 +10,9 @@ use Rattle.log_dictionary.specs.declared.message.Message.{Message}
 use Rattle.log_dictionary.specs.BinaryEntries.{RawEntry, raw_bytes, raw_of, SpellsEntry}
 use Rattle.log_dictionary.proofs.UnescapedLines.{same_message}
 use Rattle.log_dictionary.proofs.BinaryLaws.{same_raw, entry_in_range}
-use Rattle.buffer_extent.specs.declared.record.LogRecord.{LogRecord}
-use Rattle.buffer_extent.specs.Bodies.{SpellsRecords, NeverFalls, IsBody}
+use Rattle.arg_records.specs.declared.call.Call.{Call}
+use Rattle.buffer_extent.specs.Bodies.{SpellsRecords, IsBody}
+use Rattle.arg_records.specs.Calls.{NeverFalls}
 use Rattle.buffer_extent.specs.RecordLaws.{IsBody-unique}
 use Rattle.checkpoint_io.specs.declared.header.Header.{Header}
 use Rattle.checkpoint_io.specs.Blocks.{Block, Fragment, Extent, Close, messages_of, fragment_head_bytes, extent_head_bytes, close_bytes, SpellsEntries, SpellsFragment, SpellsExtent, SpellsClose, SpellsBlock}
@@ -105,7 +106,7 @@ same_fragments first second a b front other rest more p q e =
     let entries = same_entries a b p.entries q.entries rest more counts.0 p.entries_spelled q.entries_spelled counts.1 in
     ((λ i. Fragment (firsts.0 i) (entries.0 i)), p.joined ∙ (λ i. fragment_head_bytes (firsts.0 i) (counts.0 i) ++ entries.1 i) ∙ sym q.joined)
 
-same_extents : (header : Header) (before : List Block) (writer writer2 : ℕ) (a b : List LogRecord) (front other rest more : List ℕ) → GoesOn header before writer a → GoesOn header before writer2 b → SpellsExtent (messages_of before) header.clock.tick writer a front → SpellsExtent (messages_of before) header.clock.tick writer2 b other → front ++ rest ≡ other ++ more → (Extent writer a ≡ Extent writer2 b) × (front ≡ other)
+same_extents : (header : Header) (before : List Block) (writer writer2 : ℕ) (a b : List Call) (front other rest more : List ℕ) → GoesOn header before writer a → GoesOn header before writer2 b → SpellsExtent (messages_of before) header.clock.tick writer a front → SpellsExtent (messages_of before) header.clock.tick writer2 b other → front ++ rest ≡ other ++ more → (Extent writer a ≡ Extent writer2 b) × (front ≡ other)
 same_extents header before writer writer2 a b front other rest more a_right b_right p q e =
     let p_short = p.short in
     let q_short = q.short in

@@ -4,7 +4,7 @@ use Rattle.std.specs.List.{AllByRecursion}
 use Rattle.std.proofs.lemmas.List.{append-nil, length-append, take_at, drop_at, drop_all, length-take}
 use Rattle.log_dictionary.specs.declared.clock.Clock.{Clock}
 use Rattle.log_dictionary.specs.declared.message.Message.{Message}
-use Rattle.buffer_extent.specs.declared.record.LogRecord.{LogRecord}
+use Rattle.arg_records.specs.declared.call.Call.{Call}
 use Rattle.checkpoint_io.specs.declared.header.Header.{Header}
 use Rattle.checkpoint_io.specs.Blocks.{Block, Fragment, Extent, Close, IsFragment, messages_of}
 use Rattle.checkpoint_io.specs.Fronts.{Front}
@@ -67,30 +67,30 @@ full_fragment first front back blocks full rest = (back, refl, refl, inr full, s
 
 -- ---- ids
 
-below_more : (entries : List LogRecord) (m n : ℕ) → m ≤ n → AllByRecursion (λ entry. entry.id < m) entries → AllByRecursion (λ entry. entry.id < n) entries
+below_more : (entries : List Call) (m n : ℕ) → m ≤ n → AllByRecursion (λ entry. entry.id < m) entries → AllByRecursion (λ entry. entry.id < n) entries
 below_more [] m n le all = tt
 below_more (entry ∷ entries) m n le all = let here = all.0 in (omega (arith, le, here), below_more entries m n le all.1)
 
-pub ids_below : (entries : List LogRecord) → AllByRecursion (λ entry. entry.id < ids_used entries) entries
+pub ids_below : (entries : List Call) → AllByRecursion (λ entry. entry.id < ids_used entries) entries
 ids_below [] = tt
 ids_below (entry ∷ entries) = (omega arith, below_more entries (ids_used entries) (ids_used (entry ∷ entries)) (omega arith) (ids_below entries))
 
-pub ids_least : (entries : List LogRecord) (count : ℕ) → AllByRecursion (λ entry. entry.id < count) entries → ids_used entries ≤ count
+pub ids_least : (entries : List Call) (count : ℕ) → AllByRecursion (λ entry. entry.id < count) entries → ids_used entries ≤ count
 ids_least [] count all = omega arith
 ids_least (entry ∷ entries) count all = let here = all.0 in omega (arith, here, ids_least entries count all.1)
 
 -- the messages that are wanted and not defined
-pub new_between : (defined wanted others : List Message) (entries : List LogRecord) → ids_used entries ≡ length (defined ++ wanted) → new_messages (defined ++ wanted ++ others) (length defined) entries ≡ wanted
+pub new_between : (defined wanted others : List Message) (entries : List Call) → ids_used entries ≡ length (defined ++ wanted) → new_messages (defined ++ wanted ++ others) (length defined) entries ≡ wanted
 new_between defined wanted others entries used =
     ap (drop (length defined)) (take_at (defined ++ wanted) others (ids_used entries) (sym used)) ∙ drop_at defined wanted (length defined) refl
 
-pub nothing_new : (dictionary : List Message) (defined : ℕ) (entries : List LogRecord) → ids_used entries ≤ defined → new_messages dictionary defined entries ≡ []
+pub nothing_new : (dictionary : List Message) (defined : ℕ) (entries : List Call) → ids_used entries ≤ defined → new_messages dictionary defined entries ≡ []
 nothing_new dictionary defined entries known = drop_all defined (take (ids_used entries) dictionary) (omega (arith, known, length-take (ids_used entries) dictionary))
 
 -- ---- extents with their fragments
 
 -- fragments in front of an extent end where it stands
-same_place : (fragments others : List Block) (writer writer2 : ℕ) (entries entries2 : List LogRecord) (behind behind2 : List Block) → AllByRecursion IsFragment fragments → AllByRecursion IsFragment others
+same_place : (fragments others : List Block) (writer writer2 : ℕ) (entries entries2 : List Call) (behind behind2 : List Block) → AllByRecursion IsFragment fragments → AllByRecursion IsFragment others
     → fragments ++ Extent writer entries ∷ behind ≡ others ++ Extent writer2 entries2 ∷ behind2
     → (fragments ≡ others) × (Extent writer entries ∷ behind ≡ Extent writer2 entries2 ∷ behind2)
 same_place [] [] writer writer2 entries entries2 behind behind2 p q e = (refl, e)
@@ -108,18 +108,18 @@ same_place (Fragment id front ∷ fragments) (Close w ∷ others) writer writer2
 same_place (Extent w d ∷ fragments) others writer writer2 entries entries2 behind behind2 p q e = absurd p.0
 same_place (Close w ∷ fragments) others writer writer2 entries entries2 behind behind2 p q e = absurd p.0
 
-no_close : (fragments : List Block) (writer writer2 : ℕ) (entries : List LogRecord) (behind behind2 : List Block) → AllByRecursion IsFragment fragments → Close writer ∷ behind ≡ fragments ++ Extent writer2 entries ∷ behind2 → ⊥
+no_close : (fragments : List Block) (writer writer2 : ℕ) (entries : List Call) (behind behind2 : List Block) → AllByRecursion IsFragment fragments → Close writer ∷ behind ≡ fragments ++ Extent writer2 entries ∷ behind2 → ⊥
 no_close [] writer writer2 entries behind behind2 all e = cc
 no_close (Fragment id front ∷ fragments) writer writer2 entries behind behind2 all e = cc
 no_close (Extent w d ∷ fragments) writer writer2 entries behind behind2 all e = all.0
 no_close (Close w ∷ fragments) writer writer2 entries behind behind2 all e = all.0
 
 -- an extent, with the fragments that it wants, and what is laid out behind it
-abbrev AtExtent : List Message → ℕ → List Block → List Block → ℕ → List LogRecord → List Block → Type 0
+abbrev AtExtent : List Message → ℕ → List Block → List Block → ℕ → List Call → List Block → Type 0
 AtExtent dictionary batch before fragments writer entries others =
     AreFragments (length (messages_of before)) (new_messages dictionary (length (messages_of before)) entries) fragments × IsLaidOut dictionary batch (before ++ fragments ++ Extent writer entries ∷ []) others
 
-pub at_extent : (dictionary : List Message) (batch : ℕ) (before blocks fragments : List Block) (writer : ℕ) (entries : List LogRecord) (others : List Block) → IsLaidOut dictionary batch before blocks → blocks ≡ fragments ++ Extent writer entries ∷ others → AllByRecursion IsFragment fragments → AtExtent dictionary batch before fragments writer entries others
+pub at_extent : (dictionary : List Message) (batch : ℕ) (before blocks fragments : List Block) (writer : ℕ) (entries : List Call) (others : List Block) → IsLaidOut dictionary batch before blocks → blocks ≡ fragments ++ Extent writer entries ∷ others → AllByRecursion IsFragment fragments → AtExtent dictionary batch before fragments writer entries others
 at_extent dictionary batch _ _ fragments writer entries others (ends before) e all = absurd (omega (arith, ap length e, length-append fragments (Extent writer entries ∷ others)))
 at_extent dictionary batch _ _ fragments writer entries others (extent before fragments2 writer2 entries2 others2 are few rest) e all =
     let alone = fragments_alone (length (messages_of before)) (new_messages dictionary (length (messages_of before)) entries2) fragments2 are in
@@ -130,17 +130,17 @@ at_extent dictionary batch _ _ fragments writer entries others (extent before fr
     let behind : others2 ≡ others = cc in
     subst (λ (f : List Block). AtExtent dictionary batch before f writer entries others) same.0
     (subst (AtExtent dictionary batch before fragments2 writer entries) behind
-    (subst (λ (l : List LogRecord). AtExtent dictionary batch before fragments2 writer l others2) records
+    (subst (λ (l : List Call). AtExtent dictionary batch before fragments2 writer l others2) records
     (subst (λ (n : ℕ). AtExtent dictionary batch before fragments2 n entries2 others2) writers (are, rest))))
 at_extent dictionary batch _ _ fragments writer entries others (close before writer2 others2 rest) e all = absurd (no_close fragments writer2 writer entries others2 others all e)
 
-pub wanted_fragments : (dictionary : List Message) (batch : ℕ) (before fragments : List Block) (writer : ℕ) (entries : List LogRecord) (others : List Block) → IsLaidOut dictionary batch before (fragments ++ Extent writer entries ∷ others) → AllByRecursion IsFragment fragments → AreFragments (length (messages_of before)) (new_messages dictionary (length (messages_of before)) entries) fragments
+pub wanted_fragments : (dictionary : List Message) (batch : ℕ) (before fragments : List Block) (writer : ℕ) (entries : List Call) (others : List Block) → IsLaidOut dictionary batch before (fragments ++ Extent writer entries ∷ others) → AllByRecursion IsFragment fragments → AreFragments (length (messages_of before)) (new_messages dictionary (length (messages_of before)) entries) fragments
 wanted_fragments dictionary batch before fragments writer entries others laid all = (at_extent dictionary batch before (fragments ++ Extent writer entries ∷ others) fragments writer entries others laid refl all).0
 
-pub laid_out_behind : (dictionary : List Message) (batch : ℕ) (before fragments : List Block) (writer : ℕ) (entries : List LogRecord) (others : List Block) → IsLaidOut dictionary batch before (fragments ++ Extent writer entries ∷ others) → AllByRecursion IsFragment fragments → IsLaidOut dictionary batch (before ++ fragments ++ Extent writer entries ∷ []) others
+pub laid_out_behind : (dictionary : List Message) (batch : ℕ) (before fragments : List Block) (writer : ℕ) (entries : List Call) (others : List Block) → IsLaidOut dictionary batch before (fragments ++ Extent writer entries ∷ others) → AllByRecursion IsFragment fragments → IsLaidOut dictionary batch (before ++ fragments ++ Extent writer entries ∷ []) others
 laid_out_behind dictionary batch before fragments writer entries others laid all = (at_extent dictionary batch before (fragments ++ Extent writer entries ∷ others) fragments writer entries others laid refl all).1
 
-extent_among : (fragments : List Block) (writer : ℕ) (entries : List LogRecord) (others : List Block) → ¬ (AllByRecursion IsFragment (fragments ++ Extent writer entries ∷ others))
+extent_among : (fragments : List Block) (writer : ℕ) (entries : List Call) (others : List Block) → ¬ (AllByRecursion IsFragment (fragments ++ Extent writer entries ∷ others))
 extent_among [] writer entries others all = all.0
 extent_among (block ∷ fragments) writer entries others all = extent_among fragments writer entries others all.1
 
@@ -168,5 +168,5 @@ laid_out_join dictionary batch _ _ more (close before writer others rest) q =
 -- ---- the run
 
 -- the front of a log of a run is the log
-pub front_of_run : (bytes : List ℕ) (taken : List (List LogRecord)) (dictionary : List Message) (clock : Clock) (batch : ℕ) (header : Header) (blocks : List Block) (count : ℕ) → (log : LogOf bytes taken dictionary clock batch) → Front bytes header blocks count → (header ≡ log.header) × (blocks ≡ log.blocks) × (count ≡ length bytes)
+pub front_of_run : (bytes : List ℕ) (taken : List (List Call)) (dictionary : List Message) (clock : Clock) (batch : ℕ) (header : Header) (blocks : List Block) (count : ℕ) → (log : LogOf bytes taken dictionary clock batch) → Front bytes header blocks count → (header ≡ log.header) × (blocks ≡ log.blocks) × (count ≡ length bytes)
 front_of_run bytes taken dictionary clock batch header blocks count log front = one_front bytes header log.header blocks log.blocks count (length bytes) front (whole_is_front log.header log.blocks bytes log.file log.valid)

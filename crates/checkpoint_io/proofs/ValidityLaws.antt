@@ -9,8 +9,8 @@ use Rattle.std.proofs.lemmas.List.Folds.{list_any-append}
 use Rattle.std.proofs.lemmas.Grind.{flat_map-append}
 use Rattle.log_dictionary.specs.declared.message.Message.{Message}
 use Rattle.log_dictionary.specs.Messages.{AreDistinct}
-use Rattle.buffer_extent.specs.declared.record.LogRecord.{LogRecord}
-use Rattle.buffer_extent.specs.Bodies.{IsRecord, NeverFalls}
+use Rattle.arg_records.specs.declared.call.Call.{Call}
+use Rattle.arg_records.specs.Calls.{IsCall, NeverFalls}
 use Rattle.checkpoint_io.specs.declared.header.Header.{Header}
 use Rattle.checkpoint_io.specs.Blocks.{Block, Fragment, Extent, Close, block_messages, messages_of}
 use Rattle.checkpoint_io.specs.Validity.{block_records, records_of, last_stamp, closes, IsClosed, IsOf, IsRightAfter, AreRightAfter, Valid}
@@ -22,7 +22,7 @@ messages-push before block = flat_map-append block_messages before (block ∷ []
 
 pub records-push : (writer : ℕ) (before : List Block) (block : Block) → records_of writer (before ++ block ∷ []) ≡ records_of writer before ++ block_records writer block
 records-push writer before block =
-    flat_map-append (block_records writer) before (block ∷ []) ∙ ap (λ (l : List LogRecord). records_of writer before ++ l) (append-nil (block_records writer block))
+    flat_map-append (block_records writer) before (block ∷ []) ∙ ap (λ (l : List Call). records_of writer before ++ l) (append-nil (block_records writer block))
 
 -- two runs, one behind the other
 pub AreRightAfter-split : (header : Header) (before blocks others : List Block) → AreRightAfter header before (blocks ++ others) → AreRightAfter header before blocks × AreRightAfter header (before ++ blocks) others
@@ -63,11 +63,11 @@ messages_differ header blocks valid = distinct_after header [] blocks valid.bloc
 
 -- ---- stamps
 
-NeverFalls-append : (least : ℕ) (xs ys : List LogRecord) → NeverFalls least xs → NeverFalls (last_stamp least xs) ys → NeverFalls least (xs ++ ys)
+NeverFalls-append : (least : ℕ) (xs ys : List Call) → NeverFalls least xs → NeverFalls (last_stamp least xs) ys → NeverFalls least (xs ++ ys)
 NeverFalls-append least [] ys p q = q
 NeverFalls-append least (x ∷ xs) ys p q = (p.0, NeverFalls-append x.stamp xs ys p.1 q)
 
-rising_records : (tick writer w : ℕ) (old entries : List LogRecord) → (w ≡ writer → NeverFalls (last_stamp tick old) entries) → NeverFalls tick old → NeverFalls tick (old ++ (cond (eqb w writer) entries []))
+rising_records : (tick writer w : ℕ) (old entries : List Call) → (w ≡ writer → NeverFalls (last_stamp tick old) entries) → NeverFalls tick old → NeverFalls tick (old ++ (cond (eqb w writer) entries []))
 rising_records tick writer w old entries rising p =
     elim (eqb_tells w writer) [
       | inl own ↦ subst (λ (b : Bool). NeverFalls tick (old ++ (cond b entries []))) (sym own.0) (NeverFalls-append tick old entries p (rising own.1))
@@ -97,41 +97,41 @@ slice_get-front [] more id message e = cc
 slice_get-front (m ∷ messages) more zero message e = e
 slice_get-front (m ∷ messages) more (suc id) message e = slice_get-front messages more id message e
 
-IsRecord-front : (messages more : List Message) (entries : List LogRecord) → AllByRecursion (IsRecord messages) entries → AllByRecursion (IsRecord (messages ++ more)) entries
+IsRecord-front : (messages more : List Message) (entries : List Call) → AllByRecursion (IsCall messages) entries → AllByRecursion (IsCall (messages ++ more)) entries
 IsRecord-front messages more [] all = tt
 IsRecord-front messages more (entry ∷ entries) all =
     let is = all.0 in
     (record { message = is.message; known = slice_get-front messages more entry.id is.message is.known; fits = is.fits; short = is.short }, IsRecord-front messages more entries all.1)
 
-IsRecord-append : (messages : List Message) (xs ys : List LogRecord) → AllByRecursion (IsRecord messages) xs → AllByRecursion (IsRecord messages) ys → AllByRecursion (IsRecord messages) (xs ++ ys)
+IsRecord-append : (messages : List Message) (xs ys : List Call) → AllByRecursion (IsCall messages) xs → AllByRecursion (IsCall messages) ys → AllByRecursion (IsCall messages) (xs ++ ys)
 IsRecord-append messages [] ys p q = q
 IsRecord-append messages (x ∷ xs) ys p q = (p.0, IsRecord-append messages xs ys p.1 q)
 
-right_block : (header : Header) (writer : ℕ) (before : List Block) (block : Block) → IsRightAfter header before block → AllByRecursion (IsRecord (messages_of before)) (block_records writer block)
+right_block : (header : Header) (writer : ℕ) (before : List Block) (block : Block) → IsRightAfter header before block → AllByRecursion (IsCall (messages_of before)) (block_records writer block)
 right_block header writer before (Fragment first messages) right = tt
 right_block header writer before (Extent w entries) right =
     elim (eqb_tells w writer) [
-      | inl own ↦ subst (λ (b : Bool). AllByRecursion (IsRecord (messages_of before)) (cond b entries [])) (sym own.0) right.right
-      | inr other ↦ subst (λ (b : Bool). AllByRecursion (IsRecord (messages_of before)) (cond b entries [])) (sym other.0) tt
+      | inl own ↦ subst (λ (b : Bool). AllByRecursion (IsCall (messages_of before)) (cond b entries [])) (sym own.0) right.right
+      | inr other ↦ subst (λ (b : Bool). AllByRecursion (IsCall (messages_of before)) (cond b entries [])) (sym other.0) tt
     ]
 right_block header writer before (Close w) right = tt
 
-right_after : (header : Header) (writer : ℕ) (before blocks : List Block) → AreRightAfter header before blocks → AllByRecursion (IsRecord (messages_of before)) (records_of writer before) → AllByRecursion (IsRecord (messages_of (before ++ blocks))) (records_of writer (before ++ blocks))
-right_after header writer before [] all old = subst (λ (b : List Block). AllByRecursion (IsRecord (messages_of b)) (records_of writer b)) (sym (append-nil before)) old
+right_after : (header : Header) (writer : ℕ) (before blocks : List Block) → AreRightAfter header before blocks → AllByRecursion (IsCall (messages_of before)) (records_of writer before) → AllByRecursion (IsCall (messages_of (before ++ blocks))) (records_of writer (before ++ blocks))
+right_after header writer before [] all old = subst (λ (b : List Block). AllByRecursion (IsCall (messages_of b)) (records_of writer b)) (sym (append-nil before)) old
 right_after header writer before (block ∷ blocks) all old =
     let own = IsRecord-append (messages_of before) (records_of writer before) (block_records writer block) old (right_block header writer before block all.0) in
     let more = IsRecord-front (messages_of before) (block_messages block) (records_of writer before ++ block_records writer block) own in
-    let named = subst (λ (m : List Message). AllByRecursion (IsRecord m) (records_of writer before ++ block_records writer block)) (sym (messages-push before block)) more in
-    let here = subst (AllByRecursion (IsRecord (messages_of (before ++ block ∷ [])))) (sym (records-push writer before block)) named in
-    subst (λ (b : List Block). AllByRecursion (IsRecord (messages_of b)) (records_of writer b)) (append_assoc before (block ∷ []) blocks) (right_after header writer (before ++ block ∷ []) blocks all.1 here)
+    let named = subst (λ (m : List Message). AllByRecursion (IsCall m) (records_of writer before ++ block_records writer block)) (sym (messages-push before block)) more in
+    let here = subst (AllByRecursion (IsCall (messages_of (before ++ block ∷ [])))) (sym (records-push writer before block)) named in
+    subst (λ (b : List Block). AllByRecursion (IsCall (messages_of b)) (records_of writer b)) (append_assoc before (block ∷ []) blocks) (right_after header writer (before ++ block ∷ []) blocks all.1 here)
 
 -- the records of an extent, and of others
-pub own_records : (writer : ℕ) (before : List Block) (entries : List LogRecord) (others : List Block) → records_of writer (before ++ Extent writer entries ∷ others) ≡ records_of writer before ++ (entries ++ records_of writer others)
+pub own_records : (writer : ℕ) (before : List Block) (entries : List Call) (others : List Block) → records_of writer (before ++ Extent writer entries ∷ others) ≡ records_of writer before ++ (entries ++ records_of writer others)
 own_records writer before entries others =
     flat_map-append (block_records writer) before (Extent writer entries ∷ others)
     ∙ ap (λ (b : Bool). records_of writer before ++ (cond b entries [] ++ records_of writer others)) (eq-eqb writer writer refl)
 
-pub other_records : (writer another : ℕ) (before : List Block) (entries : List LogRecord) (others : List Block) → another ≢ writer → records_of writer (before ++ Extent another entries ∷ others) ≡ records_of writer before ++ records_of writer others
+pub other_records : (writer another : ℕ) (before : List Block) (entries : List Call) (others : List Block) → another ≢ writer → records_of writer (before ++ Extent another entries ∷ others) ≡ records_of writer before ++ records_of writer others
 other_records writer another before entries others differs =
     flat_map-append (block_records writer) before (Extent another entries ∷ others)
     ∙ elim (eqb_tells another writer) [
@@ -139,12 +139,12 @@ other_records writer another before entries others differs =
       | inr other ↦ ap (λ (b : Bool). records_of writer before ++ (cond b entries [] ++ records_of writer others)) other.0
     ]
 
-pub last_stamp-push : (least : ℕ) (entries : List LogRecord) (entry : LogRecord) → last_stamp least (entries ++ entry ∷ []) ≡ entry.stamp
+pub last_stamp-push : (least : ℕ) (entries : List Call) (entry : Call) → last_stamp least (entries ++ entry ∷ []) ≡ entry.stamp
 last_stamp-push least [] entry = refl
 last_stamp-push least (first ∷ entries) entry = last_stamp-push first.stamp entries entry
 
 -- each record names a message of the log and fits it
-pub records_fit : (header : Header) (blocks : List Block) (writer : ℕ) → Valid header blocks → AllByRecursion (IsRecord (messages_of blocks)) (records_of writer blocks)
+pub records_fit : (header : Header) (blocks : List Block) (writer : ℕ) → Valid header blocks → AllByRecursion (IsCall (messages_of blocks)) (records_of writer blocks)
 records_fit header blocks writer valid = right_after header writer [] blocks valid.blocks_right tt
 
 -- ---- places
@@ -153,7 +153,7 @@ right_at : (header : Header) (before : List Block) (block : Block) (others : Lis
 right_at header before block others valid = (AreRightAfter-split header [] before (block ∷ others) valid.blocks_right).1.0
 
 -- each record names a message that was defined before it
-pub records_defined : (header : Header) (before : List Block) (writer : ℕ) (entries : List LogRecord) (others : List Block) → Valid header (before ++ Extent writer entries ∷ others) → AllByRecursion (IsRecord (messages_of before)) entries
+pub records_defined : (header : Header) (before : List Block) (writer : ℕ) (entries : List Call) (others : List Block) → Valid header (before ++ Extent writer entries ∷ others) → AllByRecursion (IsCall (messages_of before)) entries
 records_defined header before writer entries others valid = (right_at header before (Extent writer entries) others valid).right
 
 -- a close mark closes its writer, and nothing else does

@@ -5,15 +5,17 @@ use Rattle.std.specs.Hash.{le_bytes}
 use Rattle.printf_grammar.specs.Spelling.{Spells}
 use Rattle.nibble_pack.specs.Packing.{IsLeastCount, small}
 use Rattle.log_dictionary.specs.BinaryEntries.{SpellsEntry}
-use Rattle.buffer_extent.specs.Bodies.{SpellsRecord, IsRecord}
+use Rattle.buffer_extent.specs.Bodies.{SpellsRecord}
+use Rattle.arg_records.specs.Calls.{IsCall}
 use Rattle.checkpoint_io.specs.Blocks.{Fragment, Close, SpellsFragment, SpellsExtent, FileOf}
 use Rattle.checkpoint_io.specs.Validity.{Valid}
 use Rattle.checkpoint_io.specs.Logs.{IsLaidOut, ends, extent, close, LogOf}
-use Rattle.checkpoint_io.specs.Rows.{row_pieces, row_message, row_record, row_header, row_blocks, row_entry_bytes, row_fragment_bytes, row_body, row_extent_bytes, row_bytes, full_message, full_record, mixed_blocks}
+use Rattle.checkpoint_io.specs.Rows.{row_record, row_header, row_blocks, row_entry_bytes, row_fragment_bytes, row_body, row_extent_bytes, row_bytes, full_record, mixed_blocks}
+use Rattle.arg_records.specs.Rows.{row_message, full_message}
 
 -- ---- the message
 
-formed : Spells (codes "x=%d") row_pieces
+formed : Spells (codes "x=%d") row_message.format.pieces
 formed = record {
   short = lit≤ tt;
   few = lit≤ tt;
@@ -86,7 +88,7 @@ record_spelled = record {
   };
 }
 
-is_record : IsRecord (row_message ∷ []) row_record
+is_record : IsCall (row_message ∷ []) row_record
 is_record = record { message = row_message; known = refl; fits = (record { sfits = omega arith }, tt); short = lit≤ tt }
 
 extent_spelled : SpellsExtent (row_message ∷ []) 1000 0 (row_record ∷ []) row_extent_bytes

@@ -4,14 +4,14 @@ use Rattle.std.specs.List.{flat_map}
 use Rattle.std.specs.Hash.{le_bytes}
 use Rattle.log_dictionary.specs.declared.message.Message.{Message}
 use Rattle.log_dictionary.specs.BinaryEntries.{SpellsEntry}
-use Rattle.buffer_extent.specs.declared.record.LogRecord.{LogRecord}
+use Rattle.arg_records.specs.declared.call.Call.{Call}
 use Rattle.buffer_extent.specs.Bodies.{SpellsRecords}
 use Rattle.checkpoint_io.specs.declared.header.Header.{Header}
 
 -- a block: messages with ids that count from the first one, records of a writer, or the mark that closes a writer
 pub data Block : Type 0 where
   Fragment : (first : ℕ) (messages : List Message) → Block
-  Extent : (writer : ℕ) (entries : List LogRecord) → Block
+  Extent : (writer : ℕ) (entries : List Call) → Block
   Close : (writer : ℕ) → Block
 
 -- the block is one of messages
@@ -64,7 +64,7 @@ pub record SpellsFragment (first : ℕ) (messages : List Message) (bytes : List 
   pub joined : bytes ≡ fragment_head_bytes first (length messages) ++ entries
 
 -- the head, and a body of 1 to 65536 bytes, which is the records' spellings, joined; the first step counts from the tick
-pub record SpellsExtent (messages : List Message) (tick writer : ℕ) (entries : List LogRecord) (bytes : List ℕ) : Type 0 where
+pub record SpellsExtent (messages : List Message) (tick writer : ℕ) (entries : List Call) (bytes : List ℕ) : Type 0 where
   pub body : List ℕ
   pub some : 1 ≤ length body
   pub short : length body ≤ 65536

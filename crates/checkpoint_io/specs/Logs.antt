@@ -3,13 +3,13 @@ use Rattle.std.specs.Prelude.{◌≡◌, ◌⊎◌, ℕ, ◌+◌, ◌≤◌, Lis
 use Rattle.std.specs.List.{range_with_len}
 use Rattle.log_dictionary.specs.declared.message.Message.{Message}
 use Rattle.log_dictionary.specs.declared.clock.Clock.{Clock}
-use Rattle.buffer_extent.specs.declared.record.LogRecord.{LogRecord}
+use Rattle.arg_records.specs.declared.call.Call.{Call}
 use Rattle.checkpoint_io.specs.declared.header.Header.{Header}
 use Rattle.checkpoint_io.specs.Blocks.{Block, Fragment, Extent, Close, messages_of, FileOf}
 use Rattle.checkpoint_io.specs.Validity.{records_of, Valid}
 
 -- one more than the greatest id of the records; 0 where there are none
-abbrev pub ids_used : List LogRecord → ℕ
+abbrev pub ids_used : List Call → ℕ
 ids_used [] = 0
 ids_used (entry ∷ entries) = max (entry.id + 1) (ids_used entries)
 
@@ -22,7 +22,7 @@ AreFragments first messages (Extent writer entries ∷ blocks) = ⊥
 AreFragments first messages (Close writer ∷ blocks) = ⊥
 
 -- the messages whose ids are used by the records and aren't defined yet
-abbrev pub new_messages : List Message → ℕ → List LogRecord → List Message
+abbrev pub new_messages : List Message → ℕ → List Call → List Message
 new_messages dictionary defined entries = drop defined (take (ids_used entries) dictionary)
 
 -- the block has at most so many records
@@ -35,7 +35,7 @@ HasAtMost batch (Close writer) = Unit {0}
 -- and close marks. There are no other fragments.
 pub data IsLaidOut (dictionary : List Message) (batch : ℕ) : List Block → List Block → Type 0 where
   ends : (before : List Block) → IsLaidOut dictionary batch before []
-  extent : (before fragments : List Block) (writer : ℕ) (entries : List LogRecord) (others : List Block)
+  extent : (before fragments : List Block) (writer : ℕ) (entries : List Call) (others : List Block)
       → AreFragments (length (messages_of before)) (new_messages dictionary (length (messages_of before)) entries) fragments
       → length entries ≤ batch
       → IsLaidOut dictionary batch (before ++ fragments ++ Extent writer entries ∷ []) others
@@ -46,7 +46,7 @@ pub data IsLaidOut (dictionary : List Message) (batch : ℕ) : List Block → Li
 
 -- The bytes are the log of calls that were taken, per writer. The header has the clock and the number of writers, the messages are those of
 -- the dictionary, from its front, and the records of each writer are its calls, in their order.
-pub record LogOf (bytes : List ℕ) (taken : List (List LogRecord)) (dictionary : List Message) (clock : Clock) (batch : ℕ) : Type 0 where
+pub record LogOf (bytes : List ℕ) (taken : List (List Call)) (dictionary : List Message) (clock : Clock) (batch : ℕ) : Type 0 where
   pub header : Header
   pub blocks : List Block
   pub file : FileOf header blocks bytes

@@ -1,36 +1,13 @@
 -- A worked log: one message, and one call of it. And blocks of two messages and two writers.
-use Rattle.std.specs.Prelude.{ℕ, pos, List, [], ◌∷◌, ◌++◌, codes, false}
-use Rattle.std.proofs.Common.{lit≤}
-use Rattle.printf_grammar.specs.declared.piece.Piece.{Piece}
-use Rattle.printf_grammar.specs.declared.piece.Piece.TheVariants.{Literal, Field}
-use Rattle.printf_grammar.specs.declared.piece.Size.TheVariants.{Absent}
-use Rattle.printf_grammar.specs.declared.piece.Length.TheVariants.{Plain}
-use Rattle.printf_grammar.specs.declared.piece.Conversion.TheVariants.{D}
-use Rattle.printf_grammar.specs.declared.argument.Value.TheVariants.{Signed}
-use Rattle.log_dictionary.specs.declared.severity.Severity.TheVariants.{Notice, Warning}
-use Rattle.log_dictionary.specs.declared.message.Message.{Message}
-use Rattle.buffer_extent.specs.declared.record.LogRecord.{LogRecord}
+use Rattle.std.specs.Prelude.{ℕ, List, [], ◌∷◌, ◌++◌}
+use Rattle.arg_records.specs.declared.call.Call.{Call}
+use Rattle.arg_records.specs.Rows.{row_message, row_call, full_message, full_call}
 use Rattle.checkpoint_io.specs.declared.header.Header.{Header}
 use Rattle.checkpoint_io.specs.Blocks.{Block, Fragment, Extent, Close}
 
--- `x=`, and `%d` with nothing between
-abbrev pub row_pieces : List Piece
-row_pieces =
-    Literal 0 2 ∷ Field (record { minus = false; plus = false; space = false; sharp = false; zero = false; width = Absent; precision = Absent; length = Plain; conversion = D }) ∷ []
-
--- a message at line 12 of `srv.cc` with the format `x=%d`
-abbrev pub row_message : Message
-row_message = record {
-  file = codes "srv.cc";
-  line = 12;
-  severity = Notice;
-  format = record { bytes = codes "x=%d"; pieces = row_pieces };
-  file_length = (lit≤ tt, lit≤ tt);
-}
-
--- a call of it, three ticks after the clock's
-abbrev pub row_record : LogRecord
-row_record = record { stamp = 1003; id = 0; args = Signed (pos 7) ∷ [] }
+-- a call three ticks after the clock's
+abbrev pub row_record : Call
+row_record = row_call 7
 
 abbrev pub row_header : Header
 row_header = record { writers = 1; clock = record { tick = 1000; nanos = 1514764800000000000; rate = 2000000000 } }
@@ -38,19 +15,9 @@ row_header = record { writers = 1; clock = record { tick = 1000; nanos = 1514764
 abbrev pub row_blocks : List Block
 row_blocks = Fragment 0 (row_message ∷ []) ∷ Extent 0 (row_record ∷ []) ∷ Close 0 ∷ []
 
--- a message with no field, at line 30 of `disk.cc` with the format `full`
-abbrev pub full_message : Message
-full_message = record {
-  file = codes "disk.cc";
-  line = 30;
-  severity = Warning;
-  format = record { bytes = codes "full"; pieces = Literal 0 4 ∷ [] };
-  file_length = (lit≤ tt, lit≤ tt);
-}
-
--- a call of it behind the other message
-abbrev pub full_record : LogRecord
-full_record = record { stamp = 1004; id = 1; args = [] }
+-- a call of the other message
+abbrev pub full_record : Call
+full_record = full_call 1004
 
 -- each message stands right in front of the first extent that wants it
 abbrev pub mixed_blocks : List Block

@@ -3,23 +3,23 @@ use Rattle.std.specs.Prelude.{◌≡◌, ℕ, ◌<◌, ◌≤◌, ◌^◌, Bool,
 use Rattle.std.specs.List.{AllByRecursion, flat_map, list_any}
 use Rattle.log_dictionary.specs.declared.message.Message.{Message}
 use Rattle.log_dictionary.specs.Messages.{AreDistinct}
-use Rattle.buffer_extent.specs.declared.record.LogRecord.{LogRecord}
-use Rattle.buffer_extent.specs.Bodies.{IsRecord, NeverFalls}
+use Rattle.arg_records.specs.declared.call.Call.{Call}
+use Rattle.arg_records.specs.Calls.{IsCall, NeverFalls}
 use Rattle.checkpoint_io.specs.declared.header.Header.{Header}
 use Rattle.checkpoint_io.specs.Blocks.{Block, Fragment, Extent, Close, messages_of}
 
 -- the records of a writer in a block
-abbrev pub block_records : ℕ → Block → List LogRecord
+abbrev pub block_records : ℕ → Block → List Call
 block_records writer (Fragment first messages) = []
 block_records writer (Extent w entries) = if w == writer then entries else []
 block_records writer (Close w) = []
 
 -- the records of a writer's extents, joined
-abbrev pub records_of : ℕ → List Block → List LogRecord
+abbrev pub records_of : ℕ → List Block → List Call
 records_of writer blocks = flat_map (block_records writer) blocks
 
 -- the stamp of the last of the records, or the least stamp where there is none
-abbrev pub last_stamp : ℕ → List LogRecord → ℕ
+abbrev pub last_stamp : ℕ → List Call → ℕ
 last_stamp least [] = least
 last_stamp least (entry ∷ entries) = last_stamp entry.stamp entries
 
@@ -51,9 +51,9 @@ pub record DefinesNext (before : List Block) (first : ℕ) (messages : List Mess
   pub few : length (messages_of before ++ messages) ≤ 65536
 
 -- The records are those of a writer that may still write. Each names a message that was defined before, and no stamp falls.
-pub record GoesOn (header : Header) (before : List Block) (writer : ℕ) (entries : List LogRecord) : Type 0 where
+pub record GoesOn (header : Header) (before : List Block) (writer : ℕ) (entries : List Call) : Type 0 where
   pub writer_open : IsOpen header before writer
-  pub right : AllByRecursion (IsRecord (messages_of before)) entries
+  pub right : AllByRecursion (IsCall (messages_of before)) entries
   pub rising : NeverFalls (last_stamp header.clock.tick (records_of writer before)) entries
 
 -- the block keeps the rules behind the blocks before it

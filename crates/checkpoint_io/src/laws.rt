@@ -6,13 +6,15 @@ ghost use Rattle.log_dictionary.specs.declared.clock.Clock.{Clock};
 ghost use Rattle.log_dictionary.specs.declared.message.Message.{Message};
 ghost use Rattle.log_dictionary.specs.Messages.{AreDistinct};
 ghost use Rattle.log_dictionary.specs.BinaryEntries.{SpellsEntry};
-ghost use Rattle.buffer_extent.specs.declared.record.LogRecord.{LogRecord};
-ghost use Rattle.buffer_extent.specs.Bodies.{SpellsRecords, IsRecord, NeverFalls};
+ghost use Rattle.arg_records.specs.declared.call.Call.{Call};
+ghost use Rattle.buffer_extent.specs.Bodies.{SpellsRecords};
+ghost use Rattle.arg_records.specs.Calls.{IsCall, NeverFalls};
 ghost use Rattle.checkpoint_io.specs.declared.header.Header.{Header};
 ghost use Rattle.checkpoint_io.specs.Blocks.{Block, Fragment, Extent, Close, IsFragment, messages_of, header_bytes, fragment_head_bytes, extent_head_bytes, close_bytes, SpellsEntries, SpellsFragment, SpellsExtent, SpellsClose, SpellsBlock, FileOf};
 ghost use Rattle.checkpoint_io.specs.Fronts.{Front, HasNoHeader};
 ghost use Rattle.checkpoint_io.specs.Logs.{ids_used, new_messages, AreFragments, HasAtMost, IsLaidOut, LogOf};
-ghost use Rattle.checkpoint_io.specs.Rows.{row_header, row_blocks, row_bytes, row_message, row_record, full_message, full_record, mixed_blocks};
+ghost use Rattle.checkpoint_io.specs.Rows.{row_header, row_blocks, row_bytes, row_record, full_record, mixed_blocks};
+ghost use Rattle.arg_records.specs.Rows.{row_message, full_message};
 ghost use Rattle.checkpoint_io.specs.Validity.{records_of, last_stamp, IsClosed, IsOf, IsRightAfter, IsHeader, Valid};
 
 /// A log of 68 bytes: a message, a call of it, and a close mark.
@@ -58,19 +60,19 @@ pub fn fragments_are_within_limits()
 /// An extent has a record, and a body of 1 to 65,536 bytes behind a head of six. Its writer fits a
 /// byte, and so does that of a close mark.
 pub fn extents_are_within_limits()
-    ensures right { (messages : List Message) (tick writer : ℕ) (entries : List LogRecord) (body : List ℕ)
+    ensures right { (messages : List Message) (tick writer : ℕ) (entries : List Call) (body : List ℕ)
         → 1 ≤ length body
         → length body ≤ 65536
         → writer < 2 ^ 8
         → SpellsRecords messages tick entries body
         → SpellsExtent messages tick writer entries (extent_head_bytes writer (length body) ++ body) }
-    ensures some { (messages : List Message) (tick writer : ℕ) (entries : List LogRecord) (bytes : List ℕ)
+    ensures some { (messages : List Message) (tick writer : ℕ) (entries : List Call) (bytes : List ℕ)
         → SpellsExtent messages tick writer entries bytes → 6 < length bytes }
-    ensures short { (messages : List Message) (tick writer : ℕ) (entries : List LogRecord) (bytes : List ℕ)
+    ensures short { (messages : List Message) (tick writer : ℕ) (entries : List Call) (bytes : List ℕ)
         → SpellsExtent messages tick writer entries bytes → length bytes ≤ 6 + 65536 }
     ensures some_record { (messages : List Message) (tick writer : ℕ) (bytes : List ℕ)
         → ¬ (SpellsExtent messages tick writer [] bytes) }
-    ensures fits { (messages : List Message) (tick writer : ℕ) (entries : List LogRecord) (bytes : List ℕ)
+    ensures fits { (messages : List Message) (tick writer : ℕ) (entries : List Call) (bytes : List ℕ)
         → SpellsExtent messages tick writer entries bytes → writer < 2 ^ 8 }
     ensures right_close { (writer : ℕ) → writer < 2 ^ 8 → SpellsClose writer (close_bytes writer) }
     ensures close_fits { (writer : ℕ) (bytes : List ℕ) → SpellsClose writer bytes → writer < 2 ^ 8 }
@@ -166,10 +168,10 @@ pub fn logs_go_on()
         → AreDistinct (messages_of before ++ messages)
         → length (messages_of before ++ messages) ≤ 65536
         → IsRightAfter header before (Fragment (length (messages_of before)) messages) }
-    ensures extent { (header : Header) (before : List Block) (writer : ℕ) (entries : List LogRecord)
+    ensures extent { (header : Header) (before : List Block) (writer : ℕ) (entries : List Call)
         → writer < header.writers
         → ¬ (IsClosed writer before)
-        → AllByRecursion (IsRecord (messages_of before)) entries
+        → AllByRecursion (IsCall (messages_of before)) entries
         → NeverFalls (last_stamp header.clock.tick (records_of writer before)) entries
         → IsRightAfter header before (Extent writer entries) }
     ensures close { (header : Header) (before : List Block) (writer : ℕ) → writer < header.writers
@@ -180,16 +182,16 @@ pub fn logs_go_on()
 /// A writer's records are those of its extents, in the order of the blocks, and its last stamp is
 /// that of the last of them.
 pub fn extents_have_the_records_of_their_writers()
-    ensures own { (writer : ℕ) (before : List Block) (entries : List LogRecord) (others : List Block)
+    ensures own { (writer : ℕ) (before : List Block) (entries : List Call) (others : List Block)
         → records_of writer (before ++ Extent writer entries ∷ others)
         ≡ records_of writer before ++ (entries ++ records_of writer others) }
-    ensures another { (writer another : ℕ) (before : List Block) (entries : List LogRecord)
+    ensures another { (writer another : ℕ) (before : List Block) (entries : List Call)
         (others : List Block) → another ≢ writer
         → records_of writer (before ++ Extent another entries ∷ others)
         ≡ records_of writer before ++ records_of writer others }
     ensures worked { records_of 0 mixed_blocks ≡ row_record ∷ full_record ∷ [] }
     ensures no_stamp { (least : ℕ) → last_stamp least [] ≡ least }
-    ensures stamp { (least : ℕ) (entries : List LogRecord) (entry : LogRecord)
+    ensures stamp { (least : ℕ) (entries : List Call) (entry : Call)
         → last_stamp least (entries ++ entry ∷ []) ≡ entry.stamp }
 {}
 
@@ -208,11 +210,11 @@ pub fn messages_have_one_id()
 /// Each record of a log names a message that was defined before it and fits it. No writer's stamps
 /// fall, and none is below the clock's tick.
 pub fn records_are_right()
-    ensures defined { (header : Header) (before : List Block) (writer : ℕ) (entries : List LogRecord)
+    ensures defined { (header : Header) (before : List Block) (writer : ℕ) (entries : List Call)
         (others : List Block) → Valid header (before ++ Extent writer entries ∷ others)
-        → AllByRecursion (IsRecord (messages_of before)) entries }
+        → AllByRecursion (IsCall (messages_of before)) entries }
     ensures fits { (header : Header) (blocks : List Block) (writer : ℕ) → Valid header blocks
-        → AllByRecursion (IsRecord (messages_of blocks)) (records_of writer blocks) }
+        → AllByRecursion (IsCall (messages_of blocks)) (records_of writer blocks) }
     ensures rises { (header : Header) (blocks : List Block) (writer : ℕ) → Valid header blocks
         → NeverFalls header.clock.tick (records_of writer blocks) }
 {}
@@ -228,7 +230,7 @@ pub fn close_marks_close_their_writer()
 
 /// Extents and close marks are of the log's writers, and none of a writer follows its close mark.
 pub fn closed_writers_write_no_more()
-    ensures of_extent { (writer : ℕ) (entries : List LogRecord) → IsOf writer (Extent writer entries) }
+    ensures of_extent { (writer : ℕ) (entries : List Call) → IsOf writer (Extent writer entries) }
     ensures of_close { (writer : ℕ) → IsOf writer (Close writer) }
     ensures known { (header : Header) (writer : ℕ) (before : List Block) (block : Block)
         (others : List Block) → Valid header (before ++ block ∷ others)
@@ -245,7 +247,7 @@ pub fn extents_are_within_a_batch()
     ensures all { (dictionary : List Message) (batch : ℕ) (before blocks : List Block)
         → IsLaidOut dictionary batch before blocks
         → AllByRecursion (HasAtMost batch) blocks }
-    ensures extent { (batch writer : ℕ) (entries : List LogRecord) → HasAtMost batch (Extent writer entries)
+    ensures extent { (batch writer : ℕ) (entries : List Call) → HasAtMost batch (Extent writer entries)
         → length entries ≤ batch }
 {}
 
@@ -284,14 +286,14 @@ pub fn fragments_are_full_but_the_last()
 /// Records use the ids up to their greatest one. Of the messages of these ids those are new that
 /// stand behind the ones that are defined.
 pub fn records_want_the_messages_up_to_their_ids()
-    ensures below { (entries : List LogRecord) → AllByRecursion (λ entry. entry.id < ids_used entries) entries }
-    ensures least { (entries : List LogRecord) (count : ℕ)
+    ensures below { (entries : List Call) → AllByRecursion (λ entry. entry.id < ids_used entries) entries }
+    ensures least { (entries : List Call) (count : ℕ)
         → AllByRecursion (λ entry. entry.id < count) entries
         → ids_used entries ≤ count }
-    ensures new { (defined wanted others : List Message) (entries : List LogRecord)
+    ensures new { (defined wanted others : List Message) (entries : List Call)
         → ids_used entries ≡ length (defined ++ wanted)
         → new_messages (defined ++ wanted ++ others) (length defined) entries ≡ wanted }
-    ensures known { (dictionary : List Message) (defined : ℕ) (entries : List LogRecord)
+    ensures known { (dictionary : List Message) (defined : ℕ) (entries : List Call)
         → ids_used entries ≤ defined
         → new_messages dictionary defined entries ≡ [] }
 {}
@@ -301,13 +303,13 @@ pub fn records_want_the_messages_up_to_their_ids()
 pub fn fragments_stand_in_front_of_their_extent()
     ensures worked { IsLaidOut (row_message ∷ full_message ∷ []) 2 [] mixed_blocks }
     ensures wanted { (dictionary : List Message) (batch : ℕ) (before fragments : List Block) (writer : ℕ)
-        (entries : List LogRecord) (others : List Block)
+        (entries : List Call) (others : List Block)
         → IsLaidOut dictionary batch before (fragments ++ Extent writer entries ∷ others)
         → AllByRecursion IsFragment fragments
         → AreFragments (length (messages_of before))
         (new_messages dictionary (length (messages_of before)) entries) fragments }
     ensures behind { (dictionary : List Message) (batch : ℕ) (before fragments : List Block) (writer : ℕ)
-        (entries : List LogRecord) (others : List Block)
+        (entries : List Call) (others : List Block)
         → IsLaidOut dictionary batch before (fragments ++ Extent writer entries ∷ others)
         → AllByRecursion IsFragment fragments
         → IsLaidOut dictionary batch (before ++ fragments ++ Extent writer entries ∷ []) others }
@@ -320,27 +322,27 @@ pub fn fragments_stand_in_front_of_their_extent()
 /// A log of a run tells of the run: its front is all of it, with the run's clock, its writers, the
 /// records of each, and messages from the front of the dictionary.
 pub fn logs_tell_of_their_run()
-    ensures whole { (bytes : List ℕ) (taken : List (List LogRecord)) (dictionary : List Message) (clock : Clock)
+    ensures whole { (bytes : List ℕ) (taken : List (List Call)) (dictionary : List Message) (clock : Clock)
         (batch : ℕ) (header : Header) (blocks : List Block) (count : ℕ)
         → LogOf bytes taken dictionary clock batch → Front bytes header blocks count
         → count ≡ length bytes }
-    ensures clock { (bytes : List ℕ) (taken : List (List LogRecord)) (dictionary : List Message) (clock : Clock)
+    ensures clock { (bytes : List ℕ) (taken : List (List Call)) (dictionary : List Message) (clock : Clock)
         (batch : ℕ) (header : Header) (blocks : List Block) (count : ℕ)
         → LogOf bytes taken dictionary clock batch → Front bytes header blocks count
         → header.clock ≡ clock }
-    ensures writers { (bytes : List ℕ) (taken : List (List LogRecord)) (dictionary : List Message) (clock : Clock)
+    ensures writers { (bytes : List ℕ) (taken : List (List Call)) (dictionary : List Message) (clock : Clock)
         (batch : ℕ) (header : Header) (blocks : List Block) (count : ℕ)
         → LogOf bytes taken dictionary clock batch → Front bytes header blocks count
         → header.writers ≡ length taken }
-    ensures messages { (bytes : List ℕ) (taken : List (List LogRecord)) (dictionary : List Message) (clock : Clock)
+    ensures messages { (bytes : List ℕ) (taken : List (List Call)) (dictionary : List Message) (clock : Clock)
         (batch : ℕ) (header : Header) (blocks : List Block) (count : ℕ)
         → LogOf bytes taken dictionary clock batch → Front bytes header blocks count
         → (undefined : List Message) × (dictionary ≡ messages_of blocks ++ undefined) }
-    ensures records { (bytes : List ℕ) (taken : List (List LogRecord)) (dictionary : List Message) (clock : Clock)
+    ensures records { (bytes : List ℕ) (taken : List (List Call)) (dictionary : List Message) (clock : Clock)
         (batch : ℕ) (header : Header) (blocks : List Block) (count : ℕ)
         → LogOf bytes taken dictionary clock batch → Front bytes header blocks count
         → taken ≡ map (λ writer. records_of writer blocks) (range_with_len 0 (length taken)) }
-    ensures layout { (bytes : List ℕ) (taken : List (List LogRecord)) (dictionary : List Message) (clock : Clock)
+    ensures layout { (bytes : List ℕ) (taken : List (List Call)) (dictionary : List Message) (clock : Clock)
         (batch : ℕ) (header : Header) (blocks : List Block) (count : ℕ)
         → LogOf bytes taken dictionary clock batch → Front bytes header blocks count
         → IsLaidOut dictionary batch [] blocks }

@@ -4,18 +4,18 @@ use Rattle.std.specs.Prelude.{slice_get, option_map}
 use Rattle.std.specs.List.{AllByRecursion, flat_map, filter_map, enumerate_from, range_with_len, cons_option}
 use Rattle.log_dictionary.specs.declared.clock.Clock.{Clock}
 use Rattle.log_dictionary.specs.declared.message.Message.{Message}
-use Rattle.buffer_extent.specs.declared.record.LogRecord.{LogRecord}
-use Rattle.buffer_extent.specs.Bodies.{IsRecord}
+use Rattle.arg_records.specs.declared.call.Call.{Call}
+use Rattle.arg_records.specs.Calls.{IsCall, log_call, writer_calls, calls_by_writer}
 use Rattle.checkpoint_io.specs.Blocks.{messages_of}
 use Rattle.checkpoint_io.specs.Validity.{records_of}
 use Rattle.checkpoint_io.proofs.ValidityLaws.{slice_get-front, records_fit}
 use Rattle.checkpoint_io.specs.Logs.{LogOf}
 use Rattle.direct_printf.specs.Lines.{Direct}
-use Rattle.decompressor.specs.Decompression.{call_of_record, writer_calls, taken_calls, CallsOf, all_calls, Decompressed}
+use Rattle.decompressor.specs.Decompression.{CallsOf, all_calls, Decompressed}
 use Rattle.decompressor.proofs.DecompressionLaws.{whole_is_text}
 
 -- messages behind those that the records name change no call
-same_calls : (messages more : List Message) (writer from : ℕ) (entries : List LogRecord) → AllByRecursion (IsRecord messages) entries → filter_map (call_of_record messages writer) (enumerate_from from entries) ≡ filter_map (call_of_record (messages ++ more) writer) (enumerate_from from entries)
+same_calls : (messages more : List Message) (writer from : ℕ) (entries : List Call) → AllByRecursion (IsCall messages) entries → filter_map (log_call messages writer) (enumerate_from from entries) ≡ filter_map (log_call (messages ++ more) writer) (enumerate_from from entries)
 same_calls messages more writer from [] all = refl
 same_calls messages more writer from (entry ∷ entries) all =
     let is = all.0 in
@@ -33,16 +33,16 @@ numbered f g from zero = refl
 numbered f g from (suc n) = ap (λ l. f (from, g from) ++ l) (numbered f g (from + 1) n)
 
 -- the log stands for the lines of the calls that were taken
-pub log_is_text : (bytes : List ℕ) (taken : List (List LogRecord)) (dictionary : List Message) (clock : Clock) (batch : ℕ) → LogOf bytes taken dictionary clock batch → Decompressed bytes (Direct clock (taken_calls dictionary taken))
+pub log_is_text : (bytes : List ℕ) (taken : List (List Call)) (dictionary : List Message) (clock : Clock) (batch : ℕ) → LogOf bytes taken dictionary clock batch → Decompressed bytes (Direct clock (calls_by_writer dictionary taken))
 log_is_text bytes taken dictionary clock batch log =
     let own : (writer : ℕ) → CallsOf log.blocks writer ≡ writer_calls dictionary (writer, records_of writer log.blocks) =
     λ writer. same_calls (messages_of log.blocks) log.undefined writer 0 (records_of writer log.blocks) (records_fit log.header log.blocks writer log.valid)
     ∙ ap (λ (m : List Message). writer_calls m (writer, records_of writer log.blocks)) (sym log.messages_are) in
     let lists = map (λ (writer : ℕ). records_of writer log.blocks) (range_with_len 0 (length taken)) in
-    let calls : all_calls log.header log.blocks ≡ taken_calls dictionary taken =
+    let calls : all_calls log.header log.blocks ≡ calls_by_writer dictionary taken =
     ap (λ (n : ℕ). flat_map (CallsOf log.blocks) (range_with_len 0 n)) log.writers_are
     ∙ same_flat (CallsOf log.blocks) (λ (writer : ℕ). writer_calls dictionary (writer, records_of writer log.blocks)) (range_with_len 0 (length taken)) own
     ∙ sym (numbered (writer_calls dictionary) (λ (writer : ℕ). records_of writer log.blocks) 0 (length taken))
-    ∙ ap (λ (t : List (List LogRecord)). flat_map (writer_calls dictionary) (enumerate_from 0 t)) (sym log.records_are) in
-    let text : Direct log.header.clock (all_calls log.header log.blocks) ≡ Direct clock (taken_calls dictionary taken) = λ i. Direct (log.clock_is i) (calls i) in
+    ∙ ap (λ (t : List (List Call)). flat_map (writer_calls dictionary) (enumerate_from 0 t)) (sym log.records_are) in
+    let text : Direct log.header.clock (all_calls log.header log.blocks) ≡ Direct clock (calls_by_writer dictionary taken) = λ i. Direct (log.clock_is i) (calls i) in
     subst (Decompressed bytes) text (whole_is_text log.header log.blocks bytes log.file log.valid)

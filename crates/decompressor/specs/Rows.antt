@@ -2,18 +2,14 @@
 use Rattle.std.specs.Prelude.{ℕ, pos, List, [], ◌∷◌, ◌++◌, codes}
 use Rattle.printf_grammar.specs.declared.argument.Value.TheVariants.{Signed}
 use Rattle.log_dictionary.specs.Calls.{LogCall}
-use Rattle.buffer_extent.specs.declared.record.LogRecord.{LogRecord}
+use Rattle.arg_records.specs.Rows.{row_message, row_call}
 use Rattle.checkpoint_io.specs.declared.header.Header.{Header}
 use Rattle.checkpoint_io.specs.Blocks.{Block, Fragment, Extent, Close}
-use Rattle.checkpoint_io.specs.Rows.{row_message, row_header}
+use Rattle.checkpoint_io.specs.Rows.{row_header}
 
 -- the line of the worked log's one call
 abbrev pub row_line : List ℕ
 row_line = codes "1514764800.000000001 srv.cc:12 NOTICE[0]: x=7\n"
-
--- a call with this number, three ticks after the clock's
-abbrev pub row_call : ℕ → LogRecord
-row_call n = record { stamp = 1003; id = 0; args = Signed (pos n) ∷ [] }
 
 abbrev pub three_writers : Header
 three_writers = record row_header { writers = 3 }

@@ -3,14 +3,15 @@
 ghost use Rattle.std.specs.Prelude.{◌≡◌, ℕ, List};
 ghost use Rattle.log_dictionary.specs.declared.clock.Clock.{Clock};
 ghost use Rattle.log_dictionary.specs.declared.message.Message.{Message};
-ghost use Rattle.buffer_extent.specs.declared.record.LogRecord.{LogRecord};
+ghost use Rattle.arg_records.specs.declared.call.Call.{Call};
 ghost use Rattle.checkpoint_io.specs.declared.header.Header.{Header};
 ghost use Rattle.checkpoint_io.specs.Blocks.{Block, FileOf};
 ghost use Rattle.checkpoint_io.specs.Validity.{Valid};
 ghost use Rattle.checkpoint_io.specs.Logs.{LogOf};
 ghost use Rattle.checkpoint_io.specs.Rows.{row_bytes};
 ghost use Rattle.direct_printf.specs.Lines.{Direct};
-ghost use Rattle.decompressor.specs.Decompression.{CallsOf, all_calls, taken_calls, Decompressed};
+ghost use Rattle.decompressor.specs.Decompression.{CallsOf, all_calls, Decompressed};
+ghost use Rattle.arg_records.specs.Calls.{calls_by_writer};
 ghost use Rattle.decompressor.specs.Rows.{row_line, three_writers, mixed_blocks, second_calls, mixed_lines};
 
 /// The log of one call is its line. Blocks of three writers give the calls of each in their order,
@@ -38,7 +39,7 @@ pub fn whole_logs_give_all_lines()
 
 /// A log of calls that were taken stands for the lines of these calls.
 pub fn logs_give_the_calls_taken()
-    ensures { (bytes : List ℕ) (taken : List (List LogRecord)) (dictionary : List Message)
+    ensures { (bytes : List ℕ) (taken : List (List Call)) (dictionary : List Message)
         (clock : Clock) (batch : ℕ) → LogOf bytes taken dictionary clock batch
-        → Decompressed bytes (Direct clock (taken_calls dictionary taken)) }
+        → Decompressed bytes (Direct clock (calls_by_writer dictionary taken)) }
 {}

@@ -11,8 +11,9 @@ use Rattle.std.proofs.lemmas.Fmt.{decimal_digit}
 use Rattle.log_dictionary.specs.declared.clock.Clock.{Clock}
 use Rattle.log_dictionary.specs.declared.message.Message.{Message}
 use Rattle.log_dictionary.specs.Messages.{AreDistinct}
-use Rattle.trace_text.specs.declared.call.Call.{Call}
-use Rattle.trace_text.specs.Recordings.{Recording, IsRecording, IsCall, NeverFalls}
+use Rattle.arg_records.specs.declared.call.Call.{Call}
+use Rattle.trace_text.specs.Recordings.{Recording, IsRecording}
+use Rattle.arg_records.specs.Calls.{IsCall, NeverFalls}
 use Rattle.trace_text.specs.Lines.{clock_line, FitsLine, writers_line}
 use Rattle.nanolog_cli.specs.Parts.{contents}
 use Rattle.nanolog_cli.proofs.Choices.{chosen}

@@ -17,8 +17,8 @@ use Rattle.printf_grammar.specs.Types.{Types, Fits, field_types}
 use Rattle.printf_grammar.specs.Narrow.{IsNarrow}
 use Rattle.printf_grammar.proofs.Fitting.{Fits-length}
 use Rattle.log_dictionary.specs.declared.message.Message.{Message}
-use Rattle.trace_text.specs.declared.call.Call.{Call}
-use Rattle.trace_text.specs.Recordings.{IsCall}
+use Rattle.arg_records.specs.declared.call.Call.{Call}
+use Rattle.arg_records.specs.Calls.{IsCall}
 use Rattle.trace_text.specs.Lines.{SpellsCall, SpellsArguments}
 use Rattle.nanolog_cli.specs.NarrowCalls.{NarrowCall, CallText, call_fields_at}
 use Rattle.nanolog_cli.proofs.CallLemmas.{call_fields, after_spaces, join-spaces}

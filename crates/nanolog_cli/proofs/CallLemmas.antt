@@ -15,7 +15,7 @@ use Rattle.printf_grammar.specs.declared.argument.Value.TheVariants.{Signed}
 use Rattle.printf_grammar.specs.Types.{Types, Fits}
 use Rattle.log_dictionary.specs.declared.message.Message.{Message}
 use Rattle.arg_records.specs.Frames.{argument_words, FrameLen}
-use Rattle.trace_text.specs.declared.call.Call.{Call}
+use Rattle.arg_records.specs.declared.call.Call.{Call}
 use Rattle.trace_text.specs.Lines.{SpellsCall, SpellsArguments}
 use Rattle.nanolog_cli.specs.Parts.{contents}
 use Rattle.nanolog_cli.proofs.Choices.{some_same, chosen_by_both}

@@ -1,6 +1,6 @@
 -- The lines of the calls of one writer.
-use Rattle.std.proofs.Common.{◌≡◌, ℕ, zero, suc, ◌+◌, ◌≤◌, List, [], ◌∷◌, ◌++◌, length, take, map, Some, Result, Ok, Err, refl, sym, ap, subst, ◌∙◌, add-zero, arith}
-use Rattle.std.specs.Prelude.{slice_get, option_map, IfOk, codes, sum_by}
+use Rattle.std.proofs.Common.{◌≡◌, ℕ, zero, suc, ◌+◌, ◌≤◌, List, [], ◌∷◌, ◌++◌, length, take, Some, Result, Ok, Err, refl, sym, ap, subst, ◌∙◌, add-zero, arith}
+use Rattle.std.specs.Prelude.{slice_get, IfOk, codes, sum_by}
 use Rattle.std.specs.Fmt.{decimal}
 use Rattle.std.proofs.lemmas.List.Sums.{sum_by-cons}
 use Rattle.std.specs.Global.{Vec}
@@ -10,16 +10,16 @@ use Rattle.std.proofs.lemmas.Grind.{flat_map-append}
 use Rattle.std.proofs.lemmas.List.{take_more, append-nil}
 use Rattle.std.proofs.lemmas.List.Concat.{flat_map-cons}
 use Rattle.std.proofs.lemmas.List.Elements.{filter_map-append}
-use Rattle.std.proofs.lemmas.Option.{slice_get_within, get_or_from_slice_get, slice_get-map}
+use Rattle.std.proofs.lemmas.Option.{slice_get_within, get_or_from_slice_get}
 use Rattle.log_dictionary.specs.declared.clock.Clock.{Clock}
 use Rattle.log_dictionary.specs.declared.message.Message.{Message}
 use Rattle.log_dictionary.specs.Calls.{LogCall}
 use Rattle.direct_printf.specs.Lines.{Line, Direct}
 use Rattle.direct_printf.specs.InOrder.{IsNotAfter, IsInOrder, Direct-sorted, comes_before-later}
-use Rattle.buffer_extent.specs.declared.record.LogRecord.{LogRecord}
-use Rattle.trace_text.specs.declared.call.Call.{Call}
-use Rattle.trace_text.specs.Recordings.{Recording, IsRecording, IsCall, NeverFalls, log_call, writer_calls, calls_of}
-use Rattle.nanolog_cli.specs.Texts.{direct_text, call_of}
+use Rattle.arg_records.specs.declared.call.Call.{Call}
+use Rattle.trace_text.specs.Recordings.{Recording, IsRecording, calls_of}
+use Rattle.arg_records.specs.Calls.{IsCall, NeverFalls, log_call, writer_calls}
+use Rattle.nanolog_cli.specs.Texts.{direct_text}
 use Rattle.nanolog_cli.specs.Replays.{accepted_text}
 use Rattle.nanolog_cli.proofs.Choices.{some_same}
 
@@ -105,25 +105,6 @@ run_lines seen run calls (Ok text) same one first recorded lines =
     let named : AllByRecursion (AllByRecursion (IsCall seen.dictionary)) (calls ∷ []) = subst (AllByRecursion (AllByRecursion (IsCall seen.dictionary))) only recorded.calls in
     let later : AllByRecursion (NeverFalls seen.clock.tick) (calls ∷ []) = subst (AllByRecursion (NeverFalls seen.clock.tick)) only recorded.stamps in
     lines ∙ all_lines seen calls only named.0 later.0 ∙ ap direct_text same
-
--- the call that the record at a place keeps
-call_at : (entries : List LogRecord) (i : ℕ) (entry : LogRecord) → Some entry ≡ slice_get entries i → Some (call_of entry) ≡ slice_get (map call_of entries) i
-call_at entries i entry e = ap (option_map call_of) e ∙ sym (slice_get-map call_of entries i)
-
-pub record_named_at : (messages : List Message) (entries : List LogRecord) (i : ℕ) (entry : LogRecord) → AllByRecursion (IsCall messages) (map call_of entries) → Some entry ≡ slice_get entries i
-    → IsCall messages (call_of entry)
-record_named_at messages entries i entry named e = named_at messages (map call_of entries) i (call_of entry) named (call_at entries i entry e)
-
-pub record_later_at : (least : ℕ) (entries : List LogRecord) (i : ℕ) (entry : LogRecord) → NeverFalls least (map call_of entries) → Some entry ≡ slice_get entries i → least ≤ entry.stamp
-record_later_at least entries i entry later e = later_at least (map call_of entries) i (call_of entry) later (call_at entries i entry e)
-
-pub record_lines_more : (messages : List Message) (clock : Clock) (entries : List LogRecord) (i : ℕ) (entry : LogRecord) (old new : List ℕ) → AllByRecursion (IsCall messages) (map call_of entries)
-    → Some entry ≡ slice_get entries i
-    → old ≡ flat_map (Line clock) (writer_calls messages (0, take i (map call_of entries)))
-    → ((ordinal : ℕ) (message : Message) → slice_get messages entry.id ≡ Some message → new ≡ old ++ Line clock (record { writer = 0; ordinal = ordinal; stamp = entry.stamp; message = message; args = entry.args }))
-    → new ≡ flat_map (Line clock) (writer_calls messages (0, take (i + 1) (map call_of entries)))
-record_lines_more messages clock entries i entry old new named e so_far next =
-    lines_more messages clock (map call_of entries) i (call_of entry) old new named (call_at entries i entry e) so_far next
 
 -- the lines of one writer's calls are those of all, in order
 pub writer_lines : (messages : List Message) (clock : Clock) (calls : List Call) → AllByRecursion (IsCall messages) calls → NeverFalls clock.tick calls

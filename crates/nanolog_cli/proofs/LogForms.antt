@@ -6,8 +6,9 @@ use Rattle.std.specs.Hash.{le_bytes}
 use Rattle.std.specs.List.{AllByRecursion}
 use Rattle.log_dictionary.specs.declared.clock.Clock.{Clock}
 use Rattle.log_dictionary.specs.declared.message.Message.{Message}
-use Rattle.buffer_extent.specs.declared.record.LogRecord.{LogRecord}
-use Rattle.buffer_extent.specs.Bodies.{SpellsRecords, IsRecord, NeverFalls, IsBody}
+use Rattle.arg_records.specs.declared.call.Call.{Call}
+use Rattle.buffer_extent.specs.Bodies.{SpellsRecords, IsBody}
+use Rattle.arg_records.specs.Calls.{IsCall, NeverFalls}
 use Rattle.checkpoint_io.specs.Blocks.{Block, Fragment, Extent, Close, messages_of, fragment_head_bytes, extent_head_bytes, close_bytes, SpellsFragment, SpellsBlocks}
 use Rattle.checkpoint_io.specs.Validity.{IsOpen, IsClosed, DefinesNext, AreRightAfter}
 use Rattle.nanolog_cli.specs.NarrowTraces.{HasNarrowFormats}
@@ -37,7 +38,7 @@ fragment_joined count bytes counted entries front rest begins counts joined =
     ∙ ap (λ (l : List ℕ). fragment_front ++ l) (counts ∙ ap (λ (l : List ℕ). le_bytes 2 count ++ l) joined)
     ∙ sym (append_assoc (fragment_head_bytes 0 count) front rest ∙ append_assoc fragment_front (le_bytes 2 count) (front ++ rest))
 
-records_blocks : (tick : ℕ) (before : List Block) (messages : List Message) (entries : List LogRecord) (bytes : List ℕ) → messages_of before ≡ messages → BeginsWithRecords messages tick bytes entries (close_bytes 0)
+records_blocks : (tick : ℕ) (before : List Block) (messages : List Message) (entries : List Call) (bytes : List ℕ) → messages_of before ≡ messages → BeginsWithRecords messages tick bytes entries (close_bytes 0)
     → SpellsBlocks tick before (extent_blocks entries ++ Close 0 ∷ []) bytes
 records_blocks tick before messages [] bytes same (no_extent lacks none rest) = subst (SpellsBlocks tick before (Close 0 ∷ [])) rest (close_spelled tick before)
 records_blocks tick before messages (e ∷ entries) bytes same (no_extent lacks none rest) = absurd (some_is_none e entries none)
@@ -57,7 +58,7 @@ records_blocks tick before messages (e ∷ entries) bytes same (extent measured 
   close_spelled tick (before ++ Extent 0 (e ∷ entries) ∷ []),
 )
 
-messages_blocks : (tick : ℕ) (messages : List Message) (entries : List LogRecord) (bytes rest : List ℕ) → BeginsWithMessages bytes messages rest → BeginsWithRecords messages tick rest entries (close_bytes 0)
+messages_blocks : (tick : ℕ) (messages : List Message) (entries : List Call) (bytes rest : List ℕ) → BeginsWithMessages bytes messages rest → BeginsWithRecords messages tick rest entries (close_bytes 0)
     → SpellsBlocks tick [] (narrow_blocks messages entries) bytes
 messages_blocks tick [] entries bytes rest (no_fragment lacks none behind) records = subst (SpellsBlocks tick [] (extent_blocks entries ++ Close 0 ∷ [])) behind (records_blocks tick [] [] entries rest refl records)
 messages_blocks tick (m ∷ messages) entries bytes rest (no_fragment lacks none behind) records = absurd (some_is_none m messages none)
@@ -83,7 +84,7 @@ messages_blocks tick (m ∷ messages) entries bytes rest (fragment counted more 
 writer_open : (clock : Clock) (before : List Block) → ¬ (IsClosed 0 before) → IsOpen (narrow_header clock) before 0
 writer_open clock before unclosed = record { known = omega arith; unclosed = unclosed }
 
-records_right : (clock : Clock) (messages : List Message) (entries : List LogRecord) (body : List ℕ) → IsBody messages clock.tick clock.tick entries body → AreRightAfter (narrow_header clock) (fragment_blocks messages) (Extent 0 entries ∷ Close 0 ∷ [])
+records_right : (clock : Clock) (messages : List Message) (entries : List Call) (body : List ℕ) → IsBody messages clock.tick clock.tick entries body → AreRightAfter (narrow_header clock) (fragment_blocks messages) (Extent 0 entries ∷ Close 0 ∷ [])
 records_right clock [] entries body is = (
   record { writer_open = writer_open clock [] (λ e. false≢true e); right = is.right; rising = is.rising },
   (writer_open clock (Extent 0 entries ∷ []) (λ e. false≢true e), tt),
@@ -91,7 +92,7 @@ records_right clock [] entries body is = (
 records_right clock (m ∷ messages) entries body is = (
   record {
     writer_open = writer_open clock (Fragment 0 (m ∷ messages) ∷ []) (λ e. false≢true e);
-    right = subst (λ (ms : List Message). AllByRecursion (IsRecord ms) entries) (sym (append-nil (m ∷ messages))) is.right;
+    right = subst (λ (ms : List Message). AllByRecursion (IsCall ms) entries) (sym (append-nil (m ∷ messages))) is.right;
     rising = is.rising;
   },
   (writer_open clock (Fragment 0 (m ∷ messages) ∷ Extent 0 entries ∷ []) (λ e. false≢true e), tt),
@@ -101,12 +102,12 @@ no_records_right : (clock : Clock) (messages : List Message) → AreRightAfter (
 no_records_right clock [] = (writer_open clock [] (λ e. false≢true e), tt)
 no_records_right clock (m ∷ messages) = (writer_open clock (Fragment 0 (m ∷ messages) ∷ []) (λ e. false≢true e), tt)
 
-extent_right : (clock : Clock) (messages : List Message) (entries : List LogRecord) (bytes rest : List ℕ) → BeginsWithRecords messages clock.tick bytes entries rest → AreRightAfter (narrow_header clock) (fragment_blocks messages) (extent_blocks entries ++ Close 0 ∷ [])
+extent_right : (clock : Clock) (messages : List Message) (entries : List Call) (bytes rest : List ℕ) → BeginsWithRecords messages clock.tick bytes entries rest → AreRightAfter (narrow_header clock) (fragment_blocks messages) (extent_blocks entries ++ Close 0 ∷ [])
 extent_right clock messages [] bytes rest records = no_records_right clock messages
 extent_right clock messages (e ∷ entries) bytes rest (no_extent lacks none behind) = absurd (some_is_none e entries none)
 extent_right clock messages (e ∷ entries) bytes rest (extent measured body begins is right few) = records_right clock messages (e ∷ entries) body right
 
-blocks_right : (clock : Clock) (messages : List Message) (entries : List LogRecord) (bytes rest back : List ℕ) → BeginsWithMessages bytes messages rest → BeginsWithRecords messages clock.tick rest entries back
+blocks_right : (clock : Clock) (messages : List Message) (entries : List Call) (bytes rest back : List ℕ) → BeginsWithMessages bytes messages rest → BeginsWithRecords messages clock.tick rest entries back
     → AreRightAfter (narrow_header clock) [] (narrow_blocks messages entries)
 blocks_right clock [] entries bytes rest back begins records = extent_right clock [] entries rest back records
 blocks_right clock (m ∷ messages) entries bytes rest back (no_fragment lacks none behind) records = absurd (some_is_none m messages none)
@@ -119,12 +120,12 @@ few_messages : (messages : List Message) (bytes rest : List ℕ) → BeginsWithM
 few_messages messages bytes rest (no_fragment lacks none behind) = omega (arith, ap length none)
 few_messages messages bytes rest (fragment counted more count begins counts read) = omega (arith, read.many, counts.few)
 
-few_records : (messages : List Message) (tick : ℕ) (entries : List LogRecord) (bytes rest : List ℕ) → BeginsWithRecords messages tick bytes entries rest → length entries ≤ 128
+few_records : (messages : List Message) (tick : ℕ) (entries : List Call) (bytes rest : List ℕ) → BeginsWithRecords messages tick bytes entries rest → length entries ≤ 128
 few_records messages tick entries bytes rest (no_extent lacks none behind) = omega (arith, ap length none)
 few_records messages tick entries bytes rest (extent measured body begins is right few) = few
 
 -- parts that stand one behind the other are a log
-pub log_of_parts : (bytes : List ℕ) (clock : Clock) (messages : List Message) (entries : List LogRecord) → LogParts bytes clock messages entries → NarrowLog bytes clock messages entries
+pub log_of_parts : (bytes : List ℕ) (clock : Clock) (messages : List Message) (entries : List Call) → LogParts bytes clock messages entries → NarrowLog bytes clock messages entries
 log_of_parts bytes clock messages entries parts = record {
   file = record {
     block_bytes = parts.behind_header;
@@ -150,7 +151,7 @@ other_front x y xs ys e = ap (λ (l : List ℕ). get_or l 0 0) e
 blocks_close : (tick : ℕ) (before : List Block) (bytes : List ℕ) → SpellsBlocks tick before (Close 0 ∷ []) bytes → bytes ≡ close_bytes 0
 blocks_close tick before bytes (front, back, joined, is, none) = joined ∙ (λ i. is.joined i ++ none i)
 
-blocks_records : (tick : ℕ) (before : List Block) (messages : List Message) (entries : List LogRecord) (bytes : List ℕ) → messages_of before ≡ messages → AllByRecursion (IsRecord messages) entries → NeverFalls tick entries → length entries ≤ 128
+blocks_records : (tick : ℕ) (before : List Block) (messages : List Message) (entries : List Call) (bytes : List ℕ) → messages_of before ≡ messages → AllByRecursion (IsCall messages) entries → NeverFalls tick entries → length entries ≤ 128
     → SpellsBlocks tick before (extent_blocks entries ++ Close 0 ∷ []) bytes → BeginsWithRecords messages tick bytes entries (close_bytes 0)
 blocks_records tick before messages [] bytes same right rising few spelled =
     let is = blocks_close tick before bytes spelled in
@@ -163,25 +164,25 @@ blocks_records tick before messages (e ∷ entries) bytes same right rising few 
     (record { spelled = subst (λ (m : List Message). SpellsRecords m tick (e ∷ entries) is.body) same is.body_spelled; right = right; rising = rising }) few
 
 -- bytes that begin with records or a close mark begin with no fragment
-not_fragment : (messages : List Message) (tick : ℕ) (entries : List LogRecord) (bytes rest : List ℕ) → BeginsWithRecords messages tick bytes entries (close_bytes 0) → bytes ≡ fragment_front ++ rest → ⊥
+not_fragment : (messages : List Message) (tick : ℕ) (entries : List Call) (bytes rest : List ℕ) → BeginsWithRecords messages tick bytes entries (close_bytes 0) → bytes ≡ fragment_front ++ rest → ⊥
 not_fragment messages tick entries bytes rest (no_extent lacks none behind) e = omega (arith, other_front 4 1 _ _ (behind ∙ e))
 not_fragment messages tick entries bytes rest (extent measured body begins is right few) e = omega (arith, other_front 2 1 _ _ (sym begins ∙ e))
 
 -- what the rules say of the records
-record RecordsAre (tick : ℕ) (messages : List Message) (entries : List LogRecord) : Type 0 where
-  pub named : AllByRecursion (IsRecord messages) entries
+record RecordsAre (tick : ℕ) (messages : List Message) (entries : List Call) : Type 0 where
+  pub named : AllByRecursion (IsCall messages) entries
   pub rising : NeverFalls tick entries
 
-records_are : (clock : Clock) (messages : List Message) (entries : List LogRecord) → AreRightAfter (narrow_header clock) [] (narrow_blocks messages entries) → RecordsAre clock.tick messages entries
+records_are : (clock : Clock) (messages : List Message) (entries : List Call) → AreRightAfter (narrow_header clock) [] (narrow_blocks messages entries) → RecordsAre clock.tick messages entries
 records_are clock messages [] right = record { named = tt; rising = tt }
 records_are clock [] (e ∷ entries) right = record { named = right.0.right; rising = right.0.rising }
 records_are clock (m ∷ messages) (e ∷ entries) right = record {
-  named = subst (λ (ms : List Message). AllByRecursion (IsRecord ms) (e ∷ entries)) (append-nil (m ∷ messages)) right.1.0.right;
+  named = subst (λ (ms : List Message). AllByRecursion (IsCall ms) (e ∷ entries)) (append-nil (m ∷ messages)) right.1.0.right;
   rising = right.1.0.rising;
 }
 
 -- the messages and the records of a log, as they stand behind its header
-record PartsBehind (tick : ℕ) (messages : List Message) (entries : List LogRecord) (bytes : List ℕ) : Type 0 where
+record PartsBehind (tick : ℕ) (messages : List Message) (entries : List Call) (bytes : List ℕ) : Type 0 where
   pub behind : List ℕ
   pub messages_first : BeginsWithMessages bytes messages behind
   pub records_first : BeginsWithRecords messages tick behind entries (close_bytes 0)
@@ -195,7 +196,7 @@ fragment_begins messages bytes front back joined is right narrow =
     (record { some = is.some; few = is.few; joined = refl })
     (record { front = is.entries; joined = refl; spelled = is.entries_spelled; many = refl; distinct = right.distinct; narrow = narrow })
 
-parts_behind : (clock : Clock) (messages : List Message) (entries : List LogRecord) (bytes : List ℕ) → AreRightAfter (narrow_header clock) [] (narrow_blocks messages entries) → HasNarrowFormats messages → length entries ≤ 128
+parts_behind : (clock : Clock) (messages : List Message) (entries : List Call) (bytes : List ℕ) → AreRightAfter (narrow_header clock) [] (narrow_blocks messages entries) → HasNarrowFormats messages → length entries ≤ 128
     → SpellsBlocks clock.tick [] (narrow_blocks messages entries) bytes → PartsBehind clock.tick messages entries bytes
 parts_behind clock [] entries bytes right narrow few spelled =
     let are = records_are clock [] entries right in
@@ -210,7 +211,7 @@ parts_behind clock (m ∷ messages) entries bytes right narrow few (front, back,
     }
 
 -- a log is its parts
-pub parts_of_log : (bytes : List ℕ) (clock : Clock) (messages : List Message) (entries : List LogRecord) → NarrowLog bytes clock messages entries → LogParts bytes clock messages entries
+pub parts_of_log : (bytes : List ℕ) (clock : Clock) (messages : List Message) (entries : List Call) → NarrowLog bytes clock messages entries → LogParts bytes clock messages entries
 parts_of_log bytes clock messages entries log =
     let parts = parts_behind clock messages entries log.file.block_bytes log.valid.blocks_right log.narrow log.few_records log.file.spelled in
     record {
@@ -225,12 +226,12 @@ parts_of_log bytes clock messages entries log =
 -- ---- what follows what was read
 
 -- the messages of a log follow the header that was read
-pub messages_next : (bytes rest : List ℕ) (read clock : Clock) (messages : List Message) (entries : List LogRecord) → BeginsWithHeader bytes read rest → (parts : LogParts bytes clock messages entries) → BeginsWithMessages rest messages parts.behind_messages
+pub messages_next : (bytes rest : List ℕ) (read clock : Clock) (messages : List Message) (entries : List Call) → BeginsWithHeader bytes read rest → (parts : LogParts bytes clock messages entries) → BeginsWithMessages rest messages parts.behind_messages
 messages_next bytes rest read clock messages entries header parts =
     subst (λ (l : List ℕ). BeginsWithMessages l messages parts.behind_messages) (sym (header_same bytes rest parts.behind_header read clock header parts.header).1) parts.messages_first
 
 -- its records follow the messages that were read
-pub records_next : (bytes rest behind : List ℕ) (read clock : Clock) (found messages : List Message) (entries : List LogRecord) → BeginsWithHeader bytes read rest → BeginsWithMessages rest found behind → LogParts bytes clock messages entries
+pub records_next : (bytes rest behind : List ℕ) (read clock : Clock) (found messages : List Message) (entries : List Call) → BeginsWithHeader bytes read rest → BeginsWithMessages rest found behind → LogParts bytes clock messages entries
     → BeginsWithRecords found read.tick behind entries (close_bytes 0)
 records_next bytes rest behind read clock found messages entries header begins parts =
     let clocks : read ≡ clock = (header_same bytes rest parts.behind_header read clock header parts.header).0 in
@@ -239,7 +240,7 @@ records_next bytes rest behind read clock found messages entries header begins p
     (subst (λ (k : Clock). BeginsWithRecords messages k.tick behind entries (close_bytes 0)) (sym clocks) (subst (λ (l : List ℕ). BeginsWithRecords messages clock.tick l entries (close_bytes 0)) (sym same.1) parts.records_first))
 
 -- its close mark follows the records that were read
-pub close_next : (bytes rest behind end : List ℕ) (read clock : Clock) (found messages : List Message) (records entries : List LogRecord) → BeginsWithHeader bytes read rest → BeginsWithMessages rest found behind → BeginsWithRecords found read.tick behind records end
+pub close_next : (bytes rest behind end : List ℕ) (read clock : Clock) (found messages : List Message) (records entries : List Call) → BeginsWithHeader bytes read rest → BeginsWithMessages rest found behind → BeginsWithRecords found read.tick behind records end
     → LogParts bytes clock messages entries → end ≡ close_bytes 0
 close_next bytes rest behind end read clock found messages records entries header begins follows parts =
     records_behind found read.tick behind end (close_bytes 0) records entries follows (records_next bytes rest behind read clock found messages entries header begins parts)

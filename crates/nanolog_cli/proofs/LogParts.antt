@@ -18,7 +18,7 @@ use Rattle.nanolog_cli.specs.NarrowMessages.{NarrowEntry}
 use Rattle.log_dictionary.proofs.BinaryLaws.{one_entry}
 use Rattle.log_dictionary.proofs.Distinct.{still_distinct}
 use Rattle.nibble_pack.specs.Bytes.{length-bytes_low_first}
-use Rattle.buffer_extent.specs.declared.record.LogRecord.{LogRecord}
+use Rattle.arg_records.specs.declared.call.Call.{Call}
 use Rattle.buffer_extent.specs.Bodies.{IsBody}
 use Rattle.buffer_extent.specs.Integers.{AreIntegers, TakeIntegers}
 use Rattle.checkpoint_io.specs.Blocks.{header_bytes, SpellsEntries}
@@ -220,13 +220,13 @@ body_same bytes body other rest back p q =
     same_fronts body other rest back lens.0 lens.1
 
 -- what follows the front of an extent, where records stand there
-pub record Measured (messages : List Message) (tick : ℕ) (measured : List ℕ) (entries : List LogRecord) (back : List ℕ) : Type 0 where
+pub record Measured (messages : List Message) (tick : ℕ) (measured : List ℕ) (entries : List Call) (back : List ℕ) : Type 0 where
   pub body : List ℕ
   pub begins : BeginsWithBody measured body back
   pub right : IsBody messages tick tick entries body
   pub few : length entries ≤ 128
 
-pub measured : (messages : List Message) (tick : ℕ) (bytes rest back : List ℕ) (entries : List LogRecord) → bytes ≡ extent_front ++ rest → BeginsWithRecords messages tick bytes entries back → Measured messages tick rest entries back
+pub measured : (messages : List Message) (tick : ℕ) (bytes rest back : List ℕ) (entries : List Call) → bytes ≡ extent_front ++ rest → BeginsWithRecords messages tick bytes entries back → Measured messages tick rest entries back
 measured messages tick bytes rest back entries starts (no_extent lacks none behind) = absurd (lacks rest starts)
 measured messages tick bytes rest back entries starts (extent other body begins is right few) = record {
   body = body;
@@ -236,11 +236,11 @@ measured messages tick bytes rest back entries starts (extent other body begins 
 }
 
 -- the body that was read is that of the records
-pub right_body : (messages : List Message) (tick : ℕ) (rest body behind back : List ℕ) (entries : List LogRecord) → BeginsWithBody rest body behind → Measured messages tick rest entries back → IsBody messages tick tick entries body
+pub right_body : (messages : List Message) (tick : ℕ) (rest body behind back : List ℕ) (entries : List Call) → BeginsWithBody rest body behind → Measured messages tick rest entries back → IsBody messages tick tick entries body
 right_body messages tick rest body behind back entries read m = subst (IsBody messages tick tick entries) (body_same rest m.body body back behind m.begins read).0 m.right
 
 -- what stands behind records stands there in one way
-pub records_behind : (messages : List Message) (tick : ℕ) (bytes rest back : List ℕ) (a b : List LogRecord) → BeginsWithRecords messages tick bytes a rest → BeginsWithRecords messages tick bytes b back → rest ≡ back
+pub records_behind : (messages : List Message) (tick : ℕ) (bytes rest back : List ℕ) (a b : List Call) → BeginsWithRecords messages tick bytes a rest → BeginsWithRecords messages tick bytes b back → rest ≡ back
 records_behind messages tick bytes rest back a b (no_extent lacks none behind) (no_extent lacks2 none2 behind2) = behind ∙ sym behind2
 records_behind messages tick bytes rest back a b (no_extent lacks none behind) (extent other body begins is right few) = absurd (lacks other begins)
 records_behind messages tick bytes rest back a b (extent other body begins is right few) q =

@@ -1,43 +1,33 @@
 -- The bytes of a run's log, as they are appended.
-use Rattle.std.proofs.Common.{◌≡◌, ℕ, zero, suc, ◌+◌, ◌*◌, ◌<◌, ◌≤◌, List, [], ◌∷◌, ◌++◌, length, map, take, drop, Some, refl, sym, ap, subst, ◌∙◌, append_assoc, arith}
+use Rattle.std.proofs.Common.{◌≡◌, ℕ, zero, suc, ◌+◌, ◌*◌, ◌<◌, ◌≤◌, List, [], ◌∷◌, ◌++◌, length, take, drop, Some, refl, sym, ap, subst, ◌∙◌, append_assoc, arith}
 use Rattle.std.specs.Prelude.{slice_get, max}
 use Rattle.std.proofs.lemmas.List.{append-nil, take_at, take_more, length-append, length-take-le, length-drop}
 use Rattle.std.proofs.lemmas.Option.{slice_get_within, get_or_from_slice_get}
 use Rattle.log_dictionary.specs.declared.message.Message.{Message}
 use Rattle.log_dictionary.specs.BinaryEntries.{SpellsEntry}
 use Rattle.arg_records.specs.Places.{with_words}
-use Rattle.buffer_extent.specs.declared.record.LogRecord.{LogRecord}
+use Rattle.arg_records.specs.declared.call.Call.{Call}
 use Rattle.buffer_extent.specs.Bodies.{SpellsRecord, SpellsRecords}
 use Rattle.checkpoint_io.specs.Blocks.{SpellsEntries}
 use Rattle.checkpoint_io.specs.Validity.{last_stamp}
 use Rattle.checkpoint_io.specs.Logs.{ids_used}
-use Rattle.trace_text.specs.declared.call.Call.{Call}
-use Rattle.trace_text.specs.Recordings.{NeverFalls}
-use Rattle.nanolog_cli.specs.Texts.{record_of}
+use Rattle.arg_records.specs.Calls.{NeverFalls}
 use Rattle.nanolog_cli.proofs.Choices.{some_same}
 use Rattle.nanolog_cli.proofs.LineLemmas.{taken}
 
-map-push : (calls : List Call) (call : Call) → map record_of (calls ++ call ∷ []) ≡ map record_of calls ++ record_of call ∷ []
-map-push [] call = refl
-map-push (c ∷ calls) call = ap (λ (r : List LogRecord). record_of c ∷ r) (map-push calls call)
-
--- the records of one call more
-one_more : (calls : List Call) (i : ℕ) (call : Call) → Some call ≡ slice_get calls i → map record_of (take (i + 1) calls) ≡ map record_of (take i calls) ++ record_of call ∷ []
-one_more calls i call e = ap (map record_of) (taken calls i call e) ∙ map-push (take i calls) call
-
 -- ---- ids
 
-ids_used-push : (entries : List LogRecord) (entry : LogRecord) → ids_used (entries ++ entry ∷ []) ≡ max (ids_used entries) (entry.id + 1)
+ids_used-push : (entries : List Call) (entry : Call) → ids_used (entries ++ entry ∷ []) ≡ max (ids_used entries) (entry.id + 1)
 ids_used-push [] entry = grind arith
 ids_used-push (e ∷ entries) entry = let others = ids_used-push entries entry in grind arith
 
-pub id_counted : (calls : List Call) (i : ℕ) (call : Call) → Some call ≡ slice_get calls i → call.id < ids_used (map record_of calls)
+pub id_counted : (calls : List Call) (i : ℕ) (call : Call) → Some call ≡ slice_get calls i → call.id < ids_used calls
 id_counted [] i call e = absurd cc
 id_counted (c ∷ calls) zero call e = let same = ap (λ (x : Call). x.id) (some_same call c e) in grind arith
 id_counted (c ∷ calls) (suc i) call e = let here = id_counted calls i call e in grind arith
 
-pub ids_more : (calls : List Call) (i : ℕ) (call : Call) (count : ℕ) → Some call ≡ slice_get calls i → count ≡ ids_used (map record_of (take i calls)) → max count (call.id + 1) ≡ ids_used (map record_of (take (i + 1) calls))
-ids_more calls i call count e so_far = ap (λ (n : ℕ). max n (call.id + 1)) so_far ∙ sym (ap ids_used (one_more calls i call e) ∙ ids_used-push (map record_of (take i calls)) (record_of call))
+pub ids_more : (calls : List Call) (i : ℕ) (call : Call) (count : ℕ) → Some call ≡ slice_get calls i → count ≡ ids_used (take i calls) → max count (call.id + 1) ≡ ids_used (take (i + 1) calls)
+ids_more calls i call count e so_far = ap (λ (n : ℕ). max n (call.id + 1)) so_far ∙ sym (ap ids_used (taken calls i call e) ∙ ids_used-push (take i calls) call)
 
 -- ---- entries
 
@@ -55,13 +45,13 @@ entries_more messages i message bytes entry e spelled is =
 
 -- ---- records
 
-records-push : (messages : List Message) (before : ℕ) (entries : List LogRecord) (entry : LogRecord) (bytes packed : List ℕ) → SpellsRecords messages before entries bytes
+records-push : (messages : List Message) (before : ℕ) (entries : List Call) (entry : Call) (bytes packed : List ℕ) → SpellsRecords messages before entries bytes
     → SpellsRecord messages (last_stamp before entries) entry packed → SpellsRecords messages before (entries ++ entry ∷ []) (bytes ++ packed)
 records-push messages before [] entry bytes packed spelled is = (packed, [], ap (λ (b : List ℕ). b ++ packed) spelled ∙ sym (append-nil packed), is, refl)
 records-push messages before (e ∷ entries) entry bytes packed (front, back, joined, first, others) is =
     (front, back ++ packed, ap (λ (b : List ℕ). b ++ packed) joined ∙ append_assoc front back packed, first, records-push messages e.stamp entries entry back packed others is)
 
-last-push : (before : ℕ) (entries : List LogRecord) (entry : LogRecord) → last_stamp before (entries ++ entry ∷ []) ≡ entry.stamp
+last-push : (before : ℕ) (entries : List Call) (entry : Call) → last_stamp before (entries ++ entry ∷ []) ≡ entry.stamp
 last-push before [] entry = refl
 last-push before (e ∷ entries) entry = last-push e.stamp entries entry
 
@@ -72,24 +62,24 @@ written_behind list words at within =
     ∙ take_at (take at list ++ words) (drop (at + length words) list) (at + length words) (omega (arith, length-append (take at list) words, length-take-le at list within))
 
 pub records_more : (messages : List Message) (tick : ℕ) (calls : List Call) (i : ℕ) (call : Call) (before end : ℕ) (body packed : List ℕ) → Some call ≡ slice_get calls i → end ≤ length body
-    → SpellsRecords messages tick (map record_of (take i calls)) (take end body) → before ≡ last_stamp tick (map record_of (take i calls)) → SpellsRecord messages before (record_of call) packed
-    → SpellsRecords messages tick (map record_of (take (i + 1) calls)) (take (end + length packed) (with_words body end packed))
+    → SpellsRecords messages tick (take i calls) (take end body) → before ≡ last_stamp tick (take i calls) → SpellsRecord messages before call packed
+    → SpellsRecords messages tick (take (i + 1) calls) (take (end + length packed) (with_words body end packed))
 records_more messages tick calls i call before end body packed e within spelled last is =
-    let pushed = records-push messages tick (map record_of (take i calls)) (record_of call) (take end body) packed spelled (subst (λ (n : ℕ). SpellsRecord messages n (record_of call) packed) last is) in
-    subst (λ (entries : List LogRecord). SpellsRecords messages tick entries (take (end + length packed) (with_words body end packed))) (sym (one_more calls i call e))
-    (subst (SpellsRecords messages tick (map record_of (take i calls) ++ record_of call ∷ [])) (sym (written_behind body packed end within)) pushed)
+    let pushed = records-push messages tick (take i calls) call (take end body) packed spelled (subst (λ (n : ℕ). SpellsRecord messages n call packed) last is) in
+    subst (λ (entries : List Call). SpellsRecords messages tick entries (take (end + length packed) (with_words body end packed))) (sym (taken calls i call e))
+    (subst (SpellsRecords messages tick ((take i calls) ++ call ∷ [])) (sym (written_behind body packed end within)) pushed)
 
-pub last_more : (tick : ℕ) (calls : List Call) (i : ℕ) (call : Call) → Some call ≡ slice_get calls i → call.stamp ≡ last_stamp tick (map record_of (take (i + 1) calls))
-last_more tick calls i call e = sym (ap (last_stamp tick) (one_more calls i call e) ∙ last-push tick (map record_of (take i calls)) (record_of call))
+pub last_more : (tick : ℕ) (calls : List Call) (i : ℕ) (call : Call) → Some call ≡ slice_get calls i → call.stamp ≡ last_stamp tick (take (i + 1) calls)
+last_more tick calls i call e = sym (ap (last_stamp tick) (taken calls i call e) ∙ last-push tick (take i calls) call)
 
 -- a call isn't earlier than those before it
-pub not_before : (tick : ℕ) (calls : List Call) (i : ℕ) (call : Call) (before : ℕ) → NeverFalls tick calls → Some call ≡ slice_get calls i → before ≡ last_stamp tick (map record_of (take i calls)) → before ≤ call.stamp
+pub not_before : (tick : ℕ) (calls : List Call) (i : ℕ) (call : Call) (before : ℕ) → NeverFalls tick calls → Some call ≡ slice_get calls i → before ≡ last_stamp tick (take i calls) → before ≤ call.stamp
 not_before tick [] i call before later e last = absurd cc
 not_before tick (c ∷ calls) zero call before later e last = omega (arith, later.0, last, ap (λ (x : Call). x.stamp) (some_same call c e))
 not_before tick (c ∷ calls) (suc i) call before later e last = not_before c.stamp calls i call before later.1 e last
 
 -- the call is counted among those whose ids are at most so many
-pub id_below : (calls : List Call) (i : ℕ) (call : Call) (limit : ℕ) → Some call ≡ slice_get calls i → ids_used (map record_of calls) ≤ limit → call.id < limit
+pub id_below : (calls : List Call) (i : ℕ) (call : Call) (limit : ℕ) → Some call ≡ slice_get calls i → ids_used calls ≤ limit → call.id < limit
 id_below calls i call limit e most = let here = id_counted calls i call e in omega arith
 
 -- the entry is appended behind those before it
@@ -113,14 +103,14 @@ same_length list words at within =
 
 -- what holds of the bytes behind one record more
 pub record IsPacked (messages : List Message) (tick : ℕ) (calls : List Call) (place end before : ℕ) (body : List ℕ) : Type 0 where
-  pub spelled : SpellsRecords messages tick (map record_of (take place calls)) (take end body)
+  pub spelled : SpellsRecords messages tick (take place calls) (take end body)
   pub short : end ≤ 320 * place
   pub size : length body ≡ 65536
-  pub last : before ≡ last_stamp tick (map record_of (take place calls))
+  pub last : before ≡ last_stamp tick (take place calls)
 
 pub packed_more : (messages : List Message) (tick : ℕ) (calls : List Call) (i : ℕ) (call : Call) (before end next : ℕ) (body new : List ℕ) → Some call ≡ slice_get calls i → length calls ≤ 128
     → IsPacked messages tick calls i end before body
-    → (packed : List ℕ) × SpellsRecord messages before (record_of call) packed × (length packed ≤ 320) × (next ≡ end + length packed) × (new ≡ with_words body end packed)
+    → (packed : List ℕ) × SpellsRecord messages before call packed × (length packed ≤ 320) × (next ≡ end + length packed) × (new ≡ with_words body end packed)
     → IsPacked messages tick calls (i + 1) next call.stamp new
 packed_more messages tick calls i call before end next body new e few was (packed, is, small, ends, written) =
     let within = slice_get_within calls i call (sym e) in
@@ -129,8 +119,8 @@ packed_more messages tick calls i call before end next body new e few was (packe
     let spelled = records_more messages tick calls i call before end body packed e (omega (arith, within, few, room, size)) was.spelled was.last is in
     record {
       spelled =
-          subst (λ (n : ℕ). SpellsRecords messages tick (map record_of (take (i + 1) calls)) (take n new)) (sym ends)
-          (subst (λ (b : List ℕ). SpellsRecords messages tick (map record_of (take (i + 1) calls)) (take (end + length packed) b)) (sym written) spelled);
+          subst (λ (n : ℕ). SpellsRecords messages tick (take (i + 1) calls) (take n new)) (sym ends)
+          (subst (λ (b : List ℕ). SpellsRecords messages tick (take (i + 1) calls) (take (end + length packed) b)) (sym written) spelled);
       short = omega (arith, room, small, ends);
       size = ap length written ∙ same_length body packed end (omega (arith, within, few, room, small, size)) ∙ size;
       last = last_more tick calls i call e;

@@ -10,10 +10,9 @@ use Rattle.buffer_extent.specs.IntegerLaws.{narrow_record_room}
 use Rattle.arg_records.specs.Places.{with_words}
 use Rattle.buffer_extent.specs.Records.{RecordBytes}
 use Rattle.buffer_extent.specs.Bodies.{SpellsRecord}
-use Rattle.trace_text.specs.declared.call.Call.{Call}
-use Rattle.trace_text.specs.Recordings.{IsCall}
+use Rattle.arg_records.specs.declared.call.Call.{Call}
+use Rattle.arg_records.specs.Calls.{IsCall}
 use Rattle.nanolog_cli.specs.NarrowTraces.{HasNarrowFormats}
-use Rattle.nanolog_cli.specs.Texts.{record_of}
 use Rattle.nanolog_cli.proofs.Choices.{some_same}
 
 -- ---- the message of a call
@@ -35,7 +34,7 @@ small_id messages call is few = omega (arith, slice_get_within messages call.id 
 pub record_is : (messages : List Message) (call : Call) (message : Message) (before at end : ℕ) (old new : List ℕ) → Some message ≡ slice_get messages call.id → HasNarrowFormats messages → length (Types message.format.pieces) ≤ 64
     → end ≤ at + record_room (Types message.format.pieces)
     → (packed : List ℕ) × RecordBytes (Types message.format.pieces) call.id call.stamp before call.args packed × (new ≡ take at old ++ packed ++ drop (at + length packed) old) × (end ≡ at + length packed)
-    → (packed : List ℕ) × SpellsRecord messages before (record_of call) packed × (length packed ≤ 320) × (end ≡ at + length packed) × (new ≡ with_words old at packed)
+    → (packed : List ℕ) × SpellsRecord messages before call packed × (length packed ≤ 320) × (end ≡ at + length packed) × (new ≡ with_words old at packed)
 record_is messages call message before at end old new e narrow few bound (packed, is, written, ends) =
     let room = narrow_record_room message.format.pieces (narrow_at messages call.id message narrow e) few in
     (packed, record { message = message; known = sym e; spelled = is }, omega (arith, room, bound, ends), ends, written ∙ append_assoc (take at old) packed (drop (at + length packed) old))

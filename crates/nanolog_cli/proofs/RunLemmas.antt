@@ -4,7 +4,7 @@ use Rattle.std.proofs.lemmas.List.{length-append}
 use Rattle.nanolog_cli.proofs.CallLemmas.{narrow_calls_same}
 use Rattle.nanolog_cli.specs.NarrowMessages.{NarrowLine, NarrowMessages}
 use Rattle.log_dictionary.specs.declared.message.Message.{Message}
-use Rattle.trace_text.specs.declared.call.Call.{Call}
+use Rattle.arg_records.specs.declared.call.Call.{Call}
 use Rattle.nanolog_cli.specs.NarrowCalls.{NarrowCall, NarrowCalls}
 
 -- the stamp of the last call, or this one where there is none

@@ -2,7 +2,7 @@
 use Rattle.std.proofs.Common.{◌≡◌, ℕ, zero, suc, ◌+◌, ◌*◌, ◌<◌, ◌≤◌, true, false, List, [], ◌∷◌, ◌++◌, length, map, take, drop, get_or, Some, inl, refl, sym, ap, subst, ◌∙◌, append_assoc, arith}
 use Rattle.std.specs.Prelude.{slice_get, IsTrue}
 use Rattle.std.specs.List.{flat_map, filter_map, enumerate_from, range_with_len, AllByRecursion, cons_option}
-use Rattle.std.proofs.lemmas.List.{append-nil, take-append-drop, length-append, length-take, length-take-le, length-map, get_or-take}
+use Rattle.std.proofs.lemmas.List.{append-nil, take-append-drop, length-append, length-take, length-take-le, get_or-take}
 use Rattle.std.specs.Hash.{le_bytes}
 use Rattle.std.proofs.lemmas.Option.{slice_get_within}
 use Rattle.log_dictionary.specs.declared.clock.Clock.{Clock}
@@ -11,20 +11,20 @@ use Rattle.log_dictionary.specs.declared.message.Message.{Message}
 use Rattle.log_dictionary.specs.Messages.{SameMessage, AreDistinct}
 use Rattle.log_dictionary.specs.BinaryEntries.{raw_of}
 use Rattle.log_dictionary.proofs.BinaryLaws.{raw_length}
-use Rattle.buffer_extent.specs.declared.record.LogRecord.{LogRecord}
-use Rattle.buffer_extent.specs.Bodies.{IsRecord, SpellsRecords, NeverFalls}
+use Rattle.arg_records.specs.declared.call.Call.{Call}
+use Rattle.buffer_extent.specs.Bodies.{SpellsRecords}
+use Rattle.arg_records.specs.Calls.{IsCall, NeverFalls, log_call, writer_calls}
 use Rattle.checkpoint_io.specs.Blocks.{Block, Fragment, Extent, Close, messages_of, SpellsEntries, SpellsBlocks, FileOf, header_bytes, fragment_head_bytes, extent_head_bytes, close_bytes}
 use Rattle.checkpoint_io.specs.Validity.{records_of, IsClosed, IsHeader, Valid}
 use Rattle.checkpoint_io.specs.Logs.{ids_used, LogOf, IsLaidOut, ends, extent, close}
 use Rattle.direct_printf.specs.Lines.{Direct}
-use Rattle.trace_text.specs.declared.call.Call.{Call}
-use Rattle.trace_text.specs.Recordings.{Recording, IsRecording, IsCall, log_call, writer_calls, calls_of, NeverFalls as CallsNeverFall}
-use Rattle.decompressor.specs.Decompression.{call_of_record, CallsOf, all_calls, Decompressed}
+use Rattle.trace_text.specs.Recordings.{Recording, IsRecording, calls_of}
+use Rattle.decompressor.specs.Decompression.{CallsOf, all_calls, Decompressed}
 use Rattle.decompressor.proofs.DecompressionLaws.{whole_is_text}
 use Rattle.nanolog_cli.specs.NarrowTraces.{IsNarrowRun, HasNarrowFormats}
 use Rattle.nanolog_cli.specs.NarrowLogs.{narrow_header, narrow_blocks, IsLog}
-use Rattle.nanolog_cli.specs.Texts.{record_of, direct_text}
-use Rattle.nanolog_cli.specs.Replays.{taken_of, LogOfRun}
+use Rattle.nanolog_cli.specs.Texts.{direct_text}
+use Rattle.nanolog_cli.specs.Replays.{LogOfRun}
 use Rattle.nanolog_cli.specs.Appending.{FragmentAndExtent, AppendsCalls}
 use Rattle.nanolog_cli.proofs.LineLemmas.{single}
 use Rattle.nanolog_cli.proofs.LogParts.{number_length}
@@ -38,14 +38,14 @@ used_same (suc n) [] i within = refl
 used_same (suc n) (x ∷ items) zero within = refl
 used_same (suc n) (x ∷ items) (suc i) within = used_same n items i (omega (arith, within))
 
-first_used : (entry : LogRecord) (entries : List LogRecord) (used : ℕ) → ids_used (entry ∷ entries) ≤ used → entry.id < used
+first_used : (entry : Call) (entries : List Call) (used : ℕ) → ids_used (entry ∷ entries) ≤ used → entry.id < used
 first_used entry entries used h = grind arith
 
-others_used : (entry : LogRecord) (entries : List LogRecord) (used : ℕ) → ids_used (entry ∷ entries) ≤ used → ids_used entries ≤ used
+others_used : (entry : Call) (entries : List Call) (used : ℕ) → ids_used (entry ∷ entries) ≤ used → ids_used entries ≤ used
 others_used entry entries used h = grind arith
 
 -- the records are spelled as they are with all the messages
-pub spelled_with_used : (messages : List Message) (used before : ℕ) (entries : List LogRecord) (bytes : List ℕ) → ids_used entries ≤ used → SpellsRecords messages before entries bytes
+pub spelled_with_used : (messages : List Message) (used before : ℕ) (entries : List Call) (bytes : List ℕ) → ids_used entries ≤ used → SpellsRecords messages before entries bytes
     → SpellsRecords (take used messages) before entries bytes
 spelled_with_used messages used before [] bytes h spelled = spelled
 spelled_with_used messages used before (entry ∷ entries) bytes h (front, back, joined, is, others) = (
@@ -57,27 +57,22 @@ spelled_with_used messages used before (entry ∷ entries) bytes h (front, back,
 )
 
 -- the calls, as records, name them
-pub records_right : (messages : List Message) (used : ℕ) (calls : List Call) → ids_used (map record_of calls) ≤ used → AllByRecursion (IsCall messages) calls → AllByRecursion (IsRecord (take used messages)) (map record_of calls)
+pub records_right : (messages : List Message) (used : ℕ) (calls : List Call) → ids_used calls ≤ used → AllByRecursion (IsCall messages) calls → AllByRecursion (IsCall (take used messages)) calls
 records_right messages used [] h named = tt
 records_right messages used (call ∷ calls) h (is, named) = (
-  record { message = is.message; known = used_same used messages call.id (first_used (record_of call) (map record_of calls) used h) ∙ is.known; fits = is.fits; short = is.short },
-  records_right messages used calls (others_used (record_of call) (map record_of calls) used h) named,
+  record { message = is.message; known = used_same used messages call.id (first_used call calls used h) ∙ is.known; fits = is.fits; short = is.short },
+  records_right messages used calls (others_used call calls used h) named,
 )
 
-pub records_rise : (least : ℕ) (calls : List Call) → CallsNeverFall least calls → NeverFalls least (map record_of calls)
-records_rise least [] later = tt
-records_rise least (call ∷ calls) (is, later) = (is, records_rise call.stamp calls later)
-
--- and say the same with them
-pub calls_with_used : (messages : List Message) (used n : ℕ) (calls : List Call) → ids_used (map record_of calls) ≤ used
+pub calls_with_used : (messages : List Message) (used n : ℕ) (calls : List Call) → ids_used calls ≤ used
     → filter_map (log_call (take used messages) 0) (enumerate_from n calls) ≡ filter_map (log_call messages 0) (enumerate_from n calls)
 calls_with_used messages used n [] h = refl
 calls_with_used messages used n (call ∷ calls) h =
-    rw (used_same used messages call.id (first_used (record_of call) (map record_of calls) used h))
-    (ap (cons_option (log_call messages 0 (n, call))) (calls_with_used messages used (n + 1) calls (others_used (record_of call) (map record_of calls) used h)))
+    rw (used_same used messages call.id (first_used call calls used h))
+    (ap (cons_option (log_call messages 0 (n, call))) (calls_with_used messages used (n + 1) calls (others_used call calls used h)))
 
 -- no id is used that isn't a message's
-pub ids_known : (messages : List Message) (calls : List Call) → AllByRecursion (IsCall messages) calls → ids_used (map record_of calls) ≤ length messages
+pub ids_known : (messages : List Message) (calls : List Call) → AllByRecursion (IsCall messages) calls → ids_used calls ≤ length messages
 ids_known messages [] named = omega arith
 ids_known messages (call ∷ calls) (is, named) =
     let here = slice_get_within messages call.id is.message is.known in
@@ -94,12 +89,12 @@ distinct_used messages used distinct = λ i j d before within.
 
 -- ---- bytes
 
-pub body_some : (messages : List Message) (before : ℕ) (entries : List LogRecord) (body : List ℕ) → 1 ≤ length entries → SpellsRecords messages before entries body → 1 ≤ length body
+pub body_some : (messages : List Message) (before : ℕ) (entries : List Call) (body : List ℕ) → 1 ≤ length entries → SpellsRecords messages before entries body → 1 ≤ length body
 body_some messages before [] body some spelled = absurd (omega (arith, some))
 body_some messages before (entry ∷ entries) body some (front, back, joined, is, others) =
     omega (arith, ap length joined, length-append front back, ap length is.spelled.joined)
 
-pub ids_some : (calls : List Call) → 1 ≤ length calls → 1 ≤ ids_used (map record_of calls)
+pub ids_some : (calls : List Call) → 1 ≤ length calls → 1 ≤ ids_used calls
 ids_some [] some = absurd (omega (arith, some))
 ids_some (call ∷ calls) some = grind arith
 
@@ -120,24 +115,19 @@ only_closed blocks n (suc writer) one closed within = absurd (omega (arith, one,
 record IsLogOfCalls (run : Recording) (calls : List Call) (blocks : List Block) (bytes : List ℕ) : Type 0 where
   file : FileOf (narrow_header run.clock) blocks bytes
   valid : Valid (narrow_header run.clock) blocks
-  messages : messages_of blocks ≡ take (ids_used (map record_of calls)) run.dictionary
-  records : records_of 0 blocks ≡ map record_of calls
+  messages : messages_of blocks ≡ take (ids_used calls) run.dictionary
+  records : records_of 0 blocks ≡ calls
   closed : IsClosed 0 blocks
   laid_out : IsLaidOut run.dictionary 4096 [] blocks
   is_read : IsLog bytes
 
-blocks_calls : (messages : List Message) (n : ℕ) (calls : List Call) → filter_map (call_of_record messages 0) (enumerate_from n (map record_of calls)) ≡ filter_map (log_call messages 0) (enumerate_from n calls)
-blocks_calls messages n [] = refl
-blocks_calls messages n (call ∷ calls) = ap (cons_option (log_call messages 0 (n, call))) (blocks_calls messages (n + 1) calls)
-
 text_of_blocks : (run : Recording) (calls : List Call) (blocks : List Block) (bytes : List ℕ) → run.writers ≡ calls ∷ [] → IsLogOfCalls run calls blocks bytes
     → Direct run.clock (all_calls (narrow_header run.clock) blocks) ≡ direct_text run
 text_of_blocks run calls blocks bytes one log =
-    let used = ids_used (map record_of calls) in
+    let used = ids_used calls in
     let of_blocks : all_calls (narrow_header run.clock) blocks ≡ writer_calls run.dictionary (0, calls) =
     append-nil (CallsOf blocks 0)
-    ∙ (λ i. filter_map (call_of_record (log.messages i) 0) (enumerate_from 0 (log.records i)))
-    ∙ blocks_calls (take used run.dictionary) 0 calls
+    ∙ (λ i. filter_map (log_call (log.messages i) 0) (enumerate_from 0 (log.records i)))
     ∙ calls_with_used run.dictionary used 0 calls (omega arith) in
     let of_run : calls_of run ≡ writer_calls run.dictionary (0, calls) =
     ap (λ (ws : List (List Call)). flat_map (writer_calls run.dictionary) (enumerate_from 0 ws)) one ∙ append-nil (writer_calls run.dictionary (0, calls)) in
@@ -145,18 +135,17 @@ text_of_blocks run calls blocks bytes one log =
 
 log_of_calls : (run : Recording) (calls : List Call) (blocks : List Block) (bytes : List ℕ) → run.writers ≡ calls ∷ [] → IsLogOfCalls run calls blocks bytes → LogOfRun run bytes
 log_of_calls run calls blocks bytes one log =
-    let used = ids_used (map record_of calls) in
-    let taken : taken_of run ≡ map record_of calls ∷ [] = ap (map (map record_of)) one in
-    let lawful : LogOf bytes (taken_of run) run.dictionary run.clock 4096 = record {
+    let used = ids_used calls in
+    let lawful : LogOf bytes run.writers run.dictionary run.clock 4096 = record {
       header = narrow_header run.clock;
       blocks = blocks;
       file = log.file;
       valid = log.valid;
       clock_is = refl;
-      writers_are = sym (ap length taken);
+      writers_are = sym (ap length one);
       undefined = drop used run.dictionary;
       messages_are = sym (take-append-drop used run.dictionary) ∙ ap (λ (ms : List Message). ms ++ drop used run.dictionary) (sym log.messages);
-      records_are = taken ∙ ap (λ (rs : List LogRecord). rs ∷ []) (sym log.records) ∙ ap (λ (n : ℕ). map (λ writer. records_of writer blocks) (range_with_len 0 n)) (sym (ap length taken));
+      records_are = one ∙ ap (λ (rs : List Call). rs ∷ []) (sym log.records) ∙ ap (λ (n : ℕ). map (λ writer. records_of writer blocks) (range_with_len 0 n)) (sym (ap length one));
       laid_out = log.laid_out;
     } in
     record {
@@ -231,7 +220,7 @@ log_length clock count entries body bytes joined entries_short body_short =
     )
 
 -- the blocks of a log with messages and records
-some_blocks : (messages : List Message) (entries : List LogRecord) → 1 ≤ length messages → 1 ≤ length entries → narrow_blocks messages entries ≡ Fragment 0 messages ∷ Extent 0 entries ∷ Close 0 ∷ []
+some_blocks : (messages : List Message) (entries : List Call) → 1 ≤ length messages → 1 ≤ length entries → narrow_blocks messages entries ≡ Fragment 0 messages ∷ Extent 0 entries ∷ Close 0 ∷ []
 some_blocks [] entries some some_too = absurd (omega (arith, some))
 some_blocks (m ∷ messages) [] some some_too = absurd (omega (arith, some_too))
 some_blocks (m ∷ messages) (e ∷ entries) some some_too = refl
@@ -267,14 +256,14 @@ empty_log run bytes narrow recorded one is =
 full_log : (run : Recording) (calls : List Call) (after bytes : List ℕ) → IsNarrowRun run → IsRecording run → run.writers ≡ calls ∷ [] → 1 ≤ length calls
     → FragmentAndExtent run.dictionary run.clock.tick calls (header_bytes (narrow_header run.clock)) after → bytes ≡ after ++ close_bytes 0 → LogOfRun run bytes
 full_log run calls after bytes narrow recorded one some parts closed_by =
-    let used = ids_used (map record_of calls) in
+    let used = ids_used calls in
     let messages = take used run.dictionary in
-    let entries = map record_of calls in
+    let entries = calls in
     let tick = run.clock.tick in
     let fragment = Fragment 0 messages in
     let extent_block = Extent 0 entries in
     let named : AllByRecursion (IsCall run.dictionary) calls = (subst (AllByRecursion (AllByRecursion (IsCall run.dictionary))) one recorded.calls).0 in
-    let later : CallsNeverFall tick calls = (subst (AllByRecursion (CallsNeverFall tick)) one recorded.stamps).0 in
+    let later : NeverFalls tick calls = (subst (AllByRecursion (NeverFalls tick)) one recorded.stamps).0 in
     let few : length calls ≤ 128 = (subst (AllByRecursion (λ cs. length cs ≤ 128)) one narrow.few_calls).0 in
     let known = ids_known run.dictionary calls named in
     let count : length messages ≡ used = length-take-le used run.dictionary known in
@@ -299,7 +288,7 @@ full_log run calls after bytes narrow recorded one some parts closed_by =
         refl,
         record {
           body = parts.body;
-          some = body_some run.dictionary tick entries parts.body (omega (arith, some, length-map calls record_of)) parts.body_spelled;
+          some = body_some run.dictionary tick entries parts.body (omega (arith, some)) parts.body_spelled;
           short = parts.short;
           writer_fits = omega arith;
           body_spelled = subst (λ (ms : List Message). SpellsRecords ms tick entries parts.body) (sym all_there) (spelled_with_used run.dictionary used tick entries parts.body (omega arith) parts.body_spelled);
@@ -318,21 +307,21 @@ full_log run calls after bytes narrow recorded one some parts closed_by =
         (
           record {
             writer_open = record { known = omega arith; unclosed = unclosed };
-            right = subst (λ (ms : List Message). AllByRecursion (IsRecord ms) entries) (sym all_there) (records_right run.dictionary used calls (omega arith) named);
-            rising = records_rise tick calls later;
+            right = subst (λ (ms : List Message). AllByRecursion (IsCall ms) entries) (sym all_there) (records_right run.dictionary used calls (omega arith) named);
+            rising = later;
           },
           (record { known = omega arith; unclosed = unclosed }, tt),
         ),
       );
     } in
-    let as_narrow = sym (some_blocks messages entries (omega (arith, count, some_id)) (omega (arith, some, length-map calls record_of))) in
+    let as_narrow = sym (some_blocks messages entries (omega (arith, count, some_id)) (omega (arith, some))) in
     log_of_calls run calls (fragment ∷ extent_block ∷ Close 0 ∷ []) bytes one (record {
       file = file;
       valid = valid;
       messages = append-nil messages;
       records = append-nil entries;
       closed = refl;
-      laid_out = extent [] (fragment ∷ []) 0 entries (Close 0 ∷ []) ([], refl, sym (append-nil messages), inl refl, refl) (omega (arith, few, length-map calls record_of)) (close (fragment ∷ extent_block ∷ []) 0 [] (ends (fragment ∷ extent_block ∷ Close 0 ∷ [])));
+      laid_out = extent [] (fragment ∷ []) 0 entries (Close 0 ∷ []) ([], refl, sym (append-nil messages), inl refl, refl) (omega (arith, few)) (close (fragment ∷ extent_block ∷ []) 0 [] (ends (fragment ∷ extent_block ∷ Close 0 ∷ [])));
       is_read = (
         run.clock,
         messages,
@@ -342,7 +331,7 @@ full_log run calls after bytes narrow recorded one some parts closed_by =
           valid = subst (Valid (narrow_header run.clock)) as_narrow valid;
           few_messages = omega (arith, count, known, narrow_messages);
           narrow = narrow_used run.dictionary used narrow.narrow;
-          few_records = omega (arith, few, length-map calls record_of);
+          few_records = omega (arith, few);
           short = log_length run.clock used parts.entries parts.body bytes joined (omega (arith, entries_length messages parts.entries parts.entries_spelled, count, known, narrow_messages)) parts.short;
         },
       );
@@ -364,9 +353,6 @@ whole_log seen run calls empty head after bytes same narrow recorded first nothi
 
 -- ---- what is asked of the parts
 
-pub some_records : (calls : List Call) → 1 ≤ length calls → 1 ≤ length (map record_of calls)
-some_records calls some = omega (arith, some, length-map calls record_of)
-
 pub some_calls : (calls : List Call) → (calls ≡ [] → IsTrue false) → 1 ≤ length calls
 some_calls [] some = let e = some refl in absurd cc
 some_calls (call ∷ calls) some = omega arith
@@ -375,9 +361,9 @@ pub run_named : (seen run : Recording) (calls : List Call) → seen ≡ run → 
 run_named seen run calls same narrow recorded first =
     (subst (AllByRecursion (AllByRecursion (IsCall seen.dictionary))) (single seen.writers calls (subst IsNarrowRun (sym same) narrow).one_writer first) recorded.calls).0
 
-pub run_later : (seen run : Recording) (calls : List Call) → seen ≡ run → IsNarrowRun run → IsRecording seen → Some calls ≡ slice_get seen.writers 0 → CallsNeverFall seen.clock.tick calls
+pub run_later : (seen run : Recording) (calls : List Call) → seen ≡ run → IsNarrowRun run → IsRecording seen → Some calls ≡ slice_get seen.writers 0 → NeverFalls seen.clock.tick calls
 run_later seen run calls same narrow recorded first =
-    (subst (AllByRecursion (CallsNeverFall seen.clock.tick)) (single seen.writers calls (subst IsNarrowRun (sym same) narrow).one_writer first) recorded.stamps).0
+    (subst (AllByRecursion (NeverFalls seen.clock.tick)) (single seen.writers calls (subst IsNarrowRun (sym same) narrow).one_writer first) recorded.stamps).0
 
 pub run_few : (seen run : Recording) (calls : List Call) → seen ≡ run → IsNarrowRun run → Some calls ≡ slice_get seen.writers 0 → length calls ≤ 128
 run_few seen run calls same narrow first =

@@ -14,8 +14,9 @@ use Rattle.log_dictionary.specs.Texts.{IsPlain}
 use Rattle.log_dictionary.specs.Severities.{severity_name}
 use Rattle.log_dictionary.proofs.Lines.{severity_none}
 use Rattle.log_dictionary.proofs.UnescapedLines.{line_entry}
-use Rattle.trace_text.specs.declared.call.Call.{Call}
-use Rattle.trace_text.specs.Recordings.{Recording, IsCall, NeverFalls}
+use Rattle.arg_records.specs.declared.call.Call.{Call}
+use Rattle.trace_text.specs.Recordings.{Recording}
+use Rattle.arg_records.specs.Calls.{IsCall, NeverFalls}
 use Rattle.trace_text.specs.Lines.{WriterCall, FitsLine, SpellsMessages, SpellsCalls, first_line, last_line, clock_line, writers_line, text_of_lines}
 use Rattle.trace_text.specs.Traces.{calls_by}
 use Rattle.nanolog_cli.specs.NarrowMessages.{NarrowLine, NarrowMessages}

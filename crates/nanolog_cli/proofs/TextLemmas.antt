@@ -11,7 +11,7 @@ use Rattle.std.proofs.lemmas.List.Splits.{join_with_byte-slice_split}
 use Rattle.std.proofs.lemmas.Slice.Eq.{bytes_eq-Decides}
 use Rattle.printf_grammar.specs.Narrow.{IsNarrow}
 use Rattle.log_dictionary.specs.declared.message.Message.{Message}
-use Rattle.trace_text.specs.declared.call.Call.{Call}
+use Rattle.arg_records.specs.declared.call.Call.{Call}
 use Rattle.trace_text.specs.Recordings.{Recording}
 use Rattle.trace_text.specs.Lines.{WriterCall, SpellsMessages, SpellsCalls, first_line, last_line, clock_line, writers_line, text_of_lines}
 use Rattle.trace_text.specs.Traces.{TraceText, calls_by}

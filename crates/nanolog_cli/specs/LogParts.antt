@@ -4,7 +4,7 @@ use Rattle.std.specs.Hash.{le_bytes}
 use Rattle.log_dictionary.specs.declared.clock.Clock.{Clock}
 use Rattle.log_dictionary.specs.declared.message.Message.{Message}
 use Rattle.log_dictionary.specs.Messages.{AreDistinct}
-use Rattle.buffer_extent.specs.declared.record.LogRecord.{LogRecord}
+use Rattle.arg_records.specs.declared.call.Call.{Call}
 use Rattle.buffer_extent.specs.Bodies.{IsBody}
 use Rattle.checkpoint_io.specs.Blocks.{header_bytes, close_bytes, SpellsEntries}
 use Rattle.checkpoint_io.specs.Validity.{IsHeader}
@@ -65,14 +65,14 @@ pub record BeginsWithBody (bytes body rest : List ℕ) : Type 0 where
   pub joined : bytes ≡ le_bytes 4 (length body) ++ (body ++ rest)
 
 -- the bytes begin with an extent of the records, or with none where there are no records, and these bytes follow
-pub data BeginsWithRecords (messages : List Message) (tick : ℕ) (bytes : List ℕ) (entries : List LogRecord) (rest : List ℕ) : Type 0 where
+pub data BeginsWithRecords (messages : List Message) (tick : ℕ) (bytes : List ℕ) (entries : List Call) (rest : List ℕ) : Type 0 where
   no_extent : LacksFront extent_front bytes → entries ≡ [] → rest ≡ bytes → BeginsWithRecords messages tick bytes entries rest
   extent : (measured body : List ℕ) → bytes ≡ extent_front ++ measured → BeginsWithBody measured body rest → IsBody messages tick tick entries body → length entries ≤ 128 → BeginsWithRecords messages tick bytes entries rest
 
 -- ---- the whole
 
 -- the bytes are a header, messages, records, and the close mark of writer 0
-pub record LogParts (bytes : List ℕ) (clock : Clock) (messages : List Message) (entries : List LogRecord) : Type 0 where
+pub record LogParts (bytes : List ℕ) (clock : Clock) (messages : List Message) (entries : List Call) : Type 0 where
   pub behind_header : List ℕ
   pub behind_messages : List ℕ
   pub header : BeginsWithHeader bytes clock behind_header

@@ -3,7 +3,7 @@ use Rattle.std.specs.Prelude.{◌≡◌, ℕ, ◌≤◌, List, [], ◌∷◌, �
 use Rattle.std.specs.Str.{bytes_eq}
 use Rattle.log_dictionary.specs.Messages.{AreDistinct}
 use Rattle.log_dictionary.specs.declared.message.Message.{Message}
-use Rattle.trace_text.specs.declared.call.Call.{Call}
+use Rattle.arg_records.specs.declared.call.Call.{Call}
 use Rattle.trace_text.specs.Recordings.{Recording, IsRecording}
 use Rattle.trace_text.specs.Lines.{clock_line, FitsLine, writers_line}
 use Rattle.nanolog_cli.specs.Parts.{first_of}

@@ -10,8 +10,8 @@ use Rattle.std.specs.List.{AllByRecursion, slice_split}
 use Rattle.printf_grammar.specs.declared.argument.Value.{Value}
 use Rattle.printf_grammar.specs.declared.argument.Value.TheVariants.{Signed}
 use Rattle.log_dictionary.specs.declared.message.Message.{Message}
-use Rattle.trace_text.specs.declared.call.Call.{Call}
-use Rattle.trace_text.specs.Recordings.{IsCall}
+use Rattle.arg_records.specs.declared.call.Call.{Call}
+use Rattle.arg_records.specs.Calls.{IsCall}
 
 -- the fields spell these numbers of 64 bits, and the values are the numbers
 pub record SpellsNumbers (fields : List (List ℕ)) (values : List Value) : Type 0 where

@@ -6,7 +6,7 @@ use Rattle.nl_io.specs.Content.{Told, with_end, PutsFront}
 use Rattle.nl_io.specs.Desk.{Desk, Held, OnlyReadFaults, OnlyName, IsAbsent, found_in}
 use Rattle.log_dictionary.specs.declared.clock.Clock.{Clock}
 use Rattle.log_dictionary.specs.declared.message.Message.{Message}
-use Rattle.buffer_extent.specs.declared.record.LogRecord.{LogRecord}
+use Rattle.arg_records.specs.declared.call.Call.{Call}
 use Rattle.trace_text.specs.Recordings.{Recording}
 use Rattle.decompressor.specs.Decompression.{Decompressed}
 use Rattle.nanolog_cli.specs.declared.status.Status.{Status}
@@ -65,7 +65,7 @@ pub record HeldRun (desk : Desk) (name : List ℕ) (run : Recording) : Type 0 wh
   pub spelled : NarrowTrace bytes run
 
 -- what the name held, where that is told, is the log of these messages and records
-pub record HeldNarrowLog (desk : Desk) (name : List ℕ) (clock : Clock) (messages : List Message) (entries : List LogRecord) : Type 0 where
+pub record HeldNarrowLog (desk : Desk) (name : List ℕ) (clock : Clock) (messages : List Message) (entries : List Call) : Type 0 where
   pub bytes : List ℕ
   pub was_held : IsHeld desk name bytes
   pub is_log : NarrowLog bytes clock messages entries

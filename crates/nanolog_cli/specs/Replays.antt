@@ -1,22 +1,17 @@
 -- The log of a run, and what `replay` prints.
-use Rattle.std.specs.Prelude.{ℕ, ◌<◌, List, ◌++◌, length, map, sum_by, codes}
+use Rattle.std.specs.Prelude.{ℕ, ◌<◌, List, ◌++◌, length, sum_by, codes}
 use Rattle.std.specs.Fmt.{decimal}
 use Rattle.trace_text.specs.Recordings.{Recording}
-use Rattle.buffer_extent.specs.declared.record.LogRecord.{LogRecord}
 use Rattle.checkpoint_io.specs.Validity.{IsClosed}
 use Rattle.checkpoint_io.specs.Logs.{LogOf}
 use Rattle.decompressor.specs.Decompression.{Decompressed}
 use Rattle.nanolog_cli.specs.NarrowLogs.{IsLog}
-use Rattle.nanolog_cli.specs.Texts.{direct_text, record_of}
-
--- the records of the calls of each writer
-abbrev pub taken_of : Recording → List (List LogRecord)
-taken_of run = map (map record_of) run.writers
+use Rattle.nanolog_cli.specs.Texts.{direct_text}
 
 -- The bytes are the log of all calls of the run, in extents of at most 4,096 records, with a close mark of each writer. They decompress to the
 -- lines of these calls, and are one of the logs that are read so far.
 pub record LogOfRun (run : Recording) (bytes : List ℕ) : Type 0 where
-  pub lawful : LogOf bytes (taken_of run) run.dictionary run.clock 4096
+  pub lawful : LogOf bytes run.writers run.dictionary run.clock 4096
   pub closed : (writer : ℕ) → writer < length run.writers → IsClosed writer lawful.blocks
   pub text_same : Decompressed bytes (direct_text run)
   pub is_read : IsLog bytes

@@ -4,13 +4,12 @@ ghost use Rattle.std.specs.Prelude.{◌≡◌, ◌≤◌, ◌++◌, ℕ, List, l
 ghost use Rattle.std.specs.List.{flat_map, AllByRecursion};
 ghost use Rattle.log_dictionary.specs.declared.message.Message.{Message};
 ghost use Rattle.direct_printf.specs.Lines.{Line};
-ghost use Rattle.trace_text.specs.Recordings.{IsCall, NeverFalls, writer_calls};
+ghost use Rattle.arg_records.specs.Calls.{IsCall, NeverFalls, writer_calls};
 ghost use Rattle.decompressor.specs.Decompression.{Decompressed};
-ghost use Rattle.nanolog_cli.specs.Texts.{direct_text, call_of};
+ghost use Rattle.nanolog_cli.specs.Texts.{direct_text};
 ghost use Rattle.nanolog_cli.specs.NarrowLogs.{NarrowLog};
 
 use crate::narrow_log::ReadLog;
-use buffer_extent::Records;
 use direct_printf::line;
 use log_dictionary::{Clock, Dictionary};
 use printf_grammar::Values;
@@ -62,35 +61,6 @@ fn lines_of(
     Ok(text)
 }
 
-/// The lines of the records of writer 0, in their order.
-fn lines_of_records(
-    alloc: Global,
-    dictionary: &Dictionary,
-    clock: &Clock,
-    records: &Records,
-) -> Result<Vec<u8>, AllocError>
-    requires rate { 1 ≤ clock.now.rate }
-    requires named { AllByRecursion (IsCall dictionary.now) (map call_of records.now) }
-    requires later { NeverFalls clock.now.tick (map call_of records.now) }
-    ensures { IfOk result (λ text. text.items ≡ flat_map (Line clock.now) (writer_calls dictionary.now (0, map call_of records.now))) }
-{
-    let mut text = Vec::new(alloc);
-    for place in 0..records.len() {
-        let Some(entry) = records.get(place) else {
-            unreachable!()
-        };
-        append_call(
-            dictionary,
-            clock,
-            entry.stamp,
-            entry.id,
-            &entry.args,
-            &mut text,
-        )?;
-    }
-    Ok(text)
-}
-
 /// The lines of all calls of a run of one writer.
 pub(crate) fn text_of_run(alloc: Global, run: &Trace) -> Result<Vec<u8>, AllocError>
     requires one { length run.now.writers ≡ 1 }
@@ -107,5 +77,5 @@ pub(crate) fn text_of_log(alloc: Global, log: &ReadLog) -> Result<Vec<u8>, Alloc
     requires { (bytes : List ℕ) × NarrowLog bytes log.now.clock log.now.dictionary log.now.records }
     ensures { IfOk result (λ text. (bytes : List ℕ) → NarrowLog bytes log.now.clock log.now.dictionary log.now.records → Decompressed bytes text.items) }
 {
-    lines_of_records(alloc, &log.dictionary, &log.clock, &log.records)
+    lines_of(alloc, &log.dictionary, &log.clock, &log.records)
 }

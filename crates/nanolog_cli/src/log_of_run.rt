@@ -9,10 +9,9 @@ ghost use Rattle.arg_records.specs.Places.{with_words};
 ghost use Rattle.buffer_extent.specs.Bodies.{SpellsRecord, SpellsRecords};
 ghost use Rattle.checkpoint_io.specs.Blocks.{SpellsEntries, header_bytes, fragment_head_bytes, extent_head_bytes, close_bytes};
 ghost use Rattle.checkpoint_io.specs.Logs.{ids_used};
-ghost use Rattle.trace_text.specs.Recordings.{IsCall, NeverFalls};
+ghost use Rattle.arg_records.specs.Calls.{IsCall, NeverFalls};
 ghost use Rattle.nanolog_cli.specs.NarrowTraces.{HasNarrowFormats, IsNarrowRun};
 ghost use Rattle.nanolog_cli.specs.NarrowLogs.{narrow_header};
-ghost use Rattle.nanolog_cli.specs.Texts.{record_of};
 ghost use Rattle.nanolog_cli.specs.Replays.{LogOfRun, accepted_text};
 ghost use Rattle.nanolog_cli.specs.Appending.{AppendsCalls};
 
@@ -44,7 +43,7 @@ fn put_call(
     requires narrow { HasNarrowFormats dictionary.now }
     requires later { before ≤ call.now.stamp }
     requires room { at + 8192 ≤ length body.old }
-    ensures { (packed : List ℕ) × SpellsRecord dictionary.now before (record_of call.now) packed
+    ensures { (packed : List ℕ) × SpellsRecord dictionary.now before (call.now) packed
         × (length packed ≤ 320) × (result ≡ at + length packed)
         × (body.new ≡ with_words body.old at packed) }
 {
@@ -66,7 +65,7 @@ fn put_calls(dictionary: &Dictionary, tick: u64, calls: &Calls, body: &mut [u8])
     requires later { NeverFalls tick calls.now }
     requires few_calls { length calls.now ≤ 128 }
     requires room { length body.old ≡ 65536 }
-    ensures spelled { SpellsRecords dictionary.now tick (map record_of calls.now) (take result body.new) }
+    ensures spelled { SpellsRecords dictionary.now tick calls.now (take result body.new) }
     ensures short { result ≤ length body.new }
 {
     let mut frame = [0; 512];
@@ -94,7 +93,7 @@ fn body_of(
     requires narrow { HasNarrowFormats dictionary.now }
     requires later { NeverFalls tick calls.now }
     requires few_calls { length calls.now ≤ 128 }
-    ensures spelled { IfOk result (λ body. SpellsRecords dictionary.now tick (map record_of calls.now) body.items) }
+    ensures spelled { IfOk result (λ body. SpellsRecords dictionary.now tick calls.now body.items) }
     ensures short { IfOk result (λ body. length body.items ≤ MOST_BODY) }
 {
     let mut body = Vec::from_elem(alloc, 0, MOST_BODY)?;
@@ -113,8 +112,8 @@ fn counted(count: u32, id: u32) -> u32
 
 /// One more than the greatest id of the calls.
 fn count_of_ids(calls: &Calls) -> u32
-    requires { ids_used (map record_of calls.now) ≤ 65536 }
-    ensures { result ≡ ids_used (map record_of calls.now) }
+    requires { ids_used calls.now ≤ 65536 }
+    ensures { result ≡ ids_used calls.now }
 {
     let mut count = 0;
     for place in 0..calls.len() {

@@ -8,7 +8,7 @@ ghost use Rattle.printf_grammar.specs.Types.{Types, Fits};
 ghost use Rattle.log_dictionary.specs.declared.message.Message.{Message};
 ghost use Rattle.std.specs.Int.{w64};
 ghost use Rattle.printf_grammar.specs.declared.argument.Value.{Value};
-ghost use Rattle.trace_text.specs.declared.call.Call.{Call as CallRecord};
+ghost use Rattle.arg_records.specs.declared.call.Call.{Call as CallRecord};
 ghost use Rattle.log_dictionary.specs.declared.clock.Clock.{Clock as ClockRecord};
 ghost use Rattle.nanolog_cli.specs.Parts.{contents};
 ghost use Rattle.printf_grammar.specs.Narrow.{IsNarrow};

@@ -8,7 +8,7 @@ ghost use Rattle.log_dictionary.specs.declared.binary_entry.EntryFault.TheVarian
 ghost use Rattle.log_dictionary.specs.declared.dictionary.AddFault.TheVariants as add_faults;
 ghost use Rattle.nanolog_cli.specs.NarrowMessages.{NarrowEntry};
 ghost use Rattle.log_dictionary.specs.Messages.{HasMessage};
-ghost use Rattle.buffer_extent.specs.declared.record.LogRecord.{LogRecord};
+ghost use Rattle.arg_records.specs.declared.call.Call.{Call};
 ghost use Rattle.buffer_extent.specs.Bodies.{IsBody};
 ghost use Rattle.buffer_extent.specs.declared.fault.BodyFault.TheVariants as body_faults;
 ghost use Rattle.nanolog_cli.specs.declared.narrow.NarrowFault.TheVariants as narrow_faults;
@@ -17,7 +17,8 @@ ghost use Rattle.nanolog_cli.specs.NarrowLogs.{NarrowLog};
 ghost use Rattle.nanolog_cli.specs.LogParts.{BeginsWithHeader, BeginsWithCount, BeginsWithEntries, BeginsWithMessages, BeginsWithBody, BeginsWithRecords};
 
 use crate::narrow::NarrowFault;
-use buffer_extent::{BodyFault, Records, read_body};
+use arg_records::Calls;
+use buffer_extent::{BodyFault, read_body};
 use log_dictionary::{AddFault, Added, Clock, Dictionary, EntryFault, Message, read_entry};
 use std::alloc::Global;
 
@@ -50,7 +51,7 @@ const CLOSE_MARK: &[u8] = b"\x04\x00";
 pub(crate) struct ReadLog {
     pub(crate) clock: Clock,
     pub(crate) dictionary: Dictionary,
-    pub(crate) records: Records,
+    pub(crate) records: Calls,
 }
 
 impl From<EntryFault> for NarrowFault {
@@ -207,11 +208,11 @@ fn records_of(
     body: &[u8],
     dictionary: &Dictionary,
     tick: u64,
-) -> Result<Records, NarrowFault>
+) -> Result<Calls, NarrowFault>
     requires { HasNarrowFormats dictionary.now }
     ensures found { IfOk result (λ records. IsBody dictionary.now tick tick records body.now) }
     ensures few { IfOk result (λ records. length records ≤ MOST_RECORDS) }
-    ensures not_yet { IsErrOf result NarrowFault.NotYet → (entries : List LogRecord) → IsBody dictionary.now tick tick entries body.now → length entries ≤ MOST_RECORDS → ⊥ }
+    ensures not_yet { IsErrOf result NarrowFault.NotYet → (entries : List Call) → IsBody dictionary.now tick tick entries body.now → length entries ≤ MOST_RECORDS → ⊥ }
 {
     let records = read_body(alloc, body, dictionary, tick, tick)?;
     if records.len() > MOST_RECORDS {
@@ -226,13 +227,13 @@ fn read_records<'a>(
     bytes: &'a [u8],
     dictionary: &Dictionary,
     tick: u64,
-) -> Result<(Records, &'a [u8]), NarrowFault>
+) -> Result<(Calls, &'a [u8]), NarrowFault>
     requires { HasNarrowFormats dictionary.now }
     ensures found { IfOk result (λ read. BeginsWithRecords dictionary.now tick bytes.now read.0 read.1.now) }
-    ensures not_yet { IsErrOf result NarrowFault.NotYet → (entries : List LogRecord) (rest : List ℕ) → BeginsWithRecords dictionary.now tick bytes.now entries rest → ⊥ }
+    ensures not_yet { IsErrOf result NarrowFault.NotYet → (entries : List Call) (rest : List ℕ) → BeginsWithRecords dictionary.now tick bytes.now entries rest → ⊥ }
 {
     let Some(rest) = bytes.strip_prefix(EXTENT) else {
-        return Ok((Records::make(alloc), bytes));
+        return Ok((Calls::make(alloc), bytes));
     };
     let Some((body, rest)) = body_of(rest) else {
         return Err(NarrowFault::NotYet);
@@ -243,7 +244,7 @@ fn read_records<'a>(
 /// The log that the bytes are.
 pub(crate) fn read_log(alloc: Global, bytes: &[u8]) -> Result<ReadLog, NarrowFault>
     ensures found { IfOk result (λ log. NarrowLog bytes.now log.clock log.dictionary log.records) }
-    ensures not_yet { IsErrOf result NarrowFault.NotYet → (clock : ClockRecord) (messages : List MessageRecord) (entries : List LogRecord) → NarrowLog bytes.now clock messages entries → ⊥ }
+    ensures not_yet { IsErrOf result NarrowFault.NotYet → (clock : ClockRecord) (messages : List MessageRecord) (entries : List Call) → NarrowLog bytes.now clock messages entries → ⊥ }
 {
     if bytes.len() > MOST_LOG_BYTES {
         return Err(NarrowFault::NotYet);

@@ -1,14 +1,15 @@
 -- Which runs are recordings, and which aren't.
-use Rattle.std.proofs.Common.{◌≡◌, ℕ, zero, suc, ◌<◌, ◌≤◌, ◌≢◌, lit≤, List, [], ◌∷◌, ◌++◌, length, replicate, refl, ap, subst, arith}
-use Rattle.std.specs.Prelude.{Some, slice_get, sum_by}
+use Rattle.std.proofs.Common.{◌≡◌, ℕ, zero, suc, ◌≤◌, lit≤, List, [], ◌∷◌, length, replicate, refl, ap, arith}
+use Rattle.std.specs.Prelude.{sum_by}
 use Rattle.std.specs.List.{AllByRecursion}
 use Rattle.std.proofs.lemmas.List.{length-replicate}
 use Rattle.std.proofs.lemmas.List.Sums.{sum_by-cons}
-use Rattle.printf_grammar.specs.Types.{Types, Fits, IsText}
 use Rattle.log_dictionary.specs.declared.message.Message.{Message}
-use Rattle.trace_text.specs.declared.call.Call.{Call}
-use Rattle.trace_text.specs.Recordings.{Recording, IsCall, NeverFalls, IsRecording}
-use Rattle.trace_text.specs.Rows.{row_message, row_call, full_message, full_call, two_messages, texts_message, texts_call}
+use Rattle.arg_records.specs.declared.call.Call.{Call}
+use Rattle.trace_text.specs.Recordings.{Recording, IsRecording}
+use Rattle.arg_records.specs.Calls.{IsCall, NeverFalls}
+use Rattle.arg_records.specs.Rows.{row_message, row_call, full_message, full_call}
+use Rattle.trace_text.specs.Rows.{two_messages}
 
 -- what holds of an element holds of each of its copies
 all_copies : {X : Type 0} (P : X → Type 0) (x : X) (n : ℕ) → P x → AllByRecursion P (replicate n x)
@@ -16,10 +17,6 @@ all_copies P x zero h = tt
 all_copies P x (suc n) h = (h, all_copies P x n h)
 
 -- ---- stamps
-
-pub falls : (least : ℕ) (before : List Call) (call next : Call) (others : List Call) → next.stamp < call.stamp → ¬ (NeverFalls least (before ++ call ∷ next ∷ others))
-falls least [] call next others fall h = omega (arith, fall, h.1.0)
-falls least (first ∷ before) call next others fall h = falls first.stamp before call next others fall h.1
 
 copies_rise : (least : ℕ) (call : Call) (n : ℕ) → least ≤ call.stamp → NeverFalls least (replicate n call)
 copies_rise least call zero h = tt
@@ -32,20 +29,6 @@ row_is_call others n small = record { message = row_message; known = refl; fits 
 
 full_is_call : (stamp : ℕ) → IsCall (row_message ∷ full_message ∷ []) (full_call stamp)
 full_is_call stamp = record { message = full_message; known = refl; fits = tt; short = lit≤ tt }
-
-copies_are_text : (n : ℕ) → n ≤ 4000 → IsText (replicate n 97)
-copies_are_text n small = record { short = omega (arith, length-replicate {A = ℕ} n 97, small); no_nul = all_copies (λ b. b ≢ 0) 97 n (λ e. omega (arith, e)) }
-
-pub texts_are_call : (n : ℕ) → n ≤ 64 → IsCall (texts_message ∷ []) (texts_call n)
-texts_are_call n few = record {
-  message = texts_message;
-  known = refl;
-  fits = (copies_are_text 4000 (lit≤ tt), (copies_are_text n (omega (arith, few)), tt));
-  short = omega (arith, length-replicate {A = ℕ} n 97, length-replicate {A = ℕ} 4000 97, few);
-}
-
-pub unfit : (messages : List Message) (call : Call) (message : Message) → slice_get messages call.id ≡ Some message → ¬ (Fits call.args (Types message.format.pieces)) → ¬ (IsCall messages call)
-unfit messages call message known wrong is = wrong (subst (λ (m : Message). Fits call.args (Types m.format.pieces)) (let same : is.message ≡ message = cc (is.known, known) in same) is.fits)
 
 -- ---- runs
 

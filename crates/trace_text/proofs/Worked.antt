@@ -7,10 +7,12 @@ use Rattle.printf_grammar.specs.Spelling.{Spells}
 use Rattle.printf_grammar.proofs.NarrowLaws.{plain_d_spelled}
 use Rattle.log_dictionary.specs.Texts.{IsPlain, SpellsText, itself, quotation_mark, backslash, line_feed, tab, hexadecimal}
 use Rattle.log_dictionary.specs.Messages.{SpellsMessage}
-use Rattle.trace_text.specs.Recordings.{IsCall, IsRecording}
+use Rattle.trace_text.specs.Recordings.{IsRecording}
+use Rattle.arg_records.specs.Calls.{IsCall}
 use Rattle.trace_text.specs.Lines.{SpellsCall}
 use Rattle.trace_text.specs.Traces.{TraceText}
-use Rattle.trace_text.specs.Rows.{row_message, row_call, three_writers, three_writers_text, text_call, text_call_line}
+use Rattle.trace_text.specs.Rows.{three_writers, three_writers_text, text_call, text_call_line}
+use Rattle.arg_records.specs.Rows.{row_message, row_call}
 
 low : (b : ℕ) → 35 ≤ b → b ≤ 91 → IsPlain b
 low b least most = inl (omega (arith, least), omega (arith, most), (λ e. omega (arith, least, e)), (λ e. omega (arith, most, e)))

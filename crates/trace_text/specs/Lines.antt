@@ -7,7 +7,7 @@ use Rattle.log_dictionary.specs.declared.clock.Clock.{Clock}
 use Rattle.log_dictionary.specs.declared.message.Message.{Message}
 use Rattle.log_dictionary.specs.Texts.{SpellsText}
 use Rattle.log_dictionary.specs.Messages.{SpellsMessage}
-use Rattle.trace_text.specs.declared.call.Call.{Call}
+use Rattle.arg_records.specs.declared.call.Call.{Call}
 
 -- the first line, and the last
 abbrev pub first_line : List ℕ

@@ -1,12 +1,13 @@
 //! Recorded runs of logging programs, and the text in which they are kept.
 #![tactic(auto)]
 
-mod call;
 pub mod laws;
 mod trace;
+mod writer_calls;
 
-pub use call::{Call, Calls, WriterCalls};
+pub use arg_records::{Call, Calls};
 pub use trace::Trace;
+pub use writer_calls::WriterCalls;
 
 #[cfg(test)]
 mod tests;

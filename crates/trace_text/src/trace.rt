@@ -2,7 +2,7 @@
 
 ghost use Rattle.std.specs.Prelude.{◌≡◌};
 
-use crate::call::WriterCalls;
+use crate::writer_calls::WriterCalls;
 use log_dictionary::{Clock, Dictionary};
 use std::marker::Model;
 

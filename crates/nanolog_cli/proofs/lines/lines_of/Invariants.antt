@@ -1,7 +1,7 @@
 use Rattle.std.proofs.Common.{◌≡◌, take}
 use Rattle.std.specs.List.{flat_map}
 use Rattle.direct_printf.specs.Lines.{Line}
-use Rattle.trace_text.specs.Recordings.{writer_calls}
+use Rattle.arg_records.specs.Calls.{writer_calls}
 use Rattle.nanolog_cli.proofs.lines.lines_of.Given as goal
 
 abbrev pub invariant-loop-place : goal.invariant-loop-place

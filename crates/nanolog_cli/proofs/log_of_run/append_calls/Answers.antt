@@ -1,5 +1,5 @@
 use Rattle.std.proofs.Common.{length, arith, ap}
-use Rattle.nanolog_cli.proofs.RunLogs.{ids_known, ids_some, some_calls, body_some, some_records}
+use Rattle.nanolog_cli.proofs.RunLogs.{ids_known, ids_some, some_calls, body_some}
 use Rattle.nanolog_cli.proofs.log_of_run.append_calls.Goals as goal
 
 pub count_of_ids-requires : goal.count_of_ids-requires
@@ -15,4 +15,4 @@ pub append_fragment-requires-clause-within : goal.append_fragment-requires-claus
 append_fragment-requires-clause-within c = omega (arith, ids_known _ _ c.requires.named, c.count_of_ids.ensures)
 
 pub append_extent-requires-clause-some : goal.append_extent-requires-clause-some
-append_extent-requires-clause-some c = omega (arith, body_some _ _ _ _ (some_records _ (some_calls _ c.if-is_empty.ensures.1)) c.in_ok-body.ensures.spelled, ap length c.deref.ensures.value)
+append_extent-requires-clause-some c = omega (arith, body_some _ _ _ _ (some_calls _ c.if-is_empty.ensures.1) c.in_ok-body.ensures.spelled, ap length c.deref.ensures.value)

@@ -1,5 +1,5 @@
 use Rattle.std.proofs.Common.{◌≡◌, ◌≤◌, List, take, drop, length}
-use Rattle.trace_text.specs.declared.call.Call.{Call}
+use Rattle.arg_records.specs.declared.call.Call.{Call}
 use Rattle.nanolog_cli.specs.Parts.{contents}
 use Rattle.nanolog_cli.specs.NarrowCalls.{NarrowCalls}
 use Rattle.nanolog_cli.proofs.RunLemmas.{latest, GoesOn}

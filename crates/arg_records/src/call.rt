@@ -2,13 +2,15 @@
 
 ghost use Rattle.std.specs.Prelude.{◌≡◌, ◌≤◌, ◌↔◌, [], ◌∷◌, ◌++◌, length, slice_get, IsNone, IsTrue, OnOk, OnErr};
 ghost use Rattle.std.specs.Option.{option_copied};
+ghost use Rattle.std.specs.Slice.Iter.{iter_rest};
 
 use printf_grammar::Values;
 use std::alloc::{AllocError, Global};
 use std::marker::Model;
+use std::slice;
 
 /// A call of a log statement: when it was made, by the ticks of the clock, the id of its message,
-/// and the values that it was given.
+/// and the values that it was given. A trace has calls, and a log keeps them as records.
 #[derive(Debug, Drop)]
 pub struct Call {
     pub stamp: u64,
@@ -24,7 +26,7 @@ pub struct Calls {
 
 impl Model for Calls {
     ghost use Rattle.std.specs.Prelude.{List};
-    ghost use Rattle.trace_text.specs.declared.call.Call.{Call};
+    ghost use Rattle.arg_records.specs.declared.call.Call.{Call};
 
     ghost Value = { List Call };
 
@@ -71,61 +73,23 @@ impl Calls {
     {
         self.items.get(place)
     }
+
+    /// The calls, one after the other.
+    pub fn iter(&self) -> slice::Iter<'_, Call>
+        ensures { iter_rest result ≡ self.now }
+    {
+        self.items.iter()
+    }
 }
 
-/// The calls of each writer. A writer's number is its place, from 0.
-#[derive(Debug, Drop)]
-pub struct WriterCalls {
-    items: Vec<Calls>,
-}
+impl<'a> IntoIterator for &'a Calls {
+    type Item = &'a Call;
 
-impl Model for WriterCalls {
-    ghost use Rattle.std.specs.Prelude.{List};
-    ghost use Rattle.trace_text.specs.declared.call.Call.{Call};
+    type IntoIter = slice::Iter<'a, Call>;
 
-    ghost Value = { List (List Call) };
+    ghost into_iter_gives = { λ calls it. iter_rest it ≡ calls.now };
 
-    ghost view = { λ w. w.items.items };
-}
-
-impl WriterCalls {
-    /// No writers. It takes no memory.
-    pub fn make(alloc: Global) -> WriterCalls
-        ensures { result ≡ [] }
-    {
-        WriterCalls {
-            items: Vec::new(alloc),
-        }
-    }
-
-    /// Adds a writer at the end. Where that is refused its calls are dropped.
-    pub fn push(&mut self, calls: Calls) -> Result<(), AllocError>
-        ensures ok { OnOk result (self.new ≡ self.old ++ calls ∷ []) }
-        ensures err { OnErr result (self.new ≡ self.old) }
-    {
-        self.items.push(calls)?;
-        Ok(())
-    }
-
-    /// The number of writers.
-    pub fn len(&self) -> usize
-        ensures { result ≡ length self.now }
-    {
-        self.items.len()
-    }
-
-    /// Whether there are none.
-    pub fn is_empty(&self) -> bool
-        ensures { IsTrue result ↔ (self.now ≡ []) }
-    {
-        self.items.is_empty()
-    }
-
-    /// The calls of a writer.
-    pub fn get(&self, place: usize) -> Option<&Calls>
-        ensures value { option_copied result ≡ slice_get self.now place }
-        ensures none { IsNone result ↔ (length self.now ≤ place) }
-    {
-        self.items.get(place)
+    fn into_iter(self) -> Self::IntoIter {
+        self.iter()
     }
 }

@@ -1,0 +1,33 @@
+-- Which calls fit their messages, and which stamps fall.
+use Rattle.std.proofs.Common.{◌≡◌, ℕ, zero, suc, ◌<◌, ◌≤◌, ◌≢◌, lit≤, List, [], ◌∷◌, ◌++◌, replicate, refl, subst, arith}
+use Rattle.std.specs.Prelude.{Some, slice_get}
+use Rattle.std.specs.List.{AllByRecursion}
+use Rattle.std.proofs.lemmas.List.{length-replicate}
+use Rattle.printf_grammar.specs.Types.{Types, Fits, IsText}
+use Rattle.log_dictionary.specs.declared.message.Message.{Message}
+use Rattle.arg_records.specs.declared.call.Call.{Call}
+use Rattle.arg_records.specs.Calls.{IsCall, NeverFalls}
+use Rattle.arg_records.specs.Rows.{texts_message, texts_call}
+
+-- what holds of an element holds of each of its copies
+all_copies : {X : Type 0} (P : X → Type 0) (x : X) (n : ℕ) → P x → AllByRecursion P (replicate n x)
+all_copies P x zero h = tt
+all_copies P x (suc n) h = (h, all_copies P x n h)
+
+pub falls : (least : ℕ) (before : List Call) (call next : Call) (others : List Call) → next.stamp < call.stamp → ¬ (NeverFalls least (before ++ call ∷ next ∷ others))
+falls least [] call next others fall h = omega (arith, fall, h.1.0)
+falls least (first ∷ before) call next others fall h = falls first.stamp before call next others fall h.1
+
+copies_are_text : (n : ℕ) → n ≤ 4000 → IsText (replicate n 97)
+copies_are_text n small = record { short = omega (arith, length-replicate {A = ℕ} n 97, small); no_nul = all_copies (λ b. b ≢ 0) 97 n (λ e. omega (arith, e)) }
+
+pub texts_are_call : (n : ℕ) → n ≤ 64 → IsCall (texts_message ∷ []) (texts_call n)
+texts_are_call n few = record {
+  message = texts_message;
+  known = refl;
+  fits = (copies_are_text 4000 (lit≤ tt), (copies_are_text n (omega (arith, few)), tt));
+  short = omega (arith, length-replicate {A = ℕ} n 97, length-replicate {A = ℕ} 4000 97, few);
+}
+
+pub unfit : (messages : List Message) (call : Call) (message : Message) → slice_get messages call.id ≡ Some message → ¬ (Fits call.args (Types message.format.pieces)) → ¬ (IsCall messages call)
+unfit messages call message known wrong is = wrong (subst (λ (m : Message). Fits call.args (Types m.format.pieces)) (let same : is.message ≡ message = cc (is.known, known) in same) is.fits)
