@@ -10,10 +10,10 @@ use Rattle.printf_grammar.specs.declared.arg_type.ArgType.TheVariants as types
 use Rattle.printf_grammar.specs.Types.{FitsType, Fits}
 use Rattle.printf_grammar.proofs.Fitting.{Fits-length}
 use Rattle.arg_records.specs.Frames.{IsShort, AreArguments, Frame}
-use Rattle.arg_records.specs.Kinds.{Kind, kind_of, kind_of_type, IsArgument, HoldsBytes}
+use Rattle.arg_records.specs.Kinds.{ArgKind, arg_kind, type_kind, IsArgument, HoldsBytes}
 use Rattle.arg_records.proofs.Unique.{Frame-unique}
 
-kind_fits : (value : Value) (type : ArgType) → FitsType value type → kind_of value ≡ kind_of_type type
+kind_fits : (value : Value) (type : ArgType) → FitsType value type → arg_kind value ≡ type_kind type
 kind_fits (values.Signed z) types.Int fits = refl
 kind_fits (values.Signed z) types.UInt fits = absurd fits
 kind_fits (values.Signed z) types.Long fits = refl
@@ -70,12 +70,12 @@ short_fits (values.Text bytes) types.Width fits = absurd fits
 short_fits (values.Text bytes) types.Precision fits = absurd fits
 short_fits (values.Text bytes) types.Text fits = fits.short
 
-kinds_fit : (values : List Value) (types : List ArgType) → Fits values types → map kind_of values ≡ map kind_of_type types
+kinds_fit : (values : List Value) (types : List ArgType) → Fits values types → map arg_kind values ≡ map type_kind types
 kinds_fit [] [] fits = refl
 kinds_fit [] (type ∷ types) fits = absurd fits
 kinds_fit (value ∷ values) [] fits = absurd fits
 kinds_fit (value ∷ values) (type ∷ types) fits =
-    ap (λ (k : Kind). k ∷ map kind_of values) (kind_fits value type fits.0) ∙ ap (λ (ks : List Kind). kind_of_type type ∷ ks) (kinds_fit values types fits.1)
+    ap (λ (k : ArgKind). k ∷ map arg_kind values) (kind_fits value type fits.0) ∙ ap (λ (ks : List ArgKind). type_kind type ∷ ks) (kinds_fit values types fits.1)
 
 arguments_fit : (values : List Value) (types : List ArgType) → Fits values types → All HoldsBytes values → All IsArgument values
 arguments_fit [] [] fits below = All-nil IsArgument

@@ -11,7 +11,7 @@ use Rattle.std.proofs.lemmas.List.Elements.{All-head, All-tail, All-take, All-dr
 use Rattle.printf_grammar.specs.declared.argument.Value.{Value}
 use Rattle.printf_grammar.specs.declared.argument.Value.TheVariants as values
 use Rattle.arg_records.specs.Frames.{number_of_bytes, words_of_bytes, words_of_argument, FrameLen, Frame}
-use Rattle.arg_records.specs.Kinds.{kind_of, IsArgument}
+use Rattle.arg_records.specs.Kinds.{arg_kind, IsArgument}
 use Rattle.arg_records.proofs.Bytes.{first_bytes, only_word}
 
 -- a number has one spelling in so many bytes
@@ -52,7 +52,7 @@ bytes_same (suc most) (x ∷ xs) (y ∷ ys) vs ws few same left right e =
     (cases_lt (length (x ∷ xs)) 8)
 
 -- so do the words of arguments of one kind
-argument_same : (v w : Value) (vs ws : List ℕ) → kind_of v ≡ kind_of w → IsArgument v → IsArgument w → words_of_argument v ++ vs ≡ words_of_argument w ++ ws → (v ≡ w) × (vs ≡ ws)
+argument_same : (v w : Value) (vs ws : List ℕ) → arg_kind v ≡ arg_kind w → IsArgument v → IsArgument w → words_of_argument v ++ vs ≡ words_of_argument w ++ ws → (v ≡ w) × (vs ≡ ws)
 argument_same (values.Signed y) (values.Signed z) vs ws same left right e =
     let words : cast_unsigned w64 y ≡ cast_unsigned w64 z = cc in
     let number : y ≡ z = sym (to_z-of_z w64 y left) ∙ ap (cast_signed w64) words ∙ to_z-of_z w64 z right in
@@ -70,20 +70,20 @@ argument_same (values.Unsigned m) (values.Text ys) vs ws same left right e = abs
 argument_same (values.Text xs) (values.Signed z) vs ws same left right e = absurd cc
 argument_same (values.Text xs) (values.Unsigned n) vs ws same left right e = absurd cc
 
-arguments_same : (a b : List Value) → map kind_of a ≡ map kind_of b → All IsArgument a → All IsArgument b → flat_map words_of_argument a ≡ flat_map words_of_argument b → a ≡ b
+arguments_same : (a b : List Value) → map arg_kind a ≡ map arg_kind b → All IsArgument a → All IsArgument b → flat_map words_of_argument a ≡ flat_map words_of_argument b → a ≡ b
 arguments_same [] [] same left right e = refl
 arguments_same [] (w ∷ b) same left right e = absurd cc
 arguments_same (v ∷ a) [] same left right e = absurd cc
 arguments_same (v ∷ a) (w ∷ b) same left right e =
-    let first : kind_of v ≡ kind_of w = cc in
-    let rest : map kind_of a ≡ map kind_of b = cc in
+    let first : arg_kind v ≡ arg_kind w = cc in
+    let rest : map arg_kind a ≡ map arg_kind b = cc in
     let both = argument_same v w (flat_map words_of_argument a) (flat_map words_of_argument b) first (All-head IsArgument v a left) (All-head IsArgument w b right)
     (sym (flat_map-cons words_of_argument v a) ∙ e ∙ flat_map-cons words_of_argument w b) in
     let others : a ≡ b = arguments_same a b rest (All-tail IsArgument v a left) (All-tail IsArgument w b right) both.1 in
     ap (λ (u : Value). u ∷ a) both.0 ∙ ap (λ (c : List Value). w ∷ c) others
 
 -- one frame spells one call
-pub Frame-unique : (i j s t : ℕ) (a b : List Value) → map kind_of a ≡ map kind_of b → All IsArgument a → All IsArgument b → Frame i s a ≡ Frame j t b → (i ≡ j) × (s ≡ t) × (a ≡ b)
+pub Frame-unique : (i j s t : ℕ) (a b : List Value) → map arg_kind a ≡ map arg_kind b → All IsArgument a → All IsArgument b → Frame i s a ≡ Frame j t b → (i ≡ j) × (s ≡ t) × (a ≡ b)
 Frame-unique i j s t a b same left right e =
     let head : i * 65536 + FrameLen a ≡ j * 65536 + FrameLen b = cc in
     let stamp : s ≡ t = cc in

@@ -4,6 +4,7 @@ use Rattle.std.specs.List.{flat_map, filter_map, enumerate_from}
 use Rattle.printf_grammar.specs.Types.{Types, Fits}
 use Rattle.log_dictionary.specs.declared.message.Message.{Message}
 use Rattle.log_dictionary.specs.Calls.{LogCall}
+use Rattle.arg_records.specs.declared.frame.TheConstants.{MAX_FRAME_WORDS}
 use Rattle.arg_records.specs.Frames.{FrameLen}
 use Rattle.arg_records.specs.declared.call.Call.{Call}
 
@@ -12,7 +13,7 @@ pub record IsCall (messages : List Message) (call : Call) : Type 0 where
   pub message : Message
   pub known : slice_get messages call.id ≡ Some message
   pub fits : Fits call.args (Types message.format.pieces)
-  pub short : FrameLen call.args ≤ 512
+  pub short : FrameLen call.args ≤ MAX_FRAME_WORDS
 
 -- no stamp is below the one before, nor the first below this
 abbrev pub NeverFalls : ℕ → List Call → Type 0

@@ -2,6 +2,8 @@
 use Rattle.std.specs.Prelude.{◌≡◌, ℕ, ◌+◌, ◌*◌, ◌/◌, ◌^◌, ◌<◌, ◌≤◌, List, [], ◌∷◌, length, sum_by, ⊤, All}
 use Rattle.std.specs.List.{flat_map}
 use Rattle.std.specs.Int.{w64, cast_unsigned}
+use Rattle.log_dictionary.specs.declared.dictionary.TheConstants.{MAX_MESSAGES}
+use Rattle.arg_records.specs.declared.frame.TheConstants.{MAX_FRAME_WORDS}
 use Rattle.printf_grammar.specs.declared.argument.Value.{Value}
 use Rattle.printf_grammar.specs.declared.argument.Value.TheVariants as values
 
@@ -50,10 +52,10 @@ pub record AreArguments (args : List Value) : Type 0 where
 
 -- a call that is staged has these ranges
 pub record IsStaged (id stamp : ℕ) (args : List Value) : Type 0 where
-  pub id_in_range : id < 65536
+  pub id_in_range : id < MAX_MESSAGES
   pub stamp_in_range : stamp < 2 ^ 64
   pub arguments : AreArguments args
-  pub within : FrameLen args ≤ 512
+  pub within : FrameLen args ≤ MAX_FRAME_WORDS
 
 -- the words are the frame of a call
 abbrev pub IsFrame : List ℕ → Type 0

@@ -6,24 +6,24 @@ use Rattle.printf_grammar.specs.declared.arg_type.ArgType.TheVariants as types
 use Rattle.printf_grammar.specs.declared.argument.Value.{Value}
 use Rattle.printf_grammar.specs.declared.argument.Value.TheVariants as values
 
-pub data Kind : Type 0 where
-  signed : Kind
-  unsigned : Kind
-  text : Kind
+pub data ArgKind : Type 0 where
+  signed : ArgKind
+  unsigned : ArgKind
+  text : ArgKind
 
-abbrev pub kind_of : Value → Kind
-kind_of (values.Signed z) = signed
-kind_of (values.Unsigned n) = unsigned
-kind_of (values.Text bytes) = text
+abbrev pub arg_kind : Value → ArgKind
+arg_kind (values.Signed z) = signed
+arg_kind (values.Unsigned n) = unsigned
+arg_kind (values.Text bytes) = text
 
-abbrev pub kind_of_type : ArgType → Kind
-kind_of_type types.Int = signed
-kind_of_type types.UInt = unsigned
-kind_of_type types.Long = signed
-kind_of_type types.ULong = unsigned
-kind_of_type types.Width = signed
-kind_of_type types.Precision = signed
-kind_of_type types.Text = text
+abbrev pub type_kind : ArgType → ArgKind
+type_kind types.Int = signed
+type_kind types.UInt = unsigned
+type_kind types.Long = signed
+type_kind types.ULong = unsigned
+type_kind types.Width = signed
+type_kind types.Precision = signed
+type_kind types.Text = text
 
 -- an integer has 64 bits, and a text is bytes
 abbrev pub IsArgument : Value → Type 0

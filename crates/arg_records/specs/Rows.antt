@@ -1,26 +1,17 @@
--- Worked messages, and calls of them.
+-- Worked calls, and the messages that they name.
 use Rattle.std.specs.Prelude.{ℕ, pos, List, [], ◌∷◌, codes, replicate}
 use Rattle.std.proofs.Common.{lit≤}
 use Rattle.printf_grammar.specs.declared.piece.Piece.TheVariants.{Literal, Field}
 use Rattle.printf_grammar.specs.declared.piece.Conversion.TheVariants.{S}
 use Rattle.printf_grammar.specs.declared.argument.Value.TheVariants.{Signed, Text}
 use Rattle.printf_grammar.specs.Narrow.{plain_d}
-use Rattle.log_dictionary.specs.declared.severity.Severity.TheVariants.{Notice, Warning}
+use Rattle.log_dictionary.specs.declared.severity.Severity.TheVariants.{Warning}
 use Rattle.log_dictionary.specs.declared.message.Message.{Message}
 use Rattle.log_dictionary.specs.Calls.{LogCall}
+use Rattle.log_dictionary.specs.Rows.{row_message}
 use Rattle.arg_records.specs.declared.call.Call.{Call}
 
--- a message at line 12 of `srv.cc` with the format `x=%d`
-abbrev pub row_message : Message
-row_message = record {
-  file = codes "srv.cc";
-  line = 12;
-  severity = Notice;
-  format = record { bytes = codes "x=%d"; pieces = Literal 0 2 ∷ Field plain_d ∷ [] };
-  file_length = (lit≤ tt, lit≤ tt);
-}
-
--- a call of it
+-- a call of the worked message
 abbrev pub row_call : ℕ → Call
 row_call n = record { stamp = 1003; id = 0; args = Signed (pos n) ∷ [] }
 

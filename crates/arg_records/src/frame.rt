@@ -4,14 +4,15 @@ ghost use Rattle.std.specs.Prelude.{◌≡◌, ◌+◌, ◌<◌, ◌≤◌, ◌�
 ghost use Rattle.std.specs.List.{flat_map};
 ghost use Rattle.printf_grammar.specs.declared.argument.Value.{Value};
 ghost use Rattle.printf_grammar.specs.Types.{values_of};
+ghost use Rattle.log_dictionary.specs.declared.dictionary.TheConstants.{MAX_MESSAGES};
 ghost use Rattle.arg_records.specs.Frames.{AreArguments, IsStaged, IsFrame, words_of_argument, FrameLen, Frame};
 ghost use Rattle.arg_records.specs.Places.{with_words};
 
 use crate::words::{put_argument, word_count};
 use printf_grammar::Arg;
 
-/// The most words that a frame has.
-const MAX_WORDS: u64 = 512;
+/// The most words of a frame.
+pub const MAX_FRAME_WORDS: usize = 512;
 
 /// The call's frame would have more than 512 words.
 #[derive(Clone, Copy, Debug, PartialEq, Eq)]
@@ -30,8 +31,8 @@ pub fn frame_len(args: &[Arg]) -> u64
 }
 
 /// Writes the arguments' words behind the head of a frame. It answers the frame's length.
-fn put_arguments(args: &[Arg], into: &mut [u64; 512]) -> usize
-    requires { FrameLen (values_of args.now) ≤ 512 }
+fn put_arguments(args: &[Arg], into: &mut [u64; MAX_FRAME_WORDS]) -> usize
+    requires { FrameLen (values_of args.now) ≤ MAX_FRAME_WORDS }
     ensures written { into.new ≡ with_words into.old 2 (flat_map words_of_argument (values_of args.now)) }
     ensures end { result ≡ FrameLen (values_of args.now) }
 {
@@ -47,19 +48,19 @@ pub fn frame_words(
     id: u32,
     stamp: u64,
     args: &[Arg],
-    into: &mut [u64; 512],
+    into: &mut [u64; MAX_FRAME_WORDS],
 ) -> Result<usize, TooLong>
-    requires id_in_range { id < 65536 }
+    requires id_in_range { id < MAX_MESSAGES }
     requires arguments { AreArguments (values_of args.now) }
     ensures ok { IfOk result (λ len.
         (len ≡ FrameLen (values_of args.now))
         × (take len into.new ≡ Frame id stamp (values_of args.now))
         × (drop len into.new ≡ drop len into.old)) }
-    ensures too_long { IsErr result ↔ (512 < FrameLen (values_of args.now)) }
+    ensures too_long { IsErr result ↔ (MAX_FRAME_WORDS < FrameLen (values_of args.now)) }
     ensures unchanged { OnErr result (into.new ≡ into.old) }
 {
     let len = frame_len(args);
-    if len > MAX_WORDS {
+    if len > MAX_FRAME_WORDS as u64 {
         return Err(TooLong);
     }
     into[0] = u64::from(id) * 65536 + len;
@@ -70,7 +71,8 @@ pub fn frame_words(
 /// The id of the call whose frame this is.
 pub fn frame_id(frame: &[u64]) -> u32
     requires { IsFrame frame.now }
-    ensures { (id stamp : ℕ) (args : List Value) → IsStaged id stamp args → frame.now ≡ Frame id stamp args → result ≡ id }
+    ensures { (id stamp : ℕ) (args : List Value) → IsStaged id stamp args → frame.now ≡ Frame id stamp args
+        → result ≡ id }
 {
     (frame[0] / 65536) as u32
 }
@@ -78,7 +80,8 @@ pub fn frame_id(frame: &[u64]) -> u32
 /// The stamp of the call whose frame this is.
 pub fn frame_stamp(frame: &[u64]) -> u64
     requires { IsFrame frame.now }
-    ensures { (id stamp : ℕ) (args : List Value) → IsStaged id stamp args → frame.now ≡ Frame id stamp args → result ≡ stamp }
+    ensures { (id stamp : ℕ) (args : List Value) → IsStaged id stamp args → frame.now ≡ Frame id stamp args
+        → result ≡ stamp }
 {
     frame[1]
 }

@@ -8,9 +8,10 @@ ghost use Rattle.printf_grammar.specs.Types.{Types, Fits};
 ghost use Rattle.log_dictionary.specs.declared.message.Message.{Message};
 ghost use Rattle.arg_records.specs.declared.call.Call.{Call};
 ghost use Rattle.arg_records.specs.Calls.{IsCall, NeverFalls, calls_by_writer};
-ghost use Rattle.arg_records.specs.Rows.{row_message, row_call, full_message, mixed_calls, mixed_log_calls, texts_message, texts_call};
+ghost use Rattle.arg_records.specs.Rows.{row_call, full_message, mixed_calls, mixed_log_calls, texts_message, texts_call};
+ghost use Rattle.log_dictionary.specs.Rows.{row_message};
 ghost use Rattle.arg_records.specs.Frames.{FrameLen, Frame};
-ghost use Rattle.arg_records.specs.Kinds.{kind_of, IsArgument, HoldsBytes};
+ghost use Rattle.arg_records.specs.Kinds.{arg_kind, IsArgument, HoldsBytes};
 
 /// The frames of two calls with one integer, and of one with two texts.
 pub fn three_frames()
@@ -41,14 +42,16 @@ pub fn no_frame_begins_with_zero()
 
 /// The first word of a frame tells its id and its length.
 pub fn first_word_has_id_and_length()
-    ensures id { (id stamp : ℕ) (args : List Value) → FrameLen args ≤ 512 → slice_index (Frame id stamp args) 0 / 65536 ≡ id }
-    ensures length { (id stamp : ℕ) (args : List Value) → FrameLen args ≤ 512 → slice_index (Frame id stamp args) 0 % 65536 ≡ FrameLen args }
+    ensures id { (id stamp : ℕ) (args : List Value) → FrameLen args ≤ 512
+        → slice_index (Frame id stamp args) 0 / 65536 ≡ id }
+    ensures length { (id stamp : ℕ) (args : List Value) → FrameLen args ≤ 512
+        → slice_index (Frame id stamp args) 0 % 65536 ≡ FrameLen args }
 {}
 
 /// A frame spells one call, once the kinds of its arguments, or their types, are known.
 pub fn one_frame_per_call()
     ensures by_kinds { (i j s t : ℕ) (a b : List Value)
-        → map kind_of a ≡ map kind_of b
+        → map arg_kind a ≡ map arg_kind b
         → All IsArgument a
         → All IsArgument b
         → Frame i s a ≡ Frame j t b

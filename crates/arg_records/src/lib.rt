@@ -6,8 +6,8 @@ mod frame;
 pub mod laws;
 mod words;
 
-pub use call::{Call, Calls};
-pub use frame::{TooLong, frame_id, frame_len, frame_stamp, frame_words};
+pub use call::{Call, Calls, MAX_WRITERS};
+pub use frame::{MAX_FRAME_WORDS, TooLong, frame_id, frame_len, frame_stamp, frame_words};
 
 #[cfg(test)]
 mod tests;

@@ -6,6 +6,7 @@ ghost use Rattle.printf_grammar.specs.Types.{value_of};
 ghost use Rattle.arg_records.specs.Frames.{IsShort, number_of_bytes, words_of_bytes, words_of_argument, argument_words};
 ghost use Rattle.arg_records.specs.Places.{with_words};
 
+use crate::frame::MAX_FRAME_WORDS;
 use printf_grammar::Arg;
 
 /// How many words an argument takes.
@@ -30,8 +31,8 @@ fn last_word(bytes: &[u8]) -> u64
 }
 
 /// Writes bytes as words from a place on. It answers the place behind them.
-fn put_bytes(bytes: &[u8], into: &mut [u64; 512], at: usize) -> usize
-    requires { at + (length bytes.now + 7) / 8 ≤ 512 }
+fn put_bytes(bytes: &[u8], into: &mut [u64; MAX_FRAME_WORDS], at: usize) -> usize
+    requires { at + (length bytes.now + 7) / 8 ≤ MAX_FRAME_WORDS }
     ensures written { into.new ≡ with_words into.old at (words_of_bytes bytes.now) }
     ensures end { result ≡ at + (length bytes.now + 7) / 8 }
 {
@@ -50,8 +51,8 @@ fn put_bytes(bytes: &[u8], into: &mut [u64; 512], at: usize) -> usize
 }
 
 /// Writes a text's length and its bytes from a place on. It answers the place behind them.
-fn put_text(text: &[u8], into: &mut [u64; 512], at: usize) -> usize
-    requires { at + argument_words (TextValue text.now) ≤ 512 }
+fn put_text(text: &[u8], into: &mut [u64; MAX_FRAME_WORDS], at: usize) -> usize
+    requires { at + argument_words (TextValue text.now) ≤ MAX_FRAME_WORDS }
     ensures written { into.new ≡ with_words into.old at (words_of_argument (TextValue text.now)) }
     ensures end { result ≡ at + argument_words (TextValue text.now) }
 {
@@ -60,8 +61,8 @@ fn put_text(text: &[u8], into: &mut [u64; 512], at: usize) -> usize
 }
 
 /// Writes an argument's words from a place on. It answers the place behind them.
-pub(crate) fn put_argument(arg: Arg, into: &mut [u64; 512], at: usize) -> usize
-    requires { at + argument_words (value_of arg) ≤ 512 }
+pub(crate) fn put_argument(arg: Arg, into: &mut [u64; MAX_FRAME_WORDS], at: usize) -> usize
+    requires { at + argument_words (value_of arg) ≤ MAX_FRAME_WORDS }
     ensures written { into.new ≡ with_words into.old at (words_of_argument (value_of arg.entry)) }
     ensures end { result ≡ at + argument_words (value_of arg.entry) }
 {

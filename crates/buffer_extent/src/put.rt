@@ -17,7 +17,7 @@ use nibble_pack::{Packed, pack_signed, pack_unsigned};
 use printf_grammar::ArgType;
 
 /// The most types that a message takes.
-const MOST_TYPES: usize = 64;
+const MAX_TYPES: usize = 64;
 
 /// What stands where no number is yet.
 const NOTHING: Packed = Packed {
@@ -38,13 +38,13 @@ fn pack_word(kind: ArgType, word: u64) -> Packed
 }
 
 /// The numbers of the words, in order. Those behind them are nothing.
-fn pack_words(types: &[ArgType], words: &[u64]) -> [Packed; MOST_TYPES]
+fn pack_words(types: &[ArgType], words: &[u64]) -> [Packed; MAX_TYPES]
     requires integers { AreIntegers types.now }
     requires few { length types.now ≤ 64 }
     requires many { length words.now ≡ length types.now }
     ensures { PackWords types.now words.now (take (length types.now) result) }
 {
-    let mut numbers = [NOTHING; MOST_TYPES];
+    let mut numbers = [NOTHING; MAX_TYPES];
     for (place, kind) in types.iter().enumerate() {
         numbers[place] = pack_word(*kind, words[place]);
     }
@@ -67,7 +67,8 @@ fn put_number(number: &Packed, body: &mut [u8], at: usize) -> usize
 fn put_head(id: u32, step: u64, body: &mut [u8], at: usize) -> usize
     requires id { id < 65536 }
     requires room { at + 11 ≤ length body.old }
-    ensures written { (bytes : List ℕ) × HeadBytes id step bytes × (body.new ≡ with_words body.old at bytes) × (result ≡ at + length bytes) }
+    ensures written { (bytes : List ℕ) × HeadBytes id step bytes × (body.new ≡ with_words body.old at bytes)
+        × (result ≡ at + length bytes) }
     ensures bound { (at < result) × (result ≤ at + 11) }
 {
     let id_number = pack_unsigned(u64::from(id));

@@ -89,7 +89,8 @@ fn take_unsigned_integer(kind: ArgType, code: u8, bytes: &[u8]) -> Option<(Value
     requires integer { IsInteger kind }
     requires kind { kind_of kind ≡ unsigned }
     ensures some { IfSome result (λ pair. BeginsWithArgument kind code bytes.now pair.0 pair.1.now) }
-    ensures none { IfNone result ((value : Value) (back : List ℕ) → BeginsWithArgument kind code bytes.now value back → ⊥) }
+    ensures none { IfNone result ((value : Value) (back : List ℕ)
+        → BeginsWithArgument kind code bytes.now value back → ⊥) }
 {
     let (number, rest) = take_unsigned(code, bytes)?;
     if !kind.takes(Arg::Unsigned(number)) {
@@ -102,7 +103,8 @@ fn take_signed_integer(kind: ArgType, code: u8, bytes: &[u8]) -> Option<(Value, 
     requires integer { IsInteger kind }
     requires kind { kind_of kind ≡ signed }
     ensures some { IfSome result (λ pair. BeginsWithArgument kind code bytes.now pair.0 pair.1.now) }
-    ensures none { IfNone result ((value : Value) (back : List ℕ) → BeginsWithArgument kind code bytes.now value back → ⊥) }
+    ensures none { IfNone result ((value : Value) (back : List ℕ)
+        → BeginsWithArgument kind code bytes.now value back → ⊥) }
 {
     let (number, rest) = take_signed(code, bytes)?;
     if !kind.takes(Arg::Signed(number)) {
@@ -115,7 +117,8 @@ fn take_signed_integer(kind: ArgType, code: u8, bytes: &[u8]) -> Option<(Value, 
 fn take_integer(kind: ArgType, code: u8, bytes: &[u8]) -> Option<(Value, &[u8])>
     requires { IsInteger kind }
     ensures some { IfSome result (λ pair. BeginsWithArgument kind code bytes.now pair.0 pair.1.now) }
-    ensures none { IfNone result ((value : Value) (back : List ℕ) → BeginsWithArgument kind code bytes.now value back → ⊥) }
+    ensures none { IfNone result ((value : Value) (back : List ℕ)
+        → BeginsWithArgument kind code bytes.now value back → ⊥) }
 {
     match kind {
         ArgType::UInt | ArgType::ULong => take_unsigned_integer(kind, code, bytes),
@@ -134,7 +137,8 @@ fn take_integers<'a>(
     requires few { length types.now ≤ 64 }
     requires codes { length types.now ≤ 2 * length codes.now }
     ensures ok { IfOk result (λ pair. BeginsWithNumbers types.now (codes_in codes.now) bytes.now pair.0 pair.1.now) }
-    ensures only { (args : List Value) (back : List ℕ) → BeginsWithNumbers types.now (codes_in codes.now) bytes.now args back → MatchResult result
+    ensures only { (args : List Value) (back : List ℕ)
+        → BeginsWithNumbers types.now (codes_in codes.now) bytes.now args back → MatchResult result
         (λ pair. (pair.0 ≡ args) × (pair.1.now ≡ back))
         (λ fault. fault ≡ BodyFault.NoMemory) }
 
@@ -165,7 +169,8 @@ pub(crate) fn take_arguments<'a>(
     requires integers { AreIntegers types.now }
     requires few { length types.now ≤ 64 }
     ensures ok { IfOk result (λ pair. BeginsWithArguments types.now bytes.now pair.0 pair.1.now) }
-    ensures only { (args : List Value) (back : List ℕ) → BeginsWithArguments types.now bytes.now args back → MatchResult result
+    ensures only { (args : List Value) (back : List ℕ) → BeginsWithArguments types.now bytes.now args back
+        → MatchResult result
         (λ pair. (pair.0 ≡ args) × (pair.1.now ≡ back))
         (λ fault. fault ≡ BodyFault.NoMemory) }
 

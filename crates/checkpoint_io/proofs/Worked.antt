@@ -11,7 +11,8 @@ use Rattle.checkpoint_io.specs.Blocks.{Fragment, Close, SpellsFragment, SpellsEx
 use Rattle.checkpoint_io.specs.Validity.{Valid}
 use Rattle.checkpoint_io.specs.Logs.{IsLaidOut, ends, extent, close, LogOf}
 use Rattle.checkpoint_io.specs.Rows.{row_record, row_header, row_blocks, row_entry_bytes, row_fragment_bytes, row_body, row_extent_bytes, row_bytes, full_record, mixed_blocks}
-use Rattle.arg_records.specs.Rows.{row_message, full_message}
+use Rattle.arg_records.specs.Rows.{full_message}
+use Rattle.log_dictionary.specs.Rows.{row_message}
 
 -- ---- the message
 

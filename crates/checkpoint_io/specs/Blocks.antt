@@ -7,6 +7,7 @@ use Rattle.log_dictionary.specs.BinaryEntries.{SpellsEntry}
 use Rattle.arg_records.specs.declared.call.Call.{Call}
 use Rattle.buffer_extent.specs.Bodies.{SpellsRecords}
 use Rattle.checkpoint_io.specs.declared.header.Header.{Header}
+use Rattle.checkpoint_io.specs.declared.heads.TheConstants.{MAX_FRAGMENT_MESSAGES, MAX_BODY}
 
 -- a block: messages with ids that count from the first one, records of a writer, or the mark that closes a writer
 pub data Block : Type 0 where
@@ -58,7 +59,7 @@ SpellsEntries (message ∷ messages) bytes = (front : List ℕ) × (back : List 
 pub record SpellsFragment (first : ℕ) (messages : List Message) (bytes : List ℕ) : Type 0 where
   pub entries : List ℕ
   pub some : 1 ≤ length messages
-  pub few : length messages ≤ 16
+  pub few : length messages ≤ MAX_FRAGMENT_MESSAGES
   pub first_fits : first < 2 ^ 32
   pub entries_spelled : SpellsEntries messages entries
   pub joined : bytes ≡ fragment_head_bytes first (length messages) ++ entries
@@ -67,7 +68,7 @@ pub record SpellsFragment (first : ℕ) (messages : List Message) (bytes : List 
 pub record SpellsExtent (messages : List Message) (tick writer : ℕ) (entries : List Call) (bytes : List ℕ) : Type 0 where
   pub body : List ℕ
   pub some : 1 ≤ length body
-  pub short : length body ≤ 65536
+  pub short : length body ≤ MAX_BODY
   pub writer_fits : writer < 2 ^ 8
   pub body_spelled : SpellsRecords messages tick entries body
   pub joined : bytes ≡ extent_head_bytes writer (length body) ++ body

@@ -5,6 +5,7 @@ use Rattle.log_dictionary.specs.declared.message.Message.{Message}
 use Rattle.log_dictionary.specs.declared.clock.Clock.{Clock}
 use Rattle.arg_records.specs.declared.call.Call.{Call}
 use Rattle.checkpoint_io.specs.declared.header.Header.{Header}
+use Rattle.checkpoint_io.specs.declared.heads.TheConstants.{MAX_FRAGMENT_MESSAGES}
 use Rattle.checkpoint_io.specs.Blocks.{Block, Fragment, Extent, Close, messages_of, FileOf}
 use Rattle.checkpoint_io.specs.Validity.{records_of, Valid}
 
@@ -17,7 +18,7 @@ ids_used (entry ∷ entries) = max (entry.id + 1) (ids_used entries)
 abbrev pub AreFragments : ℕ → List Message → List Block → Type 0
 AreFragments first messages [] = messages ≡ []
 AreFragments first messages (Fragment id front ∷ blocks) =
-    (back : List Message) × (id ≡ first) × (messages ≡ front ++ back) × ((back ≡ []) ⊎ (length front ≡ 16)) × AreFragments (first + length front) back blocks
+    (back : List Message) × (id ≡ first) × (messages ≡ front ++ back) × ((back ≡ []) ⊎ (length front ≡ MAX_FRAGMENT_MESSAGES)) × AreFragments (first + length front) back blocks
 AreFragments first messages (Extent writer entries ∷ blocks) = ⊥
 AreFragments first messages (Close writer ∷ blocks) = ⊥
 

@@ -1,7 +1,8 @@
 -- A worked log: one message, and one call of it. And blocks of two messages and two writers.
 use Rattle.std.specs.Prelude.{ℕ, List, [], ◌∷◌, ◌++◌}
 use Rattle.arg_records.specs.declared.call.Call.{Call}
-use Rattle.arg_records.specs.Rows.{row_message, row_call, full_message, full_call}
+use Rattle.arg_records.specs.Rows.{row_call, full_message, full_call}
+use Rattle.log_dictionary.specs.Rows.{row_message}
 use Rattle.checkpoint_io.specs.declared.header.Header.{Header}
 use Rattle.checkpoint_io.specs.Blocks.{Block, Fragment, Extent, Close}
 

@@ -5,6 +5,8 @@ use Rattle.log_dictionary.specs.declared.message.Message.{Message}
 use Rattle.log_dictionary.specs.Messages.{AreDistinct}
 use Rattle.arg_records.specs.declared.call.Call.{Call}
 use Rattle.arg_records.specs.Calls.{IsCall, NeverFalls}
+use Rattle.log_dictionary.specs.declared.dictionary.TheConstants.{MAX_MESSAGES}
+use Rattle.arg_records.specs.declared.call.TheConstants.{MAX_WRITERS}
 use Rattle.checkpoint_io.specs.declared.header.Header.{Header}
 use Rattle.checkpoint_io.specs.Blocks.{Block, Fragment, Extent, Close, messages_of}
 
@@ -48,7 +50,7 @@ pub record IsOpen (header : Header) (before : List Block) (writer : ℕ) : Type 
 pub record DefinesNext (before : List Block) (first : ℕ) (messages : List Message) : Type 0 where
   pub next : first ≡ length (messages_of before)
   pub distinct : AreDistinct (messages_of before ++ messages)
-  pub few : length (messages_of before ++ messages) ≤ 65536
+  pub few : length (messages_of before ++ messages) ≤ MAX_MESSAGES
 
 -- The records are those of a writer that may still write. Each names a message that was defined before, and no stamp falls.
 pub record GoesOn (header : Header) (before : List Block) (writer : ℕ) (entries : List Call) : Type 0 where
@@ -70,7 +72,7 @@ AreRightAfter header before (block ∷ blocks) = IsRightAfter header before bloc
 -- there are 1 to 64 writers, the clock's numbers are below 2^64, and it ticks
 pub record IsHeader (header : Header) : Type 0 where
   pub some_writer : 1 ≤ header.writers
-  pub few_writers : header.writers ≤ 64
+  pub few_writers : header.writers ≤ MAX_WRITERS
   pub tick_fits : header.clock.tick < 2 ^ 64
   pub nanos_fits : header.clock.nanos < 2 ^ 64
   pub rate_fits : header.clock.rate < 2 ^ 64

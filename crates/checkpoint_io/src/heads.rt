@@ -2,9 +2,16 @@
 //! extents, and close marks. Numbers stand with the low byte first.
 
 ghost use Rattle.std.specs.Prelude.{◌≡◌, ◌+◌, ◌<◌, ◌≤◌, ◌++◌, length, take, drop};
+ghost use Rattle.arg_records.specs.declared.call.TheConstants.{MAX_WRITERS};
 ghost use Rattle.checkpoint_io.specs.Blocks.{header_bytes, fragment_head_bytes, extent_head_bytes, close_bytes};
 
 use crate::header::Header;
+
+/// The most messages of a fragment.
+pub const MAX_FRAGMENT_MESSAGES: u16 = 16;
+
+/// The most bytes of an extent's body.
+pub const MAX_BODY: u32 = 65_536;
 
 const MAGIC: &[u8] = b"NLOG";
 
@@ -31,7 +38,7 @@ fn put(into: &mut [u8], at: usize, bytes: &[u8]) -> usize
 /// Writes the header of a log to the front, and gives its length, which is 30. It takes no memory.
 pub fn put_header(header: &Header, into: &mut [u8]) -> usize
     requires some_writer { 1 ≤ header.now.writers }
-    requires few_writers { header.now.writers ≤ 64 }
+    requires few_writers { header.now.writers ≤ MAX_WRITERS }
     requires rate { 1 ≤ header.now.clock.rate }
     requires room { 30 ≤ length into.now }
     ensures put { into.new ≡ header_bytes header.now ++ drop 30 into.old }
@@ -48,7 +55,7 @@ pub fn put_header(header: &Header, into: &mut [u8]) -> usize
 /// 7: the id of the first message, and the number of messages, from 1 to 16. It takes no memory.
 pub fn put_fragment_head(first: u32, count: u16, into: &mut [u8]) -> usize
     requires some { 1 ≤ count }
-    requires few { count ≤ 16 }
+    requires few { count ≤ MAX_FRAGMENT_MESSAGES }
     requires room { 7 ≤ length into.now }
     ensures put { into.new ≡ fragment_head_bytes first count ++ drop 7 into.old }
     ensures len { result ≡ 7 }
@@ -61,9 +68,9 @@ pub fn put_fragment_head(first: u32, count: u16, into: &mut [u8]) -> usize
 /// Writes what stands in front of an extent's body to the front, and gives its length, which is 6:
 /// the writer, and the length of the body, from 1 to 65,536. It takes no memory.
 pub fn put_extent_head(writer: u32, len: u32, into: &mut [u8]) -> usize
-    requires known { writer < 64 }
+    requires known { writer < MAX_WRITERS }
     requires some { 1 ≤ len }
-    requires short { len ≤ 65536 }
+    requires short { len ≤ MAX_BODY }
     requires room { 6 ≤ length into.now }
     ensures put { into.new ≡ extent_head_bytes writer len ++ drop 6 into.old }
     ensures len { result ≡ 6 }
@@ -75,7 +82,7 @@ pub fn put_extent_head(writer: u32, len: u32, into: &mut [u8]) -> usize
 /// Writes the close mark of a writer to the front, and gives its length, which is 2. It takes no
 /// memory.
 pub fn put_close(writer: u32, into: &mut [u8]) -> usize
-    requires known { writer < 64 }
+    requires known { writer < MAX_WRITERS }
     requires room { 2 ≤ length into.now }
     ensures put { into.new ≡ close_bytes writer ++ drop 2 into.old }
     ensures len { result ≡ 2 }

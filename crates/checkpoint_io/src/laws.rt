@@ -14,7 +14,8 @@ ghost use Rattle.checkpoint_io.specs.Blocks.{Block, Fragment, Extent, Close, IsF
 ghost use Rattle.checkpoint_io.specs.Fronts.{Front, HasNoHeader};
 ghost use Rattle.checkpoint_io.specs.Logs.{ids_used, new_messages, AreFragments, HasAtMost, IsLaidOut, LogOf};
 ghost use Rattle.checkpoint_io.specs.Rows.{row_header, row_blocks, row_bytes, row_record, full_record, mixed_blocks};
-ghost use Rattle.arg_records.specs.Rows.{row_message, full_message};
+ghost use Rattle.arg_records.specs.Rows.{full_message};
+ghost use Rattle.log_dictionary.specs.Rows.{row_message};
 ghost use Rattle.checkpoint_io.specs.Validity.{records_of, last_stamp, IsClosed, IsOf, IsRightAfter, IsHeader, Valid};
 
 /// A log of 68 bytes: a message, a call of it, and a close mark.

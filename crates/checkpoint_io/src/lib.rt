@@ -6,7 +6,9 @@ mod heads;
 pub mod laws;
 
 pub use header::Header;
-pub use heads::{put_close, put_extent_head, put_fragment_head, put_header};
+pub use heads::{
+    MAX_BODY, MAX_FRAGMENT_MESSAGES, put_close, put_extent_head, put_fragment_head, put_header,
+};
 
 #[cfg(test)]
 mod tests;

@@ -2,7 +2,8 @@
 use Rattle.std.specs.Prelude.{ℕ, pos, List, [], ◌∷◌, ◌++◌, codes}
 use Rattle.printf_grammar.specs.declared.argument.Value.TheVariants.{Signed}
 use Rattle.log_dictionary.specs.Calls.{LogCall}
-use Rattle.arg_records.specs.Rows.{row_message, row_call}
+use Rattle.arg_records.specs.Rows.{row_call}
+use Rattle.log_dictionary.specs.Rows.{row_message}
 use Rattle.checkpoint_io.specs.declared.header.Header.{Header}
 use Rattle.checkpoint_io.specs.Blocks.{Block, Fragment, Extent, Close}
 use Rattle.checkpoint_io.specs.Rows.{row_header}

@@ -1,27 +1,13 @@
 -- Two calls of one message at two times: the earlier one is of the writer with the greater number.
 use Rattle.std.specs.Prelude.{ℕ, pos, List, [], ◌∷◌, ◌++◌, codes}
-use Rattle.std.proofs.Common.{lit≤}
-use Rattle.printf_grammar.specs.declared.piece.Piece.TheVariants.{Literal, Field}
 use Rattle.printf_grammar.specs.declared.argument.Value.TheVariants.{Signed}
-use Rattle.printf_grammar.specs.Narrow.{plain_d}
-use Rattle.log_dictionary.specs.declared.severity.Severity.TheVariants.{Notice}
 use Rattle.log_dictionary.specs.declared.clock.Clock.{Clock}
-use Rattle.log_dictionary.specs.declared.message.Message.{Message}
 use Rattle.log_dictionary.specs.Calls.{LogCall}
+use Rattle.log_dictionary.specs.Rows.{row_message}
 
 -- a clock of two ticks a nanosecond
 abbrev pub row_clock : Clock
 row_clock = record { tick = 1000; nanos = 1514764800000000000; rate = 2000000000 }
-
--- a message at line 12 of `srv.cc` with the format `x=%d`
-abbrev pub row_message : Message
-row_message = record {
-  file = codes "srv.cc";
-  line = 12;
-  severity = Notice;
-  format = record { bytes = codes "x=%d"; pieces = Literal 0 2 ∷ Field plain_d ∷ [] };
-  file_length = (lit≤ tt, lit≤ tt);
-}
 
 -- the second writer's call, and the first writer's, two ticks later
 abbrev pub earlier_call : LogCall

@@ -4,7 +4,7 @@ ghost use Rattle.std.specs.Prelude.{◌≡◌, ◌++◌, [], OnOk, OnErr, take, 
 ghost use Rattle.printf_grammar.specs.Types.{value_of};
 ghost use Rattle.direct_printf.specs.Fields.{padded, converted, signed_of, unsigned_of, text_of, narrow_signed, narrow_unsigned, sign_of, signed_number, unsigned_number, octal_front, octal_number, hexadecimal_front, hexadecimal_number, pointer, cut};
 
-use crate::digits::{MOST_DIGITS, number, write_digits};
+use crate::digits::{MAX_DIGITS, number, write_digits};
 use crate::padding::{Padding, Parts, append_padded};
 use itoa::Buffer;
 use printf_grammar::{Arg, Conversion, Length, Spec};
@@ -157,7 +157,7 @@ fn append_octal(
         (octal_number sharp precision value)) }
     ensures err { OnErr result (take (vec_len out.old) out.new.items ≡ out.old.items) }
 {
-    let mut buffer = [0; MOST_DIGITS];
+    let mut buffer = [0; MAX_DIGITS];
     let start = write_digits(value, 8, false, &mut buffer);
     let digits = number(b"", precision, value, &buffer[start..]);
     let front = octal_prefix(sharp, digits);
@@ -187,7 +187,7 @@ fn append_hexadecimal(
         (hexadecimal_number sharp upper precision value)) }
     ensures err { OnErr result (take (vec_len out.old) out.new.items ≡ out.old.items) }
 {
-    let mut buffer = [0; MOST_DIGITS];
+    let mut buffer = [0; MAX_DIGITS];
     let start = write_digits(value, 16, upper, &mut buffer);
     let front = hexadecimal_prefix(sharp, upper, value);
     append_padded(
@@ -210,7 +210,8 @@ fn hexadecimal_prefix(sharp: bool, upper: bool, value: u64) -> &'static [u8]
 }
 
 fn append_pointer(padding: Padding, value: u64, out: &mut Vec<u8>) -> Result<(), AllocError>
-    ensures ok { OnOk result (out.new.items ≡ out.old.items ++ padded padding.left padding.zeros padding.width (pointer value)) }
+    ensures ok { OnOk result (out.new.items ≡ out.old.items ++ padded padding.left padding.zeros padding.width
+        (pointer value)) }
     ensures err { OnErr result (take (vec_len out.old) out.new.items ≡ out.old.items) }
 {
     if value == 0 {

@@ -8,18 +8,18 @@ ghost use Rattle.direct_printf.specs.Fields.{Digits};
 use crate::padding::Parts;
 
 /// The octal digits of a u64 at most.
-pub const MOST_DIGITS: usize = 22;
+pub const MAX_DIGITS: usize = 22;
 
 /// Writes the digits of the value at the end of the buffer, and answers where they begin.
 #[inline(always)]
-pub fn write_digits(value: u64, base: u64, upper: bool, buffer: &mut [u8; MOST_DIGITS]) -> usize
+pub fn write_digits(value: u64, base: u64, upper: bool, buffer: &mut [u8; MAX_DIGITS]) -> usize
     requires low { 8 ≤ base }
     requires high { base ≤ 16 }
-    ensures start { result < MOST_DIGITS }
+    ensures start { result < MAX_DIGITS }
     ensures written { drop result buffer.new ≡ digits base upper value }
 {
     let mut left = value;
-    let mut at = MOST_DIGITS;
+    let mut at = MAX_DIGITS;
     while left >= base {
         at -= 1;
         buffer[at] = glyph((left % base) as u8, upper);

@@ -2,6 +2,7 @@
 use Rattle.std.specs.Prelude.{◌≡◌, ◌≢◌, ◌⊎◌, ℕ, ◌<◌, ◌≤◌, ◌^◌, List, [], ◌∷◌, ◌++◌, length}
 use Rattle.std.specs.Hash.{le_bytes}
 use Rattle.printf_grammar.specs.Spelling.{Spells}
+use Rattle.log_dictionary.specs.declared.message.TheConstants.{MAX_FILE_NAME}
 use Rattle.log_dictionary.specs.declared.message.Message.{Message}
 use Rattle.log_dictionary.specs.declared.severity.Severity.{Severity}
 use Rattle.log_dictionary.specs.Severities.{severity_number}
@@ -31,7 +32,7 @@ raw_bytes raw = head_bytes raw.severity raw.line ++ text_bytes raw.file ++ text_
 pub record IsInRange (raw : RawEntry) : Type 0 where
   pub line_fits : raw.line < 2 ^ 32
   pub named : 1 ≤ length raw.file
-  pub short_name : length raw.file ≤ 255
+  pub short_name : length raw.file ≤ MAX_FILE_NAME
   pub short_format : length raw.format ≤ 4095
 
 abbrev pub raw_of : Message → RawEntry
@@ -66,8 +67,8 @@ pub data IsCutText (least most : ℕ) (bytes : List ℕ) : Type 0 where
 pub data IsCutEntry (bytes : List ℕ) : Type 0 where
   in_severity : bytes ≡ [] → IsCutEntry bytes
   in_line : (severity : Severity) (part : List ℕ) → length part < 4 → bytes ≡ severity_number severity ∷ part → IsCutEntry bytes
-  in_file : (severity : Severity) (line : ℕ) (part : List ℕ) → line < 2 ^ 32 → IsCutText 1 255 part → bytes ≡ head_bytes severity line ++ part → IsCutEntry bytes
-  in_format : (severity : Severity) (line : ℕ) (file part : List ℕ) → line < 2 ^ 32 → 1 ≤ length file → length file ≤ 255 → IsCutText 0 4095 part → bytes ≡ head_bytes severity line ++ text_bytes file ++ part → IsCutEntry bytes
+  in_file : (severity : Severity) (line : ℕ) (part : List ℕ) → line < 2 ^ 32 → IsCutText 1 MAX_FILE_NAME part → bytes ≡ head_bytes severity line ++ part → IsCutEntry bytes
+  in_format : (severity : Severity) (line : ℕ) (file part : List ℕ) → line < 2 ^ 32 → 1 ≤ length file → length file ≤ MAX_FILE_NAME → IsCutText 0 4095 part → bytes ≡ head_bytes severity line ++ text_bytes file ++ part → IsCutEntry bytes
 
 -- ---- where bytes begin with no entry
 
@@ -82,8 +83,8 @@ pub record IsBadLength (least most : ℕ) (bytes : List ℕ) : Type 0 where
 -- the first field that isn't right is there as a whole and out of range: the severity, or the length of the file or of the format
 pub data IsOutOfRange (bytes : List ℕ) : Type 0 where
   at_severity : (number : ℕ) (rest : List ℕ) → ((severity : Severity) → number ≢ severity_number severity) → bytes ≡ number ∷ rest → IsOutOfRange bytes
-  at_file : (severity : Severity) (line : ℕ) (rest : List ℕ) → line < 2 ^ 32 → IsBadLength 1 255 rest → bytes ≡ head_bytes severity line ++ rest → IsOutOfRange bytes
-  at_format : (severity : Severity) (line : ℕ) (file rest : List ℕ) → line < 2 ^ 32 → 1 ≤ length file → length file ≤ 255 → IsBadLength 0 4095 rest → bytes ≡ head_bytes severity line ++ text_bytes file ++ rest → IsOutOfRange bytes
+  at_file : (severity : Severity) (line : ℕ) (rest : List ℕ) → line < 2 ^ 32 → IsBadLength 1 MAX_FILE_NAME rest → bytes ≡ head_bytes severity line ++ rest → IsOutOfRange bytes
+  at_format : (severity : Severity) (line : ℕ) (file rest : List ℕ) → line < 2 ^ 32 → 1 ≤ length file → length file ≤ MAX_FILE_NAME → IsBadLength 0 4095 rest → bytes ≡ head_bytes severity line ++ text_bytes file ++ rest → IsOutOfRange bytes
 
 -- a field is out of range, or all fields are in range and the format is refused
 pub data IsBadEntry (bytes : List ℕ) : Type 0 where

@@ -1,6 +1,7 @@
 -- The parts of a message line, from left to right.
 use Rattle.std.specs.Prelude.{◌≡◌, ◌≢◌, ℕ, ◌+◌, ◌<◌, ◌≤◌, ◌^◌, List, [], ◌∷◌, ◌++◌, length, take, drop, codes, decimal, All, position, Option, None, Some, ◌==◌, if◌then◌else◌}
 use Rattle.std.specs.Option.{option_map}
+use Rattle.log_dictionary.specs.declared.message.TheConstants.{MAX_FILE_NAME}
 use Rattle.log_dictionary.specs.declared.severity.Severity.{Severity}
 use Rattle.log_dictionary.specs.declared.entry.Fields.{Fields}
 use Rattle.log_dictionary.specs.Severities.{severity_name}
@@ -73,5 +74,5 @@ pub record IsEntryLine (line : List ℕ) : Type 0 where
   pub format : List ℕ
   pub spelled : IsEntry line id severity number file format
   pub named : 1 ≤ length file
-  pub short_name : length file ≤ 255
+  pub short_name : length file ≤ MAX_FILE_NAME
   pub short_format : length format ≤ 4095

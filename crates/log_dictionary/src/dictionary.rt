@@ -2,6 +2,7 @@
 
 ghost use Rattle.std.specs.Prelude.{◌≡◌, ◌≤◌, ◌↔◌, [], length, slice_get, IsNone, IfSome, Ok, Err, ℕ, ◌⊎◌, IfOk, IfErr, MatchResult, IsTrue, OnOk, OnErr, ◌≢◌, ◌<◌, ◌∷◌, ◌++◌};
 ghost use Rattle.std.specs.Option.{option_copied};
+ghost use Rattle.std.specs.Slice.Iter.{iter_rest};
 ghost use Rattle.log_dictionary.specs.declared.message.Message.{Message};
 ghost use Rattle.log_dictionary.specs.Messages.{UnescapedLine, HasMessage, HasId};
 ghost use Rattle.log_dictionary.specs.Additions.{IsAdded};
@@ -9,12 +10,14 @@ ghost use Rattle.log_dictionary.specs.Entries.{IsEntryLine};
 
 use crate::entry::entry_of;
 use crate::formats::{FormatFault, format_of};
-use crate::message::Message;
+use crate::message::{MAX_FILE_NAME, Message};
 use printf_grammar::Bytes;
 use std::alloc::Global;
 use std::marker::Model;
+use std::slice;
 
-const MOST_MESSAGES: usize = 65_536;
+/// The most messages of a dictionary.
+pub const MAX_MESSAGES: usize = 65_536;
 
 /// At most 65,536 messages, no two of them equal. A message's id is its place, from 0.
 #[derive(Debug, Drop)]
@@ -54,19 +57,20 @@ pub enum AddFault {
 impl Model for Dictionary {
     ghost use Rattle.std.specs.Prelude.{◌≤◌, List, length};
     ghost use Rattle.log_dictionary.specs.declared.message.Message.{Message};
+    ghost use Rattle.log_dictionary.specs.declared.dictionary.TheConstants.{MAX_MESSAGES};
     ghost use Rattle.log_dictionary.specs.Messages.{AreDistinct};
 
     ghost Value = { List Message };
 
     ghost view = { λ d. d.messages.items };
 
-    ghost invariant = { λ d. (length d.messages.items ≤ 65536) × AreDistinct d.messages.items };
+    ghost invariant = { λ d. (length d.messages.items ≤ MAX_MESSAGES) × AreDistinct d.messages.items };
 }
 
 fn is_file_name(name: &[u8]) -> bool
-    ensures { IsTrue result ↔ ((1 ≤ length name.now) × (length name.now ≤ 255)) }
+    ensures { IsTrue result ↔ ((1 ≤ length name.now) × (length name.now ≤ MAX_FILE_NAME)) }
 {
-    !name.is_empty() && name.len() <= 255
+    !name.is_empty() && name.len() <= MAX_FILE_NAME
 }
 
 /// The id and the message of a message line whose texts have no escape.
@@ -132,7 +136,7 @@ impl Dictionary {
     /// The number of messages.
     pub fn len(&self) -> u32
         ensures value { result ≡ length self.now }
-        ensures bound { result ≤ 65536 }
+        ensures bound { result ≤ MAX_MESSAGES }
         ensures distinct { AreDistinct self.now }
     {
         self.messages.len() as u32
@@ -146,6 +150,13 @@ impl Dictionary {
         self.messages.get(id as usize)
     }
 
+    /// The messages, in the order of their ids.
+    pub fn iter(&self) -> slice::Iter<'_, Message>
+        ensures { iter_rest result ≡ self.now }
+    {
+        self.messages.iter()
+    }
+
     /// Adds a message, unless an equal one is there. It is dropped where it isn't added.
     pub fn add(&mut self, message: Message) -> Result<Added, AddFault>
         ensures ok { IfOk result (IsAdded self.old message self.new) }
@@ -154,13 +165,13 @@ impl Dictionary {
         ensures old { HasMessage self.old message → (id : ℕ) × (result ≡ Ok (Added.Old id)) }
         ensures err { OnErr result (self.new ≡ self.old) }
         ensures too_many { (result ≡ Err AddFault.TooMany)
-            ↔ ((¬ (HasMessage self.old message)) × (length self.old ≡ 65536)) }
+            ↔ ((¬ (HasMessage self.old message)) × (length self.old ≡ MAX_MESSAGES)) }
     {
         if let Some(id) = id_of(&self.messages, &message) {
             return Ok(Added::Old(id as u32));
         }
         let id = self.messages.len();
-        if id >= MOST_MESSAGES {
+        if id >= MAX_MESSAGES {
             return Err(AddFault::TooMany);
         }
         let Ok(()) = self.messages.push(message) else {
@@ -178,24 +189,24 @@ impl Dictionary {
 
         // A right line with the next id and a new message is read, unless memory runs out.
         ensures only { (message : Message) → UnescapedLine line.now (length self.old) message
-            → length self.old < 65536 → ¬ (HasMessage self.old message)
+            → length self.old < MAX_MESSAGES → ¬ (HasMessage self.old message)
             → MatchResult result
             (λ _. self.new ≡ self.old ++ message ∷ [])
             (λ fault. fault ≡ LineFault.NoMemory) }
-        ensures too_many { (result ≡ Err LineFault.TooMany) ↔ (length self.old ≡ 65536) }
+        ensures too_many { (result ≡ Err LineFault.TooMany) ↔ (length self.old ≡ MAX_MESSAGES) }
         ensures bad_entry { result ≡ Err LineFault.BadEntry
             → (id : ℕ) (message : Message) → UnescapedLine line.now id message
             → HasMessage self.old message }
 
         // All but what the format spells is judged before any memory is wanted.
-        ensures no_entry { ¬ (IsEntryLine line.now) → length self.old < 65536
+        ensures no_entry { ¬ (IsEntryLine line.now) → length self.old < MAX_MESSAGES
             → result ≡ Err LineFault.BadEntry }
         ensures order { result ≡ Err LineFault.Order → (id : ℕ) × (message : Message)
             × UnescapedLine line.now id message
             × (¬ (HasMessage self.old message))
             × (id ≢ length self.old) }
     {
-        if self.messages.len() >= MOST_MESSAGES {
+        if self.messages.len() >= MAX_MESSAGES {
             return Err(LineFault::TooMany);
         }
         let alloc = *self.messages.allocator();
@@ -213,5 +224,17 @@ impl Dictionary {
             return Err(LineFault::NoMemory);
         };
         Ok(())
+    }
+}
+
+impl<'a> IntoIterator for &'a Dictionary {
+    type Item = &'a Message;
+
+    type IntoIter = slice::Iter<'a, Message>;
+
+    ghost into_iter_gives = { λ dictionary it. iter_rest it ≡ dictionary.now };
+
+    fn into_iter(self) -> Self::IntoIter {
+        self.iter()
     }
 }

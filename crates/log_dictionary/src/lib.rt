@@ -13,9 +13,9 @@ mod severity;
 
 pub use binary_entry::{EntryFault, entry_len, put_entry, read_entry};
 pub use clock::Clock;
-pub use dictionary::{AddFault, Added, Dictionary, LineFault};
+pub use dictionary::{AddFault, Added, Dictionary, LineFault, MAX_MESSAGES};
 pub use entry::split_field;
-pub use message::Message;
+pub use message::{MAX_FILE_NAME, Message};
 pub use numbers::{read_number, read_signed};
 pub use severity::Severity;
 

@@ -1,9 +1,13 @@
 //! What the statements of a program say.
 
 ghost use Rattle.std.specs.Prelude.{◌≤◌, length};
+ghost use Rattle.log_dictionary.specs.declared.message.TheConstants.{MAX_FILE_NAME};
 
 use crate::severity::Severity;
 use printf_grammar::{Bytes, Format};
+
+/// The most bytes of a file's name.
+pub const MAX_FILE_NAME: usize = 255;
 
 /// What is known of a statement before it runs: the file and the line where it stands, its
 /// severity, and the format of its text.
@@ -13,7 +17,7 @@ pub struct Message {
     pub line: u32,
     pub severity: Severity,
     pub format: Format,
-    pub ghost file_length: { (1 ≤ length file) × (length file ≤ 255) },
+    pub ghost file_length: { (1 ≤ length file) × (length file ≤ MAX_FILE_NAME) },
 }
 
 impl Message {

@@ -9,8 +9,8 @@ ghost use Rattle.nanolog_cli.specs.Outcomes.{IsHeld, IsLonger, IsTrace, HeldRun,
 ghost use Rattle.nanolog_cli.specs.NarrowLogs.{IsLog};
 ghost use Rattle.nanolog_cli.specs.Refusals.{status_of, name_of};
 
-use crate::narrow::{MOST_BYTES as MOST_TRACE_BYTES, NarrowFault, read_narrow};
-use crate::narrow_log::{MOST_LOG_BYTES, ReadLog, read_log};
+use crate::narrow::{MAX_BYTES as MAX_TRACE_BYTES, NarrowFault, read_narrow};
+use crate::narrow_log::{MAX_LOG_BYTES, ReadLog, read_log};
 use crate::refusal::Refusal;
 use nl_io::{FileSource, Files, ReadAllFault, read_to_limit};
 use std::alloc::Global;
@@ -27,8 +27,10 @@ fn read_open<F: Files>(
     ensures all { IfOk result (λ bytes. (content : Told) → IsReading (F.desk files.old) id content →
         IfSome content (λ left. bytes.items ≡ left)) }
     ensures within { IfOk result (λ bytes. vec_len bytes ≤ limit) }
-    ensures failed { IsErrOf result ReadAllFault.Failed → Rose (F.desk files.old).read_faults (F.desk files.new).read_faults }
-    ensures too_large { IsErrOf result ReadAllFault.TooLarge → (content : Told) → IsReading (F.desk files.old) id content →
+    ensures failed { IsErrOf result ReadAllFault.Failed
+        → Rose (F.desk files.old).read_faults (F.desk files.new).read_faults }
+    ensures too_large { IsErrOf result ReadAllFault.TooLarge → (content : Told)
+        → IsReading (F.desk files.old) id content →
         IfSome content (λ left. limit < length left) }
     ensures counted { ¬ (IsErrOf result ReadAllFault.Failed) →
         (F.desk files.new).read_faults ≡ (F.desk files.old).read_faults }
@@ -81,7 +83,7 @@ pub(crate) fn run_of_file<'a, F: Files>(
         (status_of refusal) (name_of refusal)) }
     ensures others { F.rest files.old files.new }
 {
-    let bytes = match read_file(alloc, files, name, MOST_TRACE_BYTES) {
+    let bytes = match read_file(alloc, files, name, MAX_TRACE_BYTES) {
         Ok(Some(bytes)) => bytes,
         Ok(None) => return Err(Refusal::Refused(name)),
         Err(refusal) => return Err(refusal),
@@ -99,13 +101,14 @@ pub(crate) fn log_of_file<'a, F: Files>(
     files: &mut F,
     name: &'a str,
 ) -> Result<ReadLog, Refusal<'a>>
-    ensures found { IfOk result (λ log. HeldNarrowLog (F.desk files.old) name.now log.clock log.dictionary log.records) }
+    ensures found { IfOk result (λ log. HeldNarrowLog
+        (F.desk files.old) name.now log.clock log.dictionary log.records) }
     ensures same { OnOk result (F.desk files.new ≡ F.desk files.old) }
     ensures unread { IfErr result (λ refusal. IsUnread IsLog name.now (F.desk files.old) (F.desk files.new)
         (status_of refusal) (name_of refusal)) }
     ensures others { F.rest files.old files.new }
 {
-    let bytes = match read_file(alloc, files, name, MOST_LOG_BYTES) {
+    let bytes = match read_file(alloc, files, name, MAX_LOG_BYTES) {
         Ok(Some(bytes)) => bytes,
         Ok(None) => return Err(Refusal::Refused(name)),
         Err(refusal) => return Err(refusal),

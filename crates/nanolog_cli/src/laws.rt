@@ -23,31 +23,39 @@ pub fn equal_stamps_go_by_writer()
 /// A command whose file is held and of its form is done, where no call fails and memory suffices. Where it is told that
 /// there is no such file, that is the answer, unless a call failed.
 pub fn commands_are_done_where_they_can_be()
-    ensures taken { (command : Command) (old new : Scene) (status : Ended) (name : List ℕ) → Ends command old new status name →
+    ensures taken { (command : Command) (old new : Scene) (status : Ended) (name : List ℕ)
+        → Ends command old new status name →
         Holds old.desk (input_name command) (input_form command) →
         ¬ (Rose old.desk.read_faults new.desk.read_faults) → ¬ (Rose old.desk.write_faults new.desk.write_faults) →
         ¬ (Rose old.faults new.faults) → (status ≡ statuses.Done) ⊎ (status ≡ statuses.NoMemory) }
-    ensures absent { (command : Command) (old new : Scene) (status : Ended) (name : List ℕ) → Ends command old new status name →
+    ensures absent { (command : Command) (old new : Scene) (status : Ended) (name : List ℕ)
+        → Ends command old new status name →
         (held : Held) → old.desk.held ≡ Some held → map.get held (input_name command) ≡ None →
         ¬ (Rose old.desk.read_faults new.desk.read_faults) → status ≡ statuses.Absent }
 {}
 
 /// A count of failed calls rises only where the answer says so.
 pub fn failures_are_told()
-    ensures reading { (command : Command) (old new : Scene) (status : Ended) (name : List ℕ) → Ends command old new status name →
+    ensures reading { (command : Command) (old new : Scene) (status : Ended) (name : List ℕ)
+        → Ends command old new status name →
         status ≢ statuses.ReadFault → new.desk.read_faults ≡ old.desk.read_faults }
-    ensures writing { (command : Command) (old new : Scene) (status : Ended) (name : List ℕ) → Ends command old new status name →
+    ensures writing { (command : Command) (old new : Scene) (status : Ended) (name : List ℕ)
+        → Ends command old new status name →
         status ≢ statuses.WriteFault → (new.desk.write_faults ≡ old.desk.write_faults) × (new.faults ≡ old.faults) }
-    ensures written { (command : Command) (old new : Scene) (name : List ℕ) → Ends command old new statuses.WriteFault name →
+    ensures written { (command : Command) (old new : Scene) (name : List ℕ)
+        → Ends command old new statuses.WriteFault name →
         Rose old.faults new.faults ⊎ Rose old.desk.write_faults new.desk.write_faults }
 {}
 
 /// Whatever the answer, all names but that of the log hold what they held, and no file is left open.
 pub fn other_files_stay()
-    ensures held { (command : Command) (old new : Scene) (status : Ended) (name other : List ℕ) → Ends command old new status name →
+    ensures held { (command : Command) (old new : Scene) (status : Ended) (name other : List ℕ)
+        → Ends command old new status name →
         output_name command ≢ Some other → found_in new.desk other ≡ found_in old.desk other }
-    ensures left { (command : Command) (old new : Scene) (status : Ended) (name : List ℕ) → Ends command old new status name →
+    ensures left { (command : Command) (old new : Scene) (status : Ended) (name : List ℕ)
+        → Ends command old new status name →
         new.desk.left ≡ old.desk.left }
-    ensures made { (command : Command) (old new : Scene) (status : Ended) (name : List ℕ) → Ends command old new status name →
+    ensures made { (command : Command) (old new : Scene) (status : Ended) (name : List ℕ)
+        → Ends command old new status name →
         new.desk.made ≡ old.desk.made }
 {}

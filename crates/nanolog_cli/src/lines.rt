@@ -29,7 +29,8 @@ fn append_call(
     requires named { IsCall dictionary.now (record { stamp = stamp; id = id; args = args.now }) }
     requires later { clock.now.tick ≤ stamp }
     ensures { OnOk result ((ordinal : ℕ) (message : Message) → slice_get dictionary.now id ≡ Some message →
-        text.new.items ≡ text.old.items ++ Line clock.now (record { writer = 0; ordinal = ordinal; stamp = stamp; message = message; args = args.now })) }
+        text.new.items ≡ text.old.items ++ Line clock.now
+        (record { writer = 0; ordinal = ordinal; stamp = stamp; message = message; args = args.now })) }
 {
     let Some(message) = dictionary.get(id) else {
         unreachable!()
@@ -47,7 +48,8 @@ fn lines_of(
     requires rate { 1 ≤ clock.now.rate }
     requires named { AllByRecursion (IsCall dictionary.now) calls.now }
     requires later { NeverFalls clock.now.tick calls.now }
-    ensures { IfOk result (λ text. text.items ≡ flat_map (Line clock.now) (writer_calls dictionary.now (0, calls.now))) }
+    ensures { IfOk result (λ text. text.items ≡ flat_map (Line clock.now) (writer_calls dictionary.now
+        (0, calls.now))) }
 {
     let mut text = Vec::new(alloc);
     for place in 0..calls.len() {
@@ -75,7 +77,8 @@ pub(crate) fn text_of_run(alloc: Global, run: &Trace) -> Result<Vec<u8>, AllocEr
 /// The lines of the records of a log of one writer.
 pub(crate) fn text_of_log(alloc: Global, log: &ReadLog) -> Result<Vec<u8>, AllocError>
     requires { (bytes : List ℕ) × NarrowLog bytes log.now.clock log.now.dictionary log.now.records }
-    ensures { IfOk result (λ text. (bytes : List ℕ) → NarrowLog bytes log.now.clock log.now.dictionary log.now.records → Decompressed bytes text.items) }
+    ensures { IfOk result (λ text. (bytes : List ℕ)
+        → NarrowLog bytes log.now.clock log.now.dictionary log.now.records → Decompressed bytes text.items) }
 {
     lines_of(alloc, &log.dictionary, &log.clock, &log.records)
 }

@@ -24,10 +24,10 @@ use std::alloc::{AllocError, Global};
 use trace_text::{Call, Calls, Trace};
 
 /// The most bytes of an extent's body.
-const MOST_BODY: usize = 65_536;
+const MAX_BODY: usize = 65_536;
 
 /// The most bytes of an entry: its head, a file name of 255 bytes and a format of 4,095.
-const MOST_ENTRY: usize = 9 + 255 + 4_095;
+const MAX_ENTRY: usize = 9 + 255 + 4_095;
 
 /// Writes the record of a call at a place of the body, and answers its end.
 fn put_call(
@@ -94,9 +94,9 @@ fn body_of(
     requires later { NeverFalls tick calls.now }
     requires few_calls { length calls.now ≤ 128 }
     ensures spelled { IfOk result (λ body. SpellsRecords dictionary.now tick calls.now body.items) }
-    ensures short { IfOk result (λ body. length body.items ≤ MOST_BODY) }
+    ensures short { IfOk result (λ body. length body.items ≤ MAX_BODY) }
 {
-    let mut body = Vec::from_elem(alloc, 0, MOST_BODY)?;
+    let mut body = Vec::from_elem(alloc, 0, MAX_BODY)?;
     let end = put_calls(dictionary, tick, calls, &mut body);
     body.truncate(end);
     Ok(body)
@@ -142,7 +142,7 @@ fn append_header(clock: &Clock, log: &mut Vec<u8>) -> Result<(), AllocError>
 /// Appends the entry of a message.
 fn append_entry(
     message: &Message,
-    entry: &mut [u8; MOST_ENTRY],
+    entry: &mut [u8; MAX_ENTRY],
     log: &mut Vec<u8>,
 ) -> Result<(), AllocError>
     ensures appended { OnOk result (log.new.items ≡ log.old.items ++ entry_bytes message.now) }
@@ -164,7 +164,7 @@ fn append_fragment(dictionary: &Dictionary, count: u32, log: &mut Vec<u8>) -> Re
     let mut head = [0; 7];
     put_fragment_head(0, count as u16, &mut head);
     log.extend_from_slice(&head)?;
-    let mut entry = [0; MOST_ENTRY];
+    let mut entry = [0; MAX_ENTRY];
     for id in 0..count {
         let Some(message) = dictionary.get(id) else {
             unreachable!()
@@ -177,7 +177,7 @@ fn append_fragment(dictionary: &Dictionary, count: u32, log: &mut Vec<u8>) -> Re
 /// Appends an extent of writer 0.
 fn append_extent(body: &[u8], log: &mut Vec<u8>) -> Result<(), AllocError>
     requires some { 1 ≤ length body.now }
-    requires short { length body.now ≤ MOST_BODY }
+    requires short { length body.now ≤ MAX_BODY }
     ensures { OnOk result (log.new.items ≡ log.old.items ++ extent_head_bytes 0 (length body.now) ++ body.now) }
 {
     let mut head = [0; 6];

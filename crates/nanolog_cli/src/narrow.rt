@@ -29,13 +29,13 @@ use std::alloc::{AllocError, AllocFailed, Global};
 use trace_text::{Call, Calls, Trace, WriterCalls};
 
 /// The most calls of a trace that is read so far.
-const MOST_CALLS: usize = 128;
+const MAX_CALLS: usize = 128;
 
 /// The most bytes of a trace.
-pub(crate) const MOST_BYTES: usize = 67_108_864;
+pub(crate) const MAX_BYTES: usize = 67_108_864;
 
 /// The most messages of a trace that is read so far.
-const MOST_MESSAGES: u32 = 16;
+const MAX_MESSAGES: u32 = 16;
 
 /// Why bytes were read as no trace.
 #[derive(Clone, Copy, Debug, PartialEq, Eq)]
@@ -194,13 +194,13 @@ fn read_calls(
     lines: &[&[u8]],
 ) -> Result<Calls, NarrowFault>
     ensures found { IfOk result (λ calls. NarrowCalls dictionary.now tick (contents lines.now) calls) }
-    ensures few { IfOk result (λ calls. length calls ≤ MOST_CALLS) }
-    ensures not_yet { IsErrOf result NarrowFault.NotYet → (calls : List CallRecord) → NarrowCalls dictionary.now tick (contents lines.now) calls → length calls ≤ MOST_CALLS → ⊥ }
+    ensures few { IfOk result (λ calls. length calls ≤ MAX_CALLS) }
+    ensures not_yet { IsErrOf result NarrowFault.NotYet → (calls : List CallRecord) → NarrowCalls dictionary.now tick (contents lines.now) calls → length calls ≤ MAX_CALLS → ⊥ }
 {
     let mut calls = Calls::make(alloc);
     let mut least = tick;
     for line in lines {
-        if calls.len() == MOST_CALLS {
+        if calls.len() == MAX_CALLS {
             return Err(NarrowFault::NotYet);
         }
         let call = read_call(alloc, dictionary, least, line)?;
@@ -301,7 +301,7 @@ fn read_messages(alloc: Global, lines: &[&[u8]]) -> Result<(Dictionary, usize), 
         if !line.starts_with(b"message ") {
             return Ok((dictionary, place));
         }
-        if dictionary.len() == MOST_MESSAGES {
+        if dictionary.len() == MAX_MESSAGES {
             return Err(NarrowFault::NotYet);
         }
         read_message(&mut dictionary, line)?;
@@ -363,7 +363,7 @@ fn read_body(alloc: Global, body: &[&[u8]]) -> Result<Trace, NarrowFault>
     ensures not_yet { IsErrOf result NarrowFault.NotYet → (run : Recording) → NarrowBody (contents body.now) run → ⊥ }
 {
     let (dictionary, count) = read_messages(alloc, body)?;
-    if dictionary.len() > MOST_MESSAGES {
+    if dictionary.len() > MAX_MESSAGES {
         return Err(NarrowFault::NotYet);
     }
     match sections(&body[count..]) {
@@ -399,7 +399,7 @@ pub(crate) fn read_narrow(alloc: Global, text: &[u8]) -> Result<Trace, NarrowFau
     ensures found { IfOk result (NarrowTrace text.now) }
     ensures not_yet { IsErrOf result NarrowFault.NotYet → (run : Recording) → NarrowTrace text.now run → ⊥ }
 {
-    if text.len() > MOST_BYTES || has_escape(text) {
+    if text.len() > MAX_BYTES || has_escape(text) {
         return Err(NarrowFault::NotYet);
     }
     let lines = parts_of(alloc, text, b'\n')?;

@@ -23,16 +23,16 @@ use log_dictionary::{AddFault, Added, Clock, Dictionary, EntryFault, Message, re
 use std::alloc::Global;
 
 /// The most bytes of a log.
-pub(crate) const MOST_LOG_BYTES: usize = 134_217_728;
+pub(crate) const MAX_LOG_BYTES: usize = 134_217_728;
 
 /// The most messages of a fragment.
-const MOST_MESSAGES: u32 = 16;
+const MAX_MESSAGES: u32 = 16;
 
 /// The most bytes of an extent's body.
-const MOST_BODY: usize = 65_536;
+const MAX_BODY: usize = 65_536;
 
 /// The most records of a log that is read so far.
-const MOST_RECORDS: usize = 128;
+const MAX_RECORDS: usize = 128;
 
 /// What a log of one writer begins with: the magic, the version and the number of writers.
 const START: &[u8] = b"NLOG\x01\x01";
@@ -150,7 +150,7 @@ fn add_entry<'a>(
 
 /// The messages of so many entries at the front, and the bytes behind them.
 fn read_entries(alloc: Global, count: u32, bytes: &[u8]) -> Result<(Dictionary, &[u8]), NarrowFault>
-    requires { count ≤ MOST_MESSAGES }
+    requires { count ≤ MAX_MESSAGES }
     ensures found { IfOk result (λ read. BeginsWithEntries count bytes.now read.0 read.1.now) }
     ensures not_yet { IsErrOf result NarrowFault.NotYet → (messages : List MessageRecord) (rest : List ℕ) → BeginsWithEntries count bytes.now messages rest → ⊥ }
 {
@@ -169,7 +169,7 @@ fn read_count(bytes: &[u8]) -> Option<(u32, &[u8])>
 {
     let (count, rest) = bytes.split_first_chunk()?;
     let count = u32::from(u16::from_le_bytes(*count));
-    if count == 0 || count > MOST_MESSAGES {
+    if count == 0 || count > MAX_MESSAGES {
         return None;
     }
     Some((count, rest))
@@ -196,7 +196,7 @@ fn body_of(bytes: &[u8]) -> Option<(&[u8], &[u8])>
 {
     let (len, rest) = bytes.split_first_chunk()?;
     let len = u32::from_le_bytes(*len) as usize;
-    if len == 0 || len > MOST_BODY || len > rest.len() {
+    if len == 0 || len > MAX_BODY || len > rest.len() {
         return None;
     }
     Some(rest.split_at(len))
@@ -211,11 +211,11 @@ fn records_of(
 ) -> Result<Calls, NarrowFault>
     requires { HasNarrowFormats dictionary.now }
     ensures found { IfOk result (λ records. IsBody dictionary.now tick tick records body.now) }
-    ensures few { IfOk result (λ records. length records ≤ MOST_RECORDS) }
-    ensures not_yet { IsErrOf result NarrowFault.NotYet → (entries : List Call) → IsBody dictionary.now tick tick entries body.now → length entries ≤ MOST_RECORDS → ⊥ }
+    ensures few { IfOk result (λ records. length records ≤ MAX_RECORDS) }
+    ensures not_yet { IsErrOf result NarrowFault.NotYet → (entries : List Call) → IsBody dictionary.now tick tick entries body.now → length entries ≤ MAX_RECORDS → ⊥ }
 {
     let records = read_body(alloc, body, dictionary, tick, tick)?;
-    if records.len() > MOST_RECORDS {
+    if records.len() > MAX_RECORDS {
         return Err(NarrowFault::NotYet);
     }
     Ok(records)
@@ -246,7 +246,7 @@ pub(crate) fn read_log(alloc: Global, bytes: &[u8]) -> Result<ReadLog, NarrowFau
     ensures found { IfOk result (λ log. NarrowLog bytes.now log.clock log.dictionary log.records) }
     ensures not_yet { IsErrOf result NarrowFault.NotYet → (clock : ClockRecord) (messages : List MessageRecord) (entries : List Call) → NarrowLog bytes.now clock messages entries → ⊥ }
 {
-    if bytes.len() > MOST_LOG_BYTES {
+    if bytes.len() > MAX_LOG_BYTES {
         return Err(NarrowFault::NotYet);
     }
     let Some((clock, rest)) = read_header(bytes) else {

@@ -28,7 +28,8 @@ fn say_of<E: Sink>(err: &mut E, name: &str, words: &str) -> Result<(), Failed>
 
 /// Writes the words that go with a refusal. That they can't be written changes nothing else.
 pub(crate) fn say<E: Sink>(err: &mut E, refusal: Refusal<'_>)
-    ensures said { Says (words_of (status_of refusal.entry) (name_of refusal.entry)) (E.put err.old) (E.put err.new) (E.faults err.old) (E.faults err.new) }
+    ensures said { Says (words_of (status_of refusal.entry) (name_of refusal.entry)) (E.put err.old)
+        (E.put err.new) (E.faults err.old) (E.faults err.new) }
     ensures others { E.rest err.old err.new }
 {
     let _ = match refusal {

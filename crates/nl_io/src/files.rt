@@ -27,9 +27,11 @@ pub trait Files {
     fn read(&mut self, id: u32, into: &mut [u8]) -> Result<usize, Failed>
         requires { map.get (desk self.old).left id ≢ None }
         ensures within { IfOk result (λ n. n ≤ length into.old) }
-        ensures front { IfOk result (λ n. (content : Told) → IsReading (desk self.old) id content → IsFront n (take n into.new) content) }
+        ensures front { IfOk result (λ n. (content : Told) → IsReading (desk self.old) id content
+            → IsFront n (take n into.new) content) }
         ensures moved { IfOk result (λ n. Takes (desk self.old) id n (desk self.new)) }
-        ensures end { IfOk result (λ n. (content : Told) → IsReading (desk self.old) id content → n ≡ 0 → 0 < length into.old → IsAtEnd content) }
+        ensures end { IfOk result (λ n. (content : Told) → IsReading (desk self.old) id content → n ≡ 0
+            → 0 < length into.old → IsAtEnd content) }
         ensures cause { OnErr result (Rose (desk self.old).read_faults (desk self.new).read_faults) }
         ensures err { OnErr result (OnlyReadFaults (desk self.old) (desk self.new)) }
         ensures others { rest self.old self.new };

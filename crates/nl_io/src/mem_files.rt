@@ -39,7 +39,8 @@ impl MemFiles {
     /// calls of [`Files`] that fail, among which [`Files::leave`] isn't counted.
     pub fn make(alloc: Global, piece: usize, failing: &[u64]) -> Result<MemFiles, AllocError>
         requires { 1 ≤ piece }
-        ensures empty { IfOk result (λ files. desk_of files ≡ record { held = Some map.empty; left = map.empty; made = map.empty; read_faults = 0; write_faults = 0 }) }
+        ensures empty { IfOk result (λ files. desk_of files
+            ≡ record { held = Some map.empty; left = map.empty; made = map.empty; read_faults = 0; write_faults = 0 }) }
         ensures piece { IfOk result (λ files. piece_of files ≡ piece) }
         ensures failing { IfOk result (λ files. failing_of files ≡ failing.now) }
         ensures calls { IfOk result (λ files. calls_of files ≡ 0) }
@@ -61,7 +62,10 @@ impl MemFiles {
 
     /// Makes a name hold these bytes. This is no call of [`Files`], and isn't counted as one.
     pub fn put_file(&mut self, name: &str, bytes: &[u8]) -> Result<(), AllocError>
-        ensures ok { OnOk result (desk_of self.new ≡ record (desk_of self.old) { held = Some (map.insert (held_of self.old) name.now bytes.now) }) }
+        ensures ok { OnOk result (desk_of self.new ≡ record (desk_of self.old) {
+          held = Some (map.insert
+              (held_of self.old) name.now bytes.now);
+        }) }
         ensures err { OnErr result (desk_of self.new ≡ desk_of self.old) }
         ensures piece { piece_of self.new ≡ piece_of self.old }
         ensures script { script_of self.new ≡ script_of self.old }
@@ -99,7 +103,8 @@ impl Files for MemFiles {
     ghost rest_then = { λ a b c first second. (second.0 ∙ first.0, second.1 ∙ first.1) };
 
     fn open_read(&mut self, name: &str) -> Result<Option<u32>, Failed>
-        ensures opened { IfOk result (λ found. IfSome found (λ id. Opens (desk_of self.old) name.now id (desk_of self.new))) }
+        ensures opened { IfOk result (λ found. IfSome found (λ id. Opens (desk_of self.old) name.now id
+            (desk_of self.new))) }
         ensures absent { IfOk result (λ found. IfNone found (IsAbsent (desk_of self.old) name.now)) }
         ensures absent_same { IfOk result (λ found. IfNone found (desk_of self.new ≡ desk_of self.old)) }
         ensures cause { OnErr result (Rose (desk_of self.old).read_faults (desk_of self.new).read_faults) }
@@ -109,7 +114,8 @@ impl Files for MemFiles {
         // Which calls fail.
         ensures number { script_of self.new ≡ called (script_of self.old) }
         ensures passed { OnOk result (Passes (script_of self.old) (read_faults_of self.old) (read_faults_of self.new)) }
-        ensures failed { OnErr result (FailsListed (script_of self.old) (read_faults_of self.old) (read_faults_of self.new)
+        ensures failed { OnErr result (FailsListed (script_of self.old) (read_faults_of self.old)
+            (read_faults_of self.new)
             ⊎ Starves (script_of self.old) (read_faults_of self.old) (read_faults_of self.new)) }
         ensures write_faults { write_faults_of self.new ≡ write_faults_of self.old }
     {
@@ -127,11 +133,14 @@ impl Files for MemFiles {
 
     fn read(&mut self, id: u32, into: &mut [u8]) -> Result<usize, Failed>
         requires { map.get (desk_of self.old).left id ≢ None }
-        ensures amount { IfOk result (λ n. (left : List ℕ) → IsReading (desk_of self.old) id (Some left) → n ≡ min (min (piece_of self.old) (length left)) (length into.old)) }
+        ensures amount { IfOk result (λ n. (left : List ℕ) → IsReading (desk_of self.old) id (Some left)
+            → n ≡ min (min (piece_of self.old) (length left)) (length into.old)) }
         ensures within { IfOk result (λ n. n ≤ length into.old) }
-        ensures front { IfOk result (λ n. (content : Told) → IsReading (desk_of self.old) id content → IsFront n (take n into.new) content) }
+        ensures front { IfOk result (λ n. (content : Told) → IsReading (desk_of self.old) id content
+            → IsFront n (take n into.new) content) }
         ensures moved { IfOk result (λ n. Takes (desk_of self.old) id n (desk_of self.new)) }
-        ensures end { IfOk result (λ n. (content : Told) → IsReading (desk_of self.old) id content → n ≡ 0 → 0 < length into.old → IsAtEnd content) }
+        ensures end { IfOk result (λ n. (content : Told) → IsReading (desk_of self.old) id content → n ≡ 0
+            → 0 < length into.old → IsAtEnd content) }
         ensures cause { OnErr result (Rose (desk_of self.old).read_faults (desk_of self.new).read_faults) }
         ensures err { OnErr result (OnlyReadFaults (desk_of self.old) (desk_of self.new)) }
         ensures others { IsSameFiles self.old self.new }
@@ -139,7 +148,8 @@ impl Files for MemFiles {
         // Which calls fail.
         ensures number { script_of self.new ≡ called (script_of self.old) }
         ensures passed { OnOk result (Passes (script_of self.old) (read_faults_of self.old) (read_faults_of self.new)) }
-        ensures failed { OnErr result (FailsListed (script_of self.old) (read_faults_of self.old) (read_faults_of self.new)) }
+        ensures failed { OnErr result (FailsListed (script_of self.old) (read_faults_of self.old)
+            (read_faults_of self.new)) }
         ensures write_faults { write_faults_of self.new ≡ write_faults_of self.old }
     {
         if self.script.next_call() {
@@ -166,8 +176,10 @@ impl Files for MemFiles {
 
         // Which calls fail.
         ensures number { script_of self.new ≡ called (script_of self.old) }
-        ensures passed { OnOk result (Passes (script_of self.old) (write_faults_of self.old) (write_faults_of self.new)) }
-        ensures failed { OnErr result (FailsListed (script_of self.old) (write_faults_of self.old) (write_faults_of self.new)
+        ensures passed { OnOk result (Passes (script_of self.old) (write_faults_of self.old)
+            (write_faults_of self.new)) }
+        ensures failed { OnErr result (FailsListed (script_of self.old) (write_faults_of self.old)
+            (write_faults_of self.new)
             ⊎ Starves (script_of self.old) (write_faults_of self.old) (write_faults_of self.new)) }
         ensures read_faults { read_faults_of self.new ≡ read_faults_of self.old }
     {
@@ -198,8 +210,10 @@ impl Files for MemFiles {
 
         // Which calls fail.
         ensures number { script_of self.new ≡ called (script_of self.old) }
-        ensures passed { OnOk result (Passes (script_of self.old) (write_faults_of self.old) (write_faults_of self.new)) }
-        ensures failed { OnErr result (FailsListed (script_of self.old) (write_faults_of self.old) (write_faults_of self.new)
+        ensures passed { OnOk result (Passes (script_of self.old) (write_faults_of self.old)
+            (write_faults_of self.new)) }
+        ensures failed { OnErr result (FailsListed (script_of self.old) (write_faults_of self.old)
+            (write_faults_of self.new)
             ⊎ Starves (script_of self.old) (write_faults_of self.old) (write_faults_of self.new)) }
         ensures read_faults { read_faults_of self.new ≡ read_faults_of self.old }
     {
@@ -223,8 +237,10 @@ impl Files for MemFiles {
 
         // Which calls fail.
         ensures number { script_of self.new ≡ called (script_of self.old) }
-        ensures passed { OnOk result (Passes (script_of self.old) (write_faults_of self.old) (write_faults_of self.new)) }
-        ensures failed { OnErr result (FailsListed (script_of self.old) (write_faults_of self.old) (write_faults_of self.new)) }
+        ensures passed { OnOk result (Passes (script_of self.old) (write_faults_of self.old)
+            (write_faults_of self.new)) }
+        ensures failed { OnErr result (FailsListed (script_of self.old) (write_faults_of self.old)
+            (write_faults_of self.new)) }
         ensures read_faults { read_faults_of self.new ≡ read_faults_of self.old }
     {
         self.made.remove(&id);

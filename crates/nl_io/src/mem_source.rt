@@ -73,7 +73,8 @@ impl Source for MemSource {
     fn read(&mut self, into: &mut [u8]) -> Result<usize, Failed>
         ensures amount { IfOk result (λ n. n ≡ moves_into self.old (length into.old)) }
         ensures within { IfOk result (λ n. n ≤ length into.old) }
-        ensures front { IfOk result (λ n. (n ≤ length (left_of self.old)) × (take n into.new ≡ take n (left_of self.old))) }
+        ensures front { IfOk result (λ n. (n ≤ length (left_of self.old))
+            × (take n into.new ≡ take n (left_of self.old))) }
         ensures moved { IfOk result (λ n. left_of self.new ≡ drop n (left_of self.old)) }
         ensures end { IfOk result (λ n. n ≡ 0 → 0 < length into.old → left_of self.old ≡ []) }
         ensures counted { OnOk result (all_faults (faults_of self.new) ≡ all_faults (faults_of self.old)) }

@@ -34,11 +34,15 @@ pub(crate) fn take_from(
 ) -> usize
     requires reading { map.get (left_in table.old) id ≢ None }
     requires moves { 0 < most }
-    ensures amount { (left : List ℕ) → map.get (left_in table.old) id ≡ Some (Some left) → result ≡ min (min most (length left)) (length into.old) }
+    ensures amount { (left : List ℕ) → map.get (left_in table.old) id ≡ Some (Some left)
+        → result ≡ min (min most (length left)) (length into.old) }
     ensures within { result ≤ length into.old }
-    ensures front { (content : Told) → map.get (left_in table.old) id ≡ Some content → IsFront result (take result into.new) content }
-    ensures moved { (content : Told) → map.get (left_in table.old) id ≡ Some content → left_in table.new ≡ map.insert (left_in table.old) id (without_front result content) }
-    ensures end { (content : Told) → map.get (left_in table.old) id ≡ Some content → result ≡ 0 → 0 < length into.old → IsAtEnd content }
+    ensures front { (content : Told) → map.get (left_in table.old) id ≡ Some content
+        → IsFront result (take result into.new) content }
+    ensures moved { (content : Told) → map.get (left_in table.old) id ≡ Some content
+        → left_in table.new ≡ map.insert (left_in table.old) id (without_front result content) }
+    ensures end { (content : Told) → map.get (left_in table.old) id ≡ Some content → result ≡ 0
+        → 0 < length into.old → IsAtEnd content }
 {
     let reading = table.get_mut(&id).unwrap();
     reading.take(most, into)

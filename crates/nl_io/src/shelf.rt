@@ -48,7 +48,8 @@ impl Shelf {
 
     /// Puts bytes at the end of what a name holds.
     pub(crate) fn append(&mut self, name: &str, bytes: &[u8]) -> Result<(), AllocError>
-        ensures ok { OnOk result (held_on self.new ≡ map.insert (held_on self.old) name.now (held_at (held_on self.old) name.now ++ bytes.now)) }
+        ensures ok { OnOk result (held_on self.new ≡ map.insert (held_on self.old) name.now (held_at
+            (held_on self.old) name.now ++ bytes.now)) }
         ensures err { OnErr result (held_on self.new ≡ held_on self.old) }
     {
         match self.held.get_mut(name) {

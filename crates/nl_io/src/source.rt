@@ -86,8 +86,10 @@ pub fn read_to_limit<S: Source>(
     ensures end { OnOk result (IsAtEnd (S.left source.new)) }
     ensures taken { IfOk result (λ bytes. S.left source.new ≡ without_front (vec_len bytes) (S.left source.old)) }
     ensures failed { IsErrOf result ReadAllFault.Failed → Rose (S.faults source.old) (S.faults source.new) }
-    ensures failed_within { IsErrOf result ReadAllFault.Failed → TakesFront limit (S.left source.old) (S.left source.new) }
-    ensures too_large { IsErrOf result ReadAllFault.TooLarge → IfSome (S.left source.old) (λ left. limit < length left) }
+    ensures failed_within { IsErrOf result ReadAllFault.Failed
+        → TakesFront limit (S.left source.old) (S.left source.new) }
+    ensures too_large { IsErrOf result ReadAllFault.TooLarge
+        → IfSome (S.left source.old) (λ left. limit < length left) }
     ensures err { OnErr result (TakesFront (limit + PIECE) (S.left source.old) (S.left source.new)) }
     ensures counted { ¬ (IsErrOf result ReadAllFault.Failed) → S.faults source.new ≡ S.faults source.old }
     ensures count { S.faults source.old ≤ S.faults source.new }

@@ -25,7 +25,8 @@ pub struct StdFiles<R: rt::Files + Drop> {
 impl<R: rt::Files + Drop> StdFiles<R> {
     /// No file is open, and no call has failed yet.
     pub fn make(rt: R, alloc: Global) -> StdFiles<R>
-        ensures { ⟦<StdFiles<R> as Files>⟧.desk result ≡ record { held = None; left = map.empty; made = map.empty; read_faults = 0; write_faults = 0 } }
+        ensures { ⟦<StdFiles<R> as Files>⟧.desk result
+            ≡ record { held = None; left = map.empty; made = map.empty; read_faults = 0; write_faults = 0 } }
     {
         StdFiles {
             rt,

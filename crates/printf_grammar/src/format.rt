@@ -47,7 +47,8 @@ impl Model for Format {
 
     ghost view = { λ format. record { bytes = format.bytes; pieces = format.pieces.items } };
 
-    ghost invariant = { λ format. Spells format.bytes format.pieces.items × (format.types.items ≡ Types format.pieces.items) };
+    ghost invariant = { λ format. Spells format.bytes format.pieces.items
+        × (format.types.items ≡ Types format.pieces.items) };
 }
 
 impl Format {
@@ -101,7 +102,8 @@ fn is_narrow(piece: Piece) -> bool
 /// the order of `FormatCause`; more than 4,095 bytes come before all else.
 pub fn parse(alloc: Global, bytes: &[u8]) -> Result<Format, ParseFault>
     ensures found { IfOk result (λ format. (format.bytes ≡ bytes.now) × Spells bytes.now format.pieces) }
-    ensures bad { (cause : FormatCause) (place : ℕ) → result ≡ Err (ParseFault.Bad cause place) → FormatBreak bytes.now cause place }
+    ensures bad { (cause : FormatCause) (place : ℕ) → result ≡ Err (ParseFault.Bad cause place)
+        → FormatBreak bytes.now cause place }
 
     // Too many bytes are refused before any memory is wanted.
     ensures long { MAX_BYTES < length bytes.now → result ≡ Err (ParseFault.Bad FormatCause.Long MAX_BYTES) }

@@ -98,7 +98,8 @@ pub(crate) fn all_pieces(
 ) -> Result<(Vec<Piece>, Vec<ArgType>), ParseFault>
     requires short { length bytes.now ≤ 4095 }
     ensures found { IfOk result (λ found. Spells bytes.now found.0.items × (found.1.items ≡ Types found.0.items)) }
-    ensures bad { (cause : FormatCause) (place : ℕ) → result ≡ Err (ParseFault.Bad cause place) → BreaksAt bytes.now cause place }
+    ensures bad { (cause : FormatCause) (place : ℕ) → result ≡ Err (ParseFault.Bad cause place)
+        → BreaksAt bytes.now cause place }
 {
     let mut pieces = Vec::new(alloc);
     let mut types = Vec::new(alloc);

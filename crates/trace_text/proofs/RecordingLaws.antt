@@ -8,7 +8,8 @@ use Rattle.log_dictionary.specs.declared.message.Message.{Message}
 use Rattle.arg_records.specs.declared.call.Call.{Call}
 use Rattle.trace_text.specs.Recordings.{Recording, IsRecording}
 use Rattle.arg_records.specs.Calls.{IsCall, NeverFalls}
-use Rattle.arg_records.specs.Rows.{row_message, row_call, full_message, full_call}
+use Rattle.arg_records.specs.Rows.{row_call, full_message, full_call}
+use Rattle.log_dictionary.specs.Rows.{row_message}
 use Rattle.trace_text.specs.Rows.{two_messages}
 
 -- what holds of an element holds of each of its copies

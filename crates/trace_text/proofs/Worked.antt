@@ -12,7 +12,8 @@ use Rattle.arg_records.specs.Calls.{IsCall}
 use Rattle.trace_text.specs.Lines.{SpellsCall}
 use Rattle.trace_text.specs.Traces.{TraceText}
 use Rattle.trace_text.specs.Rows.{three_writers, three_writers_text, text_call, text_call_line}
-use Rattle.arg_records.specs.Rows.{row_message, row_call}
+use Rattle.arg_records.specs.Rows.{row_call}
+use Rattle.log_dictionary.specs.Rows.{row_message}
 
 low : (b : ℕ) → 35 ≤ b → b ≤ 91 → IsPlain b
 low b least most = inl (omega (arith, least), omega (arith, most), (λ e. omega (arith, least, e)), (λ e. omega (arith, most, e)))

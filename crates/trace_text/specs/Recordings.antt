@@ -4,6 +4,8 @@ use Rattle.std.specs.List.{AllByRecursion}
 use Rattle.log_dictionary.specs.declared.clock.Clock.{Clock}
 use Rattle.log_dictionary.specs.declared.message.Message.{Message}
 use Rattle.log_dictionary.specs.Calls.{LogCall}
+use Rattle.arg_records.specs.declared.call.TheConstants.{MAX_WRITERS}
+use Rattle.trace_text.specs.declared.trace.TheConstants.{MAX_CALLS}
 use Rattle.arg_records.specs.Calls.{IsCall, NeverFalls, calls_by_writer}
 use Rattle.arg_records.specs.declared.call.Call.{Call}
 
@@ -15,8 +17,8 @@ pub record Recording : Type 0 where
 -- a run that can be recorded: 1 to 64 writers, at most 4,194,304 calls, and each writer's stamps begin at the clock's tick and never fall
 pub record IsRecording (run : Recording) : Type 0 where
   pub some_writer : 1 ≤ length run.writers
-  pub few_writers : length run.writers ≤ 64
-  pub few_calls : sum_by length run.writers ≤ 4194304
+  pub few_writers : length run.writers ≤ MAX_WRITERS
+  pub few_calls : sum_by length run.writers ≤ MAX_CALLS
   pub rate : 1 ≤ run.clock.rate
   pub calls : AllByRecursion (AllByRecursion (IsCall run.dictionary)) run.writers
   pub stamps : AllByRecursion (NeverFalls run.clock.tick) run.writers

@@ -1,7 +1,8 @@
 -- Worked examples: runs of three writers, and calls with texts.
 use Rattle.std.specs.Prelude.{ℕ, List, [], ◌∷◌, ◌++◌, codes}
 use Rattle.printf_grammar.specs.declared.argument.Value.TheVariants.{Unsigned, Text}
-use Rattle.arg_records.specs.Rows.{row_message, row_call, full_message, mixed_calls}
+use Rattle.arg_records.specs.Rows.{row_call, full_message, mixed_calls}
+use Rattle.log_dictionary.specs.Rows.{row_message}
 use Rattle.trace_text.specs.Recordings.{Recording}
 use Rattle.trace_text.specs.Lines.{WriterCall}
 

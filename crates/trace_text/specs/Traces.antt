@@ -3,6 +3,8 @@ use Rattle.std.specs.Prelude.{◌≡◌, ℕ, ◌<◌, ◌≤◌, List, [], ◌�
 use Rattle.std.specs.List.{AllByRecursion, range_with_len}
 use Rattle.log_dictionary.specs.Messages.{AreDistinct}
 use Rattle.arg_records.specs.declared.call.Call.{Call}
+use Rattle.log_dictionary.specs.declared.dictionary.TheConstants.{MAX_MESSAGES}
+use Rattle.trace_text.specs.declared.trace.TheConstants.{MAX_TRACE}
 use Rattle.trace_text.specs.Recordings.{Recording, IsRecording}
 use Rattle.trace_text.specs.Lines.{WriterCall, first_line, last_line, clock_line, FitsLine, writers_line, SpellsMessages, SpellsCalls, text_of_lines}
 
@@ -13,14 +15,14 @@ calls_by calls writer = map (λ made. made.call) (filter (λ made. made.writer =
 -- The text is the first line, a line for each message, one for the clock, one for the number of writers, a line for each
 -- call, and the last line. The calls of the writers may be mixed in any way.
 pub record TraceText (bytes : List ℕ) (run : Recording) : Type 0 where
-  pub short : length bytes ≤ 67108864
+  pub short : length bytes ≤ MAX_TRACE
   pub message_lines : List (List ℕ)
   pub call_lines : List (List ℕ)
   pub calls : List WriterCall
   pub whole : bytes ≡ text_of_lines (first_line ∷ message_lines ++ (clock_line run.clock ∷ writers_line (length run.writers) ∷ call_lines ++ last_line ∷ []))
   pub messages_spelled : SpellsMessages 0 message_lines run.dictionary
   pub distinct : AreDistinct run.dictionary
-  pub few_messages : length run.dictionary ≤ 65536
+  pub few_messages : length run.dictionary ≤ MAX_MESSAGES
   pub clock_fits : FitsLine run.clock
   pub calls_spelled : SpellsCalls call_lines calls
   pub known_writers : AllByRecursion (λ made. made.writer < length run.writers) calls

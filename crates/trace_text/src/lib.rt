@@ -6,7 +6,7 @@ mod trace;
 mod writer_calls;
 
 pub use arg_records::{Call, Calls};
-pub use trace::Trace;
+pub use trace::{MAX_CALLS, MAX_TRACE, Trace};
 pub use writer_calls::WriterCalls;
 
 #[cfg(test)]

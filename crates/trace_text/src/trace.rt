@@ -6,6 +6,12 @@ use crate::writer_calls::WriterCalls;
 use log_dictionary::{Clock, Dictionary};
 use std::marker::Model;
 
+/// The most calls of a run.
+pub const MAX_CALLS: usize = 4_194_304;
+
+/// The most bytes of the text of a trace.
+pub const MAX_TRACE: usize = 67_108_864;
+
 /// A recorded run of a program that logs: its messages, its clock, and the calls of each writer.
 #[derive(Debug, Drop)]
 pub struct Trace {

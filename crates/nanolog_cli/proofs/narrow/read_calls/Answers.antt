@@ -20,8 +20,8 @@ loop-line-preserved c =
           (GoesOn-read _ _ _ _ _ _ calls c.in_ok-call.call (ap contents (drop_more c.args.lines.now c.loop-line.line-index (record { ref_ptr = (0, 0); now = [] }) c.loop-line-test.true)) (c.loop-line.invariant.others calls spelled) c.in_ok-call.ensures.found);
     }
 
-pub returns-then-len-eq-MOST_CALLS-clause-not_yet : goal.returns-then-len-eq-MOST_CALLS-clause-not_yet
-returns-then-len-eq-MOST_CALLS-clause-not_yet c = λ e calls spelled few.
+pub returns-then-len-eq-MAX_CALLS-clause-not_yet : goal.returns-then-len-eq-MAX_CALLS-clause-not_yet
+returns-then-len-eq-MAX_CALLS-clause-not_yet c = λ e calls spelled few.
     let long : length c.loop-line.calls + 1 ≤ length calls =
     GoesOn-long _ _ _ _ _ _ calls (ap contents (drop_more c.args.lines.now c.loop-line.line-index (record { ref_ptr = (0, 0); now = [] }) c.loop-line-test.true)) (c.loop-line.invariant.others calls spelled) in
     omega (arith, long, few, c.len.ensures)

@@ -22,11 +22,11 @@ loop-place-preserved c =
       few = rw (read.2, length-append) (omega (arith, c.loop-place.invariant.few, c.len.ensures.value));
     }
 
-pub returns-then-len-eq-MOST_MESSAGES-clause-not_yet : goal.returns-then-len-eq-MOST_MESSAGES-clause-not_yet
-returns-then-len-eq-MOST_MESSAGES-clause-not_yet c = λ e rest messages before.
+pub returns-then-len-eq-MAX_MESSAGES-clause-not_yet : goal.returns-then-len-eq-MAX_MESSAGES-clause-not_yet
+returns-then-len-eq-MAX_MESSAGES-clause-not_yet c = λ e rest messages before.
     let next = next_message _ rest messages c.loop-place.dictionary c.loop-place.place _ _ before (rw take-map c.loop-place.invariant.found)
     (drop-map (λ slice. slice.now) c.loop-place.place c.args.lines.now ∙ ap contents (drop_more c.args.lines.now c.loop-place.place (record { ref_ptr = (0, 0); now = [] }) c.loop-place-test.true)) c.if-not-starts_with.ensures.value in
-    omega (arith, c.len.ensures.value, c.if-len-eq-MOST_MESSAGES.true, before.few, ap length next.whole, length-append c.loop-place.dictionary (next.next ∷ next.others))
+    omega (arith, c.len.ensures.value, c.if-len-eq-MAX_MESSAGES.true, before.few, ap length next.whole, length-append c.loop-place.dictionary (next.next ∷ next.others))
 
 pub returns-in_err-read_message-clause-not_yet : goal.returns-in_err-read_message-clause-not_yet
 returns-in_err-read_message-clause-not_yet c = λ e rest messages before.

@@ -5,7 +5,7 @@ use Rattle.nanolog_cli.proofs.narrow.read_narrow.Goals as goal
 
 pub returns-in-Some : goal.returns-in-Some
 returns-in-Some c = record {
-  found = text_is _ _ _ _ _ c.if-text-gt-MOST_BYTES.false (λ has. false≢true (c.if-has_escape.ensures.1 has)) c.in_ok-lines.ensures c.deref.ensures.value c.in-Some.ensures c.read_body.ensures.found;
+  found = text_is _ _ _ _ _ c.if-text-gt-MAX_BYTES.false (λ has. false≢true (c.if-has_escape.ensures.1 has)) c.in_ok-lines.ensures c.deref.ensures.value c.in-Some.ensures c.read_body.ensures.found;
   not_yet = λ e run trace. c.read_body.ensures.not_yet e run (its_body _ _ _ _ run c.in_ok-lines.ensures c.deref.ensures.value c.in-Some.ensures trace);
 }
 

@@ -42,5 +42,5 @@ returns-clause-found c =
       header = c.in-Some.ensures.some;
       messages_first = c.in_ok-dictionary.ensures.found;
       records_first = subst (BeginsWithRecords c.in_ok-dictionary.dictionary c.in-Some.clock.tick c.in_ok-dictionary.rest.now c.in_ok-records.records) (close_end c.in_ok-records.rest.now c.if-ne.ensures) c.in_ok-records.ensures.found;
-      short = omega (arith, c.if-bytes-gt-MOST_LOG_BYTES.false);
+      short = omega (arith, c.if-bytes-gt-MAX_LOG_BYTES.false);
     })
