@@ -97,15 +97,15 @@ slice_get-front [] more id message e = cc
 slice_get-front (m ∷ messages) more zero message e = e
 slice_get-front (m ∷ messages) more (suc id) message e = slice_get-front messages more id message e
 
-IsRecord-front : (messages more : List Message) (entries : List Call) → AllByRecursion (IsCall messages) entries → AllByRecursion (IsCall (messages ++ more)) entries
-IsRecord-front messages more [] all = tt
-IsRecord-front messages more (entry ∷ entries) all =
+IsCall-front : (messages more : List Message) (entries : List Call) → AllByRecursion (IsCall messages) entries → AllByRecursion (IsCall (messages ++ more)) entries
+IsCall-front messages more [] all = tt
+IsCall-front messages more (entry ∷ entries) all =
     let is = all.0 in
-    (record { message = is.message; known = slice_get-front messages more entry.id is.message is.known; fits = is.fits; short = is.short }, IsRecord-front messages more entries all.1)
+    (record { message = is.message; known = slice_get-front messages more entry.id is.message is.known; fits = is.fits; short = is.short }, IsCall-front messages more entries all.1)
 
-IsRecord-append : (messages : List Message) (xs ys : List Call) → AllByRecursion (IsCall messages) xs → AllByRecursion (IsCall messages) ys → AllByRecursion (IsCall messages) (xs ++ ys)
-IsRecord-append messages [] ys p q = q
-IsRecord-append messages (x ∷ xs) ys p q = (p.0, IsRecord-append messages xs ys p.1 q)
+IsCall-append : (messages : List Message) (xs ys : List Call) → AllByRecursion (IsCall messages) xs → AllByRecursion (IsCall messages) ys → AllByRecursion (IsCall messages) (xs ++ ys)
+IsCall-append messages [] ys p q = q
+IsCall-append messages (x ∷ xs) ys p q = (p.0, IsCall-append messages xs ys p.1 q)
 
 right_block : (header : Header) (writer : ℕ) (before : List Block) (block : Block) → IsRightAfter header before block → AllByRecursion (IsCall (messages_of before)) (block_records writer block)
 right_block header writer before (Fragment first messages) right = tt
@@ -119,8 +119,8 @@ right_block header writer before (Close w) right = tt
 right_after : (header : Header) (writer : ℕ) (before blocks : List Block) → AreRightAfter header before blocks → AllByRecursion (IsCall (messages_of before)) (records_of writer before) → AllByRecursion (IsCall (messages_of (before ++ blocks))) (records_of writer (before ++ blocks))
 right_after header writer before [] all old = subst (λ (b : List Block). AllByRecursion (IsCall (messages_of b)) (records_of writer b)) (sym (append-nil before)) old
 right_after header writer before (block ∷ blocks) all old =
-    let own = IsRecord-append (messages_of before) (records_of writer before) (block_records writer block) old (right_block header writer before block all.0) in
-    let more = IsRecord-front (messages_of before) (block_messages block) (records_of writer before ++ block_records writer block) own in
+    let own = IsCall-append (messages_of before) (records_of writer before) (block_records writer block) old (right_block header writer before block all.0) in
+    let more = IsCall-front (messages_of before) (block_messages block) (records_of writer before ++ block_records writer block) own in
     let named = subst (λ (m : List Message). AllByRecursion (IsCall m) (records_of writer before ++ block_records writer block)) (sym (messages-push before block)) more in
     let here = subst (AllByRecursion (IsCall (messages_of (before ++ block ∷ [])))) (sym (records-push writer before block)) named in
     subst (λ (b : List Block). AllByRecursion (IsCall (messages_of b)) (records_of writer b)) (append_assoc before (block ∷ []) blocks) (right_after header writer (before ++ block ∷ []) blocks all.1 here)

@@ -31,7 +31,13 @@ pub fn line(
     requires rate { 1 ≤ clock.now.rate }
     requires fitting { Fits (values_of args.now) (Types message.now.format.pieces) }
     ensures ok { OnOk result ((ordinal : ℕ) → out.new.items ≡ out.old.items
-        ++ Line clock.now (record { writer = writer; ordinal = ordinal; stamp = stamp; message = message.now; args = values_of args.now })) }
+        ++ Line clock.now (record {
+          writer = writer;
+          ordinal = ordinal;
+          stamp = stamp;
+          message = message.now;
+          args = values_of args.now;
+        })) }
     ensures err { OnErr result (out.new.items ≡ out.old.items) }
 {
     let before = out.len();
@@ -55,7 +61,13 @@ fn append_line(
     requires rate { 1 ≤ clock.now.rate }
     requires fitting { Fits (values_of args.now) (Types message.now.format.pieces) }
     ensures ok { OnOk result ((ordinal : ℕ) → out.new.items ≡ out.old.items
-        ++ Line clock.now (record { writer = writer; ordinal = ordinal; stamp = stamp; message = message.now; args = values_of args.now })) }
+        ++ Line clock.now (record {
+          writer = writer;
+          ordinal = ordinal;
+          stamp = stamp;
+          message = message.now;
+          args = values_of args.now;
+        })) }
     ensures err { OnErr result (take (vec_len out.old) out.new.items ≡ out.old.items) }
 {
     append_seconds(clock.time(stamp), out)?;

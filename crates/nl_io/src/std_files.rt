@@ -41,7 +41,13 @@ impl<R: rt::Files + Drop> StdFiles<R> {
 impl<R: rt::Files + Drop> Files for StdFiles<R> {
     ghost use Rattle.nl_io.specs.Untold.{ids_in};
 
-    ghost desk = { λ s. record { held = None; left = ids_in s.reading; made = ids_in s.made; read_faults = s.read_faults; write_faults = s.write_faults } };
+    ghost desk = { λ s. record {
+      held = None;
+      left = ids_in s.reading;
+      made = ids_in s.made;
+      read_faults = s.read_faults;
+      write_faults = s.write_faults;
+    } };
 
     ghost rest = { λ _ _. Unit {0} };
 
