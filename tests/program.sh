@@ -82,7 +82,7 @@ expect 0 "$line" '' decompress l
 expect 0 "$line" '' direct <(cat t)
 expect 0 "$line" '' decompress <(cat l)
 
-# As many calls as are taken.
+# As many calls as replay takes.
 {
     sed '/^call/,$d' t
     for ((at = 0; at < 128; at++)); do
@@ -115,10 +115,14 @@ fi
 
 : >empty
 sed 's/%d/%5d/' t >wide
-expect 2 '' $'nanolog: empty:0: refused: 99 NotYet\n' direct empty
-expect 2 '' $'nanolog: wide:0: refused: 99 NotYet\n' direct wide
+sed 's/1003/999/' t >early
+expect 2 '' $'nanolog: empty:1: refused: 14 NoEnd\n' direct empty
+expect 2 '' $'nanolog: early:5: refused: 7 BeforeClock\n' direct early
+expect 2 '' $'nanolog: early:5: refused: 7 BeforeClock\n' replay early m
+expect 0 $'1514764800.000000001 srv.cc:12 NOTICE[0]: x=    7\n' '' direct wide
+expect 2 '' $'nanolog: wide:0: refused: 99 NotYet\n' replay wide m
 expect 2 '' $'nanolog: t:0: refused: 99 NotYet\n' decompress t
-expect 2 '' $'nanolog: l:0: refused: 99 NotYet\n' replay l m
+expect 2 '' $'nanolog: l:1: refused: 14 NoEnd\n' replay l m
 
 # So many zeros are no log. Where memory is too small for them, that can't be known.
 truncate -s 100M zeros

@@ -25,11 +25,6 @@ short_words (values.Text bytes) short = omega arith
 pub FrameLen-bound : (args : List Value) → AreArguments args → FrameLen args ≤ 32066
 FrameLen-bound args are = omega (arith, are.few, sum_by-le argument_words 501 args (All-weaker IsShort (λ value. argument_words value ≤ 501) short_words args are.short))
 
--- the argument at a place is short
-pub short_at : (args : List Arg) (place : ℕ) (other : Arg) → place < length args → AreArguments (values_of args) → IsShort (value_of (get_or args place other))
-short_at args place other within are =
-    subst IsShort (get_or-map value_of args place other (value_of other) within) (are.short place (value_of other) (omega (arith, length-map args value_of)))
-
 -- the lengths of the arguments from a place on
 pub words_from : (args : List Arg) (place : ℕ) (other : Arg) → place < length args
     → sum_by argument_words (values_of (drop place args)) ≡ argument_words (value_of (get_or args place other)) + sum_by argument_words (values_of (drop (place + 1) args))

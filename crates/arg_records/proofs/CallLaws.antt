@@ -1,18 +1,13 @@
 -- Which calls fit their messages, and which stamps fall.
 use Rattle.std.proofs.Common.{◌≡◌, ℕ, zero, suc, ◌<◌, ◌≤◌, ◌≢◌, lit≤, List, [], ◌∷◌, ◌++◌, replicate, refl, subst, arith}
 use Rattle.std.specs.Prelude.{Some, slice_get}
-use Rattle.std.specs.List.{AllByRecursion}
 use Rattle.std.proofs.lemmas.List.{length-replicate}
 use Rattle.printf_grammar.specs.Types.{Types, Fits, IsText}
+use Rattle.printf_grammar.proofs.Worked.{all_copies}
 use Rattle.log_dictionary.specs.declared.message.Message.{Message}
 use Rattle.arg_records.specs.declared.call.Call.{Call}
 use Rattle.arg_records.specs.Calls.{IsCall, NeverFalls}
 use Rattle.arg_records.specs.Rows.{texts_message, texts_call}
-
--- what holds of an element holds of each of its copies
-all_copies : {X : Type 0} (P : X → Type 0) (x : X) (n : ℕ) → P x → AllByRecursion P (replicate n x)
-all_copies P x zero h = tt
-all_copies P x (suc n) h = (h, all_copies P x n h)
 
 pub falls : (least : ℕ) (before : List Call) (call next : Call) (others : List Call) → next.stamp < call.stamp → ¬ (NeverFalls least (before ++ call ∷ next ∷ others))
 falls least [] call next others fall h = omega (arith, fall, h.1.0)

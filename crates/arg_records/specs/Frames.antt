@@ -4,6 +4,7 @@ use Rattle.std.specs.List.{flat_map}
 use Rattle.std.specs.Int.{w64, cast_unsigned}
 use Rattle.log_dictionary.specs.declared.dictionary.TheConstants.{MAX_MESSAGES}
 use Rattle.arg_records.specs.declared.frame.TheConstants.{MAX_FRAME_WORDS}
+use Rattle.printf_grammar.specs.declared.limits.TheConstants.{MAX_ARGUMENTS, MAX_TEXT}
 use Rattle.printf_grammar.specs.declared.argument.Value.{Value}
 use Rattle.printf_grammar.specs.declared.argument.Value.TheVariants as values
 
@@ -24,11 +25,15 @@ words_of_argument (values.Signed z) = cast_unsigned w64 z ∷ []
 words_of_argument (values.Unsigned n) = n ∷ []
 words_of_argument (values.Text bytes) = length bytes ∷ words_of_bytes bytes
 
--- how many words that is
+-- how many words a text of so many bytes takes, its length among them
+abbrev pub words_of_text : ℕ → ℕ
+words_of_text n = 1 + (n + 7) / 8
+
+-- how many words an argument takes
 abbrev pub argument_words : Value → ℕ
 argument_words (values.Signed z) = 1
 argument_words (values.Unsigned n) = 1
-argument_words (values.Text bytes) = 1 + (length bytes + 7) / 8
+argument_words (values.Text bytes) = words_of_text (length bytes)
 
 -- how many words the frame of a call with these arguments has
 abbrev pub FrameLen : List Value → ℕ
@@ -40,14 +45,14 @@ Frame id stamp args = (id * 65536 + FrameLen args) ∷ stamp ∷ flat_map words_
 
 -- ---- which calls have a frame
 
--- no text above 4,000 bytes
+-- no text above the limit
 abbrev pub IsShort : Value → Type 0
-IsShort (values.Text bytes) = length bytes ≤ 4000
+IsShort (values.Text bytes) = length bytes ≤ MAX_TEXT
 IsShort _ = ⊤
 
 -- the arguments that a call may have
 pub record AreArguments (args : List Value) : Type 0 where
-  pub few : length args ≤ 64
+  pub few : length args ≤ MAX_ARGUMENTS
   pub short : All IsShort args
 
 -- a call that is staged has these ranges

@@ -1,6 +1,6 @@
 //! Calls and lists of calls.
 
-ghost use Rattle.std.specs.Prelude.{◌≡◌, ◌≤◌, ◌↔◌, [], ◌∷◌, ◌++◌, length, slice_get, IsNone, IsTrue, OnOk, OnErr};
+ghost use Rattle.std.specs.Prelude.{◌≡◌, ◌-◌, ◌<◌, ◌≤◌, ◌↔◌, [], ◌∷◌, ◌++◌, length, slice_get, IsNone, IsTrue, OnOk, OnErr};
 ghost use Rattle.std.specs.Option.{option_copied};
 ghost use Rattle.std.specs.Slice.Iter.{iter_rest};
 
@@ -75,6 +75,21 @@ impl Calls {
         ensures none { IsNone result ↔ (length self.now ≤ place) }
     {
         self.items.get(place)
+    }
+
+    /// The call at a place that the list has, from 0.
+    pub fn call(&self, place: usize) -> &Call
+        requires { place < length self.now }
+        ensures { slice_get self.now place ≡ Some result.now }
+    {
+        &self.items[place]
+    }
+
+    /// The last call.
+    pub fn last(&self) -> Option<&Call>
+        ensures { option_copied result ≡ slice_get self.now (length self.now - 1) }
+    {
+        self.items.last()
     }
 
     /// The calls, one after the other.

@@ -14,7 +14,7 @@ use printf_grammar::Arg;
 /// The most words of a frame.
 pub const MAX_FRAME_WORDS: usize = 512;
 
-/// The call's frame would have more than 512 words.
+/// The call's frame would have more than [`MAX_FRAME_WORDS`] words.
 #[derive(Clone, Copy, Debug, PartialEq, Eq)]
 pub struct TooLong;
 

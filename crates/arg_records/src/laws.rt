@@ -1,6 +1,8 @@
-//! Laws over the definitions of frames and of calls. The functions do nothing: what they ensure is proved of the definitions.
+//! Laws over the definitions of frames and of calls. The functions do nothing: what they ensure is proved of the
+//! definitions.
 
-ghost use Rattle.std.specs.Prelude.{◌≡◌, ◌+◌, ◌/◌, ◌%◌, ◌<◌, ◌≤◌, ℕ, List, [], ◌∷◌, ◌++◌, length, map, pos, negsuc, All, slice_index, slice_get, Some};
+ghost use Rattle.std.specs.Prelude.{◌≡◌, ◌+◌, ◌/◌, ◌%◌, ◌<◌, ◌≤◌, ℕ, List, [], ◌∷◌, ◌++◌, length, map, All};
+ghost use Rattle.std.specs.Prelude.{pos, negsuc, slice_index, slice_get, Some};
 ghost use Rattle.printf_grammar.specs.declared.arg_type.ArgType.{ArgType};
 ghost use Rattle.printf_grammar.specs.declared.argument.Value.{Value};
 ghost use Rattle.printf_grammar.specs.declared.argument.Value.TheVariants.{Signed, Unsigned, Text};
@@ -12,6 +14,8 @@ ghost use Rattle.arg_records.specs.Rows.{row_call, full_message, mixed_calls, mi
 ghost use Rattle.log_dictionary.specs.Rows.{row_message};
 ghost use Rattle.arg_records.specs.Frames.{FrameLen, Frame};
 ghost use Rattle.arg_records.specs.Kinds.{arg_kind, IsArgument, HoldsBytes};
+
+use crate::call::{Call, Calls};
 
 /// The frames of two calls with one integer, and of one with two texts.
 pub fn three_frames()
@@ -83,6 +87,14 @@ pub fn stamps_fall_or_never_do()
         → next.stamp < call.stamp
         → ¬ (NeverFalls least (before ++ call ∷ next ∷ others)) }
 {}
+
+/// Calls go from thread to thread, and threads share them.
+pub fn threads() {
+    crosses_threads::<Call>();
+    crosses_threads::<Calls>();
+}
+
+fn crosses_threads<T: Send + Sync>() {}
 
 /// A call names one of the messages and fits it, and its frame has at most 512 words. The frame of
 /// two texts of 4,000 and 64 bytes has as many.

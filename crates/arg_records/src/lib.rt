@@ -8,6 +8,7 @@ mod words;
 
 pub use call::{Call, Calls, MAX_WRITERS};
 pub use frame::{MAX_FRAME_WORDS, TooLong, frame_id, frame_len, frame_stamp, frame_words};
+pub use words::text_words;
 
 #[cfg(test)]
 mod tests;

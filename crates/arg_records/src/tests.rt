@@ -109,6 +109,7 @@ fn check_call(rt: &impl Abort, call: &Call, number: u32) {
 #[test]
 fn a_thousand_calls(rt: HostRuntime) -> Result<(), Fail> {
     let mut calls = Calls::make(rt.alloc());
+    assert!(rt; calls.last().is_none());
     for number in 0..1_000 {
         calls.push(numbered_call(rt.alloc(), number)?)?;
     }
@@ -118,6 +119,7 @@ fn a_thousand_calls(rt: HostRuntime) -> Result<(), Fail> {
         check_call(&rt, call, number);
     }
     assert!(rt; calls.get(1_000).is_none());
+    assert_eq!(rt; calls.last().map(|call| call.stamp), Some(999));
     for (number, call) in calls.iter().enumerate() {
         assert_eq!(rt; call.stamp, number as u64);
     }

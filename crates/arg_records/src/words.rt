@@ -3,20 +3,26 @@
 ghost use Rattle.std.specs.Prelude.{◌≡◌, ◌+◌, ◌/◌, ◌<◌, ◌≤◌, length};
 ghost use Rattle.printf_grammar.specs.declared.argument.Value.TheVariants.{Text as TextValue};
 ghost use Rattle.printf_grammar.specs.Types.{value_of};
-ghost use Rattle.arg_records.specs.Frames.{IsShort, number_of_bytes, words_of_bytes, words_of_argument, argument_words};
+ghost use Rattle.arg_records.specs.Frames.{number_of_bytes, words_of_bytes, words_of_text, words_of_argument, argument_words};
 ghost use Rattle.arg_records.specs.Places.{with_words};
 
 use crate::frame::MAX_FRAME_WORDS;
 use printf_grammar::Arg;
 
+/// How many words a text of so many bytes takes in a frame, the word of its length among them.
+pub fn text_words(len: usize) -> u64
+    ensures { result ≡ words_of_text len }
+{
+    1 + (len as u64).div_ceil(8)
+}
+
 /// How many words an argument takes.
 pub(crate) fn word_count(arg: Arg) -> u64
-    requires { IsShort (value_of arg) }
     ensures { result ≡ argument_words (value_of arg.entry) }
 {
     match arg {
         Arg::Signed(_) | Arg::Unsigned(_) => 1,
-        Arg::Text(text) => 1 + (text.len() as u64).div_ceil(8),
+        Arg::Text(text) => text_words(text.len()),
     }
 }
 

@@ -2,6 +2,7 @@
 use Rattle.std.proofs.Common.{◌≡◌, ◌*◌, ◌≤◌, List, [], ◌∷◌, ◌++◌, length, sym, subst, arith}
 use Rattle.std.proofs.lemmas.List.Sums.{sum_by-cons}
 use Rattle.std.specs.Prelude.{sum_by}
+use Rattle.printf_grammar.specs.declared.limits.TheConstants.{MAX_ARGUMENTS}
 use Rattle.printf_grammar.specs.declared.arg_type.ArgType.TheVariants.{Int}
 use Rattle.printf_grammar.specs.declared.piece.Piece.{Piece}
 use Rattle.printf_grammar.specs.declared.piece.Piece.TheVariants.{Literal, Percent, Field}
@@ -29,7 +30,7 @@ narrow_integers (Field spec ∷ pieces) narrow =
     subst (λ (s : Spec). sum_by integer_room (field_types s ++ Types pieces) ≡ 4 * length (field_types s ++ Types pieces)) (sym narrow.0) (omega (arith, first, more))
 
 -- a record of a narrow format has at most 299 bytes
-pub narrow_record_room : (pieces : List Piece) → IsNarrow pieces → length (Types pieces) ≤ 64 → record_room (Types pieces) ≤ 299
+pub narrow_record_room : (pieces : List Piece) → IsNarrow pieces → length (Types pieces) ≤ MAX_ARGUMENTS → record_room (Types pieces) ≤ 299
 narrow_record_room pieces narrow few = omega (arith, narrow_integers pieces narrow)
 
 -- a message with a narrow format is one more that takes integers

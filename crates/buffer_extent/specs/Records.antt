@@ -2,9 +2,9 @@
 use Rattle.std.specs.Prelude.{◌≡◌, ℕ, ℤ, pos, ◌+◌, ◌-◌, ◌*◌, ◌<◌, ◌≤◌, ◌^◌, List, [], ◌∷◌, ◌++◌, length, map, ⊤}
 use Rattle.std.specs.List.{flat_map}
 use Rattle.printf_grammar.specs.declared.arg_type.ArgType.{ArgType}
-use Rattle.printf_grammar.specs.declared.arg_type.ArgType.TheVariants as types
 use Rattle.printf_grammar.specs.declared.argument.Value.{Value}
 use Rattle.printf_grammar.specs.declared.argument.Value.TheVariants as values
+use Rattle.arg_records.specs.Kinds.{ArgKind, type_kind, signed as signed_kind, unsigned as unsigned_kind, text as text_kind}
 use Rattle.nibble_pack.specs.Packing.{Kind, unsigned, signed, Packed}
 
 -- a packed number: its code of four bits, and its bytes
@@ -12,15 +12,15 @@ pub record PackedNumber : Type 0 where
   pub code : ℕ
   pub bytes : List ℕ
 
+-- of which kind the number is that stands for an argument of this kind: a text's length is unsigned
+abbrev pub number_kind : ArgKind → Kind
+number_kind signed_kind = signed
+number_kind unsigned_kind = unsigned
+number_kind text_kind = unsigned
+
 -- of which kind the number is that stands for an argument of the type
 abbrev pub kind_of : ArgType → Kind
-kind_of types.Int = signed
-kind_of types.UInt = unsigned
-kind_of types.Long = signed
-kind_of types.ULong = unsigned
-kind_of types.Width = signed
-kind_of types.Precision = signed
-kind_of types.Text = unsigned
+kind_of type = number_kind (type_kind type)
 
 -- the number that stands for an argument: an integer for itself, a length for a text
 abbrev pub number_of : Value → ℤ

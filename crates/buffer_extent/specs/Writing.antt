@@ -4,6 +4,7 @@ use Rattle.printf_grammar.specs.declared.arg_type.ArgType.{ArgType}
 use Rattle.printf_grammar.specs.declared.arg_type.ArgType.TheVariants as types
 use Rattle.printf_grammar.specs.declared.argument.Value.{Value}
 use Rattle.printf_grammar.specs.Types.{FitsType, Fits}
+use Rattle.log_dictionary.specs.declared.dictionary.TheConstants.{MAX_MESSAGES}
 use Rattle.arg_records.specs.Frames.{words_of_argument, Frame}
 use Rattle.nibble_pack.specs.declared.pack.Packed.{Packed as PackedBytes}
 use Rattle.nibble_pack.specs.Packing.{unsigned, Packed}
@@ -14,7 +15,7 @@ pub record IsFrameSince (types : List ArgType) (before : ℕ) (frame : List ℕ)
   pub id : ℕ
   pub stamp : ℕ
   pub args : List Value
-  pub id_in_range : id < 65536
+  pub id_in_range : id < MAX_MESSAGES
   pub not_before : before ≤ stamp
   pub fits : Fits args types
   pub is : frame ≡ Frame id stamp args

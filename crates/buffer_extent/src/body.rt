@@ -2,6 +2,7 @@
 
 ghost use Rattle.std.specs.Prelude.{◌≡◌, ◌≢◌, ℕ, ◌<◌, ◌≤◌, List, [], slice_get, IfOk, IsSome, MatchResult, Ok, Err};
 ghost use Rattle.std.specs.Option.{option_copied};
+ghost use Rattle.log_dictionary.specs.declared.dictionary.TheConstants.{MAX_MESSAGES};
 ghost use Rattle.arg_records.specs.declared.call.Call.{Call};
 ghost use Rattle.buffer_extent.specs.Integers.{TakeIntegers};
 ghost use Rattle.buffer_extent.specs.Parts.{BeginsWithRecord, StartsRecord};
@@ -16,7 +17,7 @@ use std::alloc::Global;
 /// The message with the id, if the dictionary has one.
 fn message_of(dictionary: &Dictionary, id: u64) -> Option<&Message>
     ensures value { option_copied result ≡ slice_get dictionary.now id }
-    ensures small { IsSome result → id < 65536 }
+    ensures small { IsSome result → id < MAX_MESSAGES }
 {
     if id >= u64::from(dictionary.len()) {
         return None;

@@ -1,6 +1,8 @@
-//! Laws over the definitions of records and bodies. The functions do nothing: what they ensure is proved of the definitions.
+//! Laws over the definitions of records and bodies. The functions do nothing: what they ensure is proved of the
+//! definitions.
 
 ghost use Rattle.std.specs.Prelude.{◌≡◌, ◌≤◌, ℕ, length, List, [], ◌∷◌, ◌++◌, pos, negsuc};
+ghost use Rattle.printf_grammar.specs.declared.limits.TheConstants.{MAX_ARGUMENTS};
 ghost use Rattle.printf_grammar.specs.declared.arg_type.ArgType.TheVariants.{Int, Text as TextType};
 ghost use Rattle.printf_grammar.specs.declared.argument.Value.TheVariants.{Signed, Text};
 ghost use Rattle.printf_grammar.specs.declared.piece.Piece.{Piece};
@@ -59,5 +61,6 @@ pub fn a_body_starts_with_a_record()
 
 /// A record of a narrow format has at most 299 bytes.
 pub fn narrow_records_are_short()
-    ensures { (pieces : List Piece) → IsNarrow pieces → length (Types pieces) ≤ 64 → record_room (Types pieces) ≤ 299 }
+    ensures { (pieces : List Piece) → IsNarrow pieces → length (Types pieces) ≤ MAX_ARGUMENTS
+        → record_room (Types pieces) ≤ 299 }
 {}

@@ -2,8 +2,10 @@
 
 ghost use Rattle.std.specs.Prelude.{◌≡◌, ℕ, ◌+◌, ◌/◌, ◌<◌, ◌≤◌, List, ◌++◌, length, take, drop};
 ghost use Rattle.std.specs.List.{AllByRecursion};
+ghost use Rattle.printf_grammar.specs.declared.limits.TheConstants.{MAX_ARGUMENTS};
 ghost use Rattle.printf_grammar.specs.declared.argument.Value.{Value};
 ghost use Rattle.printf_grammar.specs.Types.{Fits};
+ghost use Rattle.log_dictionary.specs.declared.dictionary.TheConstants.{MAX_MESSAGES};
 ghost use Rattle.arg_records.specs.Frames.{Frame};
 ghost use Rattle.arg_records.specs.Places.{with_words};
 ghost use Rattle.buffer_extent.specs.Records.{code_bytes, RecordBytes};
@@ -14,10 +16,7 @@ ghost use Rattle.buffer_extent.specs.Writing.{IsFrameSince, packed_numbers, IsWh
 
 use arg_records::{frame_id, frame_stamp};
 use nibble_pack::{Packed, pack_signed, pack_unsigned};
-use printf_grammar::ArgType;
-
-/// The most types that a message takes.
-const MAX_TYPES: usize = 64;
+use printf_grammar::{ArgType, MAX_ARGUMENTS};
 
 /// What stands where no number is yet.
 const NOTHING: Packed = Packed {
@@ -38,13 +37,13 @@ fn pack_word(kind: ArgType, word: u64) -> Packed
 }
 
 /// The numbers of the words, in order. Those behind them are nothing.
-fn pack_words(types: &[ArgType], words: &[u64]) -> [Packed; MAX_TYPES]
+fn pack_words(types: &[ArgType], words: &[u64]) -> [Packed; MAX_ARGUMENTS]
     requires integers { AreIntegers types.now }
-    requires few { length types.now ≤ 64 }
+    requires few { length types.now ≤ MAX_ARGUMENTS }
     requires many { length words.now ≡ length types.now }
     ensures { PackWords types.now words.now (take (length types.now) result) }
 {
-    let mut numbers = [NOTHING; MAX_TYPES];
+    let mut numbers = [NOTHING; MAX_ARGUMENTS];
     for (place, kind) in types.iter().enumerate() {
         numbers[place] = pack_word(*kind, words[place]);
     }
@@ -65,7 +64,7 @@ fn put_number(number: &Packed, body: &mut [u8], at: usize) -> usize
 
 /// Writes the codes of the id and of the step, and the two.
 fn put_head(id: u32, step: u64, body: &mut [u8], at: usize) -> usize
-    requires id { id < 65536 }
+    requires id { id < MAX_MESSAGES }
     requires room { at + 11 ≤ length body.old }
     ensures written { (bytes : List ℕ) × HeadBytes id step bytes × (body.new ≡ with_words body.old at bytes)
         × (result ≡ at + length bytes) }
@@ -126,7 +125,7 @@ pub fn put_record(
 ) -> usize
     requires frame { IsFrameSince types.now before frame.now }
     requires integers { AreIntegers types.now }
-    requires few { length types.now ≤ 64 }
+    requires few { length types.now ≤ MAX_ARGUMENTS }
     requires room { at + 8192 ≤ length body.old }
 
     // All bytes but the record's stay.

@@ -1,6 +1,7 @@
 //! The parts of a record at the front of bytes. Each call gives the bytes behind what it read.
 
 ghost use Rattle.std.specs.Prelude.{◌≡◌, ℕ, ◌*◌, ◌<◌, ◌≤◌, ℤ, pos, List, ◌++◌, length, get_or, IfOk, IfSome, IfNone, MatchResult, Err};
+ghost use Rattle.printf_grammar.specs.declared.limits.TheConstants.{MAX_ARGUMENTS};
 ghost use Rattle.printf_grammar.specs.declared.argument.Value.{Value};
 ghost use Rattle.nibble_pack.specs.Packing.{unsigned, signed};
 ghost use Rattle.buffer_extent.specs.Records.{kind_of, code_bytes};
@@ -134,7 +135,7 @@ fn take_integers<'a>(
     bytes: &'a [u8],
 ) -> Result<(Values, &'a [u8]), BodyFault>
     requires integers { AreIntegers types.now }
-    requires few { length types.now ≤ 64 }
+    requires few { length types.now ≤ MAX_ARGUMENTS }
     requires codes { length types.now ≤ 2 * length codes.now }
     ensures ok { IfOk result (λ pair. BeginsWithNumbers types.now (codes_in codes.now) bytes.now pair.0 pair.1.now) }
     ensures only { (args : List Value) (back : List ℕ)
@@ -167,7 +168,7 @@ pub(crate) fn take_arguments<'a>(
     bytes: &'a [u8],
 ) -> Result<(Values, &'a [u8]), BodyFault>
     requires integers { AreIntegers types.now }
-    requires few { length types.now ≤ 64 }
+    requires few { length types.now ≤ MAX_ARGUMENTS }
     ensures ok { IfOk result (λ pair. BeginsWithArguments types.now bytes.now pair.0 pair.1.now) }
     ensures only { (args : List Value) (back : List ℕ) → BeginsWithArguments types.now bytes.now args back
         → MatchResult result

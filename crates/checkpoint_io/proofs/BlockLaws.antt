@@ -1,15 +1,14 @@
 -- Behind the same blocks no right block's spelling is a proper prefix of another's.
-use Rattle.std.proofs.Common.{◌≡◌, ℕ, ◌<◌, ◌^◌, List, [], ◌∷◌, ◌++◌, length, get_or, drop, take, refl, sym, ap, subst, ◌∙◌, append_assoc, arith}
-use Rattle.std.proofs.lemmas.List.{take_at, drop_at}
+use Rattle.std.proofs.Common.{◌≡◌, ℕ, ◌<◌, ◌^◌, List, [], ◌∷◌, ◌++◌, length, get_or, refl, sym, ap, subst, ◌∙◌, append_assoc, arith}
 use Rattle.std.specs.Hash.{le_bytes}
 use Rattle.nibble_pack.specs.Bytes.{length-bytes_low_first}
 use Rattle.nibble_pack.specs.PackingLaws.{same_number}
-use Rattle.printf_grammar.specs.Pieces.{Parsed}
 use Rattle.printf_grammar.specs.Spelling.{Spells}
 use Rattle.log_dictionary.specs.declared.message.Message.{Message}
 use Rattle.log_dictionary.specs.BinaryEntries.{RawEntry, raw_bytes, raw_of, SpellsEntry}
-use Rattle.log_dictionary.proofs.UnescapedLines.{same_message}
-use Rattle.log_dictionary.proofs.BinaryLaws.{same_raw, entry_in_range}
+use Rattle.log_dictionary.proofs.SameMessages.{same_message}
+pub use Rattle.log_dictionary.proofs.BinaryLaws.{same_fronts}
+use Rattle.log_dictionary.proofs.BinaryLaws.{first_is, others_are, same_formats, same_raw, entry_in_range}
 use Rattle.arg_records.specs.declared.call.Call.{Call}
 use Rattle.buffer_extent.specs.Bodies.{SpellsRecords, IsBody}
 use Rattle.arg_records.specs.Calls.{NeverFalls}
@@ -19,20 +18,7 @@ use Rattle.checkpoint_io.specs.Blocks.{Block, Fragment, Extent, Close, messages_
 use Rattle.printf_grammar.proofs.Unique.{spells_once}
 use Rattle.checkpoint_io.specs.Validity.{records_of, last_stamp, GoesOn, IsRightAfter}
 
--- ---- fronts
-
--- fronts of one length are one front
-pub same_fronts : (a b r q : List ℕ) → length a ≡ length b → a ++ r ≡ b ++ q → (a ≡ b) × (r ≡ q)
-same_fronts a b r q long e = (
-  sym (take_at a r (length b) long) ∙ ap (take (length b)) e ∙ take_at b q (length b) refl,
-  sym (drop_at a r (length b) long) ∙ ap (drop (length b)) e ∙ drop_at b q (length b) refl,
-)
-
-pub first_is : (x y : ℕ) (xs ys : List ℕ) → x ∷ xs ≡ y ∷ ys → x ≡ y
-first_is x y xs ys e = ap (λ (l : List ℕ). get_or l 0 0) e
-
-pub others_are : (x y : ℕ) (xs ys : List ℕ) → x ∷ xs ≡ y ∷ ys → xs ≡ ys
-others_are x y xs ys e = ap (λ (l : List ℕ). drop 1 l) e
+-- ---- numbers
 
 pub le_length : (k n : ℕ) → length (le_bytes k n) ≡ k
 unfolding le_bytes
@@ -70,9 +56,6 @@ tag_is messages tick (Extent writer entries) front back s = ap (λ (f : List ℕ
 tag_is messages tick (Close writer) front back s = ap (λ (f : List ℕ). get_or (f ++ back) 0 0) s.joined
 
 -- ---- blocks
-
-same_formats : (a b : Parsed) → a.bytes ≡ b.bytes → a.pieces ≡ b.pieces → a ≡ b
-same_formats a b bytes pieces = λ i. record { bytes = bytes i; pieces = pieces i }
 
 -- bytes begin with one entry, of one message
 pub one_entry : (a b : Message) (front other rest more : List ℕ) → SpellsEntry front a → SpellsEntry other b → front ++ rest ≡ other ++ more → (a ≡ b) × (front ≡ other)

@@ -8,7 +8,8 @@ use Rattle.checkpoint_io.specs.declared.header.Header.{Header}
 use Rattle.checkpoint_io.specs.Blocks.{Block, Fragment, Extent, Close, messages_of, header_bytes, SpellsBlock, SpellsBlocks, FileOf}
 use Rattle.checkpoint_io.specs.Validity.{IsRightAfter, AreRightAfter, IsHeader, Valid}
 use Rattle.checkpoint_io.specs.Fronts.{BeginsWith, Front, HasNoHeader}
-use Rattle.checkpoint_io.proofs.BlockLaws.{le_length, same_fronts, same_numbers, first_is, others_are, one_block}
+use Rattle.log_dictionary.proofs.BinaryLaws.{same_fronts, first_is, others_are}
+use Rattle.checkpoint_io.proofs.BlockLaws.{le_length, same_numbers, one_block}
 
 -- ---- headers
 

@@ -1,10 +1,10 @@
 -- The worked log is proved from its parts.
-use Rattle.std.proofs.Common.{ℕ, zero, suc, ◌<◌, ◌≤◌, ◌^◌, lit<, lit≤, [], ◌∷◌, ◌++◌, refl, inl, arith}
-use Rattle.std.specs.Prelude.{codes}
+use Rattle.std.proofs.Common.{ℕ, ◌≤◌, lit<, lit≤, [], ◌∷◌, ◌++◌, refl, inl, arith}
 use Rattle.std.specs.Hash.{le_bytes}
-use Rattle.printf_grammar.specs.Spelling.{Spells}
-use Rattle.nibble_pack.specs.Packing.{IsLeastCount, small}
+use Rattle.nibble_pack.specs.Packing.{small}
+use Rattle.nibble_pack.specs.PackingLaws.{IsLeastCount-zero, IsLeastCount-suc}
 use Rattle.log_dictionary.specs.BinaryEntries.{SpellsEntry}
+use Rattle.log_dictionary.proofs.BinaryWorked.{formed}
 use Rattle.buffer_extent.specs.Bodies.{SpellsRecord}
 use Rattle.arg_records.specs.Calls.{IsCall}
 use Rattle.checkpoint_io.specs.Blocks.{Fragment, Close, SpellsFragment, SpellsExtent, FileOf}
@@ -15,35 +15,6 @@ use Rattle.arg_records.specs.Rows.{full_message}
 use Rattle.log_dictionary.specs.Rows.{row_message}
 
 -- ---- the message
-
-formed : Spells (codes "x=%d") row_message.format.pieces
-formed = record {
-  short = lit≤ tt;
-  few = lit≤ tt;
-  apart = (tt, tt);
-  spelled = (
-    codes "x=",
-    codes "%d",
-    refl,
-    record { start_is = refl; end_is = refl; nonempty = lit< tt; literal = ((λ h. cc, λ h. cc), ((λ h. cc, λ h. cc), tt)) },
-    (
-      codes "%d",
-      [],
-      refl,
-      record {
-        flags = [];
-        width = [];
-        precision = [];
-        whole = refl;
-        flags_spelled = record { flags = tt; minus = refl; plus = refl; space = refl; sharp = refl; zero = refl };
-        width_spelled = refl;
-        precision_spelled = refl;
-        takes_length = tt;
-      },
-      refl,
-    ),
-  );
-}
 
 entry_spelled : SpellsEntry row_entry_bytes row_message
 unfolding le_bytes
@@ -62,16 +33,6 @@ fragment_spelled = record {
 
 -- ---- the record
 
-no_byte : IsLeastCount 0 0
-no_byte = record { holds = lit< tt; least = λ fewer h. omega arith }
-
-one_at_least : (n fewer : ℕ) → 1 ≤ n → n < 256 ^ fewer → 1 ≤ fewer
-one_at_least n zero some h = absurd (omega (arith, some, h))
-one_at_least n (suc fewer) some h = omega arith
-
-one_byte : (n : ℕ) → 1 ≤ n → n < 256 → IsLeastCount 1 n
-one_byte n some h = record { holds = omega (arith, h); least = λ fewer below. one_at_least n fewer some below }
-
 record_spelled : SpellsRecord (row_message ∷ []) 1000 row_record row_body
 record_spelled = record {
   message = row_message;
@@ -80,11 +41,11 @@ record_spelled = record {
     id_number = record { code = 0; bytes = [] };
     step_number = record { code = 1; bytes = 3 ∷ [] };
     numbers = record { code = 1; bytes = 7 ∷ [] } ∷ [];
-    id_packed = (0, refl, record { fits = lit< tt; count = no_byte; spelled = refl });
+    id_packed = (0, refl, record { fits = lit< tt; count = IsLeastCount-zero; spelled = refl });
     not_before = lit≤ tt;
     stamp_fits = lit< tt;
-    step_packed = (3, refl, record { fits = lit< tt; count = one_byte 3 (lit≤ tt) (lit< tt); spelled = refl });
-    packed = (small 7 refl (lit< tt) (one_byte 7 (lit≤ tt) (lit< tt)) refl, tt);
+    step_packed = (3, refl, record { fits = lit< tt; count = IsLeastCount-suc 0 3 (lit≤ tt) (lit< tt); spelled = refl });
+    packed = (small 7 refl (lit< tt) (IsLeastCount-suc 0 7 (lit≤ tt) (lit< tt)) refl, tt);
     joined = refl;
   };
 }

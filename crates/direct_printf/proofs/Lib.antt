@@ -1,4 +1,4 @@
-pub mod Narrowing
+pub mod Wrapping
 pub mod Padded
 pub mod Plain
 pub mod Spelling

@@ -14,7 +14,7 @@ use Rattle.printf_grammar.specs.declared.piece.Length.{Length}
 use Rattle.printf_grammar.specs.declared.piece.Length.TheVariants.{Plain, HH, H, L, LL, J, Z, T}
 use Rattle.printf_grammar.specs.declared.argument.Value.TheVariants as values
 use Rattle.printf_grammar.specs.Narrow.{plain_d}
-use Rattle.direct_printf.specs.Fields.{Digits, Field, narrow_signed, sign_of, signed_number, padded}
+use Rattle.direct_printf.specs.Fields.{Digits, Field, wrap_signed, sign_of, signed_number, padded}
 
 -- at precision 1 nothing stands in front of the least spelling
 Digits-one : (n : ℕ) → n < 2 ^ 64 → Digits n 10 false 1 ≡ decimal n
@@ -23,22 +23,22 @@ Digits-one n h =
     let short : 1 - length (decimal n) ≡ 0 = omega (arith, decimal_nonempty n h) in
     rw (and-false, short)
 
--- a narrowed number is still one of 64 bits
-narrow_signed-fits : (length : Length) (z : ℤ) → FitsSigned w64 z → FitsSigned w64 (narrow_signed length z)
-narrow_signed-fits Plain z fits = fits
-narrow_signed-fits HH z fits = let narrow : FitsSigned w8 (int_wrap w8 z) = SFits-int_wrap w8 z in record { sfits = omega (arith, narrow.sfits) }
-narrow_signed-fits H z fits = let narrow : FitsSigned w16 (int_wrap w16 z) = SFits-int_wrap w16 z in record { sfits = omega (arith, narrow.sfits) }
-narrow_signed-fits L z fits = fits
-narrow_signed-fits LL z fits = fits
-narrow_signed-fits J z fits = fits
-narrow_signed-fits Z z fits = fits
-narrow_signed-fits T z fits = fits
+-- a wrapped number is still one of 64 bits
+wrap_signed-fits : (length : Length) (z : ℤ) → FitsSigned w64 z → FitsSigned w64 (wrap_signed length z)
+wrap_signed-fits Plain z fits = fits
+wrap_signed-fits HH z fits = let wrapped : FitsSigned w8 (int_wrap w8 z) = SFits-int_wrap w8 z in record { sfits = omega (arith, wrapped.sfits) }
+wrap_signed-fits H z fits = let wrapped : FitsSigned w16 (int_wrap w16 z) = SFits-int_wrap w16 z in record { sfits = omega (arith, wrapped.sfits) }
+wrap_signed-fits L z fits = fits
+wrap_signed-fits LL z fits = fits
+wrap_signed-fits J z fits = fits
+wrap_signed-fits Z z fits = fits
+wrap_signed-fits T z fits = fits
 
 -- a number that is not negative has no sign without flags
 sign_of-pos : (length : Length) (n : ℕ) → sign_of (record plain_d { length = length }) (pos n) ≡ []
 sign_of-pos length n = grind (arith, nat_tests)
 
--- the narrowed number's decimal spelling
+-- the wrapped number's decimal spelling
 plain_number : (length : Length) (z : ℤ) → FitsSigned w64 z → padded false false 0 (signed_number (record plain_d { length = length }) None z) ≡ signed_decimal z
 plain_number length (pos n) h =
     let small : n < 2 ^ 64 = omega (arith, h.sfits) in
@@ -47,9 +47,9 @@ plain_number length (negsuc n) h =
     let small : suc n < 2 ^ 64 = omega (arith, h.sfits) in
     rw (zero-sub, Digits-one (suc n) small)
 
-Field-plain_d : (length : Length) (z : ℤ) → FitsSigned w64 z → Field (record plain_d { length = length }) (values.Signed z ∷ []) ≡ signed_decimal (narrow_signed length z)
+Field-plain_d : (length : Length) (z : ℤ) → FitsSigned w64 z → Field (record plain_d { length = length }) (values.Signed z ∷ []) ≡ signed_decimal (wrap_signed length z)
 unfolding Field
-Field-plain_d length z fits = plain_number length (narrow_signed length z) (narrow_signed-fits length z fits)
+Field-plain_d length z fits = plain_number length (wrap_signed length z) (wrap_signed-fits length z fits)
 
 -- bytes without a sign read as their digits
 value_without_sign : (minus : Bool) (bytes : List ℕ) (n : ℕ) → minus ≡ false → without_leading_plus bytes ≡ bytes → digits_value 10 bytes ≡ n → cond minus (neg_ℤ (pos (digits_value 10 (cond minus (drop 1 bytes) (without_leading_plus bytes))))) (pos (digits_value 10 (cond minus (drop 1 bytes) (without_leading_plus bytes)))) ≡ pos n
@@ -70,9 +70,9 @@ signed_digits_value-decimal (negsuc n) h =
     let numeral = decimal_is_IsNumeral (suc n) small in
     ap (λ k. neg_ℤ (pos k)) numeral.1
 
-pub plain_d_reads_back : (length : Length) (z : ℤ) → FitsSigned w64 z → signed_digits_value 10 (Field (record plain_d { length = length }) (values.Signed z ∷ [])) ≡ narrow_signed length z
+pub plain_d_reads_back : (length : Length) (z : ℤ) → FitsSigned w64 z → signed_digits_value 10 (Field (record plain_d { length = length }) (values.Signed z ∷ [])) ≡ wrap_signed length z
 plain_d_reads_back length z fits =
-    ap (signed_digits_value 10) (Field-plain_d length z fits) ∙ signed_digits_value-decimal (narrow_signed length z) (narrow_signed-fits length z fits)
+    ap (signed_digits_value 10) (Field-plain_d length z fits) ∙ signed_digits_value-decimal (wrap_signed length z) (wrap_signed-fits length z fits)
 
 -- nine digits: as many of nine zeros as are wanting, and the least spelling
 pub Digits-nine : (n : ℕ) (text : List ℕ) → text ≡ decimal n → take (9 - length text) (drop (length text) (replicate 9 48)) ++ text ≡ Digits n 10 false 9

@@ -41,26 +41,26 @@ text_of (value.Unsigned n) = []
 text_of (value.Text bytes) = bytes
 
 -- the value converted to signed char for `hh` and to short for `h`, in two's complement (paragraph 7)
-abbrev pub narrow_signed : Length → ℤ → ℤ
-narrow_signed Plain z = z
-narrow_signed HH z = int_wrap w8 z
-narrow_signed H z = int_wrap w16 z
-narrow_signed L z = z
-narrow_signed LL z = z
-narrow_signed J z = z
-narrow_signed Z z = z
-narrow_signed T z = z
+abbrev pub wrap_signed : Length → ℤ → ℤ
+wrap_signed Plain z = z
+wrap_signed HH z = int_wrap w8 z
+wrap_signed H z = int_wrap w16 z
+wrap_signed L z = z
+wrap_signed LL z = z
+wrap_signed J z = z
+wrap_signed Z z = z
+wrap_signed T z = z
 
 -- the value converted to unsigned char for `hh` and to unsigned short for `h` (paragraph 7)
-abbrev pub narrow_unsigned : Length → ℕ → ℕ
-narrow_unsigned Plain n = n
-narrow_unsigned HH n = n % 2 ^ 8
-narrow_unsigned H n = n % 2 ^ 16
-narrow_unsigned L n = n
-narrow_unsigned LL n = n
-narrow_unsigned J n = n
-narrow_unsigned Z n = n
-narrow_unsigned T n = n
+abbrev pub wrap_unsigned : Length → ℕ → ℕ
+wrap_unsigned Plain n = n
+wrap_unsigned HH n = n % 2 ^ 8
+wrap_unsigned H n = n % 2 ^ 16
+wrap_unsigned L n = n
+wrap_unsigned LL n = n
+wrap_unsigned J n = n
+wrap_unsigned Z n = n
+wrap_unsigned T n = n
 
 -- how many arguments a width or a precision takes: a `*` takes one (paragraph 5)
 abbrev pub stars : Size → ℕ
@@ -137,12 +137,12 @@ cut (Some most) text = take most text
 
 -- each conversion's text before padding (paragraph 8); c gives the byte of its argument modulo 256
 abbrev pub converted : Conversion → Spec → Option ℕ → Value → Converted
-converted D spec precision argument = signed_number spec precision (narrow_signed spec.length (signed_of argument))
-converted I spec precision argument = signed_number spec precision (narrow_signed spec.length (signed_of argument))
-converted U spec precision argument = unsigned_number precision (narrow_unsigned spec.length (unsigned_of argument))
-converted O spec precision argument = octal_number spec.sharp precision (narrow_unsigned spec.length (unsigned_of argument))
-converted X spec precision argument = hexadecimal_number spec.sharp false precision (narrow_unsigned spec.length (unsigned_of argument))
-converted UpperX spec precision argument = hexadecimal_number spec.sharp true precision (narrow_unsigned spec.length (unsigned_of argument))
+converted D spec precision argument = signed_number spec precision (wrap_signed spec.length (signed_of argument))
+converted I spec precision argument = signed_number spec precision (wrap_signed spec.length (signed_of argument))
+converted U spec precision argument = unsigned_number precision (wrap_unsigned spec.length (unsigned_of argument))
+converted O spec precision argument = octal_number spec.sharp precision (wrap_unsigned spec.length (unsigned_of argument))
+converted X spec precision argument = hexadecimal_number spec.sharp false precision (wrap_unsigned spec.length (unsigned_of argument))
+converted UpperX spec precision argument = hexadecimal_number spec.sharp true precision (wrap_unsigned spec.length (unsigned_of argument))
 converted C spec precision argument = record { front = []; body = unsigned_abs (int_rem_euclid (signed_of argument) (pos 256)) ∷ [] }
 converted S spec precision argument = record { front = []; body = cut precision (text_of argument) }
 converted P spec precision argument = pointer (unsigned_of argument)

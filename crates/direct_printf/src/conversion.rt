@@ -2,7 +2,7 @@
 
 ghost use Rattle.std.specs.Prelude.{◌≡◌, ◌++◌, [], OnOk, OnErr, take, vec_len, replicate};
 ghost use Rattle.printf_grammar.specs.Types.{value_of};
-ghost use Rattle.direct_printf.specs.Fields.{padded, converted, signed_of, unsigned_of, text_of, narrow_signed, narrow_unsigned, sign_of, signed_number, unsigned_number, octal_front, octal_number, hexadecimal_front, hexadecimal_number, pointer, cut};
+ghost use Rattle.direct_printf.specs.Fields.{padded, converted, signed_of, unsigned_of, text_of, wrap_signed, wrap_unsigned, sign_of, signed_number, unsigned_number, octal_front, octal_number, hexadecimal_front, hexadecimal_number, pointer, cut};
 
 use crate::digits::{MAX_DIGITS, number, write_digits};
 use crate::padding::{Padding, Parts, append_padded};
@@ -25,23 +25,23 @@ pub fn append_converted(
 {
     match spec.conversion {
         Conversion::D | Conversion::I => {
-            let value = narrowed_signed(spec.length, signed(arg));
+            let value = wrapped_signed(spec.length, signed(arg));
             append_signed(spec, padding, precision, value, out)
         }
         Conversion::U => {
-            let value = narrowed_unsigned(spec.length, unsigned(arg));
+            let value = wrapped_unsigned(spec.length, unsigned(arg));
             append_unsigned(padding, precision, value, out)
         }
         Conversion::O => {
-            let value = narrowed_unsigned(spec.length, unsigned(arg));
+            let value = wrapped_unsigned(spec.length, unsigned(arg));
             append_octal(spec.sharp, padding, precision, value, out)
         }
         Conversion::X => {
-            let value = narrowed_unsigned(spec.length, unsigned(arg));
+            let value = wrapped_unsigned(spec.length, unsigned(arg));
             append_hexadecimal(spec.sharp, false, padding, precision, value, out)
         }
         Conversion::UpperX => {
-            let value = narrowed_unsigned(spec.length, unsigned(arg));
+            let value = wrapped_unsigned(spec.length, unsigned(arg));
             append_hexadecimal(spec.sharp, true, padding, precision, value, out)
         }
         Conversion::C => append_bytes(padding, &[signed(arg).rem_euclid(1 << 8) as u8], out),
@@ -79,8 +79,8 @@ fn text<'a>(arg: &Arg<'a>) -> &'a [u8]
 }
 
 // To 8 bits with `hh` and to 16 with `h`, in two's complement.
-fn narrowed_signed(length: Length, value: i64) -> i64
-    ensures { result ≡ narrow_signed length value }
+fn wrapped_signed(length: Length, value: i64) -> i64
+    ensures { result ≡ wrap_signed length value }
 {
     match length {
         Length::HH => (value.rem_euclid(1 << 8) as u8).cast_signed() as i64,
@@ -89,8 +89,8 @@ fn narrowed_signed(length: Length, value: i64) -> i64
     }
 }
 
-fn narrowed_unsigned(length: Length, value: u64) -> u64
-    ensures { result ≡ narrow_unsigned length value }
+fn wrapped_unsigned(length: Length, value: u64) -> u64
+    ensures { result ≡ wrap_unsigned length value }
 {
     match length {
         Length::HH => value % (1 << 8),

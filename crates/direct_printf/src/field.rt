@@ -1,6 +1,7 @@
 //! A field with its own arguments.
 
 ghost use Rattle.std.specs.Prelude.{◌≡◌, ◌≤◌, ◌<◌, ◌^◌, ◌++◌, ◌≤ℤ◌, ◌&&◌, ◌||◌, pos, unsigned_abs, is_none, OnOk, OnErr, take, vec_len};
+ghost use Rattle.printf_grammar.specs.declared.limits.TheConstants.{MAX_SIZE};
 ghost use Rattle.printf_grammar.specs.declared.piece.Size.TheVariants.{Star};
 ghost use Rattle.printf_grammar.specs.Types.{Fits, field_types, values_of};
 ghost use Rattle.direct_printf.specs.Fields.{Field, argument_count, stars, width_of, is_left_star, precision_of, is_integer};
@@ -78,7 +79,7 @@ fn turns_left(size: Size, argument: i64) -> bool
 
 // A negative precision argument counts as an omitted precision.
 fn field_precision(size: Size, argument: i64) -> Option<u16>
-    requires { size ≡ Star → argument ≤ℤ pos 4095 }
+    requires { size ≡ Star → argument ≤ℤ pos MAX_SIZE }
     ensures { result ≡ precision_of size argument }
 {
     match size {

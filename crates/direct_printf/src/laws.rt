@@ -1,7 +1,8 @@
 //! Laws of what printf writes, and what it is for some formats and arguments, worked by hand.
 #![tactic(auto)]
 
-ghost use Rattle.std.specs.Prelude.{◌≡◌, ◌≤◌, ◌<◌, ◌^◌, ℕ, Bool, ℤ, pos, negsuc, true, List, [], ◌∷◌, ◌++◌, length, codes, FitsSigned, IsTrue, IsPermutation};
+ghost use Rattle.std.specs.Prelude.{◌≡◌, ◌≤◌, ◌<◌, ◌^◌, ℕ, Bool, ℤ, pos, negsuc, true, List, [], ◌∷◌, ◌++◌, length};
+ghost use Rattle.std.specs.Prelude.{codes, FitsSigned, IsTrue, IsPermutation};
 ghost use Rattle.std.specs.Int.{w64};
 ghost use Rattle.std.specs.Str.Parse.{digits_value, signed_digits_value};
 ghost use Rattle.printf_grammar.specs.declared.piece.Spec.{Spec};
@@ -17,7 +18,7 @@ ghost use Rattle.printf_grammar.specs.declared.piece.Conversion.TheVariants.{O, 
 ghost use Rattle.printf_grammar.specs.declared.argument.Value.TheVariants as values;
 ghost use Rattle.printf_grammar.specs.Narrow.{plain_d};
 ghost use Rattle.log_dictionary.specs.Calls.{LogCall};
-ghost use Rattle.direct_printf.specs.Fields.{Digits, Field, Text, argument_at, signed_of, width_of, narrow_signed};
+ghost use Rattle.direct_printf.specs.Fields.{Digits, Field, Text, argument_at, signed_of, width_of, wrap_signed};
 ghost use Rattle.direct_printf.specs.Joined.{joined};
 ghost use Rattle.direct_printf.specs.Lines.{comes_before, in_order, Direct};
 ghost use Rattle.direct_printf.specs.InOrder.{IsInOrder};
@@ -34,13 +35,15 @@ pub fn fields_are_as_wide_as_asked()
 pub fn digits_spell_the_number()
     ensures value { (number base precision : ℕ) (upper : Bool) → 2 ≤ base → base ≤ 16 → number < 2 ^ 64 →
         digits_value base (Digits number base upper precision) ≡ number }
-    ensures many { (number base precision : ℕ) (upper : Bool) → precision ≤ length (Digits number base upper precision) }
+    ensures many { (number base precision : ℕ) (upper : Bool)
+        → precision ≤ length (Digits number base upper precision) }
 {}
 
-/// `%d` with nothing but a length reads back as the number, narrowed by the length.
+/// `%d` with nothing but a length reads back as the number, wrapped to the size that the length says.
 pub fn numbers_read_back()
     ensures { (length : Length) (number : ℤ) → FitsSigned w64 number →
-        signed_digits_value 10 (Field (record plain_d { length = length }) (values.Signed number ∷ [])) ≡ narrow_signed length number }
+        signed_digits_value 10 (Field (record plain_d { length = length }) (values.Signed number ∷ []))
+        ≡ wrap_signed length number }
 {}
 
 /// Two formats, one behind the other, write what the first writes, and then what the second writes.
@@ -76,13 +79,15 @@ pub fn pads_to_the_width()
 /// `%.0d`, `%#.0o`, `%#x`, `%+.0d`, `% .0d` and `%#4x` of 0.
 pub fn zero_has_few_digits()
     ensures no_digits { Field (record plain_d { precision = Given 0 }) (values.Signed (pos 0) ∷ []) ≡ [] }
-    ensures one_octal { Field (record plain_d { conversion = O; sharp = true; precision = Given 0 }) (values.Unsigned 0 ∷ [])
-        ≡ codes "0" }
+    ensures one_octal { Field (record plain_d { conversion = O; sharp = true; precision = Given 0 })
+        (values.Unsigned 0 ∷ []) ≡ codes "0" }
     ensures no_prefix { Field (record plain_d { conversion = X; sharp = true }) (values.Unsigned 0 ∷ []) ≡ codes "0" }
-    ensures sign_alone { Field (record plain_d { plus = true; precision = Given 0 }) (values.Signed (pos 0) ∷ []) ≡ codes "+" }
-    ensures space_alone { Field (record plain_d { space = true; precision = Given 0 }) (values.Signed (pos 0) ∷ []) ≡ codes " " }
-    ensures padded_without_prefix { Field (record plain_d { conversion = X; sharp = true; width = Given 4 }) (values.Unsigned 0 ∷ [])
-        ≡ codes "   0" }
+    ensures sign_alone { Field (record plain_d { plus = true; precision = Given 0 }) (values.Signed (pos 0) ∷ [])
+        ≡ codes "+" }
+    ensures space_alone { Field (record plain_d { space = true; precision = Given 0 }) (values.Signed (pos 0) ∷ [])
+        ≡ codes " " }
+    ensures padded_without_prefix { Field (record plain_d { conversion = X; sharp = true; width = Given 4 })
+        (values.Unsigned 0 ∷ []) ≡ codes "   0" }
 {}
 
 /// `%*d|%.*s` of -6, 7, -1 and `abc`.
@@ -99,7 +104,7 @@ pub fn stars_take_arguments()
 {}
 
 /// `%hhd %hhu %+08.3d` of 300, 4294967295 and 5, and `%hhd` of 200.
-pub fn narrows_by_length()
+pub fn wraps_by_length()
     ensures row { Text (record {
       bytes = codes "%hhd %hhu %+08.3d";
       pieces =
@@ -158,8 +163,8 @@ pub fn other_bases()
     })
         (values.Unsigned 8 ∷ values.Unsigned 255 ∷ values.Signed (negsuc 9223372036854775807) ∷ [])
         ≡ codes "010 0XFF -9223372036854775808" }
-    ensures precision_gives_the_zero { Field (record plain_d { sharp = true; precision = Given 3; conversion = O }) (values.Unsigned 8 ∷ [])
-        ≡ codes "010" }
+    ensures precision_gives_the_zero { Field (record plain_d { sharp = true; precision = Given 3; conversion = O })
+        (values.Unsigned 8 ∷ []) ≡ codes "010" }
 {}
 
 /// Of two calls the one with the smaller stamp comes first, whatever the writers are. At equal

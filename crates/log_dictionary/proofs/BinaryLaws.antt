@@ -1,5 +1,5 @@
 -- Bytes begin with one entry, end inside one, or begin with none.
-use Rattle.std.proofs.Common.{◌≡◌, ℕ, ◌+◌, ◌<◌, ◌≤◌, ◌^◌, List, ◌∷◌, ◌++◌, length, get_or, take, drop, cond, eqb, refl, sym, ap, subst, ◌∙◌, inl, inr, arith, append_assoc}
+use Rattle.std.proofs.Common.{◌≡◌, ℕ, ◌+◌, ◌<◌, ◌≤◌, ◌^◌, List, ◌∷◌, ◌++◌, length, get_or, take, drop, refl, sym, ap, subst, ◌∙◌, inl, inr, arith, append_assoc}
 use Rattle.std.specs.Int.{w16, w32, from_le_bytes}
 use Rattle.std.specs.Hash.{le_bytes}
 use Rattle.std.proofs.lemmas.Nat.{from_le_bytes-to_le_bytes_2, from_le_bytes-to_le_bytes_4}
@@ -8,7 +8,6 @@ use Rattle.printf_grammar.specs.Pieces.{Parsed}
 use Rattle.printf_grammar.specs.Spelling.{Spells}
 use Rattle.printf_grammar.proofs.Unique.{spells_once}
 use Rattle.log_dictionary.specs.declared.severity.Severity.{Severity}
-use Rattle.log_dictionary.specs.declared.severity.Severity.TheVariants.{Error, Warning, Notice, Debug}
 use Rattle.log_dictionary.specs.declared.message.Message.{Message}
 use Rattle.log_dictionary.specs.Severities.{severity_number}
 use Rattle.log_dictionary.specs.Messages.{SameMessage}
@@ -17,7 +16,7 @@ use Rattle.log_dictionary.specs.BinaryEntries.IsCutText.{in_length, in_text}
 use Rattle.log_dictionary.specs.BinaryEntries.IsCutEntry.{in_severity, in_line, in_file, in_format}
 use Rattle.log_dictionary.specs.BinaryEntries.IsOutOfRange.{at_severity, at_file, at_format}
 use Rattle.log_dictionary.specs.BinaryEntries.IsBadEntry.{out_of_range, refused}
-use Rattle.log_dictionary.proofs.UnescapedLines.{same_message}
+use Rattle.log_dictionary.proofs.SameMessages.{same_message, same_severities}
 use Rattle.log_dictionary.proofs.BinaryNumbers.{two_bytes, four_bytes, two_long, four_long}
 
 -- ---- numbers
@@ -39,23 +38,10 @@ same_lines m n r q m_fits n_fits e =
     let same = same_fronts (le_bytes 4 m) (le_bytes 4 n) r q (four_long m ∙ sym (four_long n)) e in
     (sym (from_le_bytes-to_le_bytes_4 m m_fits) ∙ ap (from_le_bytes w32) (sym (four_bytes m) ∙ same.0 ∙ four_bytes n) ∙ from_le_bytes-to_le_bytes_4 n n_fits, same.1)
 
--- the severity with this number
-abbrev severity_from : ℕ → Severity
-severity_from n = cond (eqb n 1) Error (cond (eqb n 2) Warning (cond (eqb n 3) Notice Debug))
-
-severity_from-number : (severity : Severity) → severity_from (severity_number severity) ≡ severity
-severity_from-number Error = refl
-severity_from-number Warning = refl
-severity_from-number Notice = refl
-severity_from-number Debug = refl
-
-same_severities : (a b : Severity) → severity_number a ≡ severity_number b → a ≡ b
-same_severities a b e = sym (severity_from-number a) ∙ ap severity_from e ∙ severity_from-number b
-
-first_is : (x y : ℕ) (xs ys : List ℕ) → x ∷ xs ≡ y ∷ ys → x ≡ y
+pub first_is : (x y : ℕ) (xs ys : List ℕ) → x ∷ xs ≡ y ∷ ys → x ≡ y
 first_is x y xs ys e = ap (λ (l : List ℕ). get_or l 0 0) e
 
-others_are : (x y : ℕ) (xs ys : List ℕ) → x ∷ xs ≡ y ∷ ys → xs ≡ ys
+pub others_are : (x y : ℕ) (xs ys : List ℕ) → x ∷ xs ≡ y ∷ ys → xs ≡ ys
 others_are x y xs ys e = ap (λ (l : List ℕ). drop 1 l) e
 
 -- ---- parts of an entry
@@ -133,7 +119,7 @@ one_spelling front other rest other_rest a b first second e =
       },
     )
 
-same_formats : (a b : Parsed) → a.bytes ≡ b.bytes → a.pieces ≡ b.pieces → a ≡ b
+pub same_formats : (a b : Parsed) → a.bytes ≡ b.bytes → a.pieces ≡ b.pieces → a ≡ b
 same_formats a b bytes pieces = rw (bytes, pieces) refl
 
 -- a format that is read has one list of pieces, so it is one message

@@ -7,11 +7,11 @@ use Rattle.log_dictionary.specs.declared.binary_entry.EntryFault.{EntryFault}
 use Rattle.log_dictionary.specs.declared.binary_entry.EntryFault.TheVariants.{Cut, BadEntry, NoMemory}
 use Rattle.printf_grammar.specs.declared.piece.Piece.{Piece}
 use Rattle.printf_grammar.specs.Spelling.{Spells}
+use Rattle.log_dictionary.specs.declared.severity.Severity.{Severity}
 use Rattle.log_dictionary.specs.declared.message.Message.{Message}
 use Rattle.log_dictionary.specs.BinaryEntries.{RawEntry, raw_bytes, raw_of, entry_bytes, SpellsEntry, IsCutEntry, IsOutOfRange, IsBadEntry}
 use Rattle.log_dictionary.specs.BinaryEntries.IsBadEntry.{out_of_range, refused}
 use Rattle.log_dictionary.specs.EntryReading.{Stops, IsRead}
-use Rattle.log_dictionary.proofs.UnescapedLines.{IsMade}
 use Rattle.log_dictionary.proofs.BinaryLaws.{entry_in_range, same_as_message, one_entry, cut_not_whole, cut_in_range, cut_not_bad, whole_in_range, bad_not_whole}
 
 widened : (fault : EntryFault) (cut wrong cut_whole wrong_whole : Type 0) → (cut → cut_whole) → (wrong → wrong_whole) → Stops fault cut wrong → Stops fault cut_whole wrong_whole
@@ -81,6 +81,15 @@ read_bad bytes raw read none =
 
 same_raws : (a b : RawEntry) → a.severity ≡ b.severity → a.line ≡ b.line → a.file ≡ b.file → a.format ≡ b.format → a ≡ b
 same_raws a b severity line file format = rw (severity, line, file, format) refl
+
+-- the message has these parts, and the format that was parsed
+pub record IsMade (severity : Severity) (number : ℕ) (file format : List ℕ) (message : Message) : Type 0 where
+  pub severity_is : message.severity ≡ severity
+  pub line_is : message.line ≡ number
+  pub file_is : message.file ≡ file
+  pub bytes_are : message.format.bytes ≡ format
+  pub formed : Spells format message.format.pieces
+  pub only : (pieces : List Piece) → Spells format pieces → message.format ≡ record { bytes = format; pieces = pieces }
 
 -- the bytes begin with the entry of the message that was made of these fields
 pub made_entry : (bytes : List ℕ) (raw : RawEntry) (made : Message) → IsRead bytes raw → IsMade raw.severity raw.line raw.file raw.format made → SpellsEntry (raw_bytes raw) made

@@ -13,7 +13,8 @@ use Rattle.log_dictionary.specs.BinaryEntries.IsCutEntry.{in_file, in_format}
 use Rattle.log_dictionary.specs.BinaryEntries.IsOutOfRange.{at_severity, at_file, at_format}
 use Rattle.log_dictionary.specs.Rows.{row_message, row_head, row_entry}
 
-formed : Spells (codes "x=%d") row_message.format.pieces
+-- the worked message's format is spelled by its pieces
+pub formed : Spells (codes "x=%d") row_message.format.pieces
 formed = record {
   short = lit≤ tt;
   few = lit≤ tt;

@@ -1,7 +1,12 @@
 pub mod Decimals
+pub mod NumberLemmas
+pub mod NumberLaws
+pub mod TextLemmas
+pub mod TextLaws
+pub mod FieldLemmas
 pub mod Splits
 pub mod Lines
-pub mod UnescapedLines
+pub mod SameMessages
 pub mod Distinct
 pub mod BinaryNumbers
 pub mod BinaryLaws
@@ -9,3 +14,8 @@ pub mod BinaryReading
 pub mod BinaryCases
 pub mod BinaryWorked
 pub mod Putting
+pub mod LineParts
+pub mod LineMessages
+pub mod LineLaws
+pub mod Appending
+pub mod Written

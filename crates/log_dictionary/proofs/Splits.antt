@@ -1,16 +1,16 @@
 -- Where bytes are parted, and what stands behind a front.
 use Rattle.std.proofs.Common.{◌≡◌, ◌≢◌, ℕ, ◌+◌, ◌<◌, Bool, true, false, cond, eqb, ltb, List, [], ◌∷◌, ◌++◌, length, get_or, take, drop, Option, Some, None, All, refl, sym, ap, subst, ◌∙◌, arith, eq-eqb}
-use Rattle.std.specs.List.{position, position_or_len}
+use Rattle.std.specs.List.{position}
 use Rattle.std.specs.Option.{option_map}
-use Rattle.std.proofs.lemmas.Bool.{ltb-false, lt-ltb, eqb-true, eqb-false, ne_eqb, cond-true}
+use Rattle.std.proofs.lemmas.Bool.{lt-ltb, eqb-true, eqb-false, ne_eqb, cond-true}
 use Rattle.std.proofs.lemmas.List.{take_at, drop_at, drop-drop, take-append-drop, length-append, drop_more, get_or_at, get_or_append_left, length-take, get_or-take}
 use Rattle.std.proofs.lemmas.List.Elements.{All-from_get_or}
-use Rattle.std.proofs.lemmas.List.Sums.{position_or_len_is, fails_before_first}
+use Rattle.std.proofs.lemmas.List.Sums.{position_or_len_is}
 use Rattle.std.proofs.lemmas.List.Quantifiers.{position-Some}
 use Rattle.std.proofs.lemmas.Option.{some_pair_parts}
-use Rattle.std.specs.Option.{option_copied, MatchOption, IfSome, IfNone}
+use Rattle.std.specs.Option.{option_copied, MatchOption}
 use denote.Ref.{Bor}
-use Rattle.log_dictionary.specs.Entries.{IsFirstSplit, split_at_first, after}
+use Rattle.log_dictionary.specs.Fields.{IsFirstSplit, split_at_first, after}
 
 abbrev is_byte : ℕ → ℕ → Bool
 is_byte separator byte = eqb byte separator
@@ -50,17 +50,6 @@ pub split_takes : (separator : ℕ) (bytes front back : List ℕ) → split_at_f
 unfolding split_at_first
 split_takes separator bytes front back found = takes_at separator bytes front back (position (is_byte separator) bytes) refl found
 
-none_at : (separator : ℕ) (bytes : List ℕ) (b : Bool) → ltb (position_or_len (is_byte separator) bytes) (length bytes) ≡ b → option_map {U = List ℕ × List ℕ} (λ at. (take at bytes, drop (at + 1) bytes)) (cond b (Some (position_or_len (is_byte separator) bytes)) None) ≡ None → All (λ byte. byte ≢ separator) bytes
-none_at separator bytes true e found = absurd cc
-none_at separator bytes false e found =
-    let past = ltb-false _ _ e in
-    All-from_get_or (λ byte. byte ≢ separator) bytes 0 (λ k h. eqb-false _ _ (fails_before_first (is_byte separator) bytes k 0 (omega arith)))
-
--- where none is found no separator stands
-pub split_none : (separator : ℕ) (bytes : List ℕ) → split_at_first separator bytes ≡ None → All (λ byte. byte ≢ separator) bytes
-unfolding split_at_first
-split_none separator bytes found = none_at separator bytes (ltb (position_or_len (is_byte separator) bytes) (length bytes)) refl found
-
 -- a front is taken away
 pub after_again : (front back : List ℕ) → after front (front ++ back) ≡ Some back
 after_again [] back = refl
@@ -86,16 +75,3 @@ after_at bytes front (Some rest) e none = absurd (none rest (after_takes front b
 pub after_is : (bytes front : List ℕ) (r : Option (Bor (List ℕ))) → MatchOption r ((rest : List ℕ) → bytes ≢ front ++ rest) (λ x. bytes ≡ front ++ x.now) → option_copied r ≡ after front bytes
 after_is bytes front None h = after_at bytes front (after front bytes) refl h
 after_is bytes front (Some rest) h = sym (after_again front rest.now) ∙ ap (after front) (sym h)
-
--- references to a front and a back that a split gave
-pub split_some_is : (separator : ℕ) (bytes : List ℕ) (r : Option (Bor (List ℕ) × Bor (List ℕ))) → option_map {U = List ℕ × List ℕ} (λ parts. (parts.0.now, parts.1.now)) r ≡ split_at_first separator bytes → IfSome r (λ parts. IsFirstSplit separator bytes parts.0.now parts.1.now)
-split_some_is separator bytes None e = tt
-split_some_is separator bytes (Some parts) e = split_takes separator bytes parts.0.now parts.1.now (sym e)
-
-pub split_none_is : (separator : ℕ) (bytes : List ℕ) (r : Option (Bor (List ℕ) × Bor (List ℕ))) → option_map {U = List ℕ × List ℕ} (λ parts. (parts.0.now, parts.1.now)) r ≡ split_at_first separator bytes → IfNone r (All (λ byte. byte ≢ separator) bytes)
-split_none_is separator bytes None e = split_none separator bytes (sym e)
-split_none_is separator bytes (Some parts) e = tt
-
-pub after_some_is : (bytes front : List ℕ) (r : Option (Bor (List ℕ))) → MatchOption r ((rest : List ℕ) → bytes ≢ front ++ rest) (λ x. bytes ≡ front ++ x.now) → IfSome r (λ x. bytes ≡ front ++ x.now)
-after_some_is bytes front None h = tt
-after_some_is bytes front (Some rest) h = h

@@ -1,6 +1,7 @@
 -- Messages as entries of a log: which bytes spell them, and where bytes end inside an entry or are none.
 use Rattle.std.specs.Prelude.{◌≡◌, ◌≢◌, ◌⊎◌, ℕ, ◌<◌, ◌≤◌, ◌^◌, List, [], ◌∷◌, ◌++◌, length}
 use Rattle.std.specs.Hash.{le_bytes}
+use Rattle.printf_grammar.specs.declared.limits.TheConstants.{MAX_FORMAT}
 use Rattle.printf_grammar.specs.Spelling.{Spells}
 use Rattle.log_dictionary.specs.declared.message.TheConstants.{MAX_FILE_NAME}
 use Rattle.log_dictionary.specs.declared.message.Message.{Message}
@@ -33,7 +34,7 @@ pub record IsInRange (raw : RawEntry) : Type 0 where
   pub line_fits : raw.line < 2 ^ 32
   pub named : 1 ≤ length raw.file
   pub short_name : length raw.file ≤ MAX_FILE_NAME
-  pub short_format : length raw.format ≤ 4095
+  pub short_format : length raw.format ≤ MAX_FORMAT
 
 abbrev pub raw_of : Message → RawEntry
 raw_of message = record { severity = message.severity; line = message.line; file = message.file; format = message.format.bytes }
@@ -42,7 +43,7 @@ raw_of message = record { severity = message.severity; line = message.line; file
 abbrev pub entry_bytes : Message → List ℕ
 entry_bytes message = raw_bytes (raw_of message)
 
--- the bytes are the entry of the message; that its file has 1 to 255 bytes is kept by the message
+-- the bytes are the entry of the message; that the length of its file is in range is kept by the message
 pub record SpellsEntry (bytes : List ℕ) (message : Message) : Type 0 where
   pub spelled : bytes ≡ entry_bytes message
   pub line_fits : message.line < 2 ^ 32
@@ -68,7 +69,7 @@ pub data IsCutEntry (bytes : List ℕ) : Type 0 where
   in_severity : bytes ≡ [] → IsCutEntry bytes
   in_line : (severity : Severity) (part : List ℕ) → length part < 4 → bytes ≡ severity_number severity ∷ part → IsCutEntry bytes
   in_file : (severity : Severity) (line : ℕ) (part : List ℕ) → line < 2 ^ 32 → IsCutText 1 MAX_FILE_NAME part → bytes ≡ head_bytes severity line ++ part → IsCutEntry bytes
-  in_format : (severity : Severity) (line : ℕ) (file part : List ℕ) → line < 2 ^ 32 → 1 ≤ length file → length file ≤ MAX_FILE_NAME → IsCutText 0 4095 part → bytes ≡ head_bytes severity line ++ text_bytes file ++ part → IsCutEntry bytes
+  in_format : (severity : Severity) (line : ℕ) (file part : List ℕ) → line < 2 ^ 32 → 1 ≤ length file → length file ≤ MAX_FILE_NAME → IsCutText 0 MAX_FORMAT part → bytes ≡ head_bytes severity line ++ text_bytes file ++ part → IsCutEntry bytes
 
 -- ---- where bytes begin with no entry
 
@@ -84,7 +85,7 @@ pub record IsBadLength (least most : ℕ) (bytes : List ℕ) : Type 0 where
 pub data IsOutOfRange (bytes : List ℕ) : Type 0 where
   at_severity : (number : ℕ) (rest : List ℕ) → ((severity : Severity) → number ≢ severity_number severity) → bytes ≡ number ∷ rest → IsOutOfRange bytes
   at_file : (severity : Severity) (line : ℕ) (rest : List ℕ) → line < 2 ^ 32 → IsBadLength 1 MAX_FILE_NAME rest → bytes ≡ head_bytes severity line ++ rest → IsOutOfRange bytes
-  at_format : (severity : Severity) (line : ℕ) (file rest : List ℕ) → line < 2 ^ 32 → 1 ≤ length file → length file ≤ MAX_FILE_NAME → IsBadLength 0 4095 rest → bytes ≡ head_bytes severity line ++ text_bytes file ++ rest → IsOutOfRange bytes
+  at_format : (severity : Severity) (line : ℕ) (file rest : List ℕ) → line < 2 ^ 32 → 1 ≤ length file → length file ≤ MAX_FILE_NAME → IsBadLength 0 MAX_FORMAT rest → bytes ≡ head_bytes severity line ++ text_bytes file ++ rest → IsOutOfRange bytes
 
 -- a field is out of range, or all fields are in range and the format is refused
 pub data IsBadEntry (bytes : List ℕ) : Type 0 where

@@ -2,7 +2,7 @@
 use Rattle.std.specs.Prelude.{◌≡◌, List, ℕ, ◌++◌}
 use Rattle.log_dictionary.specs.declared.binary_entry.EntryFault.{EntryFault}
 use Rattle.log_dictionary.specs.declared.binary_entry.EntryFault.TheVariants.{Cut, BadEntry, NoMemory}
-use Rattle.log_dictionary.specs.declared.binary_entry.Fields.{Fields}
+use Rattle.log_dictionary.specs.declared.binary_entry.EntryFields.{EntryFields}
 use Rattle.log_dictionary.specs.BinaryEntries.{RawEntry, raw_bytes, IsInRange}
 
 -- the bytes are cut off or wrong, as the fault says; no memory was wanted
@@ -12,7 +12,7 @@ Stops BadEntry cut wrong = wrong
 Stops NoMemory cut wrong = ⊥
 
 -- the fields without where they lie in memory
-abbrev pub raw_fields : Fields → RawEntry
+abbrev pub raw_fields : EntryFields → RawEntry
 raw_fields fields = record { severity = fields.severity; line = fields.line; file = fields.file.now; format = fields.format.now }
 
 -- the bytes begin with these fields, and each is in range

@@ -1,10 +1,13 @@
 pub mod Severities
 pub mod Times
 pub mod Texts
-pub mod Entries
+pub mod Numbers
+pub mod Fields
 pub mod Messages
+pub mod MessageLines
 pub mod Additions
 pub mod BinaryEntries
 pub mod EntryReading
 pub mod Calls
 pub mod Rows
+pub mod Canonical

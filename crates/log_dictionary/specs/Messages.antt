@@ -1,8 +1,11 @@
 -- Messages, and the lines that spell them.
-use Rattle.std.specs.Prelude.{◌≡◌, ◌≢◌, ℕ, ◌<◌, ◌^◌, List, [], ◌∷◌, ◌++◌, codes, decimal, All, Any, AllPairs, slice_get, Some}
+use Rattle.std.specs.Prelude.{◌≡◌, ℕ, ◌<◌, ◌^◌, List, [], ◌∷◌, ◌++◌, codes, decimal, Any, AllPairs, slice_get, Some, Bool, nat_eq}
+use Rattle.std.specs.Ordering.{on, eq_of_both}
+use Rattle.std.specs.Cmp.Lexicographic.{pointwise}
+use Rattle.std.specs.Hash.{u8, u32}
 use Rattle.printf_grammar.specs.Spelling.{Spells}
 use Rattle.log_dictionary.specs.declared.message.Message.{Message}
-use Rattle.log_dictionary.specs.Severities.{severity_name}
+use Rattle.log_dictionary.specs.Severities.{severity_name, severity_number}
 use Rattle.log_dictionary.specs.Texts.{SpellsText}
 
 -- two messages are equal: they stand at one place, with one severity and one format
@@ -11,6 +14,14 @@ pub record SameMessage (a b : Message) : Type 0 where
   pub line : a.line ≡ b.line
   pub severity : a.severity ≡ b.severity
   pub format : a.format.bytes ≡ b.format.bytes
+
+-- the test for it
+abbrev pub is_same : Message → Message → Bool
+is_same = eq_of_both (on (λ m. m.line) nat_eq) (eq_of_both (on (λ m. severity_number m.severity) nat_eq) (eq_of_both (on (λ m. m.file) (pointwise nat_eq)) (on (λ m. m.format.bytes) (pointwise nat_eq))))
+
+-- what of a message is hashed: what the test compares
+abbrev pub message_writes : Message → List (List ℕ)
+message_writes m = u32 m.line ++ u8 (severity_number m.severity) ++ m.file ∷ m.format.bytes ∷ []
 
 -- some of these messages equals the message
 abbrev pub HasMessage : List Message → Message → Type 0
@@ -34,8 +45,3 @@ pub record SpellsMessage (line : List ℕ) (id : ℕ) (message : Message) : Type
   pub formed : Spells message.format.bytes message.format.pieces
   pub id_fits : id < 2 ^ 64
   pub line_fits : message.line < 2 ^ 32
-
--- the line spells the message with no escape
-pub record UnescapedLine (line : List ℕ) (id : ℕ) (message : Message) : Type 0 where
-  pub spelled : SpellsMessage line id message
-  pub unescaped : All (λ byte. byte ≢ 92) line

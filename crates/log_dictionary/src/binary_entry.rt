@@ -9,9 +9,9 @@ ghost use Rattle.log_dictionary.specs.BinaryEntries.{RawEntry, raw_bytes, IsInRa
 ghost use Rattle.log_dictionary.specs.EntryReading.{Stops, raw_fields, IsRead};
 
 use crate::formats::{FormatFault, format_of};
-use crate::message::Message;
+use crate::message::{MAX_FILE_NAME, Message};
 use crate::severity::Severity;
-use printf_grammar::Bytes;
+use printf_grammar::{Bytes, MAX_FORMAT};
 use std::alloc::Global;
 
 /// The bytes of the severity, the line and the two lengths.
@@ -29,7 +29,7 @@ pub enum EntryFault {
 
 /// What an entry says, before its format is parsed.
 #[derive(Clone, Copy)]
-struct Fields<'a> {
+struct EntryFields<'a> {
     severity: Severity,
     line: u32,
     file: &'a [u8],
@@ -121,17 +121,17 @@ fn read_u16(bytes: &[u8]) -> Result<(u16, &[u8]), EntryFault>
 }
 
 // A text with its length in front, which is from `least` to `most`, and the bytes after it.
-fn read_text(bytes: &[u8], least: u16, most: u16) -> Result<(&[u8], &[u8]), EntryFault>
+fn read_text(bytes: &[u8], least: usize, most: usize) -> Result<(&[u8], &[u8]), EntryFault>
     ensures ok { IfOk result (λ read. (bytes.now ≡ text_bytes read.0.now ++ read.1.now)
         × (least ≤ length read.0.now) × (length read.0.now ≤ most)) }
     ensures err { IfErr result (λ fault. Stops fault
         (IsCutText least most bytes.now) (IsBadLength least most bytes.now)) }
 {
     let (len, rest) = read_u16(bytes)?;
+    let len = usize::from(len);
     if len < least || len > most {
         return Err(EntryFault::BadEntry);
     }
-    let len = usize::from(len);
     if rest.len() < len {
         return Err(EntryFault::Cut);
     }
@@ -139,15 +139,15 @@ fn read_text(bytes: &[u8], least: u16, most: u16) -> Result<(&[u8], &[u8]), Entr
 }
 
 // The fields of the entry that the bytes begin with.
-fn read_fields(bytes: &[u8]) -> Result<Fields<'_>, EntryFault>
+fn read_fields(bytes: &[u8]) -> Result<EntryFields<'_>, EntryFault>
     ensures ok { IfOk result (λ fields. IsRead bytes.now (raw_fields fields)) }
     ensures err { IfErr result (λ fault. Stops fault (IsCutEntry bytes.now) (IsOutOfRange bytes.now)) }
 {
     let (severity, rest) = read_severity(bytes)?;
     let (line, rest) = read_u32(rest)?;
-    let (file, rest) = read_text(rest, 1, 255)?;
-    let (format, _) = read_text(rest, 0, 4095)?;
-    Ok(Fields {
+    let (file, rest) = read_text(rest, 1, MAX_FILE_NAME)?;
+    let (format, _) = read_text(rest, 0, MAX_FORMAT)?;
+    Ok(EntryFields {
         severity,
         line,
         file,

@@ -1,18 +1,22 @@
 //! The messages that calls name by number.
 
-ghost use Rattle.std.specs.Prelude.{◌≡◌, ◌≤◌, ◌↔◌, [], length, slice_get, IsNone, IfSome, Ok, Err, ℕ, ◌⊎◌, IfOk, IfErr, MatchResult, IsTrue, OnOk, OnErr, ◌≢◌, ◌<◌, ◌∷◌, ◌++◌};
+ghost use Rattle.std.specs.Prelude.{List, ◌≡◌, ◌≤◌, ◌↔◌, [], length, slice_get, IsNone, IfSome, Ok, Err, ℕ, ◌⊎◌, IfOk, IfErr, MatchResult, IsTrue, OnOk, OnErr, ◌≢◌, ◌<◌, ◌∷◌, ◌++◌};
 ghost use Rattle.std.specs.Option.{option_copied};
 ghost use Rattle.std.specs.Slice.Iter.{iter_rest};
+ghost use Rattle.printf_grammar.specs.declared.piece.Piece.{Piece};
+ghost use Rattle.printf_grammar.specs.Spelling.{Spells};
 ghost use Rattle.log_dictionary.specs.declared.message.Message.{Message};
-ghost use Rattle.log_dictionary.specs.Messages.{UnescapedLine, HasMessage, HasId};
-ghost use Rattle.log_dictionary.specs.Additions.{IsAdded};
-ghost use Rattle.log_dictionary.specs.Entries.{IsEntryLine};
+ghost use Rattle.log_dictionary.specs.Messages.{SpellsMessage, HasMessage, HasId};
+ghost use Rattle.log_dictionary.specs.Additions.{IsAdded, SpellsNone, StopsMessage, ReadsLine};
+ghost use Rattle.log_dictionary.specs.MessageLines.{IsMessageLine};
 
-use crate::entry::entry_of;
 use crate::formats::{FormatFault, format_of};
-use crate::message::{MAX_FILE_NAME, Message};
-use printf_grammar::Bytes;
-use std::alloc::Global;
+use crate::message::Message;
+use crate::message_line::message_line_of;
+use crate::text::SpelledText;
+use indexmap::IndexSet;
+use printf_grammar::Format;
+use std::alloc::{AllocError, Global};
 use std::marker::Model;
 use std::slice;
 
@@ -22,7 +26,7 @@ pub const MAX_MESSAGES: usize = 65_536;
 /// At most 65,536 messages, no two of them equal. A message's id is its place, from 0.
 #[derive(Debug, Drop)]
 pub struct Dictionary {
-    messages: Vec<Message>,
+    messages: IndexSet<Message>,
 }
 
 /// Why a line gave no message to a dictionary.
@@ -58,67 +62,82 @@ impl Model for Dictionary {
     ghost use Rattle.std.specs.Prelude.{◌≤◌, List, length};
     ghost use Rattle.log_dictionary.specs.declared.message.Message.{Message};
     ghost use Rattle.log_dictionary.specs.declared.dictionary.TheConstants.{MAX_MESSAGES};
-    ghost use Rattle.log_dictionary.specs.Messages.{AreDistinct};
 
     ghost Value = { List Message };
 
-    ghost view = { λ d. d.messages.items };
+    ghost view = { λ d. d.messages.keys };
 
-    ghost invariant = { λ d. (length d.messages.items ≤ MAX_MESSAGES) × AreDistinct d.messages.items };
+    ghost invariant = { λ d. length d.messages.keys ≤ MAX_MESSAGES };
 }
 
-fn is_file_name(name: &[u8]) -> bool
-    ensures { IsTrue result ↔ ((1 ≤ length name.now) × (length name.now ≤ MAX_FILE_NAME)) }
+fn format_of_text(alloc: Global, text: &SpelledText<'_>) -> Result<Format, FormatFault>
+    ensures found { IfOk result (λ format. (format.bytes ≡ text.now) × Spells text.now format.pieces) }
+    ensures bad { result ≡ Err FormatFault.Bad → (pieces : List Piece) → ¬ Spells text.now pieces }
 {
-    !name.is_empty() && name.len() <= MAX_FILE_NAME
+    let Ok(bytes) = text.to_bytes(alloc) else {
+        return Err(FormatFault::NoMemory);
+    };
+    format_of(alloc, bytes.as_slice())
 }
 
-/// The id and the message of a message line whose texts have no escape.
+// The id and the message that a message line spells.
 fn message_of(alloc: Global, line: &[u8]) -> Result<(u64, Message), LineFault>
-    ensures found { IfOk result (λ pair. UnescapedLine line.now pair.0 pair.1) }
-    ensures only { (id : ℕ) (message : Message) → UnescapedLine line.now id message → MatchResult result
-        (λ pair. (pair.0 ≡ id) × (pair.1 ≡ message))
-        (λ fault. fault ≡ LineFault.NoMemory) }
-    ensures fault { IfErr result (λ fault. (fault ≡ LineFault.BadEntry) ⊎ (fault ≡ LineFault.NoMemory)) }
+    ensures found { IfOk result (λ pair. SpellsMessage line.now pair.0 pair.1) }
+    ensures fault { IfErr result (λ fault. StopsMessage fault (SpellsNone line.now)) }
 
     // All but what the format spells is judged before any memory is wanted.
-    ensures no_entry { ¬ (IsEntryLine line.now) → result ≡ Err LineFault.BadEntry }
+    ensures no_message_line { ¬ (IsMessageLine line.now) → result ≡ Err LineFault.BadEntry }
 {
-    let Some(entry) = entry_of(line) else {
+    let Some(parts) = message_line_of(line) else {
         return Err(LineFault::BadEntry);
     };
-    if !is_file_name(entry.file) {
-        return Err(LineFault::BadEntry);
-    }
-    let format = match format_of(alloc, entry.format) {
+    let format = match format_of_text(alloc, &parts.format) {
         Ok(format) => format,
         Err(FormatFault::Bad) => return Err(LineFault::BadEntry),
         Err(FormatFault::NoMemory) => return Err(LineFault::NoMemory),
     };
-    let Ok(file) = Bytes::from_slice(alloc, entry.file) else {
+    let Ok(file) = parts.file.to_bytes(alloc) else {
         return Err(LineFault::NoMemory);
     };
     let message = Message {
         file,
-        line: entry.line,
-        severity: entry.severity,
+        line: parts.line,
+        severity: parts.severity,
         format,
     };
-    Ok((entry.id, message))
+    Ok((parts.id, message))
 }
 
 // The id of a message that equals the message.
-fn id_of(messages: &[Message], message: &Message) -> Option<usize>
-    ensures some { IfSome result (HasId messages.now message.now) }
-    ensures none { IsNone result ↔ (¬ (HasMessage messages.now message.now)) }
+fn id_of(messages: &IndexSet<Message>, message: &Message) -> Option<usize>
+    ensures some { IfSome result (HasId messages.now.keys message.now) }
+    ensures within { IfSome result (λ id. id < length messages.now.keys) }
+    ensures none { IsNone result ↔ (¬ (HasMessage messages.now.keys message.now)) }
 {
-    messages.iter().position(|other| message.is_same(other))
+    messages.get_index_of(message)
 }
 
-fn has_message(messages: &[Message], message: &Message) -> bool
-    ensures { IsTrue result ↔ HasMessage messages.now message.now }
+fn has_message(messages: &IndexSet<Message>, message: &Message) -> bool
+    ensures { IsTrue result ↔ HasMessage messages.now.keys message.now }
 {
-    id_of(messages, message).is_some()
+    messages.contains(message)
+}
+
+// Adds the message, unless an equal one is there.
+fn insert(messages: &mut IndexSet<Message>, message: Message) -> Result<Added, AllocError>
+    requires room { length messages.old.keys < MAX_MESSAGES }
+    ensures ok { IfOk result (IsAdded messages.old.keys message messages.new.keys) }
+    ensures err { OnErr result (messages.new.keys ≡ messages.old.keys) }
+    ensures new { OnErr result (¬ (HasMessage messages.old.keys message)) }
+{
+    let Ok((id, is_new)) = messages.insert_full(message) else {
+        return Err(AllocError);
+    };
+    if is_new {
+        Ok(Added::New(id as u32))
+    } else {
+        Ok(Added::Old(id as u32))
+    }
 }
 
 impl Dictionary {
@@ -129,7 +148,7 @@ impl Dictionary {
         ensures { result ≡ [] }
     {
         Dictionary {
-            messages: Vec::new(alloc),
+            messages: IndexSet::new(alloc),
         }
     }
 
@@ -147,14 +166,22 @@ impl Dictionary {
         ensures value { option_copied result ≡ slice_get self.now id }
         ensures none { IsNone result ↔ (length self.now ≤ id) }
     {
-        self.messages.get(id as usize)
+        self.messages.get_index(id as usize)
+    }
+
+    /// The message with an id that the dictionary has.
+    pub fn message(&self, id: u32) -> &Message
+        requires { id < length self.now }
+        ensures { slice_get self.now id ≡ Some result.now }
+    {
+        &self.messages[id as usize]
     }
 
     /// The messages, in the order of their ids.
     pub fn iter(&self) -> slice::Iter<'_, Message>
         ensures { iter_rest result ≡ self.now }
     {
-        self.messages.iter()
+        self.messages.as_slice().iter()
     }
 
     /// Adds a message, unless an equal one is there. It is dropped where it isn't added.
@@ -167,44 +194,27 @@ impl Dictionary {
         ensures too_many { (result ≡ Err AddFault.TooMany)
             ↔ ((¬ (HasMessage self.old message)) × (length self.old ≡ MAX_MESSAGES)) }
     {
-        if let Some(id) = id_of(&self.messages, &message) {
+        if self.messages.len() >= MAX_MESSAGES {
+            let Some(id) = id_of(&self.messages, &message) else {
+                return Err(AddFault::TooMany);
+            };
             return Ok(Added::Old(id as u32));
         }
-        let id = self.messages.len();
-        if id >= MAX_MESSAGES {
-            return Err(AddFault::TooMany);
-        }
-        let Ok(()) = self.messages.push(message) else {
+        let Ok(added) = insert(&mut self.messages, message) else {
             return Err(AddFault::NoMemory);
         };
-        Ok(Added::New(id as u32))
+        Ok(added)
     }
 
-    /// Adds the message that a message line spells. For now its texts have no escape.
+    /// Adds the message that a message line spells, if it is new and its id is the next one.
     pub fn read_line(&mut self, line: &[u8]) -> Result<(), LineFault>
-        ensures ok { OnOk result ((message : Message)
-            × UnescapedLine line.now (length self.old) message
-            × (self.new ≡ self.old ++ message ∷ [])) }
-        ensures err { OnErr result (self.new ≡ self.old) }
+        ensures reads { ReadsLine self.old line.now self.new result }
 
-        // A right line with the next id and a new message is read, unless memory runs out.
-        ensures only { (message : Message) → UnescapedLine line.now (length self.old) message
-            → length self.old < MAX_MESSAGES → ¬ (HasMessage self.old message)
-            → MatchResult result
-            (λ _. self.new ≡ self.old ++ message ∷ [])
-            (λ fault. fault ≡ LineFault.NoMemory) }
+        // A full dictionary is told, and all but what the format spells is judged, before any
+        // memory is wanted.
         ensures too_many { (result ≡ Err LineFault.TooMany) ↔ (length self.old ≡ MAX_MESSAGES) }
-        ensures bad_entry { result ≡ Err LineFault.BadEntry
-            → (id : ℕ) (message : Message) → UnescapedLine line.now id message
-            → HasMessage self.old message }
-
-        // All but what the format spells is judged before any memory is wanted.
-        ensures no_entry { ¬ (IsEntryLine line.now) → length self.old < MAX_MESSAGES
+        ensures no_message_line { ¬ (IsMessageLine line.now) → length self.old < MAX_MESSAGES
             → result ≡ Err LineFault.BadEntry }
-        ensures order { result ≡ Err LineFault.Order → (id : ℕ) × (message : Message)
-            × UnescapedLine line.now id message
-            × (¬ (HasMessage self.old message))
-            × (id ≢ length self.old) }
     {
         if self.messages.len() >= MAX_MESSAGES {
             return Err(LineFault::TooMany);
@@ -214,16 +224,17 @@ impl Dictionary {
             Ok(pair) => pair,
             Err(fault) => return Err(fault),
         };
-        if has_message(&self.messages, &message) {
-            return Err(LineFault::BadEntry);
-        }
         if id != self.messages.len() as u64 {
+            if has_message(&self.messages, &message) {
+                return Err(LineFault::BadEntry);
+            }
             return Err(LineFault::Order);
         }
-        let Ok(()) = self.messages.push(message) else {
-            return Err(LineFault::NoMemory);
-        };
-        Ok(())
+        match insert(&mut self.messages, message) {
+            Ok(Added::New(_)) => Ok(()),
+            Ok(Added::Old(_)) => Err(LineFault::BadEntry),
+            Err(_) => Err(LineFault::NoMemory),
+        }
     }
 }
 

@@ -1,6 +1,7 @@
 //! The formats of messages.
 
 ghost use Rattle.std.specs.Prelude.{◌≡◌, ◌<◌, List, length, IfOk, MatchResult, Err};
+ghost use Rattle.printf_grammar.specs.declared.limits.TheConstants.{MAX_FORMAT};
 ghost use Rattle.printf_grammar.specs.declared.piece.Piece.{Piece};
 ghost use Rattle.printf_grammar.specs.Spelling.{Spells};
 
@@ -24,7 +25,7 @@ pub(crate) fn format_of(alloc: Global, bytes: &[u8]) -> Result<Format, FormatFau
     ensures bad { result ≡ Err FormatFault.Bad → (pieces : List Piece) → ¬ Spells bytes.now pieces }
 
     // Too many bytes are refused before any memory is wanted.
-    ensures long { 4095 < length bytes.now → result ≡ Err FormatFault.Bad }
+    ensures long { MAX_FORMAT < length bytes.now → result ≡ Err FormatFault.Bad }
 {
     match parse(alloc, bytes) {
         Ok(format) => Ok(format),

@@ -1,10 +1,22 @@
 //! What holds of the definitions. The functions do nothing: what they ensure is proved of the definitions.
 
-ghost use Rattle.std.specs.Prelude.{◌≡◌, ◌⊎◌, ℕ, ◌<◌, ◌≤◌, List, [], ◌∷◌, ◌++◌, length, All};
+ghost use Rattle.std.specs.Prelude.{◌≡◌, ◌⊎◌, ◌↔◌, ℕ, ◌<◌, ◌≤◌, ◌^◌, List, [], ◌∷◌, ◌++◌, length, codes, All, IsTrue, ℤ, pos, negsuc, FitsSigned};
+ghost use Rattle.std.specs.Int.{w64};
+ghost use Rattle.std.specs.Option.{option_map};
+ghost use Rattle.std.specs.Fmt.{decimal, signed_decimal};
 ghost use Rattle.log_dictionary.specs.declared.message.Message.{Message};
 ghost use Rattle.log_dictionary.specs.BinaryEntries.{SpellsEntry, BeginsWithEntry, IsCutEntry, IsOutOfRange, IsBadEntry};
-ghost use Rattle.log_dictionary.specs.Messages.{SameMessage};
+ghost use Rattle.log_dictionary.specs.Texts.{OpensText, SpellsText, text_at};
+ghost use Rattle.log_dictionary.specs.Messages.{SameMessage, is_same, SpellsMessage};
+ghost use Rattle.log_dictionary.specs.Canonical.{canonical_text, message_line, AreBytes, HasLine};
 ghost use Rattle.log_dictionary.specs.Rows.{row_message, row_head, row_entry};
+ghost use Rattle.log_dictionary.specs.Numbers.{natural_of, integer_of, integer_read};
+
+use crate::clock::Clock;
+use crate::dictionary::Dictionary;
+use crate::message::Message;
+use crate::numbers::Integer;
+use crate::severity::Severity;
 
 /// A worked entry, and bytes that begin with none: a field is out of range, or they end inside an
 /// entry. Half of a length isn't judged, even where no other half makes it right.
@@ -43,3 +55,87 @@ pub fn entries_are_one()
         → SpellsEntry (front ++ rest) message → 1 ≤ length rest → IsCutEntry front }
     ensures stays_bad { (bytes rest : List ℕ) → IsBadEntry bytes → IsBadEntry (bytes ++ rest) }
 {}
+
+/// Worked texts: each escape, digits of either case, and what opens no text.
+pub fn worked_texts()
+    ensures escapes { text_at (codes "\"\\\"\\\\\\n\\t\\x41\" rest")
+        ≡ Some (34 ∷ 92 ∷ 10 ∷ 9 ∷ 65 ∷ [], codes " rest") }
+    ensures mixed_case { text_at (codes "\"\\xFe\"") ≡ Some (254 ∷ [], []) }
+    ensures one_digit { text_at (codes "\"\\x4\"") ≡ None }
+    ensures other_escape { text_at (codes "\"\\a\"") ≡ None }
+    ensures unclosed { text_at (codes "\"a\\\"") ≡ None }
+    ensures unopened { text_at (codes "a\"") ≡ None }
+    ensures tab { text_at (34 ∷ 9 ∷ 34 ∷ []) ≡ None }
+    ensures delete { text_at (34 ∷ 127 ∷ 34 ∷ []) ≡ None }
+    ensures high { text_at (34 ∷ 128 ∷ 255 ∷ 34 ∷ []) ≡ Some (128 ∷ 255 ∷ [], []) }
+{}
+
+/// Worked numbers: what spells none, and one that is too large for 64 bits.
+pub fn worked_numbers()
+    ensures zero { integer_of (codes "0") ≡ Some (pos 0) }
+    ensures below { integer_of (codes "-17") ≡ Some (negsuc 16) }
+    ensures zeros { integer_of (codes "00") ≡ None }
+    ensures minus_zero { integer_of (codes "-0") ≡ None }
+    ensures plus { integer_of (codes "+1") ≡ None }
+    ensures minus { integer_of (codes "-") ≡ None }
+    ensures nothing { integer_of [] ≡ None }
+    ensures letter { integer_of (codes "1a") ≡ None }
+    ensures nines { option_map integer_read (integer_of (codes "99999999999999999999")) ≡ Some Integer.Beyond }
+{}
+
+/// A number that fits 64 bits is read from its decimal digits, and from nothing else.
+pub fn numbers_are_read()
+    ensures natural { (field : List ℕ) (n : ℕ) → n < 2 ^ 64
+        → (natural_of field ≡ Some n) ↔ (field ≡ decimal n) }
+    ensures unsigned { (field : List ℕ) (n : ℕ) → n < 2 ^ 64
+        → (integer_of field ≡ Some (pos n)) ↔ (field ≡ decimal n) }
+    ensures signed { (field : List ℕ) (z : ℤ) → FitsSigned w64 z
+        → (integer_of field ≡ Some z) ↔ (field ≡ signed_decimal z) }
+{}
+
+/// Bytes open with one text in quotation marks or with none, and that text is what reading byte by
+/// byte gives.
+pub fn texts_are_read()
+    ensures read { (bytes value rest : List ℕ) → OpensText bytes value rest
+        → text_at bytes ≡ Some (value, rest) }
+    ensures spelled { (bytes value rest : List ℕ) → text_at bytes ≡ Some (value, rest)
+        → OpensText bytes value rest }
+    ensures one_text { (bytes value other rest other_rest : List ℕ)
+        → OpensText bytes value rest → OpensText bytes other other_rest
+        → (value ≡ other) × (rest ≡ other_rest) }
+    ensures one_holds { (bytes : List ℕ)
+        → ((value : List ℕ) × (rest : List ℕ) × OpensText bytes value rest)
+        ⊎ ((value rest : List ℕ) → ¬ (OpensText bytes value rest)) }
+{}
+
+/// A message line spells one id and one message, and every line spells one of each or none. Messages
+/// pass `==` where they are equal.
+pub fn message_lines_have_one_reading()
+    ensures one_reading { (line : List ℕ) (id other_id : ℕ) (message other : Message)
+        → SpellsMessage line id message → SpellsMessage line other_id other
+        → (id ≡ other_id) × (message ≡ other) }
+    ensures spells_or_not { (line : List ℕ)
+        → ((id : ℕ) × (message : Message) × SpellsMessage line id message)
+        ⊎ ((id : ℕ) (message : Message) → ¬ (SpellsMessage line id message)) }
+    ensures equal { (a b : Message) → IsTrue (is_same a b) ↔ SameMessage a b }
+{}
+
+/// What is written of a text spells that text, and a message's line spells that message, with its id.
+pub fn what_is_written_spells()
+    ensures text { (bytes : List ℕ) → AreBytes bytes → SpellsText (canonical_text bytes) bytes }
+    ensures message { (id : ℕ) (message : Message) → id < 2 ^ 64 → HasLine message
+        → SpellsMessage (message_line id message) id message }
+    ensures letters { canonical_text (97 ∷ 65 ∷ 10 ∷ []) ≡ codes "aA\\n" }
+    ensures delete { canonical_text (127 ∷ []) ≡ codes "\\x7f" }
+    ensures marks { canonical_text (34 ∷ 92 ∷ 9 ∷ 254 ∷ []) ≡ codes "\\\"\\\\\\t\\xfe" }
+{}
+
+/// What a program logs with goes from thread to thread, and threads share it.
+pub fn threads() {
+    crosses_threads::<Message>();
+    crosses_threads::<Dictionary>();
+    crosses_threads::<Clock>();
+    crosses_threads::<Severity>();
+}
+
+fn crosses_threads<T: Send + Sync>() {}

@@ -4,20 +4,27 @@
 mod binary_entry;
 mod clock;
 mod dictionary;
-mod entry;
+mod fields;
 mod formats;
 pub mod laws;
 mod message;
+mod message_line;
 mod numbers;
 mod severity;
+mod text;
+mod writing;
 
 pub use binary_entry::{EntryFault, entry_len, put_entry, read_entry};
 pub use clock::Clock;
 pub use dictionary::{AddFault, Added, Dictionary, LineFault, MAX_MESSAGES};
-pub use entry::split_field;
+pub use fields::{first_field, split_at_byte};
 pub use message::{MAX_FILE_NAME, Message};
-pub use numbers::{read_number, read_signed};
+pub use numbers::{Integer, read_integer, read_number, read_signed};
 pub use severity::Severity;
+pub use text::{SpelledText, split_text};
+pub use writing::push_text;
 
 #[cfg(test)]
 mod tests;
+#[cfg(test)]
+mod text_tests;

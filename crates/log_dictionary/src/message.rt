@@ -5,12 +5,14 @@ ghost use Rattle.log_dictionary.specs.declared.message.TheConstants.{MAX_FILE_NA
 
 use crate::severity::Severity;
 use printf_grammar::{Bytes, Format};
+use std::hash::{Hash, Hasher};
 
 /// The most bytes of a file's name.
 pub const MAX_FILE_NAME: usize = 255;
 
 /// What is known of a statement before it runs: the file and the line where it stands, its
-/// severity, and the format of its text.
+/// severity, and the format of its text. Two are equal where all four are; formats are, where
+/// their bytes are.
 #[derive(Debug, Drop)]
 pub struct Message {
     pub file: Bytes,
@@ -20,17 +22,44 @@ pub struct Message {
     pub ghost file_length: { (1 ≤ length file) × (length file ≤ MAX_FILE_NAME) },
 }
 
-impl Message {
+impl PartialEq for Message {
     ghost use Rattle.std.specs.Prelude.{◌↔◌, IsTrue};
-    ghost use Rattle.log_dictionary.specs.Messages.{SameMessage};
+    ghost use Rattle.std.proofs.Common.{rules};
+    ghost use Rattle.std.specs.Cmp.Rules.{comparing};
+    ghost use Rattle.log_dictionary.specs.Messages.{SameMessage, is_same};
 
-    /// Whether the messages are equal: they name one place, one severity and one format.
-    pub fn is_same(&self, other: &Message) -> bool
-        ensures { IsTrue result ↔ SameMessage self.now other.now }
-    {
+    ghost eq = { is_same };
+
+    ghost laws = { Prim.search (comparing, rules) };
+
+    fn eq(&self, other: &Message) -> bool {
         self.line == other.line
-            && self.severity == other.severity
+            && self.severity.number() == other.severity.number()
             && self.file.as_slice() == other.file.as_slice()
             && self.format.bytes() == other.format.bytes()
+    }
+}
+
+impl Eq for Message {
+    ghost use Rattle.std.proofs.Common.{rules};
+    ghost use Rattle.std.specs.Cmp.Rules.{comparing};
+
+    ghost laws = { Prim.search (comparing, rules) };
+}
+
+impl Hash for Message {
+    ghost use Rattle.std.proofs.Common.{rules};
+    ghost use Rattle.std.specs.Cmp.Rules.{hashing};
+    ghost use Rattle.log_dictionary.specs.Messages.{message_writes};
+
+    ghost hash_input = { message_writes };
+
+    ghost respects_eq = { Prim.search (hashing, rules) };
+
+    fn hash<H: Hasher>(&self, state: &mut H) {
+        state.write_u32(self.line);
+        state.write_u8(self.severity.number());
+        state.write(self.file.as_slice());
+        state.write(self.format.bytes());
     }
 }

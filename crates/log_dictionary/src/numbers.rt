@@ -1,46 +1,164 @@
 //! Numbers as they are spelled in a trace.
 
-ghost use Rattle.std.specs.Prelude.{◌≡◌, ℕ, ◌<◌, ◌^◌, IfSome, IfNone, FitsSigned, ℤ};
+ghost use Rattle.std.specs.Prelude.{◌≡◌, ◌<◌, ◌+◌, ◌-◌, ◌*◌, ◌^◌, IfSome, IfNone, FitsSigned, ℤ, pos, ℕ, Option, if◌then◌else◌};
 ghost use Rattle.std.specs.Int.{w64};
 ghost use Rattle.std.specs.Fmt.{decimal, signed_decimal};
+ghost use Rattle.std.specs.Option.{option_map, SomeIff};
+ghost use Rattle.log_dictionary.specs.Numbers.{is_digit, natural_of, natural_read, number_from, integer_of, integer_read, negated, if_signed, if_small};
 
-use itoa::Buffer;
+/// A tenth of the greatest `u64`, and the digit that may follow it.
+const TENTH: u64 = 1_844_674_407_370_955_161;
+
+const LAST: u8 = 5;
+
+/// A number of any size.
+#[derive(Clone, Copy)]
+enum Natural {
+    Small(u64),
+    /// It isn't below 2^64.
+    Large,
+}
+
+/// A number of any size, which may be below 0.
+#[derive(Clone, Copy, Debug, PartialEq, Eq)]
+pub enum Integer {
+    /// From -2^63 to -1.
+    Signed(i64),
+    /// From 0 to 2^64 - 1.
+    Unsigned(u64),
+    /// Below -2^63 or above 2^64 - 1.
+    Beyond,
+}
+
+fn digit_of(byte: u8) -> Option<u8>
+    ensures value { result ≡ (if is_digit byte then Some (byte - 48) else None) }
+    ensures below { IfSome result (λ digit. digit < 10) }
+{
+    if byte >= b'0' && byte <= b'9' {
+        Some(byte - b'0')
+    } else {
+        None
+    }
+}
+
+// The number with one more digit, if it is below 2^64.
+fn with_digit(number: u64, digit: u8) -> Option<u64>
+    requires { digit < 10 }
+    ensures { SomeIff result (number * 10 + digit < 2 ^ 64) (number * 10 + digit) }
+{
+    if number < TENTH || (number == TENTH && digit <= LAST) {
+        Some(number * 10 + u64::from(digit))
+    } else {
+        None
+    }
+}
+
+// The number that the digits spell, also where a zero stands in front.
+fn value_of(digits: &[u8]) -> Option<Natural>
+    ensures { result ≡ option_map natural_read (number_from 0 digits.now) }
+{
+    let mut number = 0;
+    let mut is_large = false;
+    for byte in digits {
+        let Some(digit) = digit_of(*byte) else {
+            return None;
+        };
+        match with_digit(number, digit) {
+            Some(longer) => number = longer,
+            None => is_large = true,
+        }
+    }
+    Some(if is_large {
+        Natural::Large
+    } else {
+        Natural::Small(number)
+    })
+}
+
+fn read_natural(digits: &[u8]) -> Option<Natural>
+    ensures { result ≡ option_map natural_read (natural_of digits.now) }
+{
+    match digits {
+        [] => None,
+        [b'0', _, ..] => None,
+        _ => value_of(digits),
+    }
+}
+
+// The number of this size, if one was read.
+fn from_zero(size: Option<Natural>) -> Option<Integer>
+    ensures { (n : Option ℕ) → size ≡ option_map natural_read n
+        → result ≡ option_map integer_read (option_map pos n) }
+{
+    match size {
+        Some(Natural::Small(number)) => Some(Integer::Unsigned(number)),
+        Some(Natural::Large) => Some(Integer::Beyond),
+        None => None,
+    }
+}
+
+// The number below 0 of this size, if one was read.
+fn below_zero(size: Option<Natural>) -> Option<Integer>
+    ensures { (n : Option ℕ) → size ≡ option_map natural_read n
+        → result ≡ option_map integer_read (negated n) }
+{
+    match size {
+        None => None,
+        Some(Natural::Small(0)) => None,
+        Some(Natural::Small(number)) if number <= 1 << 63 => {
+            Some(Integer::Signed(-((number - 1) as i64) - 1))
+        }
+        Some(Natural::Small(_)) => Some(Integer::Beyond),
+        Some(Natural::Large) => Some(Integer::Beyond),
+    }
+}
+
+/// The number of any size that the field spells: decimal digits with no zero in front, or `0`, and
+/// one `-` in front of a number below 0.
+pub fn read_integer(field: &[u8]) -> Option<Integer>
+    ensures { result ≡ option_map integer_read (integer_of field.now) }
+{
+    match field {
+        [] => None,
+        [b'-', digits @ ..] => below_zero(read_natural(digits)),
+        _ => from_zero(read_natural(field)),
+    }
+}
+
+fn small_number(field: &[u8]) -> Option<u64>
+    ensures { result ≡ if_small (natural_of field.now) }
+{
+    match read_natural(field) {
+        Some(Natural::Small(number)) => Some(number),
+        _ => None,
+    }
+}
 
 /// The number below 2^64 that the field spells: decimal digits with no zero in front, or `0`.
 pub fn read_number(field: &[u8]) -> Option<u64>
+    ensures value { result ≡ if_small (natural_of field.now) }
     ensures some { IfSome result (λ n. field.now ≡ decimal n) }
     ensures none { IfNone result ((n : ℕ) → n < 2 ^ 64 → field.now ≡ decimal n → ⊥) }
 {
-    let Ok(text) = std::str::from_utf8(field) else {
-        return None;
-    };
-    let Ok(number) = text.parse::<u64>() else {
-        return None;
-    };
-    let mut buffer = Buffer::new();
-    if buffer.format(number).as_bytes() == field {
-        Some(number)
-    } else {
-        None
+    small_number(field)
+}
+
+fn signed_number(field: &[u8]) -> Option<i64>
+    ensures { result ≡ if_signed (integer_of field.now) }
+{
+    match read_integer(field) {
+        Some(Integer::Signed(number)) => Some(number),
+        Some(Integer::Unsigned(number)) if number < 1 << 63 => Some(number as i64),
+        _ => None,
     }
 }
 
 /// The number from -2^63 to 2^63-1 that the field spells: as `read_number`, and a number below 0
 /// has one `-` in front.
 pub fn read_signed(field: &[u8]) -> Option<i64>
+    ensures value { result ≡ if_signed (integer_of field.now) }
     ensures some { IfSome result (λ n. field.now ≡ signed_decimal n) }
     ensures none { IfNone result ((n : ℤ) → FitsSigned w64 n → field.now ≡ signed_decimal n → ⊥) }
 {
-    let Ok(text) = std::str::from_utf8(field) else {
-        return None;
-    };
-    let Ok(signed) = text.parse::<i64>() else {
-        return None;
-    };
-    let mut buffer = Buffer::new();
-    if buffer.format(signed).as_bytes() == field {
-        Some(signed)
-    } else {
-        None
-    }
+    signed_number(field)
 }

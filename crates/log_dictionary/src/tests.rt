@@ -1,4 +1,5 @@
 use super::*;
+use std::alloc::{AllocError, Global};
 use std::test::Fail;
 
 const LINE: &[u8] = b"message 0 NOTICE 12 \"srv.cc\" \"x=%d\"";
@@ -58,8 +59,8 @@ fn numbers(rt: HostRuntime) {
 
 #[test]
 fn fields(rt: HostRuntime) {
-    assert!(rt; matches!(split_field(b"a  b"), Some((b"a", b" b"))));
-    assert!(rt; split_field(b"ab").is_none());
+    assert!(rt; matches!(split_at_byte(b"a  b", b' '), Some((b"a", b" b"))));
+    assert!(rt; split_at_byte(b"ab", b' ').is_none());
 }
 
 #[test]
@@ -72,8 +73,31 @@ fn a_message_is_read(rt: HostRuntime) -> Result<(), Fail> {
     assert_eq!(rt; message.line, 12);
     assert_eq!(rt; message.severity, Severity::Notice);
     assert_eq!(rt; message.format.bytes(), b"x=%d".as_slice());
-    assert!(rt; message.is_same(message));
     assert!(rt; dictionary.get(1).is_none());
+    Ok(())
+}
+
+#[test]
+fn escapes_are_read(rt: HostRuntime) -> Result<(), Fail> {
+    let mut dictionary = Dictionary::make(rt.alloc());
+    for (line, file, format) in [
+        (
+            b"message 0 ERROR 1 \"a\\\"b\\\\\" \"\\x41\\n\\t%d\"".as_slice(),
+            b"a\"b\\".as_slice(),
+            b"A\n\t%d".as_slice(),
+        ),
+        (
+            b"message 1 ERROR 1 \"\\x00\\xfF\xc3\xa9\" \"\\x25%\"".as_slice(),
+            b"\x00\xff\xc3\xa9".as_slice(),
+            b"%%".as_slice(),
+        ),
+    ] {
+        let id = dictionary.len();
+        assert_eq!(rt; dictionary.read_line(line), Ok(()));
+        let message = dictionary.get(id).ok_or("a message is there")?;
+        assert_eq!(rt; message.file.as_slice(), file);
+        assert_eq!(rt; message.format.bytes(), format);
+    }
     Ok(())
 }
 
@@ -103,7 +127,19 @@ fn other_lines_are_refused(rt: HostRuntime) {
             LineFault::BadEntry,
         ),
         (
-            b"message 0 NOTICE 12 \"a\\\\\" \"b\"".as_slice(),
+            b"message 0 NOTICE 12 \"a\\q\" \"b\"".as_slice(),
+            LineFault::BadEntry,
+        ),
+        (
+            b"message 0 NOTICE 12 \"a\\x4\" \"b\"".as_slice(),
+            LineFault::BadEntry,
+        ),
+        (
+            b"message 0 NOTICE 12 \"a\"\"b\"".as_slice(),
+            LineFault::BadEntry,
+        ),
+        (
+            b"message 1 NOTICE 12 \"a\" \"\\x00\"".as_slice(),
             LineFault::BadEntry,
         ),
         (
@@ -126,8 +162,13 @@ fn other_lines_are_refused(rt: HostRuntime) {
         assert_eq!(rt; dictionary.read_line(line), Err(fault));
     }
     assert_eq!(rt; dictionary.read_line(LINE), Ok(()));
-    let again = b"message 1 NOTICE 12 \"srv.cc\" \"x=%d\"";
-    assert_eq!(rt; dictionary.read_line(again), Err(LineFault::BadEntry));
+    for again in [
+        b"message 1 NOTICE 12 \"srv.cc\" \"x=%d\"".as_slice(),
+        // that it is there comes before its id
+        b"message 7 NOTICE 12 \"srv.cc\" \"\\x78=%d\"".as_slice(),
+    ] {
+        assert_eq!(rt; dictionary.read_line(again), Err(LineFault::BadEntry));
+    }
     assert_eq!(rt; dictionary.len(), 1);
 }
 
@@ -148,7 +189,7 @@ fn a_worked_entry_is_written_and_read(rt: HostRuntime) -> Result<(), Fail> {
         return Err("the entry is read".into());
     };
     assert_eq!(rt; len, 19);
-    assert!(rt; read.is_same(message));
+    assert!(rt; read == *message);
     Ok(())
 }
 
@@ -169,7 +210,7 @@ fn entries_are_read_as_they_were_written(rt: HostRuntime) -> Result<(), Fail> {
             return Err("the entry is read".into());
         };
         assert_eq!(rt; len, end);
-        assert!(rt; read.is_same(message));
+        assert!(rt; read == *message);
     }
     Ok(())
 }
@@ -302,29 +343,51 @@ fn large_messages_are_kept_whole(rt: HostRuntime) -> Result<(), Fail> {
             return Err("the entry is read".into());
         };
         assert_eq!(rt; read_len, entry.len(), "{row}");
-        assert!(rt; read.is_same(message), "{row}");
+        assert!(rt; read == *message, "{row}");
     }
+    Ok(())
+}
+
+fn line_with_id(alloc: Global, id: u32) -> Result<String, AllocError> {
+    format!(in alloc; "message {id} NOTICE 12 \"srv.cc\" \"x{id}=%d\"")
+}
+
+#[test]
+fn a_dictionary_is_filled(rt: HostRuntime) -> Result<(), Fail> {
+    let mut dictionary = Dictionary::make(rt.alloc());
+    for id in 0..65_536 {
+        let line = line_with_id(rt.alloc(), id)?;
+        assert_eq!(rt; dictionary.read_line(line.as_bytes()), Ok(()), "{line}");
+    }
+    assert_eq!(rt; dictionary.len(), 65_536);
+    for id in [65_536, 0] {
+        let line = line_with_id(rt.alloc(), id)?;
+        assert_eq!(rt;
+            dictionary.read_line(line.as_bytes()),
+            Err(LineFault::TooMany)
+        );
+    }
+    for id in [0, 40_000, 65_535] {
+        let format = format!(in rt.alloc(); "x{id}=%d")?;
+        let message = dictionary.get(id).ok_or("a message is there")?;
+        assert_eq!(rt; message.format.bytes(), format.as_bytes());
+        let mut bytes = [0; 40];
+        assert!(rt; entry_len(message) <= 40);
+        put_entry(message, &mut bytes);
+        let Ok((again, _)) = read_entry(rt.alloc(), &bytes) else {
+            return Err("the entry is read".into());
+        };
+        assert_eq!(rt; dictionary.add(again), Ok(Added::Old(id)));
+    }
+    let Ok((other, _)) = read_entry(rt.alloc(), ENTRY) else {
+        return Err("the entry is read".into());
+    };
+    assert_eq!(rt; dictionary.add(other), Err(AddFault::TooMany));
     Ok(())
 }
 
 /// How many messages a dictionary is given.
 const MANY: u32 = 1000;
-
-#[test]
-fn many_lines_are_read(rt: HostRuntime) -> Result<(), Fail> {
-    let mut dictionary = Dictionary::make(rt.alloc());
-    for id in 0..MANY {
-        let line = format!(in rt.alloc(); "message {id} NOTICE 12 \"srv.cc\" \"x{id}=%d\"")?;
-        assert_eq!(rt; dictionary.read_line(line.as_bytes()), Ok(()), "{line}");
-    }
-    assert_eq!(rt; dictionary.len(), MANY);
-    for id in 0..MANY {
-        let format = format!(in rt.alloc(); "x{id}=%d")?;
-        let message = dictionary.get(id).ok_or("a message is there")?;
-        assert_eq!(rt; message.format.bytes(), format.as_bytes());
-    }
-    Ok(())
-}
 
 /// `LINE`'s message, but at this line, as an entry.
 fn entry_at(line: u32) -> [u8; 19] {

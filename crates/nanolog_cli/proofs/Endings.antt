@@ -1,24 +1,89 @@
--- How a command ends whose text was made.
-use Rattle.std.proofs.Common.{◌≡◌, ℕ, List, Result, Ok, Err, sym, subst, inl}
-use Rattle.std.specs.Prelude.{OnOk, OnErr, IfErr}
-use Rattle.nl_io.specs.Count.{Rose}
-use Rattle.nl_io.specs.Content.{Told, with_end, PutsFront}
+-- How a command ends whose file gave nothing, and one whose text was made.
+use Rattle.std.proofs.Common.{◌≡◌, ◌≢◌, ℕ, List, ◌++◌, Result, Ok, Err, refl, ap, ◌∙◌, inl, inr}
+use Rattle.std.specs.Result.{IsErrAnd}
+use Rattle.nl_io.specs.Content.{Told, with_end}
 use Rattle.nl_io.specs.Desk.{Desk}
-use Rattle.nanolog_cli.specs.declared.status.Status.{Status}
-use Rattle.nanolog_cli.specs.declared.status.Status.TheVariants.{WriteFault}
+use Rattle.trace_text.specs.Recordings.{Recording}
+use Rattle.trace_text.specs.Traces.{TraceText}
+use Rattle.nanolog_cli.specs.Commands.{Command, Direct, Replay, Decompress, input_name}
 use Rattle.nanolog_cli.specs.declared.refusal.Refusal.{Refusal}
-use Rattle.nanolog_cli.specs.Commands.{Command}
-use Rattle.nanolog_cli.specs.Outcomes.{Scene, scene, HasText, Ends}
-use Rattle.nanolog_cli.specs.Refusals.{status_of, name_of, EndsWith}
-use Rattle.nanolog_cli.specs.Words.{standard_output}
+use Rattle.nanolog_cli.specs.declared.refusal.Refusal.TheVariants as refusals
+use Rattle.nanolog_cli.specs.Endings.{Ending, Done, Usage, Absent, ReadFault, Refused, WriteFault, NoMemory, refusal_ending, ending_of}
+use Rattle.nanolog_cli.specs.Inputs.{input_refused}
+use Rattle.nanolog_cli.specs.Outcomes.{Scene, scene, HeldRun, HasText, Prints, IsUnread, LacksMemory, Ends}
+use Rattle.nanolog_cli.specs.Texts.{direct_text}
+use Rattle.nanolog_cli.proofs.Fronts.{front-first, front-second, with_end-both}
 
--- by how its text was printed
-pub printed : {T : Type 0} (command : Command) (old : Scene) (desk : Desk) (text : List ℕ) (put : Told) (faults : ℕ) (r : Result T Refusal) → HasText command old.desk desk text
-    → OnOk r (put ≡ with_end text old.put) → OnOk r (faults ≡ old.faults)
-    → IfErr r (λ refusal. status_of refusal ≡ WriteFault) → IfErr r (λ refusal. name_of refusal ≡ standard_output)
-    → OnErr r (PutsFront text old.put put) → OnErr r (Rose old.faults faults)
-    → EndsWith command old (scene desk put faults) r
-printed command old desk text put faults (Ok x) made whole counted status name front cause = record { text = text; made = made; printed = whole; counted = counted }
-printed command old desk text put faults (Err refusal) made whole counted status name front cause =
-    let ends : Status → Type 0 = λ s. Ends command old (scene desk put faults) s (name_of refusal) in
-    subst ends (sym status) (inl (name, record { text = text; made = made; printed = front; failed = cause }))
+-- a call answered this refusal
+pub ended_as : {T : Type 0} (r : Result T Refusal) (refusal : Refusal) → IsErrAnd r (λ e. e ≡ refusal) → ending_of r ≡ refusal_ending refusal
+ended_as (Ok x) refusal is = absurd is
+ended_as (Err e) refusal is = ap refusal_ending is
+
+-- a refusal is no end of what was done
+pub not_done : (refusal : Refusal) → refusal_ending refusal ≢ Done
+not_done refusals.Usage e = cc
+not_done (refusals.Absent name) e = cc
+not_done (refusals.ReadFault name) e = cc
+not_done (refusals.Refused name line cause) e = cc
+not_done (refusals.WriteFault name) e = cc
+not_done refusals.NoMemory e = cc
+
+-- memory was wanting before anything was printed
+memory_read : (command : Command) (old : Scene) (desk : Desk) → IsUnread (input_refused command) (input_name command) old.desk desk NoMemory → LacksMemory command old (scene desk old.put old.faults)
+memory_read (Direct trace) old desk unread = inl (unread, refl, refl)
+memory_read (Replay trace log) old desk unread = (unread, refl, refl)
+memory_read (Decompress log) old desk unread = (unread, refl, refl)
+
+-- nothing was read, and nothing printed
+pub nothing_read : (command : Command) (old : Scene) (desk : Desk) (ending : Ending) → IsUnread (input_refused command) (input_name command) old.desk desk ending → Ends command old (scene desk old.put old.faults) ending
+nothing_read command old desk Done unread = absurd unread
+nothing_read command old desk Usage unread = absurd unread
+nothing_read command old desk (Absent name) unread = (unread, refl, refl)
+nothing_read command old desk (ReadFault name) unread = (unread, refl, refl)
+nothing_read command old desk (Refused name line cause) unread = (unread, refl, refl)
+nothing_read command old desk (WriteFault name) unread = absurd unread
+nothing_read command old desk NoMemory unread = memory_read command old desk unread
+
+-- the text was made, and printed without want of memory
+pub printed : (command : Command) (old : Scene) (desk : Desk) (text : List ℕ) (put : Told) (faults : ℕ) (ending : Ending) → HasText command old.desk desk text
+    → Prints text old.put put old.faults faults ending → ending ≢ NoMemory → Ends command old (scene desk put faults) ending
+printed command old desk text put faults Done made prints memory = (text, made, prints)
+printed command old desk text put faults Usage made prints memory = absurd prints
+printed command old desk text put faults (Absent name) made prints memory = absurd prints
+printed command old desk text put faults (ReadFault name) made prints memory = absurd prints
+printed command old desk text put faults (Refused name line cause) made prints memory = absurd prints
+printed command old desk text put faults (WriteFault name) made prints memory = inl (text, made, prints)
+printed command old desk text put faults NoMemory made prints memory = absurd (memory refl)
+
+-- the run was read, and its lines printed
+pub printed_run : (trace : List ℕ) (old : Scene) (desk : Desk) (run : Recording) (put : Told) (faults : ℕ) (ending : Ending) → HeldRun TraceText old.desk trace run → desk ≡ old.desk
+    → Prints (direct_text run) old.put put old.faults faults ending → Ends (Direct trace) old (scene desk put faults) ending
+printed_run trace old desk run put faults Done held same prints = (direct_text run, (run, held, refl, same), prints)
+printed_run trace old desk run put faults Usage held same prints = absurd prints
+printed_run trace old desk run put faults (Absent name) held same prints = absurd prints
+printed_run trace old desk run put faults (ReadFault name) held same prints = absurd prints
+printed_run trace old desk run put faults (Refused name line cause) held same prints = absurd prints
+printed_run trace old desk run put faults (WriteFault name) held same prints = inl (direct_text run, (run, held, refl, same), prints)
+printed_run trace old desk run put faults NoMemory held same prints = inr (direct_text run, (run, held, refl, same), prints)
+
+-- ---- a text that is printed in pieces
+
+-- a piece that wasn't printed whole is followed by others
+pub prints_first : (a b : List ℕ) (was is : Told) (before after : ℕ) (ending : Ending) → Prints a was is before after ending → ending ≢ Done → Prints (a ++ b) was is before after ending
+prints_first a b was is before after Done prints cut = absurd (cut refl)
+prints_first a b was is before after Usage prints cut = absurd prints
+prints_first a b was is before after (Absent name) prints cut = absurd prints
+prints_first a b was is before after (ReadFault name) prints cut = absurd prints
+prints_first a b was is before after (Refused name line cause) prints cut = absurd prints
+prints_first a b was is before after (WriteFault name) prints cut = (prints.0, front-first a b was is prints.1, prints.2)
+prints_first a b was is before after NoMemory prints cut = (front-first a b was is prints.0, prints.1)
+
+-- a piece is printed behind others
+pub prints_second : (a b : List ℕ) (was mid is : Told) (before after : ℕ) (ending : Ending) → mid ≡ with_end a was → Prints b mid is before after ending → Prints (a ++ b) was is before after ending
+prints_second a b was mid is before after Done whole prints = (prints.0 ∙ ap (with_end b) whole ∙ with_end-both a b was, prints.1)
+prints_second a b was mid is before after Usage whole prints = absurd prints
+prints_second a b was mid is before after (Absent name) whole prints = absurd prints
+prints_second a b was mid is before after (ReadFault name) whole prints = absurd prints
+prints_second a b was mid is before after (Refused name line cause) whole prints = absurd prints
+prints_second a b was mid is before after (WriteFault name) whole prints = (prints.0, front-second a b was mid is whole prints.1, prints.2)
+prints_second a b was mid is before after NoMemory whole prints = (front-second a b was mid is whole prints.0, prints.1)

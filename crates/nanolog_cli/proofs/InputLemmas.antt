@@ -1,13 +1,24 @@
 -- What was read is what the name held.
-use Rattle.std.proofs.Common.{◌≡◌, ◌≢◌, ℕ, ◌<◌, ◌≤◌, List, length, take, Option, Some, None, sym, ap, subst, ◌∙◌}
-use Rattle.std.specs.Prelude.{IfSome, is_some, option_map, ⊤}
+use Rattle.std.proofs.Common.{◌≡◌, ◌≢◌, ℕ, ◌<◌, ◌≤◌, List, length, take, Option, Some, None, Result, Ok, Err, refl, sym, ap, subst, ◌∙◌}
+use Rattle.std.specs.Prelude.{IfSome, IfOk, IfErr, IsErrOf, Contains, is_some, option_map, ⊤}
 use Rattle.std.specs.FinMap as map
 use Rattle.nl_io.specs.Content.{Told, PutsFront}
-use Rattle.nl_io.specs.Desk.{Desk, Held, IsReading, Opens, Creates, Finishes, SameButHeld, put_by}
+use Rattle.nl_io.specs.Desk.{Desk, Held, OnlyReadFaults, IsReading, Opens, Creates, Finishes, SameButHeld, put_by}
 use Rattle.nl_io.specs.DeskLaws.{Opens-content, written, written-holds}
-use Rattle.nanolog_cli.specs.declared.status.Status.{Status}
-use Rattle.nanolog_cli.specs.declared.status.Status.TheVariants as statuses
-use Rattle.nanolog_cli.specs.Outcomes.{IsHeld, HoldsFront, IsThere, IsLonger, IsUnread}
+use Rattle.nanolog_cli.specs.declared.refusal.Cause.{Cause}
+use Rattle.nanolog_cli.specs.declared.refusal.Refusal.{Refusal}
+use Rattle.nanolog_cli.specs.Endings.{Ending, Done, Usage, Absent, ReadFault, Refused, WriteFault, NoMemory, refusal_ending, fault_ending}
+use Rattle.nanolog_cli.specs.Inputs.{Never, WrongTrace, UntakenTrace, GivesNothing}
+use Rattle.nanolog_cli.specs.declared.refusal.Cause.TheVariants.{NotYet}
+use Rattle.trace_text.specs.declared.reading.TraceFault.{TraceFault}
+use Rattle.trace_text.specs.declared.reading.TraceFault.TheVariants as faults
+use Rattle.trace_text.specs.Recordings.{Recording}
+use Rattle.trace_text.specs.Traces.{TraceText}
+use Rattle.trace_text.specs.TraceReading.{IsAnswer}
+use Rattle.nanolog_cli.specs.NarrowTraces.{IsNarrowRun, NarrowTrace}
+use Rattle.trace_text.proofs.ToldApart.{one_run}
+use Rattle.nl_io.specs.Count.{Rose}
+use Rattle.nanolog_cli.specs.Outcomes.{IsHeld, HoldsFront, HoldsSuch, IsThere, IsUnread}
 use Rattle.nanolog_cli.proofs.Choices.{some_same}
 
 pub is_open : (old : Desk) (name : List ℕ) (id : ℕ) (new : Desk) → Opens old name id new → map.get new.left id ≢ None
@@ -31,10 +42,9 @@ pub all_held : (old : Desk) (name : List ℕ) (id : ℕ) (new : Desk) (bytes : L
 all_held old name id new bytes opened all =
     same_held old.held name bytes (of_held old.held name opened.content (λ left. bytes ≡ left) opened.holds (all opened.content (Opens-content old name id new opened)))
 
-pub longer_held : (old : Desk) (name : List ℕ) (id : ℕ) (new : Desk) (limit : ℕ) → Opens old name id new
-    → ((content : Told) → IsReading new id content → IfSome content (λ left. limit < length left)) → IsLonger old name limit
-longer_held old name id new limit opened long =
-    of_held old.held name opened.content (λ left. limit < length left) opened.holds (long opened.content (Opens-content old name id new opened))
+-- what is known of what an opened file has left is so of what its name holds
+pub such_held : (old : Desk) (name : List ℕ) (id : ℕ) (new : Desk) (such : List ℕ → Type 0) → Opens old name id new → ((content : Told) → IsReading new id content → IfSome content such) → HoldsSuch old name such
+such_held old name id new such opened so = of_held old.held name opened.content such opened.holds (so opened.content (Opens-content old name id new opened))
 
 there_held : (held : Option Held) (name : List ℕ) (content : Told) → IfSome held (λ h. (bytes : List ℕ) × (map.get h name ≡ Some bytes) × (content ≡ Some bytes)) → IfSome held (λ h. map.get h name ≢ None)
 there_held None name content holds = tt
@@ -52,20 +62,55 @@ some_there (Some h) name bytes is = λ none. absurd cc
 pub held_there : (desk : Desk) (name bytes : List ℕ) → IsHeld desk name bytes → IsThere desk name
 held_there desk name bytes is = some_there desk.held name bytes is
 
-other_form : (held : Option Held) (name : List ℕ) (form : List ℕ → Type 0) → IfSome held (λ h. (bytes : List ℕ) × (map.get h name ≡ Some bytes) × (¬ ⊤)) → IfSome held (λ h. (bytes : List ℕ) × (map.get h name ≡ Some bytes) × (¬ (form bytes)))
-other_form None name form other = tt
-other_form (Some h) name form (bytes, is, never) = absurd (never tt)
+such_there : (held : Option Held) (name bytes : List ℕ) (such : List ℕ → Type 0) → IfSome held (λ h. map.get h name ≡ Some bytes) → such bytes → IfSome held (λ h. (found : List ℕ) × (map.get h name ≡ Some found) × such found)
+such_there None name bytes such is so = tt
+such_there (Some h) name bytes such is so = (bytes, is, so)
 
--- a file that isn't read whatever its form is isn't read where it has to be of a form
-pub unread_form : (form : List ℕ → Type 0) (input : List ℕ) (old new : Desk) (status : Status) (name : List ℕ) → IsUnread (λ _. ⊤) input old new status name → IsUnread form input old new status name
-unread_form form input old new statuses.Done name unread = unread
-unread_form form input old new statuses.Usage name unread = unread
-unread_form form input old new statuses.Refused name unread = (unread.0, unread.1, other_form old.held input form unread.2)
-unread_form form input old new statuses.Damaged name unread = unread
-unread_form form input old new statuses.ReadFault name unread = unread
-unread_form form input old new statuses.WriteFault name unread = unread
-unread_form form input old new statuses.NoMemory name unread = unread
-unread_form form input old new statuses.Absent name unread = unread
+-- what is so of the bytes that a name holds
+pub held_such : (desk : Desk) (name bytes : List ℕ) (such : List ℕ → Type 0) → IsHeld desk name bytes → such bytes → HoldsSuch desk name such
+held_such desk name bytes such is so = such_there desk.held name bytes such is so
+
+never_such : (held : Option Held) (name : List ℕ) (such : List ℕ → Type 0) → IfSome held (λ h. (found : List ℕ) × (map.get h name ≡ Some found) × ⊥) → IfSome held (λ h. (found : List ℕ) × (map.get h name ≡ Some found) × such found)
+never_such None name such other = tt
+never_such (Some h) name such (found, is, never) = absurd never
+
+-- a file that gave nothing whatever it holds gave nothing
+pub unread_never : (refused : List ℕ → ℕ → Cause → Type 0) (input : List ℕ) (old new : Desk) (ending : Ending) → IsUnread Never input old new ending → IsUnread refused input old new ending
+unread_never refused input old new Done unread = unread
+unread_never refused input old new Usage unread = unread
+unread_never refused input old new (Absent name) unread = unread
+unread_never refused input old new (ReadFault name) unread = unread
+unread_never refused input old new (Refused name line cause) unread = (unread.0, unread.1, never_such old.held input (λ bytes. refused bytes line cause) unread.2)
+unread_never refused input old new (WriteFault name) unread = unread
+unread_never refused input old new NoMemory unread = unread
+
+-- a file of which the bytes gave nothing
+pub unread_bytes : (refused : List ℕ → ℕ → Cause → Type 0) (input bytes : List ℕ) (old new : Desk) (ending : Ending) → IsHeld old input bytes → new ≡ old → GivesNothing refused input bytes ending → IsUnread refused input old new ending
+unread_bytes refused input bytes old new Done held same nothing = nothing
+unread_bytes refused input bytes old new Usage held same nothing = nothing
+unread_bytes refused input bytes old new (Absent name) held same nothing = absurd nothing
+unread_bytes refused input bytes old new (ReadFault name) held same nothing = absurd nothing
+unread_bytes refused input bytes old new (Refused name line cause) held same nothing = (nothing.0, same, held_such old input bytes (λ found. refused found line cause) held nothing.1)
+unread_bytes refused input bytes old new (WriteFault name) held same nothing = nothing
+unread_bytes refused input bytes old new NoMemory held same nothing = (same, held_there old input bytes held)
+
+-- the same of what a call answers
+pub unread_given : {T : Type 0} (refused : List ℕ → ℕ → Cause → Type 0) (input bytes : List ℕ) (old new : Desk) (r : Result T Refusal) → IsHeld old input bytes → new ≡ old
+    → IfErr r (λ refusal. GivesNothing refused input bytes (refusal_ending refusal)) → IfErr r (λ refusal. IsUnread refused input old new (refusal_ending refusal))
+unread_given refused input bytes old new (Ok x) held same nothing = tt
+unread_given refused input bytes old new (Err refusal) held same nothing = unread_bytes refused input bytes old new (refusal_ending refusal) held same nothing
+
+pub such_given : {T E : Type 0} (such : List ℕ → T → Type 0) (input bytes : List ℕ) (old : Desk) (r : Result T E) → IsHeld old input bytes → IfOk r (such bytes) → IfOk r (λ x. HoldsSuch old input (λ found. such found x))
+such_given such input bytes old (Ok x) held so = held_such old input bytes (λ found. such found x) held so
+such_given such input bytes old (Err e) held so = tt
+
+-- what is so of the bytes that a name holds follows from what is known of them
+pub such_then : (desk : Desk) (name : List ℕ) (this that : List ℕ → Type 0) → ((bytes : List ℕ) → this bytes → that bytes) → HoldsSuch desk name this → HoldsSuch desk name that
+such_then desk name this that then such = then_such desk.held such
+  where
+    then_such : (held : Option Held) → IfSome held (λ h. (bytes : List ℕ) × (map.get h name ≡ Some bytes) × this bytes) → IfSome held (λ h. (bytes : List ℕ) × (map.get h name ≡ Some bytes) × that bytes)
+    then_such None found = tt
+    then_such (Some h) (bytes, is, so) = (bytes, is, then bytes so)
 
 -- what was written to a name is what it holds
 pub holds_written : (old new : Option Held) (name bytes : List ℕ) → is_some new ≡ is_some old → IfSome old (λ _. option_map (λ names. map.get names name) new ≡ Some (Some bytes))
@@ -82,3 +127,31 @@ front_written old created put new name bytes id creates same count (n, few, is) 
   few,
   holds_written old.held new.held name (take n bytes) (written old name id created put new creates same count finishes).told (written-holds old name (take n bytes) id created put new creates same is finishes),
 )
+
+-- ---- traces
+
+-- a file that was read gave no trace
+pub unread_fault : {T : Type 0} (name : List ℕ) (old new : Desk) (fault : TraceFault) → OnlyReadFaults old new → (¬ (IsErrOf {T = T} (Err fault) faults.ReadFault) → new ≡ old)
+    → (IsErrOf {T = T} (Err fault) faults.ReadFault → Rose old.read_faults new.read_faults) → HoldsSuch old name (λ text. IsAnswer text (Err fault)) → IsThere old name → IsUnread WrongTrace name old new (fault_ending name fault)
+unread_fault name old new faults.ReadFault only same rose such there = (refl, only, rose refl)
+unread_fault name old new (faults.Refused line cause) only same rose such there = (refl, same (λ e. cc), such)
+unread_fault name old new faults.NoMemory only same rose such there = (same (λ e. cc), there)
+
+-- a text in memory spells no run
+pub nothing_fault : {T : Type 0} (name text : List ℕ) (fault : TraceFault) → IsAnswer text (Err fault) → ¬ (IsErrOf {T = T} (Err fault) faults.ReadFault) → GivesNothing UntakenTrace name text (fault_ending name fault)
+nothing_fault name text faults.ReadFault answer read = absurd (read refl)
+nothing_fault name text (faults.Refused line cause) answer read = (refl, answer)
+nothing_fault name text faults.NoMemory answer read = tt
+
+-- with an escape a right trace isn't narrow
+pub escaped : (text : List ℕ) (run : Recording) → TraceText text run → Contains text 92 → UntakenTrace text 0 NotYet
+escaped text run spelled escape = (refl, (run, spelled), λ narrow. narrow.1.unescaped escape)
+
+-- nor is it where its run isn't
+pub wide : (text : List ℕ) (run : Recording) → TraceText text run → ¬ (IsNarrowRun run) → UntakenTrace text 0 NotYet
+wide text run spelled isnt = (refl, (run, spelled), λ narrow. isnt (subst IsNarrowRun (one_run text narrow.0 run narrow.1.text spelled) narrow.1.narrow))
+
+-- what is known of a text is so of some text
+pub text_given : {T E : Type 0} (such : List ℕ → T → Type 0) (text : List ℕ) (r : Result T E) → IfOk r (such text) → IfOk r (λ x. (found : List ℕ) × such found x)
+text_given such text (Ok x) so = (text, so)
+text_given such text (Err e) so = tt

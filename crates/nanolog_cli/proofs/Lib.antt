@@ -1,16 +1,5 @@
 pub mod Choices
-pub mod SplitLemmas
-pub mod Numbers
-pub mod CallLemmas
-pub mod CallForms
-pub mod ClockLemmas
-pub mod MessageForms
-pub mod RunLemmas
-pub mod BodyLemmas
-pub mod BodyForms
-pub mod PartLemmas
-pub mod TextLemmas
-pub mod TextForms
+pub mod Walks
 pub mod InputLemmas
 pub mod LineLemmas
 pub mod LogLemmas
@@ -20,5 +9,8 @@ pub mod RunFrames
 pub mod LogParts
 pub mod LogForms
 pub mod Fronts
+pub mod NarrowLemmas
+pub mod Pieces
 pub mod Endings
+pub mod PrintLemmas
 pub mod EndLaws

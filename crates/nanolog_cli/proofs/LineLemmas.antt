@@ -1,41 +1,36 @@
--- The lines of the calls of one writer.
-use Rattle.std.proofs.Common.{◌≡◌, ℕ, zero, suc, ◌+◌, ◌≤◌, List, [], ◌∷◌, ◌++◌, length, take, Some, Result, Ok, Err, refl, sym, ap, subst, ◌∙◌, add-zero, arith}
-use Rattle.std.specs.Prelude.{slice_get, IfOk, codes, sum_by}
-use Rattle.std.specs.Fmt.{decimal}
-use Rattle.std.proofs.lemmas.List.Sums.{sum_by-cons}
-use Rattle.std.specs.Global.{Vec}
-use Rattle.std.specs.declared.alloc.AllocError.{AllocError}
-use Rattle.std.specs.List.{flat_map, filter_map, enumerate_from, AllByRecursion}
+-- The lines of calls, of one writer and of a run.
+use Rattle.std.proofs.Common.{◌≡◌, ℕ, zero, suc, ◌+◌, ◌<◌, ◌≤◌, Bool, true, false, List, [], ◌∷◌, ◌++◌, length, map, take, drop, get_or, take-append-drop, Option, Some, None, refl, sym, ap, subst, ◌∙◌, add-zero, append_assoc, arith}
+use Rattle.std.specs.Prelude.{slice_get, if◌then◌else◌}
+use Rattle.std.specs.List.{flat_map, filter_map, enumerate_from, AllByRecursion, cons_option}
+use Rattle.std.specs.Option.{option_map}
 use Rattle.std.proofs.lemmas.Grind.{flat_map-append}
-use Rattle.std.proofs.lemmas.List.{take_more, append-nil}
+use Rattle.std.proofs.lemmas.List.{take_more, append-nil, length-map}
 use Rattle.std.proofs.lemmas.List.Concat.{flat_map-cons}
 use Rattle.std.proofs.lemmas.List.Elements.{filter_map-append}
-use Rattle.std.proofs.lemmas.Option.{slice_get_within, get_or_from_slice_get}
+use Rattle.std.proofs.lemmas.Option.{slice_get_within}
 use Rattle.log_dictionary.specs.declared.clock.Clock.{Clock}
 use Rattle.log_dictionary.specs.declared.message.Message.{Message}
 use Rattle.log_dictionary.specs.Calls.{LogCall}
-use Rattle.direct_printf.specs.Lines.{Line, Direct}
+use Rattle.direct_printf.specs.Lines.{Line, comes_before, insert_call, in_order, Direct}
 use Rattle.direct_printf.specs.InOrder.{IsNotAfter, IsInOrder, Direct-sorted, comes_before-later}
 use Rattle.arg_records.specs.declared.call.Call.{Call}
-use Rattle.trace_text.specs.Recordings.{Recording, IsRecording, calls_of}
 use Rattle.arg_records.specs.Calls.{IsCall, NeverFalls, log_call, writer_calls}
-use Rattle.nanolog_cli.specs.Texts.{direct_text}
-use Rattle.nanolog_cli.specs.Replays.{accepted_text}
+use Rattle.trace_text.specs.declared.order.Place.{Place}
+use Rattle.trace_text.specs.Recordings.{Recording, IsRecording, calls_of}
+use Rattle.trace_text.specs.Order.{place_of, places_in_order}
+use Rattle.nanolog_cli.specs.Texts.{direct_text, HasCall}
 use Rattle.nanolog_cli.proofs.Choices.{some_same}
+use Rattle.nanolog_cli.proofs.Walks.{seen_next}
 
-pub taken : (calls : List Call) (i : ℕ) (call : Call) → Some call ≡ slice_get calls i → take (i + 1) calls ≡ take i calls ++ call ∷ []
-taken calls i call e =
-    take_more calls i call (slice_get_within calls i call (sym e)) ∙ ap (λ (c : Call). take i calls ++ c ∷ []) (get_or_from_slice_get calls i call call (sym e))
+-- ---- the calls of one writer
 
-pub named_at : (messages : List Message) (calls : List Call) (i : ℕ) (call : Call) → AllByRecursion (IsCall messages) calls → Some call ≡ slice_get calls i → IsCall messages call
-named_at messages [] i call h e = absurd cc
-named_at messages (c ∷ calls) zero call h e = subst (IsCall messages) (sym (some_same call c e)) h.0
-named_at messages (c ∷ calls) (suc i) call h e = named_at messages calls i call h.1 e
+later_in_middle : (least : ℕ) (front back : List Call) (call : Call) → NeverFalls least (front ++ call ∷ back) → least ≤ call.stamp
+later_in_middle least [] back call later = later.0
+later_in_middle least (c ∷ front) back call later = omega (arith, later.0, later_in_middle c.stamp front back call later.1)
 
-pub later_at : (least : ℕ) (calls : List Call) (i : ℕ) (call : Call) → NeverFalls least calls → Some call ≡ slice_get calls i → least ≤ call.stamp
-later_at least [] i call h e = absurd cc
-later_at least (c ∷ calls) zero call h e = omega (arith, ap (λ (x : Call). x.stamp) (some_same call c e), h.0)
-later_at least (c ∷ calls) (suc i) call h e = omega (arith, h.0, later_at c.stamp calls i call h.1 e)
+-- no call is earlier than the stamp that none may be below
+pub next_later : (least : ℕ) (seen rest all left : List Call) (call : Call) → seen ++ rest ≡ all → rest ≡ call ∷ left → NeverFalls least all → least ≤ call.stamp
+next_later least seen rest all left call joined next later = later_in_middle least seen left call (subst (NeverFalls least) (sym (seen_next seen rest all left call joined next)) later)
 
 enumerate-push : (n : ℕ) (calls : List Call) (call : Call) → enumerate_from n (calls ++ call ∷ []) ≡ enumerate_from n calls ++ (n + length calls, call) ∷ []
 enumerate-push n [] call = ap (λ (m : ℕ). (m, call) ∷ []) (sym (add-zero n))
@@ -46,6 +41,9 @@ enumerate-push n (c ∷ calls) call =
 -- a call with its message
 abbrev made : ℕ → Call → Message → LogCall
 made ordinal call message = record { writer = 0; ordinal = ordinal; stamp = call.stamp; message = message; args = call.args }
+
+is_made : (messages : List Message) (ordinal : ℕ) (call : Call) (message : Message) → slice_get messages call.id ≡ Some message → log_call messages 0 (ordinal, call) ≡ Some (made ordinal call message)
+is_made messages ordinal call message known = rw known refl
 
 one_made : (messages : List Message) (ordinal : ℕ) (call : Call) (message : Message) → slice_get messages call.id ≡ Some message → filter_map (log_call messages 0) ((ordinal, call) ∷ []) ≡ made ordinal call message ∷ []
 one_made messages ordinal call message known = rw known refl
@@ -62,17 +60,14 @@ one_line clock calls call =
     flat_map-append (Line clock) calls (call ∷ [])
     ∙ ap (λ (r : List ℕ). flat_map (Line clock) calls ++ r) (flat_map-cons (Line clock) call [] ∙ append-nil (Line clock call))
 
-pub lines_more : (messages : List Message) (clock : Clock) (calls : List Call) (i : ℕ) (call : Call) (old new : List ℕ) → AllByRecursion (IsCall messages) calls → Some call ≡ slice_get calls i
-    → old ≡ flat_map (Line clock) (writer_calls messages (0, take i calls))
-    → ((ordinal : ℕ) (message : Message) → slice_get messages call.id ≡ Some message → new ≡ old ++ Line clock (record { writer = 0; ordinal = ordinal; stamp = call.stamp; message = message; args = call.args }))
-    → new ≡ flat_map (Line clock) (writer_calls messages (0, take (i + 1) calls))
-lines_more messages clock calls i call old new named e so_far next =
-    let is = named_at messages calls i call named e in
-    let ordinal : ℕ = 0 + length (take i calls) in
-    next ordinal is.message is.known ∙ ap (λ (t : List ℕ). t ++ Line clock (made ordinal call is.message)) so_far
-    ∙ sym (ap (λ (cs : List Call). flat_map (Line clock) (writer_calls messages (0, cs))) (taken calls i call e)
-    ∙ ap (flat_map (Line clock)) (writer_calls-push messages (take i calls) call is.message is.known)
-    ∙ one_line clock (writer_calls messages (0, take i calls)) (made ordinal call is.message))
+-- the line of one more call of writer 0
+pub lines_more : (messages : List Message) (clock : Clock) (seen : List Call) (call : Call) (old new : List ℕ) → IsCall messages call → old ≡ flat_map (Line clock) (writer_calls messages (0, seen))
+    → ((ordinal : ℕ) (line : LogCall) → log_call messages 0 (ordinal, call) ≡ Some line → new ≡ old ++ Line clock line) → new ≡ flat_map (Line clock) (writer_calls messages (0, seen ++ call ∷ []))
+lines_more messages clock seen call old new is so_far next =
+    let ordinal : ℕ = 0 + length seen in
+    next ordinal (made ordinal call is.message) (is_made messages ordinal call is.message is.known)
+    ∙ ap (λ (t : List ℕ). t ++ Line clock (made ordinal call is.message)) so_far
+    ∙ sym (ap (flat_map (Line clock)) (writer_calls-push messages seen call is.message is.known) ∙ one_line clock (writer_calls messages (0, seen)) (made ordinal call is.message))
 
 not_after : (messages : List Message) (n : ℕ) (call : Call) (message : Message) (calls : List Call) → AllByRecursion (IsCall messages) calls → NeverFalls call.stamp calls
     → IsNotAfter (made n call message) (filter_map (log_call messages 0) (enumerate_from (n + 1) calls))
@@ -85,38 +80,156 @@ in_order_from messages n least [] named later = tt
 in_order_from messages n least (call ∷ calls) named later =
     rw named.0.known (not_after messages n call named.0.message calls named.1 later.1, in_order_from messages (n + 1) call.stamp calls named.1 later.1)
 
-pub single : (writers : List (List Call)) (calls : List Call) → length writers ≡ 1 → Some calls ≡ slice_get writers 0 → writers ≡ calls ∷ []
-single [] calls one e = absurd cc
-single (w ∷ []) calls one e = cc
-single (w ∷ v ∷ writers) calls one e = absurd (omega arith)
-
-pub all_lines : (run : Recording) (calls : List Call) → run.writers ≡ calls ∷ [] → AllByRecursion (IsCall run.dictionary) calls → NeverFalls run.clock.tick calls
-    → flat_map (Line run.clock) (writer_calls run.dictionary (0, calls)) ≡ direct_text run
-all_lines run calls one named later =
-    let all : calls_of run ≡ writer_calls run.dictionary (0, calls) =
-    ap (λ (ws : List (List Call)). flat_map (writer_calls run.dictionary) (enumerate_from 0 ws)) one ∙ flat_map-cons (writer_calls run.dictionary) (0, calls) [] ∙ append-nil (writer_calls run.dictionary (0, calls)) in
-    sym (ap (Direct run.clock) all ∙ Direct-sorted run.clock (writer_calls run.dictionary (0, calls)) (in_order_from run.dictionary 0 run.clock.tick calls named later))
-
-pub run_lines : (seen run : Recording) (calls : List Call) (r : Result (Vec ℕ) AllocError) → seen ≡ run → length run.writers ≡ 1 → Some calls ≡ slice_get seen.writers 0 → IsRecording seen
-    → IfOk r (λ text. text.items ≡ flat_map (Line seen.clock) (writer_calls seen.dictionary (0, calls))) → IfOk r (λ text. text.items ≡ direct_text run)
-run_lines seen run calls (Err e) same one first recorded lines = tt
-run_lines seen run calls (Ok text) same one first recorded lines =
-    let only : seen.writers ≡ calls ∷ [] = single seen.writers calls (ap (λ (x : Recording). length x.writers) same ∙ one) first in
-    let named : AllByRecursion (AllByRecursion (IsCall seen.dictionary)) (calls ∷ []) = subst (AllByRecursion (AllByRecursion (IsCall seen.dictionary))) only recorded.calls in
-    let later : AllByRecursion (NeverFalls seen.clock.tick) (calls ∷ []) = subst (AllByRecursion (NeverFalls seen.clock.tick)) only recorded.stamps in
-    lines ∙ all_lines seen calls only named.0 later.0 ∙ ap direct_text same
-
 -- the lines of one writer's calls are those of all, in order
 pub writer_lines : (messages : List Message) (clock : Clock) (calls : List Call) → AllByRecursion (IsCall messages) calls → NeverFalls clock.tick calls
     → flat_map (Line clock) (writer_calls messages (0, calls)) ≡ Direct clock (writer_calls messages (0, calls))
 writer_lines messages clock calls named later = sym (Direct-sorted clock (writer_calls messages (0, calls)) (in_order_from messages 0 clock.tick calls named later))
 
-all_counted : (run : Recording) (calls : List Call) → run.writers ≡ calls ∷ [] → sum_by length run.writers ≡ length calls
-all_counted run calls one = ap (sum_by length) one ∙ omega (arith, sum_by-cons length calls [])
+-- one writer's calls are all
+pub single : (writers : List (List Call)) (calls : List Call) → length writers ≡ 1 → Some calls ≡ slice_get writers 0 → writers ≡ calls ∷ []
+single [] calls one e = absurd cc
+single (w ∷ []) calls one e = cc
+single (w ∷ v ∷ writers) calls one e = absurd (omega arith)
 
-pub accepted : (seen run : Recording) (calls : List Call) (count : ℕ) (r : Result (Vec ℕ) AllocError) → seen ≡ run → length run.writers ≡ 1 → Some calls ≡ slice_get seen.writers 0 → count ≡ length calls
-    → IfOk r (λ text. text.items ≡ codes "accepted " ++ decimal count ++ codes " dropped 0 filtered 0\n") → IfOk r (λ text. text.items ≡ accepted_text run)
-accepted seen run calls count (Err e) same one first counted lines = tt
-accepted seen run calls count (Ok text) same one first counted lines =
-    let only : seen.writers ≡ calls ∷ [] = single seen.writers calls (ap (λ (x : Recording). length x.writers) same ∙ one) first in
-    lines ∙ ap (λ (n : ℕ). codes "accepted " ++ decimal n ++ codes " dropped 0 filtered 0\n") (counted ∙ sym (all_counted seen calls only)) ∙ ap accepted_text same
+-- ---- the calls of a run
+
+both_have : (P : LogCall → Type 0) (a b : List LogCall) → AllByRecursion P a → AllByRecursion P b → AllByRecursion P (a ++ b)
+both_have P [] b ha hb = hb
+both_have P (x ∷ a) b ha hb = (ha.0, both_have P a b ha.1 hb)
+
+-- the call at a place of a writer's list
+call_there : (run : Recording) (writer ordinal : ℕ) (whole : List Call) (call : Call) (others : List LogCall) (named : Option Message) → slice_get run.dictionary call.id ≡ named
+    → slice_get run.writers writer ≡ Some whole → slice_get whole ordinal ≡ Some call → AllByRecursion (HasCall run) others
+    → AllByRecursion (HasCall run) (cons_option (option_map (λ message. record { writer = writer; ordinal = ordinal; stamp = call.stamp; message = message; args = call.args }) named) others)
+call_there run writer ordinal whole call others None is by at rest = rest
+call_there run writer ordinal whole call others (Some message) is by at rest = (
+  record {
+    calls = whole;
+    call = call;
+    of_writer = by;
+    at_ordinal = at;
+    is = ap (option_map (λ (m : Message). let line : LogCall = record { writer = writer; ordinal = ordinal; stamp = call.stamp; message = m; args = call.args } in line)) is;
+  },
+  rest,
+)
+
+calls_there : (run : Recording) (writer n : ℕ) (whole calls : List Call) → slice_get run.writers writer ≡ Some whole → ((i : ℕ) → slice_get whole (n + i) ≡ slice_get calls i)
+    → AllByRecursion (HasCall run) (filter_map (log_call run.dictionary writer) (enumerate_from n calls))
+calls_there run writer n whole [] by at = tt
+calls_there run writer n whole (call ∷ calls) by at =
+    call_there run writer n whole call (filter_map (log_call run.dictionary writer) (enumerate_from (n + 1) calls)) (slice_get run.dictionary call.id) refl by (ap (slice_get whole) (sym (add-zero n)) ∙ at zero)
+    (calls_there run writer (n + 1) whole calls by (λ i. let place : (n + 1) + i ≡ n + suc i = omega arith in ap (slice_get whole) place ∙ at (suc i)))
+
+writers_there : (run : Recording) (n : ℕ) (writers : List (List Call)) → ((i : ℕ) → slice_get run.writers (n + i) ≡ slice_get writers i)
+    → AllByRecursion (HasCall run) (flat_map (writer_calls run.dictionary) (enumerate_from n writers))
+writers_there run n [] at = tt
+writers_there run n (calls ∷ writers) at =
+    both_have (HasCall run) (writer_calls run.dictionary (n, calls)) (flat_map (writer_calls run.dictionary) (enumerate_from (n + 1) writers))
+    (calls_there run n 0 calls calls (ap (slice_get run.writers) (sym (add-zero n)) ∙ at zero) (λ i. ap (slice_get calls) (let place : 0 + i ≡ i = omega arith in place)))
+    (writers_there run (n + 1) writers (λ i. let place : (n + 1) + i ≡ n + suc i = omega arith in ap (slice_get run.writers) place ∙ at (suc i)))
+
+inserted_has : (P : LogCall → Type 0) (call first : LogCall) (others : List LogCall) (before : Bool) → P call → P first → AllByRecursion P others → AllByRecursion P (insert_call call others)
+    → AllByRecursion P (if before then first ∷ insert_call call others else call ∷ first ∷ others)
+inserted_has P call first others true c f os inserted = (f, inserted)
+inserted_has P call first others false c f os inserted = (c, (f, os))
+
+insert_has : (P : LogCall → Type 0) (call : LogCall) (calls : List LogCall) → P call → AllByRecursion P calls → AllByRecursion P (insert_call call calls)
+unfolding insert_call
+insert_has P call [] c all = (c, tt)
+insert_has P call (first ∷ others) c all = inserted_has P call first others (comes_before first call) c all.0 all.1 (insert_has P call others c all.1)
+
+order_has : (P : LogCall → Type 0) (calls : List LogCall) → AllByRecursion P calls → AllByRecursion P (in_order calls)
+unfolding in_order
+order_has P [] all = tt
+order_has P (call ∷ calls) all = insert_has P call (in_order calls) all.0 (order_has P calls all.1)
+
+-- each of a run's calls in order stands in the run
+pub calls_in_run : (run : Recording) → AllByRecursion (HasCall run) (in_order (calls_of run))
+calls_in_run run = order_has (HasCall run) (calls_of run) (writers_there run 0 run.writers (λ i. ap (slice_get run.writers) (let place : 0 + i ≡ i = omega arith in place)))
+
+-- the call whose place stands at an index of the places
+pub record CallAt (run : Recording) (calls : List LogCall) (i : ℕ) (place : Place) : Type 0 where
+  pub call : LogCall
+  pub there : HasCall run call
+  pub place_is : place ≡ place_of call
+  pub more : take (i + 1) calls ≡ take i calls ++ call ∷ []
+
+call_at_from : (run : Recording) (calls : List LogCall) (i : ℕ) (d : Place) → AllByRecursion (HasCall run) calls → i < length calls → CallAt run calls i (get_or (map place_of calls) i d)
+call_at_from run [] i d all within = absurd (omega (arith, within))
+call_at_from run (call ∷ calls) zero d all within = record { call = call; there = all.0; place_is = refl; more = refl }
+call_at_from run (call ∷ calls) (suc i) d all within =
+    let next = call_at_from run calls i d all.1 (omega (arith, within)) in
+    let count : suc i + 1 ≡ suc (i + 1) = omega arith in
+    record { call = next.call; there = next.there; place_is = next.place_is; more = ap (λ (n : ℕ). take n (call ∷ calls)) count ∙ ap (λ (cs : List LogCall). call ∷ cs) next.more }
+
+pub call_at_place : (run : Recording) (places : List Place) (i : ℕ) (d : Place) → places ≡ places_in_order run → i < length places → CallAt run (in_order (calls_of run)) i (get_or places i d)
+call_at_place run places i d are within =
+    let calls = in_order (calls_of run) in
+    subst (λ (ps : List Place). CallAt run calls i (get_or ps i d)) (sym are)
+    (call_at_from run calls i d (calls_in_run run) (omega (arith, within, ap length are, length-map calls place_of)))
+
+-- the lines up to one call, and that call's
+pub line_more : (run : Recording) (calls : List LogCall) (i : ℕ) (place : Place) (at : CallAt run calls i place) → flat_map (Line run.clock) (take (i + 1) calls) ≡ flat_map (Line run.clock) (take i calls) ++ Line run.clock at.call
+line_more run calls i place at = ap (flat_map (Line run.clock)) at.more ∙ one_line run.clock (take i calls) at.call
+
+-- the lines of the first calls are followed by those of the others
+pub lines_cut : (run : Recording) (i : ℕ) → direct_text run ≡ flat_map (Line run.clock) (take i (in_order (calls_of run))) ++ flat_map (Line run.clock) (drop i (in_order (calls_of run)))
+unfolding Direct
+lines_cut run i =
+    ap (flat_map (Line run.clock)) (sym (take-append-drop i (in_order (calls_of run))))
+    ∙ flat_map-append (Line run.clock) (take i (in_order (calls_of run))) (drop i (in_order (calls_of run)))
+
+-- ---- the call at a place
+
+item_has : {A : Type 0} (P : A → Type 0) (items : List A) (i : ℕ) (x : A) → AllByRecursion P items → slice_get items i ≡ Some x → P x
+item_has P [] i x all at = absurd cc
+item_has P (y ∷ items) zero x all at = subst P (some_same y x at) all.0
+item_has P (y ∷ items) (suc i) x all at = item_has P items i x all.1 at
+
+later_at : (least : ℕ) (calls : List Call) (i : ℕ) (call : Call) → NeverFalls least calls → slice_get calls i ≡ Some call → least ≤ call.stamp
+later_at least [] i call h e = absurd cc
+later_at least (c ∷ calls) zero call h e = omega (arith, ap (λ (x : Call). x.stamp) (some_same c call e), h.0)
+later_at least (c ∷ calls) (suc i) call h e = omega (arith, h.0, later_at c.stamp calls i call h.1 e)
+
+-- the place is that of a call of the run
+abbrev pub IsPlace : Recording → Place → Type 0
+IsPlace run place = (call : LogCall) × HasCall run call × (place ≡ place_of call)
+
+writer_of : (seen run : Recording) (place : Place) → seen ≡ run → (at : IsPlace run place) → slice_get seen.writers place.writer ≡ Some at.1.calls
+writer_of seen run place same (call, has, is) = ap (λ (r : Recording). slice_get r.writers place.writer) same ∙ ap (λ (p : Place). slice_get run.writers p.writer) is ∙ has.of_writer
+
+pub writer_there : (seen run : Recording) (place : Place) → seen ≡ run → IsPlace run place → place.writer < length seen.writers
+writer_there seen run place same at = slice_get_within seen.writers place.writer at.1.calls (writer_of seen run place same at)
+
+pub call_there_at : (seen run : Recording) (place : Place) (calls : List Call) → seen ≡ run → IsPlace run place → slice_get seen.writers place.writer ≡ Some calls → place.ordinal < length calls
+call_there_at seen run place calls same at by =
+    let is : calls ≡ at.1.calls = some_same calls at.1.calls (sym by ∙ writer_of seen run place same at) in
+    slice_get_within calls place.ordinal at.1.call (ap (λ (cs : List Call). slice_get cs place.ordinal) is ∙ ap (λ (p : Place). slice_get at.1.calls p.ordinal) at.2 ∙ at.1.at_ordinal)
+
+-- what is found at the place of a run's call
+pub record Found (run : Recording) (place : Place) (call : Call) : Type 0 where
+  pub named : IsCall run.dictionary call
+  pub later : run.clock.tick ≤ call.stamp
+  pub is : (made : LogCall) → HasCall run made → place ≡ place_of made → log_call run.dictionary made.writer (made.ordinal, call) ≡ Some made
+
+found_in : (run : Recording) (place : Place) (calls : List Call) (call : Call) → IsRecording run → slice_get run.writers place.writer ≡ Some calls → slice_get calls place.ordinal ≡ Some call → Found run place call
+found_in run place calls call recorded by at = record {
+  named = item_has (IsCall run.dictionary) calls place.ordinal call (item_has (AllByRecursion (IsCall run.dictionary)) run.writers place.writer calls recorded.calls by) at;
+  later = later_at run.clock.tick calls place.ordinal call (item_has (NeverFalls run.clock.tick) run.writers place.writer calls recorded.stamps by) at;
+  is = λ made has is.
+      let same_calls : has.calls ≡ calls = some_same has.calls calls (sym has.of_writer ∙ ap (λ (p : Place). slice_get run.writers p.writer) (sym is) ∙ by) in
+      let same : has.call ≡ call = some_same has.call call (sym has.at_ordinal ∙ ap (λ (cs : List Call). slice_get cs made.ordinal) same_calls ∙ ap (λ (p : Place). slice_get calls p.ordinal) (sym is) ∙ at) in
+      subst (λ (c : Call). log_call run.dictionary made.writer (made.ordinal, c) ≡ Some made) same has.is;
+}
+
+pub found_at : (seen run : Recording) (place : Place) (calls : List Call) (call : Call) → seen ≡ run → IsRecording seen → slice_get seen.writers place.writer ≡ Some calls → slice_get calls place.ordinal ≡ Some call → Found run place call
+found_at seen run place calls call same recorded by at = subst (λ (r : Recording). Found r place call) same (found_in seen place calls call recorded by at)
+
+-- the line that was appended is that of the call at the place
+pub called : (seen run : Recording) (place : Place) (call : Call) (old new : List ℕ) → seen ≡ run
+    → ((made : LogCall) → HasCall run made → place ≡ place_of made → log_call run.dictionary made.writer (made.ordinal, call) ≡ Some made)
+    → ((ordinal : ℕ) (made : LogCall) → log_call seen.dictionary place.writer (ordinal, call) ≡ Some made → new ≡ old ++ Line seen.clock made)
+    → (made : LogCall) → HasCall run made → place ≡ place_of made → new ≡ old ++ Line run.clock made
+called seen run place call old new same found appended made has is =
+    let of_run = subst (λ (r : Recording). (ordinal : ℕ) (line : LogCall) → log_call r.dictionary place.writer (ordinal, call) ≡ Some line → new ≡ old ++ Line r.clock line) same appended in
+    of_run made.ordinal made (ap (λ (p : Place). log_call run.dictionary p.writer (made.ordinal, call)) is ∙ found made has is)

@@ -1,6 +1,7 @@
 -- What stands at the front of a log's bytes, and that it stands there in one way.
 use Rattle.std.proofs.Common.{◌≡◌, ℕ, zero, suc, ◌+◌, ◌<◌, ◌≤◌, ◌^◌, List, [], ◌∷◌, ◌++◌, length, get_or, take, drop, take-append-drop, refl, sym, ap, subst, ◌∙◌, append_assoc, arith}
-use Rattle.std.proofs.lemmas.List.{length-append, length-take-le, append-nil}
+use Rattle.std.proofs.lemmas.List.{length-append, length-take-le, append-nil, get_or_append_left, get_or_default}
+use Rattle.std.proofs.Math.Seq.{get_or-append_seam}
 use Rattle.std.proofs.lemmas.Nat.{le_bytes_2, le_bytes_4, le_bytes_8}
 use Rattle.std.specs.Hash.{le_bytes}
 use Rattle.std.specs.Int.{w16, w32, w64, from_le_bytes}
@@ -12,9 +13,8 @@ use Rattle.printf_grammar.specs.Narrow.{IsNarrow}
 use Rattle.printf_grammar.specs.Types.{field_types, Types}
 use Rattle.log_dictionary.specs.declared.clock.Clock.{Clock}
 use Rattle.log_dictionary.specs.declared.message.Message.{Message}
-use Rattle.log_dictionary.specs.Messages.{HasMessage}
+use Rattle.log_dictionary.specs.Messages.{SameMessage, HasMessage, AreDistinct}
 use Rattle.log_dictionary.specs.BinaryEntries.{SpellsEntry}
-use Rattle.nanolog_cli.specs.NarrowMessages.{NarrowEntry}
 use Rattle.log_dictionary.proofs.BinaryLaws.{one_entry}
 use Rattle.log_dictionary.proofs.Distinct.{still_distinct}
 use Rattle.nibble_pack.specs.Bytes.{length-bytes_low_first}
@@ -26,7 +26,7 @@ use Rattle.checkpoint_io.proofs.BlockLaws.{same_fronts, same_numbers}
 use Rattle.checkpoint_io.proofs.FrontLaws.{one_header}
 use Rattle.nanolog_cli.specs.NarrowTraces.{HasNarrowFormats}
 use Rattle.nanolog_cli.specs.NarrowLogs.{narrow_header}
-use Rattle.nanolog_cli.specs.LogParts.{header_front, BeginsWithHeader, fragment_front, extent_front, BeginsWithCount, BeginsWithEntries, BeginsWithMessages, no_fragment, fragment, BeginsWithBody, BeginsWithRecords, no_extent, extent}
+use Rattle.nanolog_cli.specs.LogParts.{NarrowEntry, header_front, BeginsWithHeader, fragment_front, extent_front, BeginsWithCount, BeginsWithEntries, BeginsWithMessages, no_fragment, fragment, BeginsWithBody, BeginsWithRecords, no_extent, extent}
 
 -- ---- numbers
 
@@ -263,3 +263,12 @@ narrow_types (Field spec ∷ pieces) narrow = integers_append (field_types spec)
 pub narrow_integers : (messages : List Message) → HasNarrowFormats messages → TakeIntegers messages
 narrow_integers [] narrow = tt
 narrow_integers (message ∷ messages) narrow = (narrow_types message.format.pieces narrow.0, narrow_integers messages narrow.1)
+
+-- a message that follows is none of those before it
+pub not_there : (read messages : List Message) (next : Message) (others : List Message) → messages ≡ read ++ next ∷ others → AreDistinct messages → ¬ (HasMessage read next)
+not_there read messages next others whole distinct (k, found, within, is, same) =
+    let all : AreDistinct (read ++ next ∷ others) = subst AreDistinct whole distinct in
+    let first : get_or (read ++ next ∷ others) k next ≡ found = get_or_append_left read (next ∷ others) next k within ∙ get_or_default read k next found within ∙ is in
+    let second : get_or (read ++ next ∷ others) (length read) next ≡ next = get_or-append_seam read next others next in
+    let apart : ¬ (SameMessage found next) = subst (λ (m : Message). ¬ (SameMessage found m)) second (subst (λ (m : Message). ¬ (SameMessage m (get_or (read ++ next ∷ others) (length read) next))) first (all k (length read) next within (omega (arith, length-append read (next ∷ others))))) in
+    apart (record { file = sym same.file; line = sym same.line; severity = sym same.severity; format = sym same.format })

@@ -12,8 +12,7 @@ use Rattle.checkpoint_io.specs.Blocks.{SpellsEntries}
 use Rattle.checkpoint_io.specs.Validity.{last_stamp}
 use Rattle.checkpoint_io.specs.Logs.{ids_used}
 use Rattle.arg_records.specs.Calls.{NeverFalls}
-use Rattle.nanolog_cli.proofs.Choices.{some_same}
-use Rattle.nanolog_cli.proofs.LineLemmas.{taken}
+use Rattle.nanolog_cli.proofs.Walks.{seen_next}
 
 -- ---- ids
 
@@ -21,13 +20,18 @@ ids_used-push : (entries : List Call) (entry : Call) → ids_used (entries ++ en
 ids_used-push [] entry = grind arith
 ids_used-push (e ∷ entries) entry = let others = ids_used-push entries entry in grind arith
 
-pub id_counted : (calls : List Call) (i : ℕ) (call : Call) → Some call ≡ slice_get calls i → call.id < ids_used calls
-id_counted [] i call e = absurd cc
-id_counted (c ∷ calls) zero call e = let same = ap (λ (x : Call). x.id) (some_same call c e) in grind arith
-id_counted (c ∷ calls) (suc i) call e = let here = id_counted calls i call e in grind arith
+id_counted : (front back : List Call) (call : Call) → call.id < ids_used (front ++ call ∷ back)
+id_counted [] back call = grind arith
+id_counted (c ∷ front) back call = let here = id_counted front back call in grind arith
 
-pub ids_more : (calls : List Call) (i : ℕ) (call : Call) (count : ℕ) → Some call ≡ slice_get calls i → count ≡ ids_used (take i calls) → max count (call.id + 1) ≡ ids_used (take (i + 1) calls)
-ids_more calls i call count e so_far = ap (λ (n : ℕ). max n (call.id + 1)) so_far ∙ sym (ap ids_used (taken calls i call e) ∙ ids_used-push (take i calls) call)
+-- the next call is counted among those whose ids are at most so many
+pub id_below : (seen rest all left : List Call) (call : Call) (limit : ℕ) → seen ++ rest ≡ all → rest ≡ call ∷ left → ids_used all ≤ limit → call.id < limit
+id_below seen rest all left call limit joined next most =
+    let here = id_counted seen left call in
+    omega (arith, here, most, ap ids_used (seen_next seen rest all left call joined next))
+
+pub ids_more : (seen : List Call) (call : Call) (count : ℕ) → count ≡ ids_used seen → max count (call.id + 1) ≡ ids_used (seen ++ call ∷ [])
+ids_more seen call count so_far = ap (λ (n : ℕ). max n (call.id + 1)) so_far ∙ sym (ids_used-push seen call)
 
 -- ---- entries
 
@@ -61,26 +65,21 @@ written_behind list words at within =
     ap (take (at + length words)) (sym (append_assoc (take at list) words (drop (at + length words) list)))
     ∙ take_at (take at list ++ words) (drop (at + length words) list) (at + length words) (omega (arith, length-append (take at list) words, length-take-le at list within))
 
-pub records_more : (messages : List Message) (tick : ℕ) (calls : List Call) (i : ℕ) (call : Call) (before end : ℕ) (body packed : List ℕ) → Some call ≡ slice_get calls i → end ≤ length body
-    → SpellsRecords messages tick (take i calls) (take end body) → before ≡ last_stamp tick (take i calls) → SpellsRecord messages before call packed
-    → SpellsRecords messages tick (take (i + 1) calls) (take (end + length packed) (with_words body end packed))
-records_more messages tick calls i call before end body packed e within spelled last is =
-    let pushed = records-push messages tick (take i calls) call (take end body) packed spelled (subst (λ (n : ℕ). SpellsRecord messages n call packed) last is) in
-    subst (λ (entries : List Call). SpellsRecords messages tick entries (take (end + length packed) (with_words body end packed))) (sym (taken calls i call e))
-    (subst (SpellsRecords messages tick ((take i calls) ++ call ∷ [])) (sym (written_behind body packed end within)) pushed)
+records_more : (messages : List Message) (tick : ℕ) (seen : List Call) (call : Call) (before end : ℕ) (body packed : List ℕ) → end ≤ length body
+    → SpellsRecords messages tick seen (take end body) → before ≡ last_stamp tick seen → SpellsRecord messages before call packed
+    → SpellsRecords messages tick (seen ++ call ∷ []) (take (end + length packed) (with_words body end packed))
+records_more messages tick seen call before end body packed within spelled last is =
+    let pushed = records-push messages tick seen call (take end body) packed spelled (subst (λ (n : ℕ). SpellsRecord messages n call packed) last is) in
+    subst (SpellsRecords messages tick (seen ++ call ∷ [])) (sym (written_behind body packed end within)) pushed
 
-pub last_more : (tick : ℕ) (calls : List Call) (i : ℕ) (call : Call) → Some call ≡ slice_get calls i → call.stamp ≡ last_stamp tick (take (i + 1) calls)
-last_more tick calls i call e = sym (ap (last_stamp tick) (taken calls i call e) ∙ last-push tick (take i calls) call)
+not_below : (tick : ℕ) (front back : List Call) (call : Call) → NeverFalls tick (front ++ call ∷ back) → last_stamp tick front ≤ call.stamp
+not_below tick [] back call later = later.0
+not_below tick (c ∷ front) back call later = not_below c.stamp front back call later.1
 
 -- a call isn't earlier than those before it
-pub not_before : (tick : ℕ) (calls : List Call) (i : ℕ) (call : Call) (before : ℕ) → NeverFalls tick calls → Some call ≡ slice_get calls i → before ≡ last_stamp tick (take i calls) → before ≤ call.stamp
-not_before tick [] i call before later e last = absurd cc
-not_before tick (c ∷ calls) zero call before later e last = omega (arith, later.0, last, ap (λ (x : Call). x.stamp) (some_same call c e))
-not_before tick (c ∷ calls) (suc i) call before later e last = not_before c.stamp calls i call before later.1 e last
-
--- the call is counted among those whose ids are at most so many
-pub id_below : (calls : List Call) (i : ℕ) (call : Call) (limit : ℕ) → Some call ≡ slice_get calls i → ids_used calls ≤ limit → call.id < limit
-id_below calls i call limit e most = let here = id_counted calls i call e in omega arith
+pub not_before : (tick : ℕ) (seen rest all left : List Call) (call : Call) (before : ℕ) → seen ++ rest ≡ all → rest ≡ call ∷ left → NeverFalls tick all → before ≡ last_stamp tick seen → before ≤ call.stamp
+not_before tick seen rest all left call before joined next later last =
+    omega (arith, last, not_below tick seen left call (subst (NeverFalls tick) (sym (seen_next seen rest all left call joined next)) later))
 
 -- the entry is appended behind those before it
 pub fragment_more : (messages : List Message) (i : ℕ) (message : Message) (old head before now entry : List ℕ) → Some message ≡ slice_get messages i
@@ -101,27 +100,30 @@ same_length list words at within =
       length-drop (at + length words) list,
     )
 
--- what holds of the bytes behind one record more
-pub record IsPacked (messages : List Message) (tick : ℕ) (calls : List Call) (place end before : ℕ) (body : List ℕ) : Type 0 where
-  pub spelled : SpellsRecords messages tick (take place calls) (take end body)
-  pub short : end ≤ 320 * place
+-- the records of the calls that were seen stand in front of this place
+pub record IsPacked (messages : List Message) (tick : ℕ) (seen : List Call) (end before : ℕ) (body : List ℕ) : Type 0 where
+  pub spelled : SpellsRecords messages tick seen (take end body)
+  pub short : end ≤ 320 * length seen
   pub size : length body ≡ 65536
-  pub last : before ≡ last_stamp tick (take place calls)
+  pub last : before ≡ last_stamp tick seen
 
-pub packed_more : (messages : List Message) (tick : ℕ) (calls : List Call) (i : ℕ) (call : Call) (before end next : ℕ) (body new : List ℕ) → Some call ≡ slice_get calls i → length calls ≤ 128
-    → IsPacked messages tick calls i end before body
+-- of 128 calls at most, those that were seen are fewer while one is left
+pub seen_few : (seen rest all left : List Call) (call : Call) → seen ++ rest ≡ all → rest ≡ call ∷ left → length all ≤ 128 → length seen + 1 ≤ 128
+seen_few seen rest all left call joined next few = omega (arith, few, ap length (seen_next seen rest all left call joined next), length-append seen (call ∷ left))
+
+pub packed_more : (messages : List Message) (tick : ℕ) (seen : List Call) (call : Call) (before end next : ℕ) (body new : List ℕ) → length seen + 1 ≤ 128
+    → IsPacked messages tick seen end before body
     → (packed : List ℕ) × SpellsRecord messages before call packed × (length packed ≤ 320) × (next ≡ end + length packed) × (new ≡ with_words body end packed)
-    → IsPacked messages tick calls (i + 1) next call.stamp new
-packed_more messages tick calls i call before end next body new e few was (packed, is, small, ends, written) =
-    let within = slice_get_within calls i call (sym e) in
+    → IsPacked messages tick (seen ++ call ∷ []) next call.stamp new
+packed_more messages tick seen call before end next body new few was (packed, is, small, ends, written) =
     let room = was.short in
     let size = was.size in
-    let spelled = records_more messages tick calls i call before end body packed e (omega (arith, within, few, room, size)) was.spelled was.last is in
+    let spelled = records_more messages tick seen call before end body packed (omega (arith, few, room, size)) was.spelled was.last is in
     record {
       spelled =
-          subst (λ (n : ℕ). SpellsRecords messages tick (take (i + 1) calls) (take n new)) (sym ends)
-          (subst (λ (b : List ℕ). SpellsRecords messages tick (take (i + 1) calls) (take (end + length packed) b)) (sym written) spelled);
-      short = omega (arith, room, small, ends);
-      size = ap length written ∙ same_length body packed end (omega (arith, within, few, room, small, size)) ∙ size;
-      last = last_more tick calls i call e;
+          subst (λ (n : ℕ). SpellsRecords messages tick (seen ++ call ∷ []) (take n new)) (sym ends)
+          (subst (λ (b : List ℕ). SpellsRecords messages tick (seen ++ call ∷ []) (take (end + length packed) b)) (sym written) spelled);
+      short = omega (arith, room, small, ends, length-append seen (call ∷ []));
+      size = ap length written ∙ same_length body packed end (omega (arith, few, room, small, size)) ∙ size;
+      last = sym (last-push tick seen call);
     }

@@ -18,6 +18,7 @@ use Rattle.checkpoint_io.specs.Blocks.{Block, Fragment, Extent, Close, messages_
 use Rattle.checkpoint_io.specs.Validity.{records_of, IsClosed, IsHeader, Valid}
 use Rattle.checkpoint_io.specs.Logs.{ids_used, LogOf, IsLaidOut, ends, extent, close}
 use Rattle.direct_printf.specs.Lines.{Direct}
+use Rattle.trace_text.specs.Lines.{FitsLine}
 use Rattle.trace_text.specs.Recordings.{Recording, IsRecording, calls_of}
 use Rattle.decompressor.specs.Decompression.{CallsOf, all_calls, Decompressed}
 use Rattle.decompressor.proofs.DecompressionLaws.{whole_is_text}
@@ -155,7 +156,13 @@ log_of_calls run calls blocks bytes one log =
       text_same = subst (Decompressed bytes) (text_of_blocks run calls blocks bytes one log) (whole_is_text (narrow_header run.clock) blocks bytes log.file log.valid);
     }
 
-header_right : (run : Recording) → IsNarrowRun run → IsRecording run → IsHeader (narrow_header run.clock)
+-- a narrow run whose clock and messages can stand in a log
+pub record Replayed (run : Recording) : Type 0 where
+  pub narrow : IsNarrowRun run
+  pub clock_fits : FitsLine run.clock
+  pub distinct : AreDistinct run.dictionary
+
+header_right : (run : Recording) → Replayed run → IsRecording run → IsHeader (narrow_header run.clock)
 header_right run narrow recorded = record {
   some_writer = omega arith;
   few_writers = omega arith;
@@ -226,7 +233,7 @@ some_blocks (m ∷ messages) [] some some_too = absurd (omega (arith, some_too))
 some_blocks (m ∷ messages) (e ∷ entries) some some_too = refl
 
 -- a run without calls: a header and a close mark
-empty_log : (run : Recording) (bytes : List ℕ) → IsNarrowRun run → IsRecording run → run.writers ≡ [] ∷ [] → bytes ≡ header_bytes (narrow_header run.clock) ++ close_bytes 0 → LogOfRun run bytes
+empty_log : (run : Recording) (bytes : List ℕ) → Replayed run → IsRecording run → run.writers ≡ [] ∷ [] → bytes ≡ header_bytes (narrow_header run.clock) ++ close_bytes 0 → LogOfRun run bytes
 empty_log run bytes narrow recorded one is =
     let file : FileOf (narrow_header run.clock) (Close 0 ∷ []) bytes = record { block_bytes = close_bytes 0; spelled = (close_bytes 0, [], refl, record { writer_fits = omega arith; joined = refl }, refl); joined = is } in
     let valid : Valid (narrow_header run.clock) (Close 0 ∷ []) = record { header_right = header_right run narrow recorded; blocks_right = (record { known = omega arith; unclosed = unclosed }, tt) } in
@@ -253,7 +260,7 @@ empty_log run bytes narrow recorded one is =
     })
 
 -- a run with calls: a header, a fragment, an extent and a close mark
-full_log : (run : Recording) (calls : List Call) (after bytes : List ℕ) → IsNarrowRun run → IsRecording run → run.writers ≡ calls ∷ [] → 1 ≤ length calls
+full_log : (run : Recording) (calls : List Call) (after bytes : List ℕ) → Replayed run → IsRecording run → run.writers ≡ calls ∷ [] → 1 ≤ length calls
     → FragmentAndExtent run.dictionary run.clock.tick calls (header_bytes (narrow_header run.clock)) after → bytes ≡ after ++ close_bytes 0 → LogOfRun run bytes
 full_log run calls after bytes narrow recorded one some parts closed_by =
     let used = ids_used calls in
@@ -264,12 +271,12 @@ full_log run calls after bytes narrow recorded one some parts closed_by =
     let extent_block = Extent 0 entries in
     let named : AllByRecursion (IsCall run.dictionary) calls = (subst (AllByRecursion (AllByRecursion (IsCall run.dictionary))) one recorded.calls).0 in
     let later : NeverFalls tick calls = (subst (AllByRecursion (NeverFalls tick)) one recorded.stamps).0 in
-    let few : length calls ≤ 128 = (subst (AllByRecursion (λ cs. length cs ≤ 128)) one narrow.few_calls).0 in
+    let few : length calls ≤ 128 = (subst (AllByRecursion (λ cs. length cs ≤ 128)) one narrow.narrow.few_calls).0 in
     let known = ids_known run.dictionary calls named in
     let count : length messages ≡ used = length-take-le used run.dictionary known in
     let some_id = ids_some calls some in
     let all_there : messages_of (fragment ∷ []) ≡ messages = append-nil messages in
-    let narrow_messages = narrow.few_messages in
+    let narrow_messages = narrow.narrow.few_messages in
     let spelled : SpellsBlocks tick [] (fragment ∷ extent_block ∷ Close 0 ∷ []) ((fragment_head_bytes 0 used ++ parts.entries) ++ ((extent_head_bytes 0 (length parts.body) ++ parts.body) ++ close_bytes 0)) = (
       fragment_head_bytes 0 used ++ parts.entries,
       (extent_head_bytes 0 (length parts.body) ++ parts.body) ++ close_bytes 0,
@@ -330,24 +337,24 @@ full_log run calls after bytes narrow recorded one some parts closed_by =
           file = subst (λ (bs : List Block). FileOf (narrow_header run.clock) bs bytes) as_narrow file;
           valid = subst (Valid (narrow_header run.clock)) as_narrow valid;
           few_messages = omega (arith, count, known, narrow_messages);
-          narrow = narrow_used run.dictionary used narrow.narrow;
+          narrow = narrow_used run.dictionary used narrow.narrow.narrow;
           few_records = omega (arith, few);
           short = log_length run.clock used parts.entries parts.body bytes joined (omega (arith, entries_length messages parts.entries parts.entries_spelled, count, known, narrow_messages)) parts.short;
         },
       );
     })
 
-log_of : (run : Recording) (calls : List Call) (after bytes : List ℕ) → IsNarrowRun run → IsRecording run → run.writers ≡ calls ∷ []
+log_of : (run : Recording) (calls : List Call) (after bytes : List ℕ) → Replayed run → IsRecording run → run.writers ≡ calls ∷ []
     → AppendsCalls run.dictionary run.clock.tick calls (header_bytes (narrow_header run.clock)) after → bytes ≡ after ++ close_bytes 0 → LogOfRun run bytes
 log_of run [] after bytes narrow recorded one appended is = empty_log run bytes narrow recorded one (is ∙ ap (λ (b : List ℕ). b ++ close_bytes 0) appended)
 log_of run (call ∷ calls) after bytes narrow recorded one parts is = full_log run (call ∷ calls) after bytes narrow recorded one (omega arith) parts is
 
 -- what was appended is the log of the run
-pub whole_log : (seen run : Recording) (calls : List Call) (empty head after bytes : List ℕ) → seen ≡ run → IsNarrowRun run → IsRecording seen → Some calls ≡ slice_get seen.writers 0
+pub whole_log : (seen run : Recording) (calls : List Call) (empty head after bytes : List ℕ) → seen ≡ run → Replayed run → IsRecording seen → Some calls ≡ slice_get seen.writers 0
     → empty ≡ [] → head ≡ empty ++ header_bytes (narrow_header seen.clock) → AppendsCalls seen.dictionary seen.clock.tick calls head after → bytes ≡ after ++ close_bytes 0 → LogOfRun run bytes
 whole_log seen run calls empty head after bytes same narrow recorded first nothing headed appended is =
-    let narrow_too = subst IsNarrowRun (sym same) narrow in
-    let one = single seen.writers calls narrow_too.one_writer first in
+    let narrow_too = subst Replayed (sym same) narrow in
+    let one = single seen.writers calls narrow_too.narrow.one_writer first in
     subst (λ (r : Recording). LogOfRun r bytes) same
     (log_of seen calls after bytes narrow_too recorded one (subst (λ (h : List ℕ). AppendsCalls seen.dictionary seen.clock.tick calls h after) (headed ∙ ap (λ (e : List ℕ). e ++ header_bytes (narrow_header seen.clock)) nothing) appended) is)
 

@@ -4,6 +4,8 @@ use Rattle.std.specs.Hash.{le_bytes}
 use Rattle.log_dictionary.specs.declared.clock.Clock.{Clock}
 use Rattle.log_dictionary.specs.declared.message.Message.{Message}
 use Rattle.log_dictionary.specs.Messages.{AreDistinct}
+use Rattle.log_dictionary.specs.BinaryEntries.{SpellsEntry}
+use Rattle.printf_grammar.specs.Narrow.{IsNarrow}
 use Rattle.arg_records.specs.declared.call.Call.{Call}
 use Rattle.buffer_extent.specs.Bodies.{IsBody}
 use Rattle.checkpoint_io.specs.Blocks.{header_bytes, close_bytes, SpellsEntries}
@@ -27,6 +29,11 @@ pub record BeginsWithHeader (bytes : List ℕ) (clock : Clock) (rest : List ℕ)
   pub right : IsHeader (narrow_header clock)
 
 -- ---- messages
+
+-- the bytes are the entry of the message, whose format has only literals, `%%` and plain `%d`
+pub record NarrowEntry (bytes : List ℕ) (message : Message) : Type 0 where
+  pub spelled : SpellsEntry bytes message
+  pub narrow : IsNarrow message.format.pieces
 
 -- what a fragment of the first messages begins with: the tag 1 and the first id
 abbrev pub fragment_front : List ℕ

@@ -8,10 +8,12 @@ use Rattle.log_dictionary.specs.declared.clock.Clock.{Clock}
 use Rattle.log_dictionary.specs.declared.message.Message.{Message}
 use Rattle.arg_records.specs.declared.call.Call.{Call}
 use Rattle.trace_text.specs.Recordings.{Recording}
+use Rattle.trace_text.specs.Traces.{TraceText}
 use Rattle.decompressor.specs.Decompression.{Decompressed}
-use Rattle.nanolog_cli.specs.declared.status.Status.{Status}
-use Rattle.nanolog_cli.specs.declared.status.Status.TheVariants as statuses
+use Rattle.nanolog_cli.specs.declared.refusal.Cause.{Cause}
 use Rattle.nanolog_cli.specs.Commands.{Command, Direct, Replay, Decompress, input_name}
+use Rattle.nanolog_cli.specs.Endings.{Ending, Done, Usage, Absent, ReadFault, Refused, WriteFault, NoMemory}
+use Rattle.nanolog_cli.specs.Inputs.{input_refused}
 use Rattle.nanolog_cli.specs.NarrowTraces.{NarrowTrace}
 use Rattle.nanolog_cli.specs.NarrowLogs.{NarrowLog, IsLog}
 use Rattle.nanolog_cli.specs.Texts.{direct_text}
@@ -32,13 +34,9 @@ HoldsFront desk name bytes = (n : ℕ) × (n ≤ length bytes) × IsHeld desk na
 abbrev pub IsThere : Desk → List ℕ → Type 0
 IsThere desk name = IfSome desk.held (λ held. map.get held name ≢ None)
 
--- the name holds more than this many bytes, where that is told
-abbrev pub IsLonger : Desk → List ℕ → ℕ → Type 0
-IsLonger desk name limit = IfSome desk.held (λ held. (bytes : List ℕ) × (map.get held name ≡ Some bytes) × (limit < length bytes))
-
--- the name holds bytes that aren't of a form, where that is told
-abbrev pub HoldsOther : Desk → List ℕ → (List ℕ → Type 0) → Type 0
-HoldsOther desk name form = IfSome desk.held (λ held. (bytes : List ℕ) × (map.get held name ≡ Some bytes) × (¬ (form bytes)))
+-- the name holds bytes of which this is so, where that is told
+abbrev pub HoldsSuch : Desk → List ℕ → (List ℕ → Type 0) → Type 0
+HoldsSuch desk name such = IfSome desk.held (λ held. (bytes : List ℕ) × (map.get held name ≡ Some bytes) × such bytes)
 
 -- it is told that the name holds bytes of a form
 pub record Holds (desk : Desk) (name : List ℕ) (form : List ℕ → Type 0) : Type 0 where
@@ -48,21 +46,9 @@ pub record Holds (desk : Desk) (name : List ℕ) (form : List ℕ → Type 0) : 
   pub there : map.get held name ≡ Some bytes
   pub formed : form bytes
 
--- the bytes spell a run
-abbrev pub IsTrace : List ℕ → Type 0
-IsTrace bytes = (run : Recording) × NarrowTrace bytes run
-
--- of which form the file is that a command reads
-abbrev pub input_form : Command → (List ℕ → Type 0)
-input_form (Direct trace) = IsTrace
-input_form (Replay trace log) = IsTrace
-input_form (Decompress log) = IsLog
-
--- what the name held, where that is told, spells this run
-pub record HeldRun (desk : Desk) (name : List ℕ) (run : Recording) : Type 0 where
-  pub bytes : List ℕ
-  pub was_held : IsHeld desk name bytes
-  pub spelled : NarrowTrace bytes run
+-- what the name held, where that is told, is such a text of the run
+abbrev pub HeldRun : (List ℕ → Recording → Type 0) → Desk → List ℕ → Recording → Type 0
+HeldRun is_text desk name run = HoldsSuch desk name (λ bytes. is_text bytes run)
 
 -- what the name held, where that is told, is the log of these messages and records
 pub record HeldNarrowLog (desk : Desk) (name : List ℕ) (clock : Clock) (messages : List Message) (entries : List Call) : Type 0 where
@@ -108,49 +94,55 @@ scene desk put faults = record { desk = desk; put = put; faults = faults }
 
 -- The text that a command prints, when all else is done: its file was read to the last byte, and its log is written, where it has one.
 abbrev pub HasText : Command → Desk → Desk → List ℕ → Type 0
-HasText (Direct trace) old new text = (run : Recording) × HeldRun old trace run × (text ≡ direct_text run) × (new ≡ old)
-HasText (Replay trace log) old new text = (run : Recording) × HeldRun old trace run × LogWritten old new log run × (text ≡ accepted_text run)
+HasText (Direct trace) old new text = (run : Recording) × HeldRun TraceText old trace run × (text ≡ direct_text run) × (new ≡ old)
+HasText (Replay trace log) old new text = (run : Recording) × HeldRun NarrowTrace old trace run × LogWritten old new log run × (text ≡ accepted_text run)
 HasText (Decompress log) old new text = HeldLog old log text × (new ≡ old)
 
--- all was done, and no call failed
-pub record IsDone (command : Command) (old new : Scene) : Type 0 where
-  pub text : List ℕ
-  pub made : HasText command old.desk new.desk text
-  pub printed : new.put ≡ with_end text old.put
-  pub counted : new.faults ≡ old.faults
+-- how the printing of a text ends: all of it is printed, or a front of it where a call failed or memory was wanting
+abbrev pub Prints : List ℕ → Told → Told → ℕ → ℕ → Ending → Type 0
+Prints text was is before after Done = (is ≡ with_end text was) × (after ≡ before)
+Prints text was is before after (WriteFault name) = (name ≡ standard_output) × PutsFront text was is × Rose before after
+Prints text was is before after NoMemory = PutsFront text was is × (after ≡ before)
+Prints text was is before after ending = ⊥
 
--- all was done but that the standard output failed: a front of the text was printed
-pub record IsCutOff (command : Command) (old new : Scene) : Type 0 where
-  pub text : List ℕ
-  pub made : HasText command old.desk new.desk text
-  pub printed : PutsFront text old.put new.put
-  pub failed : Rose old.faults new.faults
+-- all was done that comes before the text is printed, and the printing of it ended so
+abbrev pub PrintsText : Command → Scene → Scene → Ending → Type 0
+PrintsText command old new ending = (text : List ℕ) × HasText command old.desk new.desk text × Prints text old.put new.put old.faults new.faults ending
 
 -- the log of the run that was read couldn't be written whole, and nothing was printed; only `replay` writes one
 abbrev pub LosesLog : Command → Scene → Scene → List ℕ → Type 0
 LosesLog (Replay trace log) old new name =
-    (name ≡ log) × ((run : Recording) × HeldRun old.desk trace run × LogCutOff old.desk new.desk log run) × (new.put ≡ old.put) × (new.faults ≡ old.faults)
+    (name ≡ log) × ((run : Recording) × HeldRun NarrowTrace old.desk trace run × LogCutOff old.desk new.desk log run) × (new.put ≡ old.put) × (new.faults ≡ old.faults)
 LosesLog _ old new name = ⊥
 
--- Why a file of a form gave nothing: it isn't there, a call failed, it is of no such form, or memory was wanting.
-abbrev pub IsUnread : (List ℕ → Type 0) → List ℕ → Desk → Desk → Status → List ℕ → Type 0
-IsUnread form input old new statuses.Absent name = (name ≡ input) × (new ≡ old) × IsAbsent old input
-IsUnread form input old new statuses.ReadFault name = (name ≡ input) × OnlyReadFaults old new × Rose old.read_faults new.read_faults
-IsUnread form input old new statuses.Refused name = (name ≡ input) × (new ≡ old) × HoldsOther old input form
-IsUnread form input old new statuses.NoMemory name = (new ≡ old) × IsThere old input
-IsUnread form input old new _ name = ⊥
+-- Why a file gave nothing: it isn't there, a call failed, it is refused for a cause that its bytes have, or memory was wanting.
+abbrev pub IsUnread : (List ℕ → ℕ → Cause → Type 0) → List ℕ → Desk → Desk → Ending → Type 0
+IsUnread refused input old new (Absent name) = (name ≡ input) × (new ≡ old) × IsAbsent old input
+IsUnread refused input old new (ReadFault name) = (name ≡ input) × OnlyReadFaults old new × Rose old.read_faults new.read_faults
+IsUnread refused input old new (Refused name line cause) = (name ≡ input) × (new ≡ old) × HoldsSuch old input (λ bytes. refused bytes line cause)
+IsUnread refused input old new NoMemory = (new ≡ old) × IsThere old input
+IsUnread refused input old new ending = ⊥
 
--- What the answer of a command says. The words of the answer speak of the name.
-abbrev pub Ends : Command → Scene → Scene → Status → List ℕ → Type 0
-Ends command old new statuses.Done name = IsDone command old new
-Ends command old new statuses.WriteFault name = ((name ≡ standard_output) × IsCutOff command old new) ⊎ LosesLog command old new name
-Ends command old new status name =
-    IsUnread (input_form command) (input_name command) old.desk new.desk status name × (new.put ≡ old.put) × (new.faults ≡ old.faults)
+-- the file that the command reads gave nothing, and nothing was printed
+abbrev pub ReadsNothing : Command → Scene → Scene → Ending → Type 0
+ReadsNothing command old new ending = IsUnread (input_refused command) (input_name command) old.desk new.desk ending × (new.put ≡ old.put) × (new.faults ≡ old.faults)
+
+-- memory was wanting: nothing was printed or, of the lines of `direct`, a front
+abbrev pub LacksMemory : Command → Scene → Scene → Type 0
+LacksMemory (Direct trace) old new = ReadsNothing (Direct trace) old new NoMemory ⊎ PrintsText (Direct trace) old new NoMemory
+LacksMemory command old new = ReadsNothing command old new NoMemory
+
+-- What the answer of a command says.
+abbrev pub Ends : Command → Scene → Scene → Ending → Type 0
+Ends command old new Done = PrintsText command old new Done
+Ends command old new (WriteFault name) = PrintsText command old new (WriteFault name) ⊎ LosesLog command old new name
+Ends command old new NoMemory = LacksMemory command old new
+Ends command old new ending = ReadsNothing command old new ending
 
 -- what the answer says of words that spell a command or none
-abbrev pub Answers : Option Command → Scene → Scene → Status → List ℕ → Type 0
-Answers None old new status name = (status ≡ statuses.Usage) × (new ≡ old)
-Answers (Some command) old new status name = Ends command old new status name
+abbrev pub Answers : Option Command → Scene → Scene → Ending → Type 0
+Answers None old new ending = (ending ≡ Usage) × (new ≡ old)
+Answers (Some command) old new ending = Ends command old new ending
 
 -- these words were said whole, and no call failed, or a front of them, and a call failed
 abbrev pub Says : List ℕ → Told → Told → ℕ → ℕ → Type 0

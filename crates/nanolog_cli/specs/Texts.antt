@@ -1,16 +1,19 @@
--- The lines of a run, and of a log.
-use Rattle.std.specs.Prelude.{ℕ, List}
-use Rattle.log_dictionary.specs.declared.clock.Clock.{Clock}
-use Rattle.log_dictionary.specs.declared.message.Message.{Message}
+-- The lines of a run, and where its calls stand.
+use Rattle.std.specs.Prelude.{◌≡◌, ℕ, List, Some, slice_get}
+use Rattle.log_dictionary.specs.Calls.{LogCall}
 use Rattle.arg_records.specs.declared.call.Call.{Call}
+use Rattle.arg_records.specs.Calls.{log_call}
 use Rattle.direct_printf.specs.Lines.{Direct}
 use Rattle.trace_text.specs.Recordings.{Recording, calls_of}
-use Rattle.arg_records.specs.Calls.{writer_calls}
 
 -- the lines of all calls of a run
 abbrev pub direct_text : Recording → List ℕ
 direct_text run = Direct run.clock (calls_of run)
 
--- the lines of the records of writer 0
-abbrev pub log_text : Clock → List Message → List Call → List ℕ
-log_text clock messages entries = Direct clock (writer_calls messages (0, entries))
+-- the run has this call, which stands among those of its writer where its ordinal says
+pub record HasCall (run : Recording) (made : LogCall) : Type 0 where
+  pub calls : List Call
+  pub call : Call
+  pub of_writer : slice_get run.writers made.writer ≡ Some calls
+  pub at_ordinal : slice_get calls made.ordinal ≡ Some call
+  pub is : log_call run.dictionary made.writer (made.ordinal, call) ≡ Some made

@@ -1,7 +1,8 @@
 -- What is written to the standard error.
-use Rattle.std.specs.Prelude.{ℕ, List, [], ◌++◌, codes}
-use Rattle.nanolog_cli.specs.declared.status.Status.{Status}
-use Rattle.nanolog_cli.specs.declared.status.Status.TheVariants as statuses
+use Rattle.std.specs.Prelude.{ℕ, List, [], ◌++◌, map, codes}
+use Rattle.std.specs.Fmt.{decimal}
+use Rattle.std.specs.Borrow.{Bor}
+use Rattle.nanolog_cli.specs.Endings.{Ending, Done, Usage, Absent, ReadFault, Refused, WriteFault, NoMemory, number_of, name_of}
 
 -- the forms of the command line
 abbrev pub usage_text : List ℕ
@@ -16,17 +17,21 @@ usage_text =
     ++ codes "  nanolog selftest SEED CALLS WRITERS\n"
     ++ codes "  nanolog schedule FILE\n"
 
--- the words that go with an answer, which speak of this name
-abbrev pub words_of : Status → List ℕ → List ℕ
-words_of statuses.Done name = []
-words_of statuses.Usage name = usage_text
-words_of statuses.Refused name = codes "nanolog: " ++ name ++ codes ":0: refused: 99 NotYet\n"
-words_of statuses.Damaged name = []
-words_of statuses.ReadFault name = codes "nanolog: " ++ name ++ codes ": read fault\n"
-words_of statuses.WriteFault name = codes "nanolog: " ++ name ++ codes ": write fault\n"
-words_of statuses.NoMemory name = codes "nanolog: want of memory\n"
-words_of statuses.Absent name = codes "nanolog: " ++ name ++ codes ": absent\n"
+-- the words that tell of an end
+abbrev pub words_of : Ending → List ℕ
+words_of Done = []
+words_of Usage = usage_text
+words_of (Absent name) = codes "nanolog: " ++ name ++ codes ": absent\n"
+words_of (ReadFault name) = codes "nanolog: " ++ name ++ codes ": read fault\n"
+words_of (Refused name line cause) =
+    codes "nanolog: " ++ name ++ codes ":" ++ decimal line ++ codes ": refused: " ++ decimal (number_of cause) ++ codes " " ++ name_of cause ++ codes "\n"
+words_of (WriteFault name) = codes "nanolog: " ++ name ++ codes ": write fault\n"
+words_of NoMemory = codes "nanolog: want of memory\n"
 
 -- what a write fault calls the standard output
 abbrev pub standard_output : List ℕ
 standard_output = codes "standard output"
+
+-- what each of the pieces contains
+abbrev pub contents : List (Bor (List ℕ)) → List (List ℕ)
+contents pieces = map (λ piece. piece.now) pieces

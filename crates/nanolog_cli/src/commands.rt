@@ -1,9 +1,11 @@
-ghost use Rattle.std.specs.Prelude.{◌≡◌, ℕ, List};
+//! What the program does, from its words to its answer.
+
+ghost use Rattle.std.specs.Prelude.{◌≡◌};
 ghost use Rattle.nanolog_cli.specs.Commands.{command_of as command_spelled, texts_of};
 ghost use Rattle.nanolog_cli.specs.CommandViews.{command_is};
+ghost use Rattle.nanolog_cli.specs.Endings.{Ending, status_of, ending_of};
 ghost use Rattle.nanolog_cli.specs.Words.{words_of};
-ghost use Rattle.nanolog_cli.specs.Outcomes.{scene, Answers, Says};
-ghost use Rattle.nanolog_cli.specs.Refusals.{EndsWith};
+ghost use Rattle.nanolog_cli.specs.Outcomes.{scene, Ends, Answers, Says};
 
 use crate::decompress::decompress;
 use crate::direct::direct;
@@ -22,8 +24,8 @@ fn run<'a, F: Files, O: Sink>(
     files: &mut F,
     out: &mut O,
 ) -> Result<(), Refusal<'a>>
-    ensures ends { EndsWith (command_is command.entry) (scene (F.desk files.old) (O.put out.old) (O.faults out.old))
-        (scene (F.desk files.new) (O.put out.new) (O.faults out.new)) result }
+    ensures ends { Ends (command_is command.entry) (scene (F.desk files.old) (O.put out.old) (O.faults out.old))
+        (scene (F.desk files.new) (O.put out.new) (O.faults out.new)) (ending_of result) }
     ensures files_others { F.rest files.old files.new }
     ensures out_others { O.rest out.old out.new }
 {
@@ -34,11 +36,30 @@ fn run<'a, F: Files, O: Sink>(
     }
 }
 
+/// Does what the words ask for, if they ask for something.
+fn run_words<'a, F: Files, O: Sink>(
+    alloc: Global,
+    words: &'a [String],
+    files: &mut F,
+    out: &mut O,
+) -> Result<(), Refusal<'a>>
+    ensures ends { Answers (command_spelled (texts_of words.now))
+        (scene (F.desk files.old) (O.put out.old) (O.faults out.old))
+        (scene (F.desk files.new) (O.put out.new) (O.faults out.new)) (ending_of result) }
+    ensures files_others { F.rest files.old files.new }
+    ensures out_others { O.rest out.old out.new }
+{
+    match command_of(words) {
+        Some(command) => run(alloc, command, files, out),
+        None => Err(Refusal::Usage),
+    }
+}
+
 /// Does what the words after the program's name ask for, and answers how that ended. It waits for nobody.
 ///
 /// So far there are three commands. `direct TRACE` prints the lines of all calls of the trace. `replay TRACE LOG`
-/// writes the log of these calls, and prints how many there are. `decompress LOG` prints the lines of the log. A trace
-/// or log that isn't read yet is refused, as is a file that is none.
+/// writes the log of these calls, and prints how many there are. `decompress LOG` prints the lines of the log. A file
+/// that is no trace is refused, and so is a trace, or a log, that isn't narrow, with the last two.
 pub fn quick<F: Files, O: Sink, E: Sink>(
     alloc: Global,
     words: &[String],
@@ -46,11 +67,13 @@ pub fn quick<F: Files, O: Sink, E: Sink>(
     out: &mut O,
     err: &mut E,
 ) -> Status
-    // What the answer says of the files and the standard output. The words on the standard error speak of a name.
-    ensures ends { (name : List ℕ) × Answers (command_spelled (texts_of words.now))
+    // The answer is the status of an end. What that says of the files and the standard output is so, and it is put into
+    // words on the standard error.
+    ensures ends { (ending : Ending) × (result ≡ status_of ending)
+        × Answers (command_spelled (texts_of words.now))
         (scene (F.desk files.old) (O.put out.old) (O.faults out.old))
-        (scene (F.desk files.new) (O.put out.new) (O.faults out.new)) result name
-        × Says (words_of result name) (E.put err.old) (E.put err.new) (E.faults err.old) (E.faults err.new) }
+        (scene (F.desk files.new) (O.put out.new) (O.faults out.new)) ending
+        × Says (words_of ending) (E.put err.old) (E.put err.new) (E.faults err.old) (E.faults err.new) }
 
     // Where all was done, nothing is said.
     ensures quiet { result ≡ Status.Done → (E.put err.new ≡ E.put err.old) × (E.faults err.new ≡ E.faults err.old) }
@@ -60,11 +83,7 @@ pub fn quick<F: Files, O: Sink, E: Sink>(
     ensures out_others { O.rest out.old out.new }
     ensures err_others { E.rest err.old err.new }
 {
-    let outcome = match command_of(words) {
-        Some(command) => run(alloc, command, files, out),
-        None => Err(Refusal::Usage),
-    };
-    match outcome {
+    match run_words(alloc, words, files, out) {
         Ok(()) => Status::Done,
         Err(refusal) => {
             say(err, refusal);

@@ -1,8 +1,8 @@
 //! The command `decompress`.
 
 ghost use Rattle.nanolog_cli.specs.Commands.{Decompress};
-ghost use Rattle.nanolog_cli.specs.Outcomes.{scene};
-ghost use Rattle.nanolog_cli.specs.Refusals.{EndsWith};
+ghost use Rattle.nanolog_cli.specs.Endings.{ending_of};
+ghost use Rattle.nanolog_cli.specs.Outcomes.{scene, Ends};
 
 use crate::input::log_of_file;
 use crate::lines::text_of_log;
@@ -18,8 +18,8 @@ pub(crate) fn decompress<'a, F: Files, O: Sink>(
     name: &'a str,
     out: &mut O,
 ) -> Result<(), Refusal<'a>>
-    ensures ends { EndsWith (Decompress name.now) (scene (F.desk files.old) (O.put out.old) (O.faults out.old))
-        (scene (F.desk files.new) (O.put out.new) (O.faults out.new)) result }
+    ensures ends { Ends (Decompress name.now) (scene (F.desk files.old) (O.put out.old) (O.faults out.old))
+        (scene (F.desk files.new) (O.put out.new) (O.faults out.new)) (ending_of result) }
     ensures files_others { F.rest files.old files.new }
     ensures out_others { O.rest out.old out.new }
 {

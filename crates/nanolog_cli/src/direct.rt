@@ -1,12 +1,11 @@
 //! The command `direct`.
 
 ghost use Rattle.nanolog_cli.specs.Commands.{Direct};
-ghost use Rattle.nanolog_cli.specs.Outcomes.{scene};
-ghost use Rattle.nanolog_cli.specs.Refusals.{EndsWith};
+ghost use Rattle.nanolog_cli.specs.Endings.{ending_of};
+ghost use Rattle.nanolog_cli.specs.Outcomes.{scene, Ends};
 
 use crate::input::run_of_file;
-use crate::lines::text_of_run;
-use crate::output::print;
+use crate::lines::print_run;
 use crate::refusal::Refusal;
 use nl_io::{Files, Sink};
 use std::alloc::Global;
@@ -18,12 +17,11 @@ pub(crate) fn direct<'a, F: Files, O: Sink>(
     name: &'a str,
     out: &mut O,
 ) -> Result<(), Refusal<'a>>
-    ensures ends { EndsWith (Direct name.now) (scene (F.desk files.old) (O.put out.old) (O.faults out.old))
-        (scene (F.desk files.new) (O.put out.new) (O.faults out.new)) result }
+    ensures ends { Ends (Direct name.now) (scene (F.desk files.old) (O.put out.old) (O.faults out.old))
+        (scene (F.desk files.new) (O.put out.new) (O.faults out.new)) (ending_of result) }
     ensures files_others { F.rest files.old files.new }
     ensures out_others { O.rest out.old out.new }
 {
     let run = run_of_file(alloc, files, name)?;
-    let text = text_of_run(alloc, &run)?;
-    print(out, &text)
+    print_run(alloc, &run, out)
 }

@@ -1,20 +1,25 @@
 //! Files that are read whole.
 
-ghost use Rattle.std.specs.Prelude.{◌≡◌, ◌≢◌, ◌<◌, ◌≤◌, ℕ, List, length, Some, None, IfOk, IfErr, IfSome, IfNone, OnOk, IsErrOf, vec_len, ⊤};
+ghost use Rattle.std.specs.Prelude.{◌≡◌, ◌≢◌, ◌<◌, ◌≤◌, ℕ, List, length, None, IfOk, IfErr, IfSome, IfNone, OnOk, IsErrOf, vec_len};
 ghost use Rattle.std.specs.FinMap as map;
 ghost use Rattle.nl_io.specs.Count.{Rose};
 ghost use Rattle.nl_io.specs.Content.{Told};
-ghost use Rattle.nl_io.specs.Desk.{IsReading, SameButLeft};
-ghost use Rattle.nanolog_cli.specs.Outcomes.{IsHeld, IsLonger, IsTrace, HeldRun, HeldNarrowLog, IsUnread};
-ghost use Rattle.nanolog_cli.specs.NarrowLogs.{IsLog};
-ghost use Rattle.nanolog_cli.specs.Refusals.{status_of, name_of};
+ghost use Rattle.nl_io.specs.Desk.{IsReading, Opens, SameButLeft};
+ghost use Rattle.trace_text.specs.Traces.{TraceText};
+ghost use Rattle.trace_text.specs.TraceReading.{IsAnswer};
+ghost use Rattle.nanolog_cli.specs.Outcomes.{IsHeld, HoldsSuch, HeldRun, HeldNarrowLog, IsUnread};
+ghost use Rattle.nanolog_cli.specs.NarrowTraces.{NarrowTrace};
+ghost use Rattle.nanolog_cli.specs.NarrowLogs.{NarrowLog};
+ghost use Rattle.nanolog_cli.specs.Inputs.{Never, WrongTrace, UntakenTrace, UntakenLog, GivesNothing};
+ghost use Rattle.nanolog_cli.specs.Endings.{refusal_ending, fault_ending, Refused as RefusedFile};
+ghost use Rattle.nanolog_cli.specs.declared.refusal.Cause.TheVariants.{NotYet as NotTakenYet};
 
-use crate::narrow::{MAX_BYTES as MAX_TRACE_BYTES, NarrowFault, read_narrow};
-use crate::narrow_log::{MAX_LOG_BYTES, ReadLog, read_log};
-use crate::refusal::Refusal;
+use crate::narrow::{has_escape, is_narrow_run};
+use crate::narrow_log::{MAX_LOG_BYTES, NarrowFault, ReadLog, read_log};
+use crate::refusal::{Cause, Refusal};
 use nl_io::{FileSource, Files, ReadAllFault, read_to_limit};
 use std::alloc::Global;
-use trace_text::Trace;
+use trace_text::{MAX_TRACE, Trace, TraceCause, TraceFault, read_text, read_trace};
 
 /// What the open file has left, where that is at most `limit` bytes.
 fn read_open<F: Files>(
@@ -41,6 +46,36 @@ fn read_open<F: Files>(
     read_to_limit(alloc, &mut FileSource::make(files, id), limit)
 }
 
+/// The run that the open file spells, or why there is none.
+fn trace_of_open<F: Files>(alloc: Global, files: &mut F, id: u32) -> Result<Trace, TraceFault>
+    requires { map.get (F.desk files.old).left id ≢ None }
+    ensures answer { (content : Told) → IsReading (F.desk files.old) id content →
+        IfSome content (λ text. IsAnswer text result) }
+    ensures read_fault { IsErrOf result TraceFault.ReadFault
+        → Rose (F.desk files.old).read_faults (F.desk files.new).read_faults }
+    ensures counted { ¬ (IsErrOf result TraceFault.ReadFault) →
+        (F.desk files.new).read_faults ≡ (F.desk files.old).read_faults }
+    ensures count { (F.desk files.old).read_faults ≤ (F.desk files.new).read_faults }
+    ensures same { SameButLeft id (F.desk files.old) (F.desk files.new) }
+    ensures others { F.rest files.old files.new }
+{
+    read_trace(alloc, &mut FileSource::make(files, id))
+}
+
+/// The id under which the name is opened.
+fn open<'a, F: Files>(files: &mut F, name: &'a str) -> Result<u32, Refusal<'a>>
+    ensures opened { IfOk result (λ id. Opens (F.desk files.old) name.now id (F.desk files.new)) }
+    ensures unread { IfErr result (λ refusal. IsUnread Never name.now (F.desk files.old) (F.desk files.new)
+        (refusal_ending refusal)) }
+    ensures others { F.rest files.old files.new }
+{
+    match files.open_read(name) {
+        Ok(Some(id)) => Ok(id),
+        Ok(None) => Err(Refusal::Absent(name)),
+        Err(_) => Err(Refusal::ReadFault(name)),
+    }
+}
+
 /// What the name holds, or nothing where that is more than `limit` bytes.
 fn read_file<'a, F: Files>(
     alloc: Global,
@@ -50,17 +85,14 @@ fn read_file<'a, F: Files>(
 ) -> Result<Option<Vec<u8>>, Refusal<'a>>
     ensures all { IfOk result (λ read. IfSome read (λ bytes. IsHeld (F.desk files.old) name.now bytes.items)) }
     ensures within { IfOk result (λ read. IfSome read (λ bytes. vec_len bytes ≤ limit)) }
-    ensures longer { IfOk result (λ read. IfNone read (IsLonger (F.desk files.old) name.now limit)) }
+    ensures longer { IfOk result (λ read. IfNone read
+        (HoldsSuch (F.desk files.old) name.now (λ bytes. limit < length bytes))) }
     ensures same { OnOk result (F.desk files.new ≡ F.desk files.old) }
-    ensures unread { IfErr result (λ refusal. IsUnread (λ _. ⊤) name.now (F.desk files.old) (F.desk files.new)
-        (status_of refusal) (name_of refusal)) }
+    ensures unread { IfErr result (λ refusal. IsUnread Never name.now (F.desk files.old) (F.desk files.new)
+        (refusal_ending refusal)) }
     ensures others { F.rest files.old files.new }
 {
-    let id = match files.open_read(name) {
-        Ok(Some(id)) => id,
-        Ok(None) => return Err(Refusal::Absent(name)),
-        Err(_) => return Err(Refusal::ReadFault(name)),
-    };
+    let id = open(files, name)?;
     let read = read_open(alloc, files, id, limit);
     files.leave(id);
     match read {
@@ -77,20 +109,96 @@ pub(crate) fn run_of_file<'a, F: Files>(
     files: &mut F,
     name: &'a str,
 ) -> Result<Trace, Refusal<'a>>
-    ensures found { IfOk result (HeldRun (F.desk files.old) name.now) }
+    ensures found { IfOk result (HeldRun TraceText (F.desk files.old) name.now) }
     ensures same { OnOk result (F.desk files.new ≡ F.desk files.old) }
-    ensures unread { IfErr result (λ refusal. IsUnread IsTrace name.now (F.desk files.old) (F.desk files.new)
-        (status_of refusal) (name_of refusal)) }
+    ensures unread { IfErr result (λ refusal. IsUnread WrongTrace name.now (F.desk files.old) (F.desk files.new)
+        (refusal_ending refusal)) }
     ensures others { F.rest files.old files.new }
 {
-    let bytes = match read_file(alloc, files, name, MAX_TRACE_BYTES) {
-        Ok(Some(bytes)) => bytes,
-        Ok(None) => return Err(Refusal::Refused(name)),
-        Err(refusal) => return Err(refusal),
-    };
-    match read_narrow(alloc, &bytes) {
+    let id = open(files, name)?;
+    let read = trace_of_open(alloc, files, id);
+    files.leave(id);
+    match read {
         Ok(run) => Ok(run),
-        Err(NarrowFault::NotYet) => Err(Refusal::Refused(name)),
+        Err(fault) => Err(refusal_of(name, fault)),
+    }
+}
+
+/// The refusal of a name that gave no trace.
+fn refusal_of(name: &str, fault: TraceFault) -> Refusal<'_>
+    ensures { refusal_ending result ≡ fault_ending name.now fault }
+{
+    match fault {
+        TraceFault::ReadFault => Refusal::ReadFault(name),
+        TraceFault::Refused { line, cause } => Refusal::Refused {
+            name,
+            line,
+            cause: Cause::Trace(cause),
+        },
+        TraceFault::NoMemory => Refusal::NoMemory,
+    }
+}
+
+/// The refusal of a file that isn't taken yet.
+fn not_yet(name: &str) -> Refusal<'_>
+    ensures { refusal_ending result ≡ RefusedFile name.now 0 NotTakenYet }
+{
+    Refusal::Refused {
+        name,
+        line: 0,
+        cause: Cause::NotYet,
+    }
+}
+
+/// The run that the text of the name spells, where that is a narrow trace.
+fn narrow_run_of<'a>(alloc: Global, name: &'a str, text: &[u8]) -> Result<Trace, Refusal<'a>>
+    ensures found { IfOk result (NarrowTrace text.now) }
+    ensures nothing { IfErr result (λ refusal. GivesNothing UntakenTrace name.now text.now
+        (refusal_ending refusal)) }
+{
+    let run = match read_text(alloc, text) {
+        Ok(run) => run,
+        Err(fault) => return Err(refusal_of(name, fault)),
+    };
+    if has_escape(text) || !is_narrow_run(&run) {
+        return Err(not_yet(name));
+    }
+    Ok(run)
+}
+
+/// The run that the name holds, where that is a narrow trace.
+pub(crate) fn narrow_run_of_file<'a, F: Files>(
+    alloc: Global,
+    files: &mut F,
+    name: &'a str,
+) -> Result<Trace, Refusal<'a>>
+    ensures found { IfOk result (HeldRun NarrowTrace (F.desk files.old) name.now) }
+    ensures narrow { IfOk result (λ run. (text : List ℕ) × NarrowTrace text run) }
+    ensures same { OnOk result (F.desk files.new ≡ F.desk files.old) }
+    ensures unread { IfErr result (λ refusal. IsUnread UntakenTrace name.now (F.desk files.old) (F.desk files.new)
+        (refusal_ending refusal)) }
+    ensures others { F.rest files.old files.new }
+{
+    match read_file(alloc, files, name, MAX_TRACE) {
+        Ok(Some(text)) => narrow_run_of(alloc, name, &text),
+        Ok(None) => Err(Refusal::Refused {
+            name,
+            line: 0,
+            cause: Cause::Trace(TraceCause::TooLarge),
+        }),
+        Err(refusal) => Err(refusal),
+    }
+}
+
+/// The log that the bytes of the name are.
+fn log_of<'a>(alloc: Global, name: &'a str, bytes: &[u8]) -> Result<ReadLog, Refusal<'a>>
+    ensures found { IfOk result (λ log. NarrowLog bytes.now log.clock log.dictionary log.records) }
+    ensures nothing { IfErr result (λ refusal. GivesNothing UntakenLog name.now bytes.now
+        (refusal_ending refusal)) }
+{
+    match read_log(alloc, bytes) {
+        Ok(log) => Ok(log),
+        Err(NarrowFault::NotYet) => Err(not_yet(name)),
         Err(NarrowFault::NoMemory) => Err(Refusal::NoMemory),
     }
 }
@@ -104,18 +212,13 @@ pub(crate) fn log_of_file<'a, F: Files>(
     ensures found { IfOk result (λ log. HeldNarrowLog
         (F.desk files.old) name.now log.clock log.dictionary log.records) }
     ensures same { OnOk result (F.desk files.new ≡ F.desk files.old) }
-    ensures unread { IfErr result (λ refusal. IsUnread IsLog name.now (F.desk files.old) (F.desk files.new)
-        (status_of refusal) (name_of refusal)) }
+    ensures unread { IfErr result (λ refusal. IsUnread UntakenLog name.now (F.desk files.old) (F.desk files.new)
+        (refusal_ending refusal)) }
     ensures others { F.rest files.old files.new }
 {
-    let bytes = match read_file(alloc, files, name, MAX_LOG_BYTES) {
-        Ok(Some(bytes)) => bytes,
-        Ok(None) => return Err(Refusal::Refused(name)),
-        Err(refusal) => return Err(refusal),
-    };
-    match read_log(alloc, &bytes) {
-        Ok(log) => Ok(log),
-        Err(NarrowFault::NotYet) => Err(Refusal::Refused(name)),
-        Err(NarrowFault::NoMemory) => Err(Refusal::NoMemory),
+    match read_file(alloc, files, name, MAX_LOG_BYTES) {
+        Ok(Some(bytes)) => log_of(alloc, name, &bytes),
+        Ok(None) => Err(not_yet(name)),
+        Err(refusal) => Err(refusal),
     }
 }

@@ -6,10 +6,10 @@ ghost use Rattle.std.specs.FinMap as map;
 ghost use Rattle.nl_io.specs.Count.{Rose};
 ghost use Rattle.nl_io.specs.Desk.{Held, found_in};
 ghost use Rattle.trace_text.specs.Rows.{three_writers};
-ghost use Rattle.nanolog_cli.specs.declared.status.Status.{Status as Ended};
-ghost use Rattle.nanolog_cli.specs.declared.status.Status.TheVariants as statuses;
 ghost use Rattle.nanolog_cli.specs.Commands.{Command, input_name, output_name};
-ghost use Rattle.nanolog_cli.specs.Outcomes.{Scene, Holds, input_form, Ends};
+ghost use Rattle.nanolog_cli.specs.Endings.{Ending, Done, Absent, ReadFault, WriteFault, NoMemory};
+ghost use Rattle.nanolog_cli.specs.Inputs.{input_form};
+ghost use Rattle.nanolog_cli.specs.Outcomes.{Scene, Holds, Ends};
 ghost use Rattle.nanolog_cli.specs.Texts.{direct_text};
 
 /// Calls of one stamp are printed by writer, and those of one writer in their order.
@@ -23,39 +23,32 @@ pub fn equal_stamps_go_by_writer()
 /// A command whose file is held and of its form is done, where no call fails and memory suffices. Where it is told that
 /// there is no such file, that is the answer, unless a call failed.
 pub fn commands_are_done_where_they_can_be()
-    ensures taken { (command : Command) (old new : Scene) (status : Ended) (name : List ℕ)
-        → Ends command old new status name →
+    ensures taken { (command : Command) (old new : Scene) (ending : Ending) → Ends command old new ending →
         Holds old.desk (input_name command) (input_form command) →
         ¬ (Rose old.desk.read_faults new.desk.read_faults) → ¬ (Rose old.desk.write_faults new.desk.write_faults) →
-        ¬ (Rose old.faults new.faults) → (status ≡ statuses.Done) ⊎ (status ≡ statuses.NoMemory) }
-    ensures absent { (command : Command) (old new : Scene) (status : Ended) (name : List ℕ)
-        → Ends command old new status name →
+        ¬ (Rose old.faults new.faults) → (ending ≡ Done) ⊎ (ending ≡ NoMemory) }
+    ensures absent { (command : Command) (old new : Scene) (ending : Ending) → Ends command old new ending →
         (held : Held) → old.desk.held ≡ Some held → map.get held (input_name command) ≡ None →
-        ¬ (Rose old.desk.read_faults new.desk.read_faults) → status ≡ statuses.Absent }
+        ¬ (Rose old.desk.read_faults new.desk.read_faults) → ending ≡ Absent (input_name command) }
 {}
 
 /// A count of failed calls rises only where the answer says so.
 pub fn failures_are_told()
-    ensures reading { (command : Command) (old new : Scene) (status : Ended) (name : List ℕ)
-        → Ends command old new status name →
-        status ≢ statuses.ReadFault → new.desk.read_faults ≡ old.desk.read_faults }
-    ensures writing { (command : Command) (old new : Scene) (status : Ended) (name : List ℕ)
-        → Ends command old new status name →
-        status ≢ statuses.WriteFault → (new.desk.write_faults ≡ old.desk.write_faults) × (new.faults ≡ old.faults) }
-    ensures written { (command : Command) (old new : Scene) (name : List ℕ)
-        → Ends command old new statuses.WriteFault name →
+    ensures reading { (command : Command) (old new : Scene) (ending : Ending) → Ends command old new ending →
+        (ending ≡ ReadFault (input_name command)) ⊎ (new.desk.read_faults ≡ old.desk.read_faults) }
+    ensures writing { (command : Command) (old new : Scene) (ending : Ending) → Ends command old new ending →
+        ((name : List ℕ) × (ending ≡ WriteFault name))
+        ⊎ ((new.desk.write_faults ≡ old.desk.write_faults) × (new.faults ≡ old.faults)) }
+    ensures written { (command : Command) (old new : Scene) (name : List ℕ) → Ends command old new (WriteFault name) →
         Rose old.faults new.faults ⊎ Rose old.desk.write_faults new.desk.write_faults }
 {}
 
 /// Whatever the answer, all names but that of the log hold what they held, and no file is left open.
 pub fn other_files_stay()
-    ensures held { (command : Command) (old new : Scene) (status : Ended) (name other : List ℕ)
-        → Ends command old new status name →
-        output_name command ≢ Some other → found_in new.desk other ≡ found_in old.desk other }
-    ensures left { (command : Command) (old new : Scene) (status : Ended) (name : List ℕ)
-        → Ends command old new status name →
+    ensures held { (command : Command) (old new : Scene) (ending : Ending) → Ends command old new ending →
+        (other : List ℕ) → output_name command ≢ Some other → found_in new.desk other ≡ found_in old.desk other }
+    ensures left { (command : Command) (old new : Scene) (ending : Ending) → Ends command old new ending →
         new.desk.left ≡ old.desk.left }
-    ensures made { (command : Command) (old new : Scene) (status : Ended) (name : List ℕ)
-        → Ends command old new status name →
+    ensures made { (command : Command) (old new : Scene) (ending : Ending) → Ends command old new ending →
         new.desk.made ≡ old.desk.made }
 {}

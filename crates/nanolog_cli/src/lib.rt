@@ -13,7 +13,6 @@ mod log_tests;
 mod narrow;
 mod narrow_log;
 mod output;
-mod parts;
 mod refusal;
 mod replay;
 mod report;

@@ -1,77 +1,98 @@
-//! The lines of a run's calls.
+//! The lines of calls.
 
-ghost use Rattle.std.specs.Prelude.{◌≡◌, ◌≤◌, ◌++◌, ℕ, List, length, map, slice_get, Some, IfOk, OnOk};
-ghost use Rattle.std.specs.List.{flat_map, AllByRecursion};
-ghost use Rattle.log_dictionary.specs.declared.message.Message.{Message};
+ghost use Rattle.std.specs.Prelude.{◌≡◌, ◌≤◌, ◌++◌, ℕ, List, Some, IfOk, OnOk};
+ghost use Rattle.log_dictionary.specs.Calls.{LogCall};
 ghost use Rattle.direct_printf.specs.Lines.{Line};
-ghost use Rattle.arg_records.specs.Calls.{IsCall, NeverFalls, writer_calls};
+ghost use Rattle.arg_records.specs.Calls.{IsCall, log_call};
+ghost use Rattle.trace_text.specs.Order.{place_of, places_in_order as ordered_places};
 ghost use Rattle.decompressor.specs.Decompression.{Decompressed};
-ghost use Rattle.nanolog_cli.specs.Texts.{direct_text};
+ghost use Rattle.nanolog_cli.specs.Endings.{ending_of};
+ghost use Rattle.nanolog_cli.specs.Outcomes.{Prints};
+ghost use Rattle.nanolog_cli.specs.Texts.{direct_text, HasCall};
 ghost use Rattle.nanolog_cli.specs.NarrowLogs.{NarrowLog};
 
 use crate::narrow_log::ReadLog;
+use crate::output::{print, print_long};
+use crate::refusal::Refusal;
 use direct_printf::line;
 use log_dictionary::{Clock, Dictionary};
-use printf_grammar::Values;
+use nl_io::Sink;
 use std::alloc::{AllocError, Global};
-use trace_text::{Calls, Trace};
+use trace_text::{Call, Place, Trace, places_in_order};
 
-/// Appends the line of a call of writer 0.
-fn append_call(
+/// Appends the line of a call of a writer.
+fn append_line(
     dictionary: &Dictionary,
     clock: &Clock,
-    stamp: u64,
-    id: u32,
-    args: &Values,
+    writer: u32,
+    call: &Call,
     text: &mut Vec<u8>,
 ) -> Result<(), AllocError>
     requires rate { 1 ≤ clock.now.rate }
-    requires named { IsCall dictionary.now (record { stamp = stamp; id = id; args = args.now }) }
-    requires later { clock.now.tick ≤ stamp }
-    ensures { OnOk result ((ordinal : ℕ) (message : Message) → slice_get dictionary.now id ≡ Some message →
-        text.new.items ≡ text.old.items ++ Line clock.now
-        (record { writer = 0; ordinal = ordinal; stamp = stamp; message = message; args = args.now })) }
+    requires named { IsCall dictionary.now call.now }
+    requires later { clock.now.tick ≤ call.now.stamp }
+    ensures { OnOk result ((ordinal : ℕ) (made : LogCall)
+        → log_call dictionary.now writer (ordinal, call.now) ≡ Some made →
+        text.new.items ≡ text.old.items ++ Line clock.now made) }
 {
-    let Some(message) = dictionary.get(id) else {
-        unreachable!()
-    };
-    line(clock, 0, message, stamp, &args.args(), text)
+    let message = dictionary.message(call.id);
+    line(clock, writer, message, call.stamp, &call.args.args(), text)
 }
 
-/// The lines of the calls of writer 0, in their order.
-fn lines_of(
+/// The call of a run that stands at a place.
+fn call_at<'a>(run: &'a Trace, place: Place) -> &'a Call
+    requires { (call : LogCall) × HasCall run.now call × (place ≡ place_of call) }
+    ensures named { IsCall run.now.dictionary result.now }
+    ensures later { run.now.clock.tick ≤ result.now.stamp }
+    ensures made { (call : LogCall) → HasCall run.now call → place ≡ place_of call →
+        log_call run.now.dictionary call.writer (call.ordinal, result.now) ≡ Some call }
+{
+    let calls = run.writers.calls(place.writer as usize);
+    calls.call(place.ordinal as usize)
+}
+
+/// Appends the line of the call at a place of a run.
+fn append_call(run: &Trace, place: Place, text: &mut Vec<u8>) -> Result<(), AllocError>
+    requires { (call : LogCall) × HasCall run.now call × (place ≡ place_of call) }
+    ensures { OnOk result ((call : LogCall) → HasCall run.now call → place ≡ place_of call →
+        text.new.items ≡ text.old.items ++ Line run.now.clock call) }
+{
+    let call = call_at(run, place);
+    append_line(&run.dictionary, &run.clock, place.writer, call, text)
+}
+
+/// Prints the lines of the calls at the places, in pieces.
+fn print_places<O: Sink>(
     alloc: Global,
-    dictionary: &Dictionary,
-    clock: &Clock,
-    calls: &Calls,
-) -> Result<Vec<u8>, AllocError>
-    requires rate { 1 ≤ clock.now.rate }
-    requires named { AllByRecursion (IsCall dictionary.now) calls.now }
-    requires later { NeverFalls clock.now.tick calls.now }
-    ensures { IfOk result (λ text. text.items ≡ flat_map (Line clock.now) (writer_calls dictionary.now
-        (0, calls.now))) }
+    run: &Trace,
+    places: &[Place],
+    out: &mut O,
+) -> Result<(), Refusal<'static>>
+    requires { places.now ≡ ordered_places run.now }
+    ensures printed { Prints (direct_text run.now) (O.put out.old) (O.put out.new)
+        (O.faults out.old) (O.faults out.new) (ending_of result) }
+    ensures others { O.rest out.old out.new }
 {
     let mut text = Vec::new(alloc);
-    for place in 0..calls.len() {
-        let Some(call) = calls.get(place) else {
-            unreachable!()
-        };
-        append_call(
-            dictionary, clock, call.stamp, call.id, &call.args, &mut text,
-        )?;
+    for place in places {
+        append_call(run, *place, &mut text)?;
+        print_long(out, &mut text)?;
     }
-    Ok(text)
+    print(out, &text)
 }
 
-/// The lines of all calls of a run of one writer.
-pub(crate) fn text_of_run(alloc: Global, run: &Trace) -> Result<Vec<u8>, AllocError>
-    requires one { length run.now.writers ≡ 1 }
-    ensures { IfOk result (λ text. text.items ≡ direct_text run.now) }
+/// Prints the lines of all calls of a run. They are never in memory all at once.
+pub(crate) fn print_run<O: Sink>(
+    alloc: Global,
+    run: &Trace,
+    out: &mut O,
+) -> Result<(), Refusal<'static>>
+    ensures printed { Prints (direct_text run.now) (O.put out.old) (O.put out.new)
+        (O.faults out.old) (O.faults out.new) (ending_of result) }
+    ensures others { O.rest out.old out.new }
 {
-    let Some(calls) = run.writers.get(0) else {
-        unreachable!()
-    };
-    lines_of(alloc, &run.dictionary, &run.clock, calls)
+    let places = places_in_order(alloc, run)?;
+    print_places(alloc, run, &places, out)
 }
 
 /// The lines of the records of a log of one writer.
@@ -80,5 +101,9 @@ pub(crate) fn text_of_log(alloc: Global, log: &ReadLog) -> Result<Vec<u8>, Alloc
     ensures { IfOk result (λ text. (bytes : List ℕ)
         → NarrowLog bytes log.now.clock log.now.dictionary log.now.records → Decompressed bytes text.items) }
 {
-    lines_of(alloc, &log.dictionary, &log.clock, &log.records)
+    let mut text = Vec::new(alloc);
+    for call in &log.records {
+        append_line(&log.dictionary, &log.clock, 0, call, &mut text)?;
+    }
+    Ok(text)
 }

@@ -10,7 +10,7 @@ ghost use Rattle.buffer_extent.specs.Bodies.{SpellsRecord, SpellsRecords};
 ghost use Rattle.checkpoint_io.specs.Blocks.{SpellsEntries, header_bytes, fragment_head_bytes, extent_head_bytes, close_bytes};
 ghost use Rattle.checkpoint_io.specs.Logs.{ids_used};
 ghost use Rattle.arg_records.specs.Calls.{IsCall, NeverFalls};
-ghost use Rattle.nanolog_cli.specs.NarrowTraces.{HasNarrowFormats, IsNarrowRun};
+ghost use Rattle.nanolog_cli.specs.NarrowTraces.{HasNarrowFormats, NarrowTrace};
 ghost use Rattle.nanolog_cli.specs.NarrowLogs.{narrow_header};
 ghost use Rattle.nanolog_cli.specs.Replays.{LogOfRun, accepted_text};
 ghost use Rattle.nanolog_cli.specs.Appending.{AppendsCalls};
@@ -21,7 +21,7 @@ use checkpoint_io::{Header, put_close, put_extent_head, put_fragment_head, put_h
 use itoa::Buffer;
 use log_dictionary::{Clock, Dictionary, Message, entry_len, put_entry};
 use std::alloc::{AllocError, Global};
-use trace_text::{Call, Calls, Trace};
+use trace_text::{Call, Calls, Trace, call_count};
 
 /// The most bytes of an extent's body.
 const MAX_BODY: usize = 65_536;
@@ -47,10 +47,7 @@ fn put_call(
         × (length packed ≤ 320) × (result ≡ at + length packed)
         × (body.new ≡ with_words body.old at packed) }
 {
-    let Some(message) = dictionary.get(call.id) else {
-        unreachable!()
-    };
-    let types = message.format.types();
+    let types = dictionary.message(call.id).format.types();
     let Ok(len) = frame_words(call.id, call.stamp, &call.args.args(), frame) else {
         unreachable!()
     };
@@ -71,10 +68,7 @@ fn put_calls(dictionary: &Dictionary, tick: u64, calls: &Calls, body: &mut [u8])
     let mut frame = [0; 512];
     let mut before = tick;
     let mut end = 0;
-    for place in 0..calls.len() {
-        let Some(call) = calls.get(place) else {
-            unreachable!()
-        };
+    for call in calls {
         end = put_call(dictionary, call, before, &mut frame, body, end);
         before = call.stamp;
     }
@@ -116,10 +110,7 @@ fn count_of_ids(calls: &Calls) -> u32
     ensures { result ≡ ids_used calls.now }
 {
     let mut count = 0;
-    for place in 0..calls.len() {
-        let Some(call) = calls.get(place) else {
-            unreachable!()
-        };
+    for call in calls {
         count = counted(count, call.id);
     }
     count
@@ -166,10 +157,7 @@ fn append_fragment(dictionary: &Dictionary, count: u32, log: &mut Vec<u8>) -> Re
     log.extend_from_slice(&head)?;
     let mut entry = [0; MAX_ENTRY];
     for id in 0..count {
-        let Some(message) = dictionary.get(id) else {
-            unreachable!()
-        };
-        append_entry(message, &mut entry, log)?;
+        append_entry(dictionary.message(id), &mut entry, log)?;
     }
     Ok(())
 }
@@ -218,14 +206,12 @@ fn append_calls(
     append_extent(&body, log)
 }
 
-/// The log of all calls of a run of one writer.
+/// The log of all calls of a run that has a narrow trace.
 pub(crate) fn log_of_run(alloc: Global, run: &Trace) -> Result<Vec<u8>, AllocError>
-    requires { IsNarrowRun run.now }
+    requires { (text : List ℕ) × NarrowTrace text run.now }
     ensures { IfOk result (λ log. LogOfRun run.now log.items) }
 {
-    let Some(calls) = run.writers.get(0) else {
-        unreachable!()
-    };
+    let calls = run.writers.calls(0);
     let mut log = Vec::new(alloc);
     append_header(&run.clock, &mut log)?;
     append_calls(alloc, &run.dictionary, run.clock.tick, calls, &mut log)?;
@@ -244,13 +230,9 @@ fn text_of_count(alloc: Global, count: u64) -> Result<Vec<u8>, AllocError>
     Ok(text)
 }
 
-/// What is printed where all calls of a run of one writer were written.
+/// What is printed where all calls of a run were written.
 pub(crate) fn accepted_text(alloc: Global, run: &Trace) -> Result<Vec<u8>, AllocError>
-    requires { length run.now.writers ≡ 1 }
     ensures { IfOk result (λ text. text.items ≡ accepted_text run.now) }
 {
-    let Some(calls) = run.writers.get(0) else {
-        unreachable!()
-    };
-    text_of_count(alloc, calls.len() as u64)
+    text_of_count(alloc, call_count(run) as u64)
 }

@@ -215,13 +215,37 @@ fn each_changed_byte_gives_a_log_or_is_refused(rt: HostRuntime) -> Result<(), Fa
     Ok(())
 }
 
+/// Asserts that `replay` of the text is refused with these words behind the name, and creates no log.
+fn expect_refused(rt: &impl Abort, alloc: Global, text: &str, told: &str) -> Result<(), Fail> {
+    let ran = run(rt, alloc, &["replay", "t", "l"], text, NONE)?;
+    let err = format!(in alloc; "nanolog: t:{told}\n")?;
+    assert_eq!(rt; ran.shown(), (Status::Refused, "", err.as_str()), "{text}");
+    assert!(rt; ran.log.is_none());
+    Ok(())
+}
+
 #[test]
 fn a_refused_trace_creates_no_log(rt: HostRuntime) -> Result<(), Fail> {
-    let told = "nanolog: t:0: refused: 99 NotYet\n";
-    for text in ["", "nanolog-trace 1\n"] {
-        let ran = run(&rt, rt.alloc(), &["replay", "t", "l"], text, NONE)?;
-        assert_eq!(rt; ran.shown(), (Status::Refused, "", told));
-        assert!(rt; ran.log.is_none());
+    let not_yet = "0: refused: 99 NotYet";
+    for (old, new, told) in [
+        ("writers 1", "writers 2", not_yet),
+        ("x=%d", "x=%5d", not_yet),
+        ("x=%d", "\\x41%d", not_yet),
+        // What is wrong is told before that.
+        (
+            "writers 1\ncall",
+            "writers 2\ncalls",
+            "5: refused: 17 CallForm",
+        ),
+        ("%d\"\nclock", "%5d\"\nClock", "3: refused: 3 Clock"),
+        ("end\n", "", "6: refused: 14 NoEnd"),
+    ] {
+        let text = TRACE.replacen(rt.alloc(), old, new, 1)?;
+        expect_refused(&rt, rt.alloc(), text.as_str(), told)?;
+    }
+    for (messages, calls) in [(17, 128), (16, 129)] {
+        let text = counted_trace(rt.alloc(), messages, calls)?;
+        expect_refused(&rt, rt.alloc(), text.as_str(), not_yet)?;
     }
     let ran = run(&rt, rt.alloc(), &["replay", "x", "l"], TRACE, NONE)?;
     assert_eq!(rt; ran.shown(), (Status::Absent, "", "nanolog: x: absent\n"));

@@ -6,17 +6,15 @@ ghost use Rattle.log_dictionary.specs.declared.clock.Clock.{Clock as ClockRecord
 ghost use Rattle.log_dictionary.specs.declared.message.Message.{Message as MessageRecord};
 ghost use Rattle.log_dictionary.specs.declared.binary_entry.EntryFault.TheVariants as entry_faults;
 ghost use Rattle.log_dictionary.specs.declared.dictionary.AddFault.TheVariants as add_faults;
-ghost use Rattle.nanolog_cli.specs.NarrowMessages.{NarrowEntry};
 ghost use Rattle.log_dictionary.specs.Messages.{HasMessage};
 ghost use Rattle.arg_records.specs.declared.call.Call.{Call};
 ghost use Rattle.buffer_extent.specs.Bodies.{IsBody};
 ghost use Rattle.buffer_extent.specs.declared.fault.BodyFault.TheVariants as body_faults;
-ghost use Rattle.nanolog_cli.specs.declared.narrow.NarrowFault.TheVariants as narrow_faults;
+ghost use Rattle.nanolog_cli.specs.declared.narrow_log.NarrowFault.TheVariants as narrow_faults;
 ghost use Rattle.nanolog_cli.specs.NarrowTraces.{HasNarrowFormats};
 ghost use Rattle.nanolog_cli.specs.NarrowLogs.{NarrowLog};
-ghost use Rattle.nanolog_cli.specs.LogParts.{BeginsWithHeader, BeginsWithCount, BeginsWithEntries, BeginsWithMessages, BeginsWithBody, BeginsWithRecords};
+ghost use Rattle.nanolog_cli.specs.LogParts.{NarrowEntry, BeginsWithHeader, BeginsWithCount, BeginsWithEntries, BeginsWithMessages, BeginsWithBody, BeginsWithRecords};
 
-use crate::narrow::NarrowFault;
 use arg_records::Calls;
 use buffer_extent::{BodyFault, read_body};
 use log_dictionary::{AddFault, Added, Clock, Dictionary, EntryFault, Message, read_entry};
@@ -52,6 +50,14 @@ pub(crate) struct ReadLog {
     pub(crate) clock: Clock,
     pub(crate) dictionary: Dictionary,
     pub(crate) records: Calls,
+}
+
+/// Why bytes were read as no log.
+#[derive(Clone, Copy, Debug, PartialEq, Eq)]
+pub(crate) enum NarrowFault {
+    /// They are no log of the form that is read so far.
+    NotYet,
+    NoMemory,
 }
 
 impl From<EntryFault> for NarrowFault {

@@ -1,27 +1,42 @@
 //! The standard output.
 
-ghost use Rattle.std.specs.Prelude.{◌≡◌, OnOk, OnErr, IfErr};
+ghost use Rattle.std.specs.Prelude.{◌≡◌, ◌≢◌, ◌++◌, ℕ, List, OnOk, OnErr, IfErr};
 ghost use Rattle.nl_io.specs.Count.{Rose};
 ghost use Rattle.nl_io.specs.Content.{with_end, PutsFront};
-ghost use Rattle.nanolog_cli.specs.Words.{standard_output};
-ghost use Rattle.nanolog_cli.specs.declared.status.Status.TheVariants.{WriteFault};
-ghost use Rattle.nanolog_cli.specs.Refusals.{status_of, name_of};
+ghost use Rattle.nanolog_cli.specs.Endings.{ending_of, NoMemory as WantsMemory};
+ghost use Rattle.nanolog_cli.specs.Outcomes.{Prints};
 
 use crate::refusal::Refusal;
 use nl_io::{Sink, write_all};
 
-/// Prints a text.
+/// How many bytes of a long text are gathered before they are printed.
+const PIECE: usize = 65_536;
+
+/// Prints a text. It takes no memory.
 pub(crate) fn print<O: Sink>(out: &mut O, text: &[u8]) -> Result<(), Refusal<'static>>
-    ensures printed { OnOk result (O.put out.new ≡ with_end text.now (O.put out.old)) }
-    ensures counted { OnOk result (O.faults out.new ≡ O.faults out.old) }
-    ensures status { IfErr result (λ refusal. status_of refusal ≡ WriteFault) }
-    ensures name { IfErr result (λ refusal. name_of refusal ≡ standard_output) }
-    ensures cut_off { OnErr result (PutsFront text.now (O.put out.old) (O.put out.new)) }
-    ensures cause { OnErr result (Rose (O.faults out.old) (O.faults out.new)) }
+    ensures printed { Prints text.now (O.put out.old) (O.put out.new) (O.faults out.old) (O.faults out.new)
+        (ending_of result) }
+    ensures memory { ending_of result ≢ WantsMemory }
     ensures others { O.rest out.old out.new }
 {
     match write_all(out, text) {
         Ok(()) => Ok(()),
         Err(_) => Err(Refusal::WriteFault("standard output")),
     }
+}
+
+/// Prints a text and takes it out of the buffer, where it is long enough.
+pub(crate) fn print_long<O: Sink>(out: &mut O, text: &mut Vec<u8>) -> Result<(), Refusal<'static>>
+    ensures printed { OnOk result ((front : List ℕ) × (O.put out.new ≡ with_end front (O.put out.old))
+        × (text.old.items ≡ front ++ text.new.items) × (O.faults out.new ≡ O.faults out.old)) }
+    ensures cut_off { OnErr result (Prints text.old.items (O.put out.old) (O.put out.new)
+        (O.faults out.old) (O.faults out.new) (ending_of result)) }
+    ensures others { O.rest out.old out.new }
+{
+    if text.len() < PIECE {
+        return Ok(());
+    }
+    print(out, text)?;
+    text.clear();
+    Ok(())
 }

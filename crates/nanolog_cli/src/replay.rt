@@ -6,10 +6,10 @@ ghost use Rattle.nl_io.specs.Count.{Rose};
 ghost use Rattle.nl_io.specs.Content.{with_end, PutsFront};
 ghost use Rattle.nl_io.specs.Desk.{OnlyName, SameButHeld, put_by, found_in};
 ghost use Rattle.nanolog_cli.specs.Commands.{Replay};
-ghost use Rattle.nanolog_cli.specs.Outcomes.{IsHeld, HoldsFront, scene};
-ghost use Rattle.nanolog_cli.specs.Refusals.{EndsWith};
+ghost use Rattle.nanolog_cli.specs.Endings.{ending_of};
+ghost use Rattle.nanolog_cli.specs.Outcomes.{IsHeld, HoldsFront, scene, Ends};
 
-use crate::input::run_of_file;
+use crate::input::narrow_run_of_file;
 use crate::log_of_run::{accepted_text, log_of_run};
 use crate::output::print;
 use crate::refusal::Refusal;
@@ -55,12 +55,12 @@ pub(crate) fn replay<'a, F: Files, O: Sink>(
     log: &'a str,
     out: &mut O,
 ) -> Result<(), Refusal<'a>>
-    ensures ends { EndsWith (Replay trace.now log.now) (scene (F.desk files.old) (O.put out.old) (O.faults out.old))
-        (scene (F.desk files.new) (O.put out.new) (O.faults out.new)) result }
+    ensures ends { Ends (Replay trace.now log.now) (scene (F.desk files.old) (O.put out.old) (O.faults out.old))
+        (scene (F.desk files.new) (O.put out.new) (O.faults out.new)) (ending_of result) }
     ensures files_others { F.rest files.old files.new }
     ensures out_others { O.rest out.old out.new }
 {
-    let run = run_of_file(alloc, files, trace)?;
+    let run = narrow_run_of_file(alloc, files, trace)?;
     let bytes = log_of_run(alloc, &run)?;
     let text = accepted_text(alloc, &run)?;
     match save(files, log, &bytes) {

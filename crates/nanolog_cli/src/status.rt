@@ -1,3 +1,5 @@
+//! How a command ended, as the exit status says it.
+
 ghost use Rattle.std.specs.Prelude.{◌≡◌};
 ghost use Rattle.nanolog_cli.specs.Statuses.{status_number};
 

@@ -13,7 +13,9 @@ pub(crate) const TRACE: &str =
 
 pub(crate) const LINE: &str = "1514764800.000000001 srv.cc:12 NOTICE[0]: x=7\n";
 
-const REFUSED: &str = "nanolog: t:0: refused: 99 NotYet\n";
+/// A trace of one call with two texts.
+const TEXTS: &str =
+    "nanolog-trace 1\nmessage 0 NOTICE 12 \"srv.cc\" \"%s%s\"\nclock 1000 1514764800000000000 2000000000\nwriters 1\ncall 0 1003 0 \"a\" \"b\"\nend\n";
 
 const USAGE: &str = "usage:
   nanolog preprocess DICT FILE..
@@ -26,18 +28,21 @@ const USAGE: &str = "usage:
   nanolog schedule FILE
 ";
 
-/// How many bytes one call on a file or a sink moves at most.
+/// How many bytes one call moves at most, if nothing else is said.
 pub(crate) const PIECE: usize = 16;
 
-/// The numbers of the calls that fail: on the files, on the output and on the errors.
+/// How many bytes one call moves at most, and the numbers of the calls that fail: on the files, on the output and on the
+/// errors.
 #[derive(Clone, Copy)]
 pub(crate) struct Failing<'a> {
+    pub(crate) piece: usize,
     pub(crate) files: &'a [u64],
     pub(crate) out: &'a [u64],
     pub(crate) err: &'a [u64],
 }
 
 pub(crate) const NONE: Failing<'static> = Failing {
+    piece: PIECE,
     files: &[],
     out: &[],
     err: &[],
@@ -86,10 +91,11 @@ pub(crate) fn run_over(
     file: (&str, &[u8]),
     failing: Failing<'_>,
 ) -> Result<Ran, Fail> {
-    let mut files = MemFiles::make(alloc, PIECE, failing.files)?;
+    let piece = failing.piece.max(1);
+    let mut files = MemFiles::make(alloc, piece, failing.files)?;
     files.put_file(file.0, file.1)?;
-    let mut out = MemSink::make(alloc, PIECE, failing.out)?;
-    let mut err = MemSink::make(alloc, PIECE, failing.err)?;
+    let mut out = MemSink::make(alloc, piece, failing.out)?;
+    let mut err = MemSink::make(alloc, piece, failing.err)?;
     let owned = owned_words(alloc, words)?;
     let status = quick(alloc, &owned, &mut files, &mut out, &mut err);
     assert_eq!(rt; files.starved(), 0);
@@ -114,41 +120,166 @@ pub(crate) fn run(
     run_over(rt, alloc, words, ("t", text.as_bytes()), failing)
 }
 
-/// Asserts that the text is a trace with these lines, or that it is refused.
-fn expect_lines(
+/// Asserts how `direct` of the text ends: with these lines, or refused with these words behind the name.
+fn expect_by(
     rt: &impl Abort,
     alloc: Global,
     text: &str,
-    lines: Option<&str>,
+    lines: &str,
+    told: &str,
+    piece: usize,
 ) -> Result<(), Fail> {
-    let ran = run(rt, alloc, &["direct", "t"], text, NONE)?;
-    let want = match lines {
-        Some(lines) => (Status::Done, lines, ""),
-        None => (Status::Refused, "", REFUSED),
+    let failing = Failing { piece, ..NONE };
+    let ran = run(rt, alloc, &["direct", "t"], text, failing)?;
+    let status = if told.is_empty() {
+        Status::Done
+    } else {
+        Status::Refused
     };
-    assert_eq!(rt; ran.shown(), want, "{text}");
+    assert_eq!(rt; ran.status, status, "{text}");
+    assert!(rt; ran.out.as_str() == lines, "{text}");
+    assert!(rt; ran.err.as_str() == told, "{text}");
     Ok(())
 }
 
-/// Asserts the same of [`TRACE`] with one piece of its text in place of another. Each row has the piece that is left
-/// out, a `|`, the piece that stands in its place, and, where that is a trace, a `|` and its lines. A `;` is a line feed.
-fn expect_edited(rt: &impl Abort, alloc: Global, table: &str) -> Result<(), Fail> {
+/// Asserts how `direct` of the text ends: with these lines, where they are none or end with a line feed, and else refused
+/// at the line that stands first, by the number and the name behind it. It ends so whatever one call moves at most.
+fn expect_end(rt: &impl Abort, alloc: Global, text: &str, want: &str) -> Result<(), Fail> {
+    if want.is_empty() || want.ends_with('\n') {
+        expect_by(rt, alloc, text, want, "", 1)?;
+        return expect_by(rt, alloc, text, want, "", PIECE);
+    }
+    let (line, cause) = want.split_once(' ').ok_or("a refusal without a line")?;
+    let told = format!(in alloc; "nanolog: t:{line}: refused: {cause}\n")?;
+    expect_by(rt, alloc, text, "", told.as_str(), 1)?;
+    expect_by(rt, alloc, text, "", told.as_str(), PIECE)
+}
+
+/// Asserts this of the trace with one piece of its text in place of another. Each row has the piece that is left out, a
+/// `|`, the piece that stands in its place, a `|` and how that ends. A `;` is a line feed, and `@` the time and the place of
+/// the first call.
+fn expect_edited(rt: &impl Abort, alloc: Global, trace: &str, table: &str) -> Result<(), Fail> {
     for row in table.lines() {
         let row = row.replace(alloc, ";", "\n")?;
+        let row = row
+            .as_str()
+            .replace(alloc, "@", "1514764800.000000001 srv.cc:12")?;
         let mut columns = row.as_str().split('|');
         let old = columns.next().ok_or("a row without a piece")?;
         let new = columns.next().ok_or("a row without a new piece")?;
-        let text = TRACE.replacen(alloc, old, new, 1)?;
-        assert!(rt; text.as_str() != TRACE, "{old}");
-        expect_lines(rt, alloc, text.as_str(), columns.next())?;
+        let want = columns.next().ok_or("a row without an end")?;
+        let text = trace.replacen(alloc, old, new, 1)?;
+        assert!(rt; text.as_str() != trace, "{old}");
+        expect_end(rt, alloc, text.as_str(), want)?;
     }
     Ok(())
 }
 
 #[test]
 fn prints_the_line_of_a_call(rt: HostRuntime) -> Result<(), Fail> {
-    expect_lines(&rt, rt.alloc(), TRACE, Some(LINE))?;
-    expect_lines(&rt, rt.alloc(), "", None)
+    expect_end(&rt, rt.alloc(), TRACE, LINE)?;
+    expect_end(&rt, rt.alloc(), "", "1 14 NoEnd")
+}
+
+#[test]
+fn each_cause_is_told_with_its_line(rt: HostRuntime) -> Result<(), Fail> {
+    expect_edited(
+        &rt,
+        rt.alloc(),
+        TRACE,
+        "trace 1|trace 2|1 1 Header
+message 0|message 1|2 2 Message
+NOTICE|Notice|2 2 Message
+12|4294967296|2 2 Message
+srv.cc||2 2 Message
+x=%d|x=%f|2 2 Message
+x=%d|x=\\x4|2 2 Message
+clock|message 1 NOTICE 12 \"srv.cc\" \"x=%d\";clock|3 2 Message
+clock|blank|3 3 Clock
+2000000000|0|3 3 Clock
+1000|01000|3 3 Clock
+1514764800000000000|18446744073709551616|3 3 Clock
+writers 1|writers 0|4 4 Writers
+writers 1|writers 65|4 4 Writers
+call 0|calls 0|5 17 CallForm
+1003 0 7|1003|5 17 CallForm
+1003|18446744073709551616|5 17 CallForm
+1003|+1003|5 17 CallForm
+call 0|call 1|5 5 Writer
+1003|999|5 7 BeforeClock
+end|call 0 1002 0 7;end|6 6 StampFalls
+1003 0 7|1003 1 7|5 8 Id
+1003 0 7|1003 0|5 9 ArgCount
+1003 0 7|1003 0 7 7|5 9 ArgCount
+0 7;end|0 7 ;end|5 9 ArgCount
+1003 0 7|1003 0 |5 10 ArgKind
+1003 0 7|1003 0  7|5 10 ArgKind
+1003 0 7|1003 0 \"7\"|5 10 ArgKind
+1003 0 7|1003 0 -0|5 10 ArgKind
+1003 0 7|1003 0 07|5 10 ArgKind
+1003 0 7|1003 0 2147483648|5 11 ArgRange
+1003 0 7|1003 0 -2147483649|5 11 ArgRange
+1003 0 7|1003 0 99999999999999999999|5 11 ArgRange
+end;||6 14 NoEnd
+end;|end|6 14 NoEnd
+end;|end ;|6 17 CallForm
+end;|end;.|7 16 AfterEnd
+end;|end;;|7 16 AfterEnd",
+    )?;
+    expect_edited(
+        &rt,
+        rt.alloc(),
+        TEXTS,
+        "\"a\"|\"\\x00\"|5 12 NulInText
+\"a\"|a|5 10 ArgKind
+\"b\"|\"b|5 10 ArgKind
+\"b\"|\"b\"c|5 10 ArgKind
+\"b\"|\"\\x4\"|5 10 ArgKind",
+    )
+}
+
+#[test]
+fn the_first_cause_of_a_line_is_told(rt: HostRuntime) -> Result<(), Fail> {
+    expect_edited(
+        &rt,
+        rt.alloc(),
+        TRACE,
+        "0 1003 0 7|9 01003 0 7|5 17 CallForm
+call 0 1003|call 1 999|5 5 Writer
+end|call 0 999 0 7;end|6 7 BeforeClock
+1003 0 7|999 1 7|5 7 BeforeClock
+end|call 0 1002 1 7;end|6 6 StampFalls
+1003 0 7|1003 1|5 8 Id
+1003 0 7|1003 0 x y|5 10 ArgKind
+1003 0 7|1003 0 2147483648 7|5 11 ArgRange
+1003 0 7;end;|1003 1 7;|5 8 Id
+0 7;end;|0;end;.|5 9 ArgCount",
+    )?;
+    expect_edited(
+        &rt,
+        rt.alloc(),
+        TEXTS,
+        "\"a\" \"b\"|\"\\x00\" 7|5 12 NulInText
+\"a\" \"b\"|7 \"\\x00\"|5 10 ArgKind
+\"a\" \"b\"|\"a\"|5 9 ArgCount",
+    )
+}
+
+#[test]
+fn long_texts_are_told_apart(rt: HostRuntime) -> Result<(), Fail> {
+    let long = "y".repeat(rt.alloc(), 4_000)?;
+    let text = TEXTS.replacen(rt.alloc(), "\"a\"", "\"\"", 1)?;
+    let text = text.as_str().replacen(rt.alloc(), "\"b\"", "\"@\"", 1)?;
+    let one = text.as_str().replacen(rt.alloc(), "@", long.as_str(), 1)?;
+    let line = format!(in rt.alloc(); "1514764800.000000001 srv.cc:12 NOTICE[0]: {long}\n")?;
+    expect_end(&rt, rt.alloc(), one.as_str(), line.as_str())?;
+    let both = one.as_str().replacen(rt.alloc(), "\"\" ", "\"@\" ", 1)?;
+    let both = both.as_str().replacen(rt.alloc(), "@", long.as_str(), 1)?;
+    expect_end(&rt, rt.alloc(), both.as_str(), "5 13 TooLong")?;
+    let longer = one.as_str().replacen(rt.alloc(), "yyy", "yyyy", 1)?;
+    expect_end(&rt, rt.alloc(), longer.as_str(), "5 13 TooLong")?;
+    let cut = longer.as_str().replacen(rt.alloc(), "yyy", "yy\\x00", 1)?;
+    expect_end(&rt, rt.alloc(), cut.as_str(), "5 12 NulInText")
 }
 
 #[test]
@@ -199,6 +330,15 @@ fn a_failed_read_is_told(rt: HostRuntime) -> Result<(), Fail> {
         };
         assert_eq!(rt; ran.shown(), want, "call {call}");
     }
+    // A first line that is wrong isn't told, where a later piece can't be read.
+    let wrong = TRACE.replacen(rt.alloc(), "trace 1", "trace 2", 1)?;
+    let failing = Failing {
+        files: &[3],
+        ..NONE
+    };
+    let ran = run(&rt, rt.alloc(), &["direct", "t"], wrong.as_str(), failing)?;
+    let told = "nanolog: t: read fault\n";
+    assert_eq!(rt; ran.shown(), (Status::ReadFault, "", told));
     Ok(())
 }
 
@@ -272,20 +412,57 @@ pub(crate) fn counted_lines(alloc: Global, calls: u32) -> Result<String, AllocEr
 }
 
 #[test]
-fn counts_messages_and_calls(rt: HostRuntime) -> Result<(), Fail> {
-    for (messages, calls, is_read) in [
-        (0, 0, true),
-        (1, 0, true),
-        (16, 128, true),
-        (17, 128, false),
-        (16, 129, false),
-        (0, 1, false),
-    ] {
-        let text = counted_trace(rt.alloc(), messages, calls)?;
-        let lines = counted_lines(rt.alloc(), calls)?;
-        let want = if is_read { Some(lines.as_str()) } else { None };
-        expect_lines(&rt, rt.alloc(), text.as_str(), want)?;
-    }
+fn a_long_text_is_printed_in_pieces(rt: HostRuntime) -> Result<(), Fail> {
+    let text = counted_trace(rt.alloc(), 1, 3_000)?;
+    let lines = counted_lines(rt.alloc(), 3_000)?;
+    let words = ["direct", "t"];
+    let piece = 1_000_000;
+    let failing = Failing { piece, ..NONE };
+    let ran = run(&rt, rt.alloc(), &words, text.as_str(), failing)?;
+    assert!(rt; ran.shown() == (Status::Done, lines.as_str(), ""));
+    // One call of the output takes a piece of 64 KiB, and the next one fails.
+    let failing = Failing {
+        piece,
+        out: &[1],
+        ..NONE
+    };
+    let ran = run(&rt, rt.alloc(), &words, text.as_str(), failing)?;
+    let (status, out, err) = ran.shown();
+    assert_eq!(rt;
+        (status, err),
+        (
+            Status::WriteFault,
+            "nanolog: standard output: write fault\n"
+        )
+    );
+    assert!(rt; out.len() >= 65_536 && out.len() < 65_600 && lines.as_str().starts_with(out));
+    Ok(())
+}
+
+#[test]
+fn one_message_more_than_there_can_be_is_told(rt: HostRuntime) -> Result<(), Fail> {
+    let text = counted_trace(rt.alloc(), 65_537, 0)?;
+    let failing = Failing {
+        piece: 1_000_000,
+        ..NONE
+    };
+    let ran = run(&rt, rt.alloc(), &["direct", "t"], text.as_str(), failing)?;
+    let told = "nanolog: t:65538: refused: 15 TooMany\n";
+    assert_eq!(rt; ran.shown(), (Status::Refused, "", told));
+    Ok(())
+}
+
+#[test]
+fn one_byte_more_than_a_trace_has_is_told(rt: HostRuntime) -> Result<(), Fail> {
+    let bytes = Vec::from_elem(rt.alloc(), b'\n', 67_108_865)?;
+    let failing = Failing {
+        piece: 1_000_000,
+        ..NONE
+    };
+    let file = ("t", bytes.as_slice());
+    let ran = run_over(&rt, rt.alloc(), &["direct", "t"], file, failing)?;
+    let told = "nanolog: t:0: refused: 18 TooLarge\n";
+    assert_eq!(rt; ran.shown(), (Status::Refused, "", told));
     Ok(())
 }
 
@@ -296,7 +473,7 @@ fn long_formats_have_their_lines(rt: HostRuntime) -> Result<(), Fail> {
     let text = TRACE.replacen(rt.alloc(), "x=%d", letters.as_str(), 1)?;
     let text = text.as_str().replacen(rt.alloc(), "0 7\n", "0\n", 1)?;
     let line = LINE.replacen(rt.alloc(), "x=7", letters.as_str(), 1)?;
-    expect_lines(&rt, rt.alloc(), text.as_str(), Some(line.as_str()))?;
+    expect_end(&rt, rt.alloc(), text.as_str(), line.as_str())?;
     let fields = "%d".repeat(rt.alloc(), 64)?;
     let numbers = " 8".repeat(rt.alloc(), 64)?;
     let text = TRACE.replacen(rt.alloc(), "x=%d", fields.as_str(), 1)?;
@@ -305,173 +482,59 @@ fn long_formats_have_their_lines(rt: HostRuntime) -> Result<(), Fail> {
         .replacen(rt.alloc(), " 7", numbers.as_str(), 1)?;
     let eights = "8".repeat(rt.alloc(), 64)?;
     let line = LINE.replacen(rt.alloc(), "x=7", eights.as_str(), 1)?;
-    expect_lines(&rt, rt.alloc(), text.as_str(), Some(line.as_str()))
-}
-
-/// One change of a line.
-#[derive(Clone, Copy, Debug)]
-enum Change {
-    Missing,
-    Doubled,
-    SecondSpace,
-    LeadingZero,
-    CarriageReturn,
-}
-
-/// The line with the change, and with its end.
-fn changed_line(alloc: Global, line: &str, change: Change) -> Result<String, AllocError> {
-    match change {
-        Change::Missing => String::from_str(alloc, ""),
-        Change::Doubled => format!(in alloc; "{line}\n{line}\n"),
-        Change::SecondSpace => format!(in alloc; "{}\n", line.replacen(alloc, " ", "  ", 1)?),
-        Change::LeadingZero => format!(in alloc; "{}\n", line.replacen(alloc, " ", " 0", 1)?),
-        Change::CarriageReturn => format!(in alloc; "{line}\r\n"),
-    }
-}
-
-/// [`TRACE`] with the change at one line.
-fn changed_trace(alloc: Global, place: usize, change: Change) -> Result<String, AllocError> {
-    let mut text = String::new(alloc);
-    for (number, line) in TRACE.lines().enumerate() {
-        if number == place {
-            text.push_str(changed_line(alloc, line, change)?.as_str())?;
-        } else {
-            writeln!(text, "{line}")?;
-        }
-    }
-    Ok(text)
+    expect_end(&rt, rt.alloc(), text.as_str(), line.as_str())
 }
 
 #[test]
-fn each_line_stands_as_it_must(rt: HostRuntime) -> Result<(), Fail> {
-    let twice =
-        "1514764800.000000001 srv.cc:12 NOTICE[0]: x=7\n1514764800.000000001 srv.cc:12 NOTICE[0]: x=7\n";
-    for place in 0..6 {
-        for change in [
-            Change::Missing,
-            Change::Doubled,
-            Change::SecondSpace,
-            Change::LeadingZero,
-            Change::CarriageReturn,
-        ] {
-            let lines = match (place, change) {
-                (4, Change::Missing) => Some(""),
-                (4, Change::Doubled) => Some(twice),
-                // The last line has no space and no number.
-                (5, Change::SecondSpace | Change::LeadingZero) => Some(LINE),
-                _ => None,
-            };
-            let text = changed_trace(rt.alloc(), place, change)?;
-            expect_lines(&rt, rt.alloc(), text.as_str(), lines)?;
-        }
-    }
-    Ok(())
-}
-
-#[test]
-fn numbers_lie_in_their_ranges(rt: HostRuntime) -> Result<(), Fail> {
+fn numbers_go_to_the_ends_of_their_ranges(rt: HostRuntime) -> Result<(), Fail> {
     expect_edited(
         &rt,
         rt.alloc(),
-        "0 7|0 0|1514764800.000000001 srv.cc:12 NOTICE[0]: x=0;
-0 7|0 2147483647|1514764800.000000001 srv.cc:12 NOTICE[0]: x=2147483647;
-0 7|0 2147483648
-0 7|0 -2147483648|1514764800.000000001 srv.cc:12 NOTICE[0]: x=-2147483648;
-0 7|0 -2147483649
-0 7|0 -0
-0 7|0 +7
-0 7|0 07
+        TRACE,
+        "0 7|0 0|@ NOTICE[0]: x=0;
+0 7|0 2147483647|@ NOTICE[0]: x=2147483647;
+0 7|0 -2147483648|@ NOTICE[0]: x=-2147483648;
 1003|1000|1514764800.000000000 srv.cc:12 NOTICE[0]: x=7;
-1003|999
 1003|18446744073709551615|10738136836.854775307 srv.cc:12 NOTICE[0]: x=7;
-1003|18446744073709551616
 1000|1003|1514764800.000000000 srv.cc:12 NOTICE[0]: x=7;
-1000|18446744073709551616
 1000 1514764800000000000|0 0|0.000000501 srv.cc:12 NOTICE[0]: x=7;
 1514764800000000000|18446744073709551615|18446744073.709551616 srv.cc:12 NOTICE[0]: x=7;
-1514764800000000000|18446744073709551616
 2000000000|18446744073709551615|1514764800.000000000 srv.cc:12 NOTICE[0]: x=7;
-2000000000|18446744073709551616
 2000000000|1|1514764803.000000000 srv.cc:12 NOTICE[0]: x=7;
-2000000000|0
 12|4294967295|1514764800.000000001 srv.cc:4294967295 NOTICE[0]: x=7;
-12|4294967296",
+1000 1514764800000000000 2000000000;writers 1;call 0 1003 0 7|0 0 1;writers 1;call 0 0 0 7;call 0 18446744073709551615 0 7|0.000000000 srv.cc:12 NOTICE[0]: x=7;18446744073709551615.000000000 srv.cc:12 NOTICE[0]: x=7;",
     )
 }
 
 #[test]
-fn stamps_up_to_the_last(rt: HostRuntime) -> Result<(), Fail> {
-    for (clock, stamps, lines) in [
-        (
-            "0 0 1",
-            ["0", "18446744073709551615"],
-            "0.000000000 srv.cc:12 NOTICE[0]: x=7\n18446744073709551615.000000000 srv.cc:12 NOTICE[0]: x=7\n",
-        ),
-        (
-            "18446744073709551615 1 1",
-            ["18446744073709551615", "18446744073709551615"],
-            "0.000000001 srv.cc:12 NOTICE[0]: x=7\n0.000000001 srv.cc:12 NOTICE[0]: x=7\n",
-        ),
-    ] {
-        let [first, last] = stamps;
-        let text = format!(in rt.alloc();
-            "nanolog-trace 1\nmessage 0 NOTICE 12 \"srv.cc\" \"x=%d\"\nclock {clock}\nwriters 1\ncall 0 {first} 0 7\ncall 0 {last} 0 7\nend\n"
-        )?;
-        expect_lines(&rt, rt.alloc(), text.as_str(), Some(lines))?;
-    }
-    Ok(())
-}
-
-#[test]
-fn calls_follow_the_first_lines(rt: HostRuntime) -> Result<(), Fail> {
+fn every_trace_has_its_lines(rt: HostRuntime) -> Result<(), Fail> {
     expect_edited(
         &rt,
         rt.alloc(),
-        "writers 1|writers 0
-writers 1|writers 2
-call 0|call 1
-1003 0 7|1003 1 7
-1003 0 7|1003 0
-1003 0 7|1003 0 7 7
-1003 0 7;|1003 0 7 ;
-1003 0 7|1003 0 \"7\"
-end|call 0 1002 0 7;end
-end|call 0 1003 0 -8;end|1514764800.000000001 srv.cc:12 NOTICE[0]: x=7;1514764800.000000001 srv.cc:12 NOTICE[0]: x=-8;
-end;|end
-end;|ends;
-end;|end ;
-end;|end;;
-end;|end;.",
-    )
-}
-
-#[test]
-fn messages_are_told_apart(rt: HostRuntime) -> Result<(), Fail> {
-    expect_edited(
-        &rt,
-        rt.alloc(),
-        "x=%d|x=%5d
-x=%d|x=%i
-x=%d|x=%
-x=%d|x=7
-x=%d|%d%%|1514764800.000000001 srv.cc:12 NOTICE[0]: 7%;
-x=%d|%d\\n
-x=%d\"|x=%d
-x=%d\";|x=%d\" ;
-NOTICE|ERROR|1514764800.000000001 srv.cc:12 ERROR[0]: x=7;
-NOTICE|WARNING|1514764800.000000001 srv.cc:12 WARNING[0]: x=7;
-NOTICE|DEBUG|1514764800.000000001 srv.cc:12 DEBUG[0]: x=7;
-NOTICE|Notice
-srv.cc|
+        TRACE,
+        "call 0 1003 0 7;||
+writers 1;call 0 1003 0 7|writers 2|
+writers 1;call 0 1003 0 7|writers 3;call 1 1003 0 2;call 0 1003 0 1;call 1 1003 0 3|@ NOTICE[0]: x=1;@ NOTICE[1]: x=2;@ NOTICE[1]: x=3;
+writers 1;call 0 1003 0 7|writers 64;call 63 1003 0 2;call 0 1005 0 1;call 1 1001 0 3|1514764800.000000000 srv.cc:12 NOTICE[1]: x=3;@ NOTICE[63]: x=2;1514764800.000000002 srv.cc:12 NOTICE[0]: x=1;
+end|call 0 1003 0 -8;end|@ NOTICE[0]: x=7;@ NOTICE[0]: x=-8;
+x=%d|x=%5d|@ NOTICE[0]: x=    7;
+x=%d|%d%%|@ NOTICE[0]: 7%;
+x=%d|%d\\x41\\\\|@ NOTICE[0]: 7A\\;
+NOTICE|ERROR|@ ERROR[0]: x=7;
+NOTICE|WARNING|@ WARNING[0]: x=7;
+NOTICE|DEBUG|@ DEBUG[0]: x=7;
 srv.cc|s v|1514764800.000000001 s v:12 NOTICE[0]: x=7;
 srv.cc|é|1514764800.000000001 é:12 NOTICE[0]: x=7;
-srv.cc|s\tv
-srv.cc|s\"v
-srv.cc|s\\\"v
-message 0|message 1
-clock|message 1 NOTICE 12 \"srv.cc\" \"x=%d\";clock
-clock|message 1 NOTICE 13 \"srv.cc\" \"x=%d\";clock|1514764800.000000001 srv.cc:12 NOTICE[0]: x=7;
-clock|message 1 DEBUG 12 \"srv.cc\" \"x=%d\";clock|1514764800.000000001 srv.cc:12 NOTICE[0]: x=7;
-clock|message 0 NOTICE 13 \"srv.cc\" \"x=%d\";clock",
+srv.cc|s\\\"v|1514764800.000000001 s\"v:12 NOTICE[0]: x=7;
+clock|message 1 NOTICE 13 \"srv.cc\" \"x=%d\";clock|@ NOTICE[0]: x=7;
+clock|message 1 DEBUG 12 \"srv.cc\" \"x=%d\";clock|@ NOTICE[0]: x=7;",
+    )?;
+    expect_edited(
+        &rt,
+        rt.alloc(),
+        TEXTS,
+        "\"a\"|\"\"|@ NOTICE[0]: b;
+\"a\"|\"a b\"|@ NOTICE[0]: a bb;
+\"a\"|\"\\x41\\n\"|@ NOTICE[0]: A;b;",
     )
 }

@@ -29,7 +29,7 @@ pub record IsFree (head : Head) (count byte : ℕ) : Type 0 where
   pub wide : is_wide head byte ≡ false
   pub bad_length : is_bad_length head byte ≡ false
   pub goes : goes_on head byte ≡ true
-  pub narrow : is_too_wide head byte ≡ false
+  pub not_wide : is_too_wide head byte ≡ false
   pub room : takes_argument head byte ≡ true → count ≢ 64
 
 goes_where : (nul goes : Bool) → nul ≡ false → (not nul && not goes) ≡ false → goes ≡ true
@@ -44,14 +44,14 @@ free_of head count byte e =
     let percent = if_none (byte == 37 && not (is_bare head)) BadPercent _ store.1 in
     let bad_length = if_none (is_bad_length head byte) BadLength _ percent.1 in
     let unknown = if_none (not (byte == 0) && not (goes_on head byte)) Unknown _ bad_length.1 in
-    let narrow = if_none (is_too_wide head byte) TooWide _ unknown.1 in
-    let nul = if_none (byte == 0) Nul _ narrow.1 in
+    let not_wide = if_none (is_too_wide head byte) TooWide _ unknown.1 in
+    let nul = if_none (byte == 0) Nul _ not_wide.1 in
     let many = if_none (takes_argument head byte && count == 64) TooManyArgs None nul.1 in
     record {
       wide = wide.0;
       bad_length = bad_length.0;
       goes = goes_where (byte == 0) (goes_on head byte) nul.0 unknown.0;
-      narrow = narrow.0;
+      not_wide = not_wide.0;
       room = λ takes full. true≢false (sym (rw (takes, full) refl) ∙ many.0);
     }
 
@@ -120,12 +120,12 @@ more_digits digits byte n spelled digit within = record { are_digits = digits_pu
 
 longer_width : (flags width precision modifier : List ℕ) (count byte : ℕ) → IsHead (head_of flags width precision modifier) → takes_width_digit (head_of flags width precision modifier) byte ≡ true → takes_flag (head_of flags width precision modifier) byte ≡ false
     → is_too_wide (head_of flags width precision modifier) byte ≡ false → Longer (head_of flags width precision modifier) count byte
-longer_width flags width precision modifier count byte right e no_flag narrow =
+longer_width flags width precision modifier count byte right e no_flag not_wide =
     let last = and_parts (is_digit byte 10 && not (has_star width) && is_empty precision) (is_empty modifier) e in
     let middle = and_parts (is_digit byte 10 && not (has_star width)) (is_empty precision) last.0 in
     let first = and_parts (is_digit byte 10) (not (has_star width)) middle.0 in
     let head = head_of flags width precision modifier in
-    let wide = (or_parts (takes_width_digit head byte && nat_lt 4095 (digits_value 10 (width ++ byte ∷ []))) (takes_precision_digit head byte && nat_lt 4095 (digits_value 10 (drop 1 precision ++ byte ∷ []))) narrow).0 in
+    let wide = (or_parts (takes_width_digit head byte && nat_lt 4095 (digits_value 10 (width ++ byte ∷ []))) (takes_precision_digit head byte && nat_lt 4095 (digits_value 10 (drop 1 precision ++ byte ∷ []))) not_wide).0 in
     let within : nat_lt 4095 (digits_value 10 (width ++ byte ∷ [])) ≡ false = rw e at wide in
     let no_precision = empty_is precision middle.1 in
     let no_modifier = empty_is modifier last.1 in
@@ -173,9 +173,9 @@ longer_precision_star flags width precision modifier count byte right e room =
 
 longer_precision : (flags width precision modifier : List ℕ) (count byte : ℕ) → IsHead (head_of flags width precision modifier) → takes_precision_digit (head_of flags width precision modifier) byte ≡ true
     → is_too_wide (head_of flags width precision modifier) byte ≡ false → Longer (head_of flags width precision modifier) count byte
-longer_precision flags width precision modifier count byte right e narrow =
+longer_precision flags width precision modifier count byte right e not_wide =
     let head = head_of flags width precision modifier in
-    let wide = (or_parts (takes_width_digit head byte && nat_lt 4095 (digits_value 10 (width ++ byte ∷ []))) (takes_precision_digit head byte && nat_lt 4095 (digits_value 10 (drop 1 precision ++ byte ∷ []))) narrow).1 in
+    let wide = (or_parts (takes_width_digit head byte && nat_lt 4095 (digits_value 10 (width ++ byte ∷ []))) (takes_precision_digit head byte && nat_lt 4095 (digits_value 10 (drop 1 precision ++ byte ∷ []))) not_wide).1 in
     let within : nat_lt 4095 (digits_value 10 (drop 1 precision ++ byte ∷ [])) ≡ false = rw e at wide in
     let last = and_parts (is_digit byte 10 && not (is_empty precision) && not (has_star precision)) (is_empty modifier) e in
     let middle = and_parts (is_digit byte 10 && not (is_empty precision)) (not (has_star precision)) last.0 in
@@ -259,13 +259,13 @@ longer head count byte right free no_conversion no_percent =
       | inr no_flag ↦ elim (or_cases (takes_flag head byte || takes_width_star head byte || takes_width_digit head byte || takes_period head byte || takes_precision_star head byte || takes_precision_digit head byte) (takes_modifier head byte) goes) [
         | inr h ↦ longer_modifier f w p m count byte right h
         | inl h ↦ elim (or_cases (takes_flag head byte || takes_width_star head byte || takes_width_digit head byte || takes_period head byte || takes_precision_star head byte) (takes_precision_digit head byte) h) [
-          | inr h ↦ longer_precision f w p m count byte right h free.narrow
+          | inr h ↦ longer_precision f w p m count byte right h free.not_wide
           | inl h ↦ elim (or_cases (takes_flag head byte || takes_width_star head byte || takes_width_digit head byte || takes_period head byte) (takes_precision_star head byte) h) [
             | inr h ↦ longer_precision_star f w p m count byte right h (free.room (takes_second (takes_width_star head byte) (takes_precision_star head byte) (is_conversion byte) h))
             | inl h ↦ elim (or_cases (takes_flag head byte || takes_width_star head byte || takes_width_digit head byte) (takes_period head byte) h) [
               | inr h ↦ longer_period f w p m count byte right h
               | inl h ↦ elim (or_cases (takes_flag head byte || takes_width_star head byte) (takes_width_digit head byte) h) [
-                | inr h ↦ longer_width f w p m count byte right h no_flag free.narrow
+                | inr h ↦ longer_width f w p m count byte right h no_flag free.not_wide
                 | inl h ↦ elim (or_cases (takes_flag head byte) (takes_width_star head byte) h) [
                   | inr h ↦ longer_width_star f w p m count byte right h (free.room (takes_first (takes_width_star head byte) (takes_precision_star head byte) (is_conversion byte) h))
                   | inl h ↦ absurd (true≢false (sym h ∙ no_flag))

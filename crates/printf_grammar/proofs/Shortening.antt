@@ -181,7 +181,7 @@ width_digit flags digits byte n are_flags sized =
     let first = width_first _ n sized in
     let no_flag = no_flag_there digits first less.digit in
     let width : (takes_width_star front byte || takes_width_digit front byte) ≡ true = or_right (takes_width_star front byte) _ takes in
-    let narrow : is_too_wide front byte ≡ false = or_from _ _ (and_right (takes_width_digit front byte) _ less.within) (and_left (is_digit byte 10 && false && not (has_star []) && true) _ (no_precision byte)) in
+    let not_wide : is_too_wide front byte ≡ false = or_from _ _ (and_right (takes_width_digit front byte) _ less.within) (and_left (is_digit byte 10 && false && not (has_star []) && true) _ (no_precision byte)) in
     record {
       front = front;
       last = byte;
@@ -191,7 +191,7 @@ width_digit flags digits byte n are_flags sized =
         extends = rw (no_flag, width) refl;
         no_conversion = digit_fails is_conversion byte less.digit refl;
         no_percent = digit_fails (λ k. k == 37) byte less.digit refl;
-        free = λ base few. digit_cause front _ byte less.digit (on_width_digit front byte takes) ∙ rw narrow refl;
+        free = λ base few. digit_cause front _ byte less.digit (on_width_digit front byte takes) ∙ rw not_wide refl;
       };
       stars = rw (append-nil digits, append-nil (digits ++ byte ∷ [])) (omega (arith, no_star_in digits byte less.digit));
     }
@@ -255,7 +255,7 @@ precision_digit flags width digits byte n right spelled =
     let no_digit : takes_width_digit front byte ≡ false = and_left _ true (and_right (is_digit byte 10 && not (has_star width)) false refl) in
     let no_width : (takes_width_star front byte || takes_width_digit front byte) ≡ false = or_from (takes_width_star front byte) _ (and_left _ true (and_right (byte == 42 && is_empty width) false refl)) no_digit in
     let precise : (takes_period front byte || takes_precision_star front byte || takes_precision_digit front byte) ≡ true = or_right (takes_period front byte || takes_precision_star front byte) _ takes in
-    let narrow : is_too_wide front byte ≡ false = or_from _ _ (and_left _ (nat_lt 4095 (digits_value 10 (width ++ byte ∷ []))) no_digit) (and_right (takes_precision_digit front byte) _ less.within) in
+    let not_wide : is_too_wide front byte ≡ false = or_from _ _ (and_left _ (nat_lt 4095 (digits_value 10 (width ++ byte ∷ []))) no_digit) (and_right (takes_precision_digit front byte) _ less.within) in
     record {
       front = front;
       last = byte;
@@ -265,7 +265,7 @@ precision_digit flags width digits byte n right spelled =
         extends = rw (no_flag, no_width, precise) refl;
         no_conversion = digit_fails is_conversion byte less.digit refl;
         no_percent = digit_fails (λ k. k == 37) byte less.digit refl;
-        free = λ base few. digit_cause front _ byte less.digit (on_precision_digit front byte takes) ∙ rw narrow refl;
+        free = λ base few. digit_cause front _ byte less.digit (on_precision_digit front byte takes) ∙ rw not_wide refl;
       };
       stars = rw (stars_join width (46 ∷ digits), stars_join width (46 ∷ (digits ++ byte ∷ []))) (omega (arith, no_star_in digits byte less.digit));
     }

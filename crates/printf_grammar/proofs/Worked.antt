@@ -1,5 +1,6 @@
 -- Worked formats: their pieces, and where bytes break.
-use Rattle.std.proofs.Common.{◌≡◌, ℕ, zero, suc, ◌+◌, ◌≤◌, lit<, lit≤, true, List, [], ◌∷◌, ◌++◌, length, Some, None, refl, inl, inr, arith}
+use Rattle.std.proofs.Common.{◌≡◌, ◌≢◌, ℕ, zero, suc, ◌+◌, ◌<◌, ◌≤◌, lit<, lit≤, true, List, [], ◌∷◌, ◌++◌, length, replicate, Some, None, refl, sym, inl, inr, arith}
+use Rattle.std.proofs.lemmas.List.{append-nil, length-replicate}
 use Rattle.std.specs.Prelude.{slice_get, codes}
 use Rattle.std.specs.Fmt.{digits}
 use Rattle.std.specs.List.{AllByRecursion}
@@ -9,12 +10,13 @@ use Rattle.printf_grammar.specs.declared.piece.Size.{Size}
 use Rattle.printf_grammar.specs.declared.piece.Size.TheVariants.{Absent, Star, Given}
 use Rattle.printf_grammar.specs.declared.piece.Length.TheVariants as lengths
 use Rattle.printf_grammar.specs.declared.fault.FormatCause.{FormatCause}
-use Rattle.printf_grammar.specs.declared.fault.FormatCause.TheVariants.{Float, Wide, Store, BadPercent, BadLength, Unknown, TooWide, Ends, Nul, TooManyArgs}
-use Rattle.printf_grammar.specs.Spelling.{AreApart, SpelledFrom, IsFlag, SpellsWidth, SpellsField, SpellsLiteral, Spells}
+use Rattle.printf_grammar.specs.declared.fault.FormatCause.TheVariants.{Float, Wide, Store, BadPercent, BadLength, Unknown, TooWide, Ends, Nul, TooManyArgs, Long}
+use Rattle.printf_grammar.specs.Spelling.{AreApart, SpelledFrom, IsFlag, IsLiteralByte, SpellsWidth, SpellsField, SpellsLiteral, Spells}
 use Rattle.printf_grammar.specs.Narrow.{plain_d}
+use Rattle.printf_grammar.specs.Types.{IsText}
 use Rattle.printf_grammar.specs.Breaks.{Head, head_bytes, IsModifier, IsHead, cause_at, unfinished_stars, BreaksAt, FormatBreak}
 use Rattle.printf_grammar.proofs.NarrowLaws.{plain_d_spelled}
-use Rattle.printf_grammar.specs.Rows.{padded_pieces, starred_pieces, plain_ds}
+use Rattle.printf_grammar.specs.Rows.{padded_pieces, starred_pieces, widest_pieces, plain_ds, plain_fields}
 
 -- ---- pieces
 
@@ -193,22 +195,15 @@ nul = inr (record {
 
 -- ---- many arguments
 
-fields : ℕ → List Piece
-fields zero = []
-fields (suc n) = Field plain_d ∷ fields n
-
-fields_spelled : (n at : ℕ) → SpelledFrom at (plain_ds n) (fields n)
-unfolding fields
+fields_spelled : (n at : ℕ) → SpelledFrom at (plain_ds n) (plain_fields n)
 fields_spelled zero at = refl
 fields_spelled (suc n) at = (codes "%d", plain_ds n, refl, plain_d_spelled, fields_spelled n (at + 2))
 
-fields_apart : (n : ℕ) → AreApart (fields n)
-unfolding fields
+fields_apart : (n : ℕ) → AreApart (plain_fields n)
 fields_apart zero = tt
 fields_apart (suc n) = fields_apart n
 
 pub too_many_args : FormatBreak (plain_ds 65) TooManyArgs 129
-unfolding fields
 too_many_args = inr (record {
   short = lit≤ tt;
   before = plain_ds 64 ++ codes "%";
@@ -218,7 +213,7 @@ too_many_args = inr (record {
   head = Some (head [] [] []);
   count = 64;
   right = record {
-    pieces = fields 64;
+    pieces = plain_fields 64;
     whole = plain_ds 64;
     joined = refl;
     spelled = fields_spelled 64 0;
@@ -244,10 +239,97 @@ third_h = inr (in_head (head [] [] (codes "hh")) (codes "h") Unknown (modified (
 pub digit_after_star : FormatBreak (codes "%*5d") Unknown 2
 digit_after_star = inr (in_head (head [] (codes "*") []) (codes "5d") Unknown (plain [] (codes "*") Star tt refl) (lit≤ tt) (lit≤ tt) refl)
 
-pub precise : FormatBreak (codes "%.4096d") TooWide 5
-precise = inr (in_head (record { flags = []; width = []; precision = codes ".409"; modifier = [] }) (codes "6d") TooWide (record {
+pub too_precise : FormatBreak (codes "%.4096d") TooWide 5
+too_precise = inr (in_head (record { flags = []; width = []; precision = codes ".409"; modifier = [] }) (codes "6d") TooWide (record {
   flags = tt;
   width = (Absent, refl);
   precision = (Given 409, (codes "409", refl, record { are_digits = (lit< tt, (lit< tt, (lit< tt, tt))); value = refl; limit = lit≤ tt }));
   modifier = inl (lengths.Plain, refl);
 }) (lit≤ tt) (lit≤ tt) refl)
+
+-- ---- just within the limits, and just beyond them
+
+greatest : SpellsWidth (codes "4095") (Given 4095)
+unfolding digits
+greatest = (lit< tt, lit≤ tt, refl)
+
+pub widest : Spells (codes "%4095d%.4095d") widest_pieces
+widest = record {
+  short = lit≤ tt;
+  few = lit≤ tt;
+  apart = tt;
+  spelled = (
+    codes "%4095d",
+    codes "%.4095d",
+    refl,
+    record {
+      flags = [];
+      width = codes "4095";
+      precision = [];
+      whole = refl;
+      flags_spelled = record { flags = tt; minus = refl; plus = refl; space = refl; sharp = refl; zero = refl };
+      width_spelled = greatest;
+      precision_spelled = refl;
+      takes_length = tt;
+    },
+    (
+      codes "%.4095d",
+      [],
+      refl,
+      record {
+        flags = [];
+        width = [];
+        precision = codes ".4095";
+        whole = refl;
+        flags_spelled = record { flags = tt; minus = refl; plus = refl; space = refl; sharp = refl; zero = refl };
+        width_spelled = refl;
+        precision_spelled = (codes "4095", refl, record { are_digits = (lit< tt, (lit< tt, (lit< tt, (lit< tt, tt)))); value = refl; limit = lit≤ tt });
+        takes_length = tt;
+      },
+      refl,
+    ),
+  );
+}
+
+pub most_args : Spells (plain_ds 64) (plain_fields 64)
+most_args = record { short = lit≤ tt; few = lit≤ tt; apart = fields_apart 64; spelled = fields_spelled 64 0 }
+
+-- what holds of an element holds of each of its copies
+pub all_copies : {X : Type 0} (P : X → Type 0) (x : X) (n : ℕ) → P x → AllByRecursion P (replicate n x)
+all_copies P x zero holds = tt
+all_copies P x (suc n) holds = (holds, all_copies P x n holds)
+
+-- a literal may have every length up to the limit
+one_literal : (n : ℕ) → 0 < n → n ≤ 4095 → Spells (replicate n 97) (Literal 0 n ∷ [])
+one_literal n some short = record {
+  short = omega (arith, length-replicate {A = ℕ} n 97, short);
+  few = lit≤ tt;
+  apart = (tt, tt);
+  spelled = (
+    replicate n 97,
+    [],
+    sym (append-nil (replicate n 97)),
+    record {
+      start_is = refl;
+      end_is = omega (arith, length-replicate {A = ℕ} n 97);
+      nonempty = omega (arith, length-replicate {A = ℕ} n 97, some);
+      literal = all_copies IsLiteralByte 97 n (λ h. cc, λ h. cc);
+    },
+    refl,
+  );
+}
+
+pub longest : Spells (replicate 4095 97) (Literal 0 4095 ∷ [])
+longest = one_literal 4095 (lit< tt) (lit≤ tt)
+
+pub long : FormatBreak (replicate 4096 97) Long 4095
+long = inl (record { long = omega (arith, length-replicate {A = ℕ} 4096 97); cause_is = refl; place_is = refl })
+
+pub longest_text : IsText (replicate 4000 97)
+longest_text = record {
+  short = omega (arith, length-replicate {A = ℕ} 4000 97);
+  no_nul = all_copies (λ byte. byte ≢ 0) 97 4000 (λ h. cc);
+}
+
+pub long_text : (bytes : List ℕ) → length bytes ≡ 4001 → ¬ (IsText bytes)
+long_text bytes e text = omega (arith, e, text.short)

@@ -3,6 +3,7 @@ use Rattle.std.specs.Prelude.{◌≡◌, ◌⊎◌, ℕ, ◌+◌, ◌<◌, ◌�
 use Rattle.std.specs.Char.{is_digit}
 use Rattle.std.specs.List.{AllByRecursion, count_by}
 use Rattle.std.specs.Str.Parse.{digits_value}
+use Rattle.printf_grammar.specs.declared.limits.TheConstants.{MAX_ARGUMENTS, MAX_FORMAT, MAX_SIZE}
 use Rattle.printf_grammar.specs.declared.fault.FormatCause.{FormatCause}
 use Rattle.printf_grammar.specs.declared.fault.FormatCause.TheVariants.{Float, Wide, Store, BadPercent, BadLength, Unknown, TooWide, Ends, Nul, TooManyArgs, Long}
 use Rattle.printf_grammar.specs.declared.piece.Piece.{Piece}
@@ -96,10 +97,10 @@ is_wide head byte = stands byte (codes "cs") && is_only 108 head.modifier
 abbrev pub is_bad_length : Head → ℕ → Bool
 is_bad_length head byte = (stands byte (codes "csp") && not (is_empty head.modifier)) || (is_conversion byte && is_only 76 head.modifier)
 
--- the digit makes the width or the precision greater than 4095
+-- the digit makes the width or the precision greater than its limit
 abbrev pub is_too_wide : Head → ℕ → Bool
 is_too_wide head byte =
-    (takes_width_digit head byte && nat_lt 4095 (digits_value 10 (head.width ++ byte ∷ []))) || (takes_precision_digit head byte && nat_lt 4095 (digits_value 10 (drop 1 head.precision ++ byte ∷ [])))
+    (takes_width_digit head byte && nat_lt MAX_SIZE (digits_value 10 (head.width ++ byte ∷ []))) || (takes_precision_digit head byte && nat_lt MAX_SIZE (digits_value 10 (drop 1 head.precision ++ byte ∷ [])))
 
 -- a `*` or a conversion
 abbrev pub takes_argument : Head → ℕ → Bool
@@ -116,7 +117,7 @@ cause_in head count byte =
     else (if not (byte == 0) && not (goes_on head byte) then Some Unknown
     else (if is_too_wide head byte then Some TooWide
     else (if byte == 0 then Some Nul
-    else (if takes_argument head byte && count == 64 then Some TooManyArgs
+    else (if takes_argument head byte && count == MAX_ARGUMENTS then Some TooManyArgs
     else None))))))))
 
 -- why the bytes can't go on with this byte, or can't end, if they can't; `head` is a field that is unfinished there
@@ -146,17 +147,17 @@ pub record ReadsTo (bytes : List ℕ) (head : Option Head) (count : ℕ) : Type 
   pub apart : AreApart pieces
   pub right : IfSome head IsHead
   pub count_is : count ≡ length (Types pieces) + unfinished_stars head
-  pub few : count ≤ 64
+  pub few : count ≤ MAX_ARGUMENTS
 
--- more than 4095 bytes, which comes before all else
+-- more bytes than a format has, which comes before all else
 pub record IsLong (bytes : List ℕ) (cause : FormatCause) (place : ℕ) : Type 0 where
-  pub long : 4095 < length bytes
+  pub long : MAX_FORMAT < length bytes
   pub cause_is : cause ≡ Long
-  pub place_is : place ≡ 4095
+  pub place_is : place ≡ MAX_FORMAT
 
 -- the bytes before the place are right so far, and can't go on there
 pub record BreaksAt (bytes : List ℕ) (cause : FormatCause) (place : ℕ) : Type 0 where
-  pub short : length bytes ≤ 4095
+  pub short : length bytes ≤ MAX_FORMAT
   pub before : List ℕ
   pub after : List ℕ
   pub joined : bytes ≡ before ++ after

@@ -3,6 +3,7 @@ use Rattle.std.specs.Prelude.{◌≡◌, ℕ, ◌+◌, ◌<◌, ◌≤◌, Bool,
 use Rattle.std.specs.Char.{is_digit}
 use Rattle.std.specs.List.{AllByRecursion}
 use Rattle.std.specs.Str.Parse.{digits_value}
+use Rattle.printf_grammar.specs.declared.limits.TheConstants.{MAX_ARGUMENTS, MAX_SIZE}
 use Rattle.printf_grammar.specs.declared.fault.FormatCause.{FormatCause}
 use Rattle.printf_grammar.specs.declared.fault.FormatCause.TheVariants.{TooWide}
 use Rattle.printf_grammar.specs.declared.piece.Piece.{Piece}
@@ -39,7 +40,7 @@ pub record BeginsWithFlags (bytes : List ℕ) (flags : Flags) (rest : List ℕ) 
   pub zero : flags.zero ≡ stands 48 front
   pub ended : BeginsWithout is_flag rest
 
--- digits of a number up to 4095, perhaps none
+-- digits of a number up to the limit, perhaps none
 pub record BeginsWithDigits (bytes : List ℕ) (n : ℕ) (rest : List ℕ) : Type 0 where
   pub digits : List ℕ
   pub joined : bytes ≡ digits ++ rest
@@ -56,7 +57,7 @@ pub record BeginsTooWide (bytes : List ℕ) (cause : FormatCause) (rest : List �
   pub spelled : SpellsDigits digits n
   pub rest_is : rest ≡ byte ∷ behind
   pub digit : is_digit byte 10 ≡ true
-  pub above : 4095 < digits_value 10 (digits ++ byte ∷ [])
+  pub above : MAX_SIZE < digits_value 10 (digits ++ byte ∷ [])
   pub cause_is : cause ≡ TooWide
 
 abbrev pub width_goes_on : List ℕ → ℕ → Bool
@@ -94,7 +95,7 @@ pub record Converts (taken : ℕ) (modifier : Modifier) (byte : ℕ) (length : L
   pub byte_is : byte ≡ conversion_byte conversion
   pub modifier_is : modifier ≡ Known length
   pub takes : TakesLength conversion length
-  pub few : taken < 64
+  pub few : taken < MAX_ARGUMENTS
 
 -- ---- a break in a field
 
@@ -123,7 +124,7 @@ pub record BeginsWithField (taken : ℕ) (bytes : List ℕ) (spec : Spec) (rest 
   pub front : List ℕ
   pub joined : bytes ≡ front ++ rest
   pub spelled : SpellsField front spec
-  pub few : taken + length (field_types spec) ≤ 64
+  pub few : taken + length (field_types spec) ≤ MAX_ARGUMENTS
 
 -- neither `%` nor NUL
 abbrev pub is_literal : ℕ → Bool
@@ -138,7 +139,7 @@ pub record BeginsWithPiece (at taken : ℕ) (bytes : List ℕ) (piece : Piece) (
   pub front : List ℕ
   pub joined : bytes ≡ front ++ rest
   pub spelled : SpellsPiece at front piece
-  pub few : taken + length (piece_types piece) ≤ 64
+  pub few : taken + length (piece_types piece) ≤ MAX_ARGUMENTS
   pub ended : IsEnded piece rest
 
 -- an unfinished field or nothing, and the rest, which breaks there
@@ -146,5 +147,5 @@ pub record BeginsBroken (taken : ℕ) (bytes : List ℕ) (cause : FormatCause) (
   pub head : Option Head
   pub joined : bytes ≡ unfinished_bytes head ++ rest
   pub right : IfSome head IsHead
-  pub few : taken + unfinished_stars head ≤ 64
+  pub few : taken + unfinished_stars head ≤ MAX_ARGUMENTS
   pub stops : cause_at head (taken + unfinished_stars head) (slice_get rest 0) ≡ Some cause

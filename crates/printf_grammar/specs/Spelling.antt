@@ -3,6 +3,7 @@ use Rattle.std.specs.Prelude.{◌≡◌, ◌≢◌, ◌⊎◌, ℕ, ◌+◌, ◌
 use Rattle.std.specs.List.{AllByRecursion, list_any}
 use Rattle.std.specs.Fmt.{decimal}
 use Rattle.std.specs.Str.Parse.{AllDigits, digits_value}
+use Rattle.printf_grammar.specs.declared.limits.TheConstants.{MAX_ARGUMENTS, MAX_FORMAT, MAX_SIZE}
 use Rattle.printf_grammar.specs.declared.piece.Piece.{Piece}
 use Rattle.printf_grammar.specs.declared.piece.Piece.TheVariants.{Literal, Percent, Field}
 use Rattle.printf_grammar.specs.declared.piece.Spec.{Spec}
@@ -33,17 +34,17 @@ pub record SpellsFlags (bytes : List ℕ) (spec : Spec) : Type 0 where
   pub sharp : spec.sharp ≡ stands 35 bytes
   pub zero : spec.zero ≡ stands 48 bytes
 
--- a width: nothing, `*`, or the decimal digits of a number from 1 to 4095 (paragraph 4)
+-- a width: nothing, `*`, or the decimal digits of a number from 1 to the limit (paragraph 4)
 abbrev pub SpellsWidth : List ℕ → Size → Type 0
 SpellsWidth bytes Absent = bytes ≡ []
 SpellsWidth bytes Star = bytes ≡ 42 ∷ []
-SpellsWidth bytes (Given n) = (0 < n) × (n ≤ 4095) × (bytes ≡ decimal n)
+SpellsWidth bytes (Given n) = (0 < n) × (n ≤ MAX_SIZE) × (bytes ≡ decimal n)
 
--- the digits, of which there may be none, of a number up to 4095
+-- the digits, of which there may be none, of a number up to the limit
 pub record SpellsDigits (digits : List ℕ) (n : ℕ) : Type 0 where
   pub are_digits : AllDigits 10 digits
   pub value : digits_value 10 digits ≡ n
-  pub limit : n ≤ 4095
+  pub limit : n ≤ MAX_SIZE
 
 -- a precision: nothing, or a period and `*` or digits; a period alone is 0 (paragraph 4)
 abbrev pub SpellsPrecision : List ℕ → Size → Type 0
@@ -130,7 +131,7 @@ SpelledFrom at bytes (piece ∷ pieces) =
 
 -- the bytes are a format, and these are its pieces
 pub record Spells (bytes : List ℕ) (pieces : List Piece) : Type 0 where
-  pub short : length bytes ≤ 4095
-  pub few : length (Types pieces) ≤ 64
+  pub short : length bytes ≤ MAX_FORMAT
+  pub few : length (Types pieces) ≤ MAX_ARGUMENTS
   pub apart : AreApart pieces
   pub spelled : SpelledFrom 0 bytes pieces

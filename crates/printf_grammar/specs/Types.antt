@@ -1,7 +1,8 @@
 -- The arguments that a format takes, and which values fit them (C11 7.21.6.1, paragraphs 5, 7 and 8).
-use Rattle.std.specs.Prelude.{◌≢◌, ℕ, pos, negsuc, ◌≤ℤ◌, ◌<◌, ◌≤◌, ◌^◌, List, [], ◌∷◌, ◌++◌, length, map, ⊤, FitsSigned}
+use Rattle.std.specs.Prelude.{◌≢◌, ℕ, pos, neg_ℤ, ◌≤ℤ◌, ◌<◌, ◌≤◌, ◌^◌, List, [], ◌∷◌, ◌++◌, length, map, ⊤, FitsSigned}
 use Rattle.std.specs.Int.{w32, w64}
 use Rattle.std.specs.List.{AllByRecursion}
+use Rattle.printf_grammar.specs.declared.limits.TheConstants.{MAX_SIZE, MAX_TEXT}
 use Rattle.printf_grammar.specs.declared.piece.Piece.{Piece}
 use Rattle.printf_grammar.specs.declared.piece.Piece.TheVariants.{Literal, Percent, Field}
 use Rattle.printf_grammar.specs.declared.piece.Spec.{Spec}
@@ -77,17 +78,17 @@ Types (piece ∷ pieces) = piece_types piece ++ Types pieces
 
 -- ---- what fits
 
--- a text has at most 4000 bytes, none of them NUL
+-- a text has at most this many bytes, none of them NUL
 pub record IsText (bytes : List ℕ) : Type 0 where
-  pub short : length bytes ≤ 4000
+  pub short : length bytes ≤ MAX_TEXT
   pub no_nul : AllByRecursion (λ byte. byte ≢ 0) bytes
 
 -- the value is of the type's kind and in its range
 abbrev pub FitsType : Value → ArgType → Type 0
 FitsType (values.Signed z) types.Int = FitsSigned w32 z
 FitsType (values.Signed z) types.Long = FitsSigned w64 z
-FitsType (values.Signed z) types.Width = (negsuc 4094 ≤ℤ z) × (z ≤ℤ pos 4095)
-FitsType (values.Signed z) types.Precision = FitsSigned w32 z × (z ≤ℤ pos 4095)
+FitsType (values.Signed z) types.Width = (neg_ℤ (pos MAX_SIZE) ≤ℤ z) × (z ≤ℤ pos MAX_SIZE)
+FitsType (values.Signed z) types.Precision = FitsSigned w32 z × (z ≤ℤ pos MAX_SIZE)
 FitsType (values.Unsigned n) types.UInt = n < 2 ^ 32
 FitsType (values.Unsigned n) types.ULong = n < 2 ^ 64
 FitsType (values.Text bytes) types.Text = IsText bytes

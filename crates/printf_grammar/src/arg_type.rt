@@ -1,8 +1,10 @@
-ghost use Rattle.std.specs.Prelude.{◌≡◌, ◌↔◌, ◌++◌, IsTrue, OnOk, FitsSigned};
+ghost use Rattle.std.specs.Prelude.{◌≡◌, ◌↔◌, ◌++◌, IsTrue, OnOk, FitsSigned, neg_ℤ, pos, ◌≤ℤ◌};
 ghost use Rattle.std.specs.Int.{w32};
+ghost use Rattle.printf_grammar.specs.declared.limits.TheConstants.{MAX_SIZE};
 ghost use Rattle.printf_grammar.specs.Types.{values_of, Fits, IsText, signed_type, unsigned_type, conversion_type, field_types, piece_types};
 
 use crate::argument::Arg;
+use crate::limits::{MAX_SIZE, MAX_TEXT};
 use crate::piece::{Conversion, Length, Piece, Size, Spec};
 use std::alloc::AllocError;
 
@@ -35,8 +37,9 @@ impl ArgType {
         match (self, arg) {
             (ArgType::Int, Arg::Signed(number)) => is_int(number),
             (ArgType::Long, Arg::Signed(_)) => true,
-            (ArgType::Width, Arg::Signed(number)) => number >= -4095 && number <= 4095,
-            (ArgType::Precision, Arg::Signed(number)) => is_int(number) && number <= 4095,
+            (ArgType::Width, Arg::Signed(number)) => is_size(number),
+            (ArgType::Precision, Arg::Signed(number)) => is_int(number)
+                && number <= MAX_SIZE as i64,
             (ArgType::UInt, Arg::Unsigned(number)) => number <= 0xffff_ffff,
             (ArgType::ULong, Arg::Unsigned(_)) => true,
             (ArgType::Text, Arg::Text(text)) => is_text(text),
@@ -51,10 +54,16 @@ fn is_int(number: i64) -> bool
     number >= i32::MIN as i64 && number <= i32::MAX as i64
 }
 
+fn is_size(number: i64) -> bool
+    ensures { IsTrue result ↔ ((neg_ℤ (pos MAX_SIZE) ≤ℤ number) × (number ≤ℤ pos MAX_SIZE)) }
+{
+    number >= -(MAX_SIZE as i64) && number <= MAX_SIZE as i64
+}
+
 fn is_text(text: &[u8]) -> bool
     ensures { IsTrue result ↔ IsText text.now }
 {
-    text.len() <= 4000 && text.iter().all(|byte| *byte != 0)
+    text.len() <= MAX_TEXT && text.iter().all(|byte| *byte != 0)
 }
 
 /// Whether there are as many arguments as types, each of its type's kind and in its range.

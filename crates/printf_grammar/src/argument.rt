@@ -1,7 +1,9 @@
-ghost use Rattle.std.specs.Prelude.{◌≡◌, ◌<◌, ◌≤◌, ◌↔◌, ◌++◌, ◌∷◌, [], length, OnOk, OnErr, IsNone, IfSome, slice_get, Some};
+ghost use Rattle.std.specs.Prelude.{◌≡◌, ◌<◌, ◌≤◌, ◌↔◌, ◌++◌, ◌∷◌, [], length, OnOk, OnErr, IfOk, IsNone, IfSome, slice_get, Some};
 ghost use Rattle.std.specs.Option.{option_copied};
+ghost use Rattle.printf_grammar.specs.declared.limits.TheConstants.{MAX_ARGUMENTS};
 
 use crate::bytes::Bytes;
+use crate::limits::MAX_ARGUMENTS;
 use arrayvec::ArrayVec;
 use std::alloc::{AllocError, Global};
 use std::marker::Model;
@@ -33,7 +35,7 @@ pub enum Value {
     Text(Bytes),
 }
 
-/// The arguments of one call, at most 64.
+/// The arguments of one call, at most [`MAX_ARGUMENTS`].
 #[derive(Debug, Drop)]
 pub struct Values {
     items: Vec<Value>,
@@ -41,13 +43,14 @@ pub struct Values {
 
 impl Model for Values {
     ghost use Rattle.std.specs.Prelude.{List, length, ◌≤◌};
+    ghost use Rattle.printf_grammar.specs.declared.limits.TheConstants.{MAX_ARGUMENTS};
     ghost use Rattle.printf_grammar.specs.declared.argument.Value.{Value as ArgValue};
 
     ghost Value = { List ArgValue };
 
     ghost view = { λ values. values.items.items };
 
-    ghost invariant = { λ values. length values.items.items ≤ 64 };
+    ghost invariant = { λ values. length values.items.items ≤ MAX_ARGUMENTS };
 }
 
 impl Value {
@@ -77,9 +80,18 @@ impl Values {
         }
     }
 
+    /// No arguments, with room for `n` of them: pushing so many asks for no more memory.
+    pub fn with_capacity(alloc: Global, n: usize) -> Result<Values, AllocError>
+        ensures { IfOk result (λ values. values ≡ []) }
+    {
+        Ok(Values {
+            items: Vec::with_capacity(alloc, n)?,
+        })
+    }
+
     /// Appends the value, which is dropped where there is no memory.
     pub fn push(&mut self, item: Value) -> Result<(), AllocError>
-        requires { length self.old < 64 }
+        requires { length self.old < MAX_ARGUMENTS }
         ensures ok { OnOk result (self.new ≡ self.old ++ item ∷ []) }
         ensures err { OnErr result (self.new ≡ self.old) }
     {
@@ -89,7 +101,7 @@ impl Values {
 
     pub fn len(&self) -> usize
         ensures len { result ≡ length self.now }
-        ensures limit { length self.now ≤ 64 }
+        ensures limit { length self.now ≤ MAX_ARGUMENTS }
     {
         self.items.len()
     }
@@ -102,9 +114,9 @@ impl Values {
     }
 
     /// The values as arguments, in order. This takes no memory.
-    pub fn args(&self) -> ArrayVec<Arg<'_>, 64>
+    pub fn args(&self) -> ArrayVec<Arg<'_>, MAX_ARGUMENTS>
         ensures values { values_of result.items ≡ self.now }
-        ensures limit { length self.now ≤ 64 }
+        ensures limit { length self.now ≤ MAX_ARGUMENTS }
     {
         let mut args = ArrayVec::new();
         for value in self.items.iter() {

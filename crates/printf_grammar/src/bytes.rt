@@ -27,6 +27,13 @@ impl Bytes {
         })
     }
 
+    /// The bytes that a `Vec` holds, which aren't copied.
+    pub fn from_vec(items: Vec<u8>) -> Bytes
+        ensures { result ≡ items.items }
+    {
+        Bytes { items }
+    }
+
     pub fn as_slice(&self) -> &[u8]
         ensures { result.now ≡ self.now }
     {

@@ -1,5 +1,6 @@
 ghost use Rattle.std.specs.Prelude.{◌≡◌, ◌⊎◌, ℕ, ◌<◌, List, length, IfOk, MatchResult, Err, ◌↔◌, IsTrue};
 ghost use Rattle.printf_grammar.specs.Narrow.{IsNarrowPiece};
+ghost use Rattle.printf_grammar.specs.declared.limits.TheConstants.{MAX_FORMAT};
 ghost use Rattle.printf_grammar.specs.declared.piece.Piece.{Piece};
 ghost use Rattle.printf_grammar.specs.Spelling.{Spells};
 ghost use Rattle.printf_grammar.specs.Breaks.{FormatBreak};
@@ -7,13 +8,11 @@ ghost use Rattle.printf_grammar.specs.Breaks.{FormatBreak};
 use crate::arg_type::ArgType;
 use crate::bytes::Bytes;
 use crate::fault::{FormatCause, ParseFault};
+use crate::limits::MAX_FORMAT;
 use crate::parsing::all_pieces;
 use crate::piece::{Conversion, Length, Piece, Size, Spec};
 use std::alloc::Global;
 use std::marker::Model;
-
-/// The most bytes that a format has.
-const MAX_BYTES: usize = 4095;
 
 // `%d` with nothing between.
 const PLAIN_D: Spec = Spec {
@@ -106,7 +105,7 @@ pub fn parse(alloc: Global, bytes: &[u8]) -> Result<Format, ParseFault>
         → FormatBreak bytes.now cause place }
 
     // Too many bytes are refused before any memory is wanted.
-    ensures long { MAX_BYTES < length bytes.now → result ≡ Err (ParseFault.Bad FormatCause.Long MAX_BYTES) }
+    ensures long { MAX_FORMAT < length bytes.now → result ≡ Err (ParseFault.Bad FormatCause.Long MAX_FORMAT) }
 
     // What is spelled so is found, unless memory runs out, and where the bytes break, that is what is answered.
     ensures only_found { (pieces : List Piece) → Spells bytes.now pieces → MatchResult result
@@ -116,10 +115,10 @@ pub fn parse(alloc: Global, bytes: &[u8]) -> Result<Format, ParseFault>
         (λ format. ⊥)
         (λ fault. (fault ≡ ParseFault.Bad cause place) ⊎ (fault ≡ ParseFault.NoMemory)) }
 {
-    if bytes.len() > MAX_BYTES {
+    if bytes.len() > MAX_FORMAT {
         return Err(ParseFault::Bad {
             cause: FormatCause::Long,
-            place: MAX_BYTES,
+            place: MAX_FORMAT,
         });
     }
     let (pieces, types) = all_pieces(alloc, bytes)?;

@@ -1,19 +1,34 @@
-ghost use Rattle.std.specs.Prelude.{◌≡◌, ◌⊎◌, ℕ, ◌<◌, List, [], ◌∷◌, ◌++◌, length, codes};
+ghost use Rattle.std.specs.Prelude.{◌≡◌, ◌⊎◌, ℕ, ◌<◌, List, [], ◌∷◌, ◌++◌, length, replicate, codes};
 ghost use Rattle.printf_grammar.specs.declared.arg_type.ArgType.TheVariants as types;
 ghost use Rattle.printf_grammar.specs.declared.piece.Piece.{Piece};
+ghost use Rattle.printf_grammar.specs.declared.piece.Piece.TheVariants.{Literal};
 ghost use Rattle.printf_grammar.specs.declared.fault.FormatCause.{FormatCause};
-ghost use Rattle.printf_grammar.specs.declared.fault.FormatCause.TheVariants.{Float, Wide, Store, BadPercent, BadLength, Unknown, TooWide, Ends, Nul, TooManyArgs, Long};
+ghost use Rattle.printf_grammar.specs.declared.fault.FormatCause.TheVariants.{Float, Wide, Store, BadPercent};
+ghost use Rattle.printf_grammar.specs.declared.fault.FormatCause.TheVariants.{BadLength, Unknown, TooWide, Ends};
+ghost use Rattle.printf_grammar.specs.declared.fault.FormatCause.TheVariants.{Nul, TooManyArgs, Long};
 ghost use Rattle.printf_grammar.specs.Spelling.{Spells};
 ghost use Rattle.printf_grammar.specs.Breaks.{FormatBreak};
-ghost use Rattle.printf_grammar.specs.Rows.{padded_pieces, starred_pieces, plain_ds};
-ghost use Rattle.printf_grammar.specs.Types.{Types};
+ghost use Rattle.printf_grammar.specs.Rows.{padded_pieces, starred_pieces, widest_pieces, plain_ds, plain_fields};
+ghost use Rattle.printf_grammar.specs.Types.{Types, IsText};
+
+use crate::arg_type::ArgType;
+use crate::argument::{Arg, Value, Values};
+use crate::bytes::Bytes;
+use crate::fault::ParseFault;
+use crate::format::Format;
+use crate::piece::Piece;
 
 /// Each text has one reading. It spells one list of pieces, or it breaks at one place from one cause, and not both.
 pub fn one_reading()
-    ensures spells_or_breaks { (bytes : List ℕ) → ((pieces : List Piece) × Spells bytes pieces) ⊎ ((cause : FormatCause) × (place : ℕ) × FormatBreak bytes cause place) }
-    ensures not_both { (bytes : List ℕ) (pieces : List Piece) (cause : FormatCause) (place : ℕ) → Spells bytes pieces → ¬ (FormatBreak bytes cause place) }
-    ensures one_list { (bytes : List ℕ) (pieces others : List Piece) → Spells bytes pieces → Spells bytes others → pieces ≡ others }
-    ensures one_break { (bytes : List ℕ) (cause other : FormatCause) (place at : ℕ) → FormatBreak bytes cause place → FormatBreak bytes other at → (cause ≡ other) × (place ≡ at) }
+    ensures spells_or_breaks { (bytes : List ℕ)
+        → ((pieces : List Piece) × Spells bytes pieces)
+        ⊎ ((cause : FormatCause) × (place : ℕ) × FormatBreak bytes cause place) }
+    ensures not_both { (bytes : List ℕ) (pieces : List Piece) (cause : FormatCause) (place : ℕ)
+        → Spells bytes pieces → ¬ (FormatBreak bytes cause place) }
+    ensures one_list { (bytes : List ℕ) (pieces others : List Piece)
+        → Spells bytes pieces → Spells bytes others → pieces ≡ others }
+    ensures one_break { (bytes : List ℕ) (cause other : FormatCause) (place at : ℕ)
+        → FormatBreak bytes cause place → FormatBreak bytes other at → (cause ≡ other) × (place ≡ at) }
 {}
 
 /// Worked formats: their pieces and types.
@@ -34,14 +49,37 @@ pub fn worked_faults()
     ensures bad_percent { FormatBreak (codes "%5%") BadPercent 2 }
     ensures bad_length { FormatBreak (codes "%hs") BadLength 2 }
     ensures positional { FormatBreak (codes "%1$d") Unknown 2 }
-    ensures too_wide { FormatBreak (codes "%4096d") TooWide 4 }
     ensures ends { FormatBreak (codes "%-") Ends 2 }
     ensures nul { FormatBreak (97 ∷ 0 ∷ []) Nul 1 }
-    ensures too_many_args { FormatBreak (plain_ds 65) TooManyArgs 129 }
     ensures percent_after_l { FormatBreak (codes "%L%") BadPercent 2 }
     ensures l_after_l { FormatBreak (codes "%Ll") Unknown 2 }
     ensures third_h { FormatBreak (codes "%hhh") Unknown 3 }
     ensures digit_after_star { FormatBreak (codes "%*5d") Unknown 2 }
-    ensures precise { FormatBreak (codes "%.4096d") TooWide 5 }
-    ensures long { (bytes : List ℕ) → 4095 < length bytes → FormatBreak bytes Long 4095 }
 {}
+
+/// What stands just within each limit, and what just beyond it.
+pub fn worked_limits()
+    ensures widest { Spells (codes "%4095d%.4095d") widest_pieces }
+    ensures too_wide { FormatBreak (codes "%4096d") TooWide 4 }
+    ensures too_precise { FormatBreak (codes "%.4096d") TooWide 5 }
+    ensures most_args { Spells (plain_ds 64) (plain_fields 64) }
+    ensures too_many_args { FormatBreak (plain_ds 65) TooManyArgs 129 }
+    ensures longest { Spells (replicate 4095 97) (Literal 0 4095 ∷ []) }
+    ensures long { FormatBreak (replicate 4096 97) Long 4095 }
+    ensures longest_text { IsText (replicate 4000 97) }
+    ensures long_text { (bytes : List ℕ) → length bytes ≡ 4001 → ¬ (IsText bytes) }
+{}
+
+/// Formats, arguments and faults go from thread to thread, and threads share them.
+pub fn threads() {
+    crosses_threads::<Bytes>();
+    crosses_threads::<Value>();
+    crosses_threads::<Values>();
+    crosses_threads::<ArgType>();
+    crosses_threads::<Arg<'static>>();
+    crosses_threads::<Piece>();
+    crosses_threads::<Format>();
+    crosses_threads::<ParseFault>();
+}
+
+fn crosses_threads<T: Send + Sync>() {}

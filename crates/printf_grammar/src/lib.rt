@@ -7,6 +7,7 @@ mod bytes;
 mod fault;
 mod format;
 pub mod laws;
+mod limits;
 mod parsing;
 mod parts;
 mod piece;
@@ -16,6 +17,7 @@ pub use argument::{Arg, Value, Values};
 pub use bytes::Bytes;
 pub use fault::{FormatCause, ParseFault};
 pub use format::{Format, parse};
+pub use limits::{MAX_ARGUMENTS, MAX_FORMAT, MAX_SIZE, MAX_TEXT};
 pub use piece::{Conversion, Length, Piece, Size, Spec};
 
 #[cfg(test)]

@@ -1,5 +1,6 @@
 ghost use Rattle.std.specs.Prelude.{◌≡◌, ℕ, ◌+◌, ◌^◌, ◌<◌, ◌≤◌, List, [], ◌∷◌, length, take, drop, MatchResult, ◌==◌, IfOk, Err};
 ghost use Rattle.std.specs.List.{AllByRecursion};
+ghost use Rattle.printf_grammar.specs.declared.limits.TheConstants.{MAX_ARGUMENTS, MAX_FORMAT};
 ghost use Rattle.printf_grammar.specs.declared.fault.FormatCause.{FormatCause};
 ghost use Rattle.printf_grammar.specs.declared.arg_type.ArgType.{ArgType};
 ghost use Rattle.printf_grammar.specs.Spelling.{Spells, IsLiteralByte};
@@ -23,7 +24,7 @@ fn arguments_of(size: Size) -> usize
 // The field behind whose `%` the bytes begin, and the bytes after it; `taken` arguments were taken before it.
 fn field_of(taken: usize, bytes: &[u8]) -> Result<(Spec, &[u8]), Stop<'_>>
     requires no_percent { BeginsWithout (λ byte. byte == 37) bytes.now }
-    requires few { taken ≤ 64 }
+    requires few { taken ≤ MAX_ARGUMENTS }
     ensures { MatchResult result
         (λ found. BeginsWithField taken (37 ∷ bytes.now) found.0 found.1.now)
         (λ stop. BeginsBroken taken (37 ∷ bytes.now) stop.cause stop.rest.now) }
@@ -68,7 +69,7 @@ fn literal_len(bytes: &[u8]) -> usize
 fn first_piece(start: usize, taken: usize, bytes: &[u8]) -> Result<(Piece, &[u8]), Stop<'_>>
     requires nonempty { 0 < length bytes.now }
     requires room { start + length bytes.now < 2 ^ 64 }
-    requires few { taken ≤ 64 }
+    requires few { taken ≤ MAX_ARGUMENTS }
     ensures { MatchResult result
         (λ found. BeginsWithPiece start taken bytes.now found.0 found.1.now)
         (λ stop. BeginsBroken taken bytes.now stop.cause stop.rest.now) }
@@ -96,8 +97,9 @@ pub(crate) fn all_pieces(
     alloc: Global,
     bytes: &[u8],
 ) -> Result<(Vec<Piece>, Vec<ArgType>), ParseFault>
-    requires short { length bytes.now ≤ 4095 }
-    ensures found { IfOk result (λ found. Spells bytes.now found.0.items × (found.1.items ≡ Types found.0.items)) }
+    requires short { length bytes.now ≤ MAX_FORMAT }
+    ensures found { IfOk result
+        (λ found. Spells bytes.now found.0.items × (found.1.items ≡ Types found.0.items)) }
     ensures bad { (cause : FormatCause) (place : ℕ) → result ≡ Err (ParseFault.Bad cause place)
         → BreaksAt bytes.now cause place }
 {

@@ -7,17 +7,13 @@ ghost use Rattle.printf_grammar.specs.Types.{size_types};
 ghost use Rattle.printf_grammar.specs.declared.arg_type.ArgType.TheVariants as types;
 ghost use Rattle.printf_grammar.specs.declared.piece.Size.{Size};
 ghost use Rattle.printf_grammar.specs.declared.piece.Size.TheVariants as sizes;
+ghost use Rattle.printf_grammar.specs.declared.limits.TheConstants.{MAX_ARGUMENTS};
 ghost use Rattle.printf_grammar.specs.declared.parts.Modifier.TheVariants.{Known};
 ghost use Rattle.printf_grammar.specs.declared.fault.FormatCause.TheVariants as causes;
 
 use crate::fault::FormatCause;
+use crate::limits::{MAX_ARGUMENTS, MAX_SIZE};
 use crate::piece::{Conversion, Length, Size};
-
-/// The most arguments that a format takes.
-pub(crate) const MAX_ARGUMENTS: usize = 64;
-
-/// The greatest width or precision.
-const MAX_SIZE: u16 = 4095;
 
 /// Where a format breaks, and why: the rest begins with the byte that can't stand there, or is empty.
 #[derive(Clone, Copy, Debug)]
@@ -97,10 +93,12 @@ fn number_of(bytes: &[u8]) -> Result<(u16, &[u8]), Stop<'_>>
 /// The width that the bytes begin with, and the bytes after it; `taken` arguments were taken before it.
 pub(crate) fn width_of(taken: usize, bytes: &[u8]) -> Result<(Size, &[u8]), Stop<'_>>
     requires no_flag { BeginsWithout is_flag bytes.now }
-    requires few { taken ≤ 64 }
+    requires few { taken ≤ MAX_ARGUMENTS }
     ensures { MatchResult result
-        (λ found. BeginsWithWidth bytes.now found.0 found.1.now × (taken + length (size_types types.Width found.0) ≤ 64))
-        (λ stop. (flags : List ℕ) → AllByRecursion IsFlag flags → Stops (after_flags flags) taken bytes.now stop.cause stop.rest.now) }
+        (λ found. BeginsWithWidth bytes.now found.0 found.1.now
+        × (taken + length (size_types types.Width found.0) ≤ MAX_ARGUMENTS))
+        (λ stop. (flags : List ℕ) → AllByRecursion IsFlag flags
+        → Stops (after_flags flags) taken bytes.now stop.cause stop.rest.now) }
 {
     match bytes {
         [b'*', ..] if taken == MAX_ARGUMENTS => {
@@ -118,10 +116,13 @@ pub(crate) fn width_of(taken: usize, bytes: &[u8]) -> Result<(Size, &[u8]), Stop
 
 /// The precision that the bytes begin with, and the bytes after it; `taken` arguments were taken before it.
 pub(crate) fn precision_of(taken: usize, bytes: &[u8]) -> Result<(Size, &[u8]), Stop<'_>>
-    requires few { taken ≤ 64 }
+    requires few { taken ≤ MAX_ARGUMENTS }
     ensures { MatchResult result
-        (λ found. BeginsWithPrecision bytes.now found.0 found.1.now × (taken + length (size_types types.Precision found.0) ≤ 64))
-        (λ stop. (flags width : List ℕ) (size : Size) → AllByRecursion IsFlag flags → SpellsWidth width size → Stops (after_width flags width) taken bytes.now stop.cause stop.rest.now) }
+        (λ found. BeginsWithPrecision bytes.now found.0 found.1.now
+        × (taken + length (size_types types.Precision found.0) ≤ MAX_ARGUMENTS))
+        (λ stop. (flags width : List ℕ) (size : Size)
+        → AllByRecursion IsFlag flags → SpellsWidth width size
+        → Stops (after_width flags width) taken bytes.now stop.cause stop.rest.now) }
 {
     let [b'.', behind @ ..] = bytes else {
         return Ok((Size::Absent, bytes));
@@ -187,7 +188,8 @@ fn letter_of(byte: u8) -> Result<Conversion, FormatCause>
 fn length_for(modifier: Modifier, conversion: Conversion) -> Result<Length, FormatCause>
     ensures { MatchResult result
         (λ length. (modifier ≡ Known length) × TakesLength conversion length)
-        (λ cause. (head : Head) (taken : ℕ) → head.modifier ≡ modifier_bytes modifier → cause_in head taken (conversion_byte conversion) ≡ Some cause) }
+        (λ cause. (head : Head) (taken : ℕ) → head.modifier ≡ modifier_bytes modifier
+        → cause_in head taken (conversion_byte conversion) ≡ Some cause) }
 {
     match (conversion, modifier) {
         (Conversion::C | Conversion::S, Modifier::Known(Length::L)) => Err(FormatCause::Wide),
@@ -206,10 +208,11 @@ fn converted(
     modifier: Modifier,
     byte: u8,
 ) -> Result<(Length, Conversion), FormatCause>
-    requires few { taken ≤ 64 }
+    requires few { taken ≤ MAX_ARGUMENTS }
     ensures { MatchResult result
         (λ found. Converts taken modifier byte found.0 found.1)
-        (λ cause. (head : Head) → head.modifier ≡ modifier_bytes modifier → grows head byte ≡ false → cause_in head taken byte ≡ Some cause) }
+        (λ cause. (head : Head) → head.modifier ≡ modifier_bytes modifier → grows head byte ≡ false
+        → cause_in head taken byte ≡ Some cause) }
 {
     let conversion = letter_of(byte)?;
     let length = length_for(modifier, conversion)?;
@@ -226,10 +229,11 @@ pub(crate) fn conversion_of(
     modifier: Modifier,
     bytes: &[u8],
 ) -> Result<(Length, Conversion, &[u8]), Stop<'_>>
-    requires few { taken ≤ 64 }
+    requires few { taken ≤ MAX_ARGUMENTS }
     ensures { MatchResult result
         (λ found. (byte : ℕ) × (bytes.now ≡ byte ∷ found.2.now) × Converts taken modifier byte found.0 found.1)
-        (λ stop. (head : Head) → IsHead head → head.modifier ≡ modifier_bytes modifier → BeginsWithout (grows head) bytes.now → Stops head taken bytes.now stop.cause stop.rest.now) }
+        (λ stop. (head : Head) → IsHead head → head.modifier ≡ modifier_bytes modifier
+        → BeginsWithout (grows head) bytes.now → Stops head taken bytes.now stop.cause stop.rest.now) }
 {
     let [byte, rest @ ..] = bytes else {
         let cause = FormatCause::Ends;

@@ -1,4 +1,4 @@
-/// A part of a format.
+/// What a format is made of: a literal, `%%` or a conversion.
 #[derive(Clone, Copy, Debug, PartialEq, Eq)]
 pub enum Piece {
     /// The bytes from `start` up to `end`, which are copied as they are.

@@ -13,7 +13,7 @@ use Rattle.log_dictionary.specs.Rows.{row_message}
 use Rattle.trace_text.specs.Rows.{two_messages}
 
 -- what holds of an element holds of each of its copies
-all_copies : {X : Type 0} (P : X → Type 0) (x : X) (n : ℕ) → P x → AllByRecursion P (replicate n x)
+pub all_copies : {X : Type 0} (P : X → Type 0) (x : X) (n : ℕ) → P x → AllByRecursion P (replicate n x)
 all_copies P x zero h = tt
 all_copies P x (suc n) h = (h, all_copies P x n h)
 
@@ -49,7 +49,7 @@ two_messages_recorded = record {
 pub slowest_recorded : IsRecording (record two_messages { clock = record two_messages.clock { rate = 1 } })
 slowest_recorded = let run = two_messages_recorded in record { some_writer = run.some_writer; few_writers = run.few_writers; few_calls = run.few_calls; rate = lit≤ tt; calls = run.calls; stamps = run.stamps }
 
-sum_of_none : (n : ℕ) → let none : List Call = [] in sum_by length (replicate n none) ≡ 0
+pub sum_of_none : (n : ℕ) → let none : List Call = [] in sum_by length (replicate n none) ≡ 0
 sum_of_none zero = refl
 sum_of_none (suc n) = let none : List Call = [] in omega (arith, sum_by-cons length none (replicate n none), sum_of_none n)
 

@@ -1,4 +1,14 @@
+pub mod Causes
 pub mod Recordings
 pub mod Lines
+pub mod LineFields
+pub mod CallReading
+pub mod CallFields
+pub mod CallPlaces
+pub mod Reading
 pub mod Traces
+pub mod TraceReading
+pub mod Progress
+pub mod CallAnswers
 pub mod Rows
+pub mod Order

@@ -1,10 +1,12 @@
 -- Worked examples: runs of three writers, and calls with texts.
-use Rattle.std.specs.Prelude.{ℕ, List, [], ◌∷◌, ◌++◌, codes}
+use Rattle.std.specs.Prelude.{◌≡◌, ℕ, List, [], ◌∷◌, ◌++◌, codes, Err}
 use Rattle.printf_grammar.specs.declared.argument.Value.TheVariants.{Unsigned, Text}
-use Rattle.arg_records.specs.Rows.{row_call, full_message, mixed_calls}
+use Rattle.arg_records.specs.Rows.{row_call, full_message, mixed_calls, texts_message}
 use Rattle.log_dictionary.specs.Rows.{row_message}
 use Rattle.trace_text.specs.Recordings.{Recording}
+use Rattle.trace_text.specs.declared.cause.TraceCause.{TraceCause}
 use Rattle.trace_text.specs.Lines.{WriterCall}
+use Rattle.trace_text.specs.CallReading.{call_at}
 
 -- the second writer's two calls stand around the first writer's one, and the third made none
 abbrev pub three_writers : Recording
@@ -38,3 +40,11 @@ text_call = record { writer = 3; call = record { stamp = 5; id = 2; args = Text 
 
 abbrev pub text_call_line : List ℕ
 text_call_line = codes "call 3 5 2 \"a\\\"\\\\\\n\\t\\xFe\" 18446744073709551615"
+
+-- a run of two writers, of which the first made one call; the second message takes two texts
+abbrev pub begun_run : Recording
+begun_run = record three_writers { dictionary = row_message ∷ texts_message ∷ []; writers = (row_call 1 ∷ []) ∷ [] ∷ [] }
+
+-- the cause from which the line is refused in that run
+abbrev pub refused : List ℕ → TraceCause → Type 0
+refused line cause = call_at begun_run line ≡ Err cause

@@ -1,15 +1,27 @@
 //! Laws and worked examples of the definitions. The functions do nothing: what they ensure is
 //! proved of the definitions.
 
-ghost use Rattle.std.specs.Prelude.{◌≡◌, ℕ, ◌<◌, ◌≤◌, List, [], ◌∷◌, length, replicate, sum_by};
+ghost use Rattle.std.specs.Prelude.{◌≡◌, ◌⊎◌, Result, ℕ, ◌<◌, ◌≤◌, List, [], ◌∷◌, length, replicate, map, sum_by, Some, Ok, codes, negsuc};
 ghost use Rattle.std.specs.List.{AllByRecursion};
 ghost use Rattle.log_dictionary.specs.Messages.{AreDistinct};
 ghost use Rattle.arg_records.specs.Rows.{row_call};
-ghost use Rattle.trace_text.specs.Recordings.{Recording, IsRecording};
+ghost use Rattle.direct_printf.specs.Lines.{in_order};
+ghost use Rattle.trace_text.specs.Recordings.{Recording, IsRecording, calls_of};
+ghost use Rattle.trace_text.specs.Order.{call_in, places_in_order};
 ghost use Rattle.arg_records.specs.Calls.{IsCall, NeverFalls};
+ghost use Rattle.trace_text.specs.Reading.{Part, Broken, Gives, opening, TraceBreak};
 ghost use Rattle.trace_text.specs.Traces.{TraceText};
 ghost use Rattle.trace_text.specs.Lines.{SpellsCall};
-ghost use Rattle.trace_text.specs.Rows.{three_writers, three_writers_text, two_messages, text_call, text_call_line};
+ghost use Rattle.trace_text.specs.Rows.{three_writers, three_writers_text, two_messages, text_call, text_call_line, begun_run, refused};
+ghost use Rattle.trace_text.specs.CallReading.{call_at};
+ghost use Rattle.trace_text.specs.declared.cause.TraceCause.{TraceCause};
+ghost use Rattle.trace_text.specs.declared.cause.TraceCause.TheVariants.{TooLarge, NoEnd, Header, Message, Clock, Writers, CallForm, Writer, BeforeClock, StampFalls, Id, ArgCount, ArgKind, ArgRange, NulInText, AfterEnd};
+ghost use Rattle.printf_grammar.specs.declared.argument.Value.TheVariants.{Signed, Text};
+
+use crate::order::Place;
+use crate::reading::TraceFault;
+use crate::trace::Trace;
+use crate::writer_calls::WriterCalls;
 
 /// A run of three writers, whose calls are mixed.
 pub fn writers_are_mixed()
@@ -48,3 +60,85 @@ pub fn texts_are_of_recordings()
         → length run.dictionary ≤ 65536 }
     ensures distinct { (bytes : List ℕ) (run : Recording) → TraceText bytes run → AreDistinct run.dictionary }
 {}
+
+/// Lines that go on with a run, and what they say.
+pub fn call_lines_are_read()
+    ensures number { call_at begun_run (codes "call 1 1000 0 -2") ≡ Ok
+        (record { writer = 1; call = record { stamp = 1000; id = 0; args = Signed (negsuc 1) ∷ [] } }) }
+    ensures texts { call_at begun_run (codes "call 0 1003 1 \"a\\n\" \"\"") ≡ Ok
+        (record { writer = 0; call = record { stamp = 1003; id = 1; args = Text (97 ∷ 10 ∷ []) ∷ Text [] ∷ [] } }) }
+{}
+
+/// Lines that are refused in a run. Where several causes hold, the first of them is answered.
+pub fn call_lines_are_refused()
+    ensures no_word { refused (codes "calls 0 1003 0 1") CallForm }
+    ensures no_id { refused (codes "call 0 1003") CallForm }
+    ensures leading_zero { refused (codes "call 00 1003 0 1") CallForm }
+    ensures large_stamp { refused (codes "call 0 18446744073709551616 0 1") CallForm }
+    ensures no_such_writer { refused (codes "call 2 999 2") Writer }
+    ensures before_clock { refused (codes "call 0 999 2") BeforeClock }
+    ensures falls { refused (codes "call 0 1002 2") StampFalls }
+    ensures no_such_message { refused (codes "call 0 1003 2 1 1") Id }
+    ensures missing { refused (codes "call 0 1003 0") ArgCount }
+    ensures one_more { refused (codes "call 0 1003 0 1 ") ArgCount }
+    ensures no_number { refused (codes "call 0 1003 0 \"1\" 2") ArgKind }
+    ensures two_spaces { refused (codes "call 0 1003 0  1") ArgKind }
+    ensures no_text { refused (codes "call 0 1003 1 1 \"a\"") ArgKind }
+    ensures mark_within { refused (codes "call 0 1003 1 \"a\"b \"c\"") ArgKind }
+    ensures out_of_range { refused (codes "call 0 1003 0 2147483648") ArgRange }
+    ensures any_size { refused (codes "call 0 1003 0 -100000000000000000000000000") ArgRange }
+    ensures nul { refused (codes "call 0 1003 1 \"a\\x00\" 1") NulInText }
+{}
+
+/// Texts that are refused, at which line and from which cause.
+pub fn texts_are_refused()
+    ensures too_large { (bytes : List ℕ) → 67108864 < length bytes → TraceBreak bytes 0 TooLarge }
+    ensures empty { TraceBreak [] 1 NoEnd }
+    ensures no_line_feed { TraceBreak (codes "nanolog-trace 1") 1 NoEnd }
+    ensures no_last_line { TraceBreak (codes "nanolog-trace 1\nclock 1 2 3\nwriters 2\nend") 4 NoEnd }
+    ensures other_version { TraceBreak (codes "nanolog-trace 2\nclock") 1 Header }
+    ensures other_id { TraceBreak (codes "nanolog-trace 1\nmessage 1 DEBUG 1 \"a\" \"b\"\n") 2 Message }
+    ensures no_rate { TraceBreak (codes "nanolog-trace 1\nclock 1 2 0\nend\n") 2 Clock }
+    ensures many_writers { TraceBreak (codes "nanolog-trace 1\nclock 1 2 3\nwriters 65\nend\n") 3 Writers }
+    ensures call_of_none { TraceBreak (codes "nanolog-trace 1\nclock 1 2 3\nwriters 2\ncall 2 1 0\nend\n") 4 Writer }
+    ensures line_behind { TraceBreak (codes "nanolog-trace 1\nclock 1 2 3\nwriters 2\nend\nend\n") 5 AfterEnd }
+    ensures byte_behind { TraceBreak (codes "nanolog-trace 1\nclock 1 2 3\nwriters 2\nend\n ") 5 AfterEnd }
+{}
+
+/// The calls at the places in order are all calls in order.
+pub fn calls_stand_at_their_places()
+    ensures { (run : Recording) → map (call_in run) (places_in_order run) ≡ map Some (in_order (calls_of run)) }
+{}
+
+/// The runs that texts spell are the runs that reading the texts line by line gives.
+pub fn texts_are_read()
+    ensures read { (bytes : List ℕ) (run : Recording) → TraceText bytes run → Gives opening 1 bytes (Ok run) }
+    ensures spelled { (bytes : List ℕ) (run : Recording) → length bytes ≤ 67108864
+        → Gives opening 1 bytes (Ok run) → TraceText bytes run }
+{}
+
+/// A text is that of one run, or it is refused at one line from one cause: one of the two holds, and
+/// only one. So it is from each line on: what the bytes give is one outcome, and there is one.
+pub fn texts_are_told_apart()
+    ensures one_holds { (bytes : List ℕ) → ((run : Recording) × TraceText bytes run)
+        ⊎ ((line : ℕ) × (cause : TraceCause) × TraceBreak bytes line cause) }
+    ensures not_both { (bytes : List ℕ) (run : Recording) (line : ℕ) (cause : TraceCause)
+        → TraceText bytes run → ¬ (TraceBreak bytes line cause) }
+    ensures one_run { (bytes : List ℕ) (a b : Recording) → TraceText bytes a → TraceText bytes b → a ≡ b }
+    ensures one_break { (bytes : List ℕ) (i j : ℕ) (a b : TraceCause)
+        → TraceBreak bytes i a → TraceBreak bytes j b → (i ≡ j) × (a ≡ b) }
+    ensures some_outcome { (part : Part) (n : ℕ) (bytes : List ℕ)
+        → (outcome : Result Recording Broken) × Gives part n bytes outcome }
+    ensures one_outcome { (part : Part) (n : ℕ) (bytes : List ℕ) (a b : Result Recording Broken)
+        → Gives part n bytes a → Gives part n bytes b → a ≡ b }
+{}
+
+/// Runs, their parts and faults go from thread to thread, and threads share them.
+pub fn threads() {
+    crosses_threads::<Trace>();
+    crosses_threads::<WriterCalls>();
+    crosses_threads::<TraceFault>();
+    crosses_threads::<Place>();
+}
+
+fn crosses_threads<T: Send + Sync>() {}

@@ -1,4 +1,4 @@
-//! Many writers are kept, where there is memory.
+//! Many writers are kept, where there is memory, and causes have their numbers and names.
 
 use super::*;
 use printf_grammar::Values;
@@ -57,4 +57,31 @@ fn writers_have_places(rt: HostRuntime) -> Result<(), Fail> {
         assert!(rt; calls.len() < 64);
     }
     Ok(())
+}
+
+#[test]
+fn causes(rt: HostRuntime) {
+    for (cause, number, name) in [
+        (TraceCause::Header, 1, "Header"),
+        (TraceCause::Message, 2, "Message"),
+        (TraceCause::Clock, 3, "Clock"),
+        (TraceCause::Writers, 4, "Writers"),
+        (TraceCause::Writer, 5, "Writer"),
+        (TraceCause::StampFalls, 6, "StampFalls"),
+        (TraceCause::BeforeClock, 7, "BeforeClock"),
+        (TraceCause::Id, 8, "Id"),
+        (TraceCause::ArgCount, 9, "ArgCount"),
+        (TraceCause::ArgKind, 10, "ArgKind"),
+        (TraceCause::ArgRange, 11, "ArgRange"),
+        (TraceCause::NulInText, 12, "NulInText"),
+        (TraceCause::TooLong, 13, "TooLong"),
+        (TraceCause::NoEnd, 14, "NoEnd"),
+        (TraceCause::TooMany, 15, "TooMany"),
+        (TraceCause::AfterEnd, 16, "AfterEnd"),
+        (TraceCause::CallForm, 17, "CallForm"),
+        (TraceCause::TooLarge, 18, "TooLarge"),
+    ] {
+        assert_eq!(rt; cause.number(), number);
+        assert_eq!(rt; cause.name(), name);
+    }
 }

@@ -1,9 +1,12 @@
 //! Recorded runs.
 
-ghost use Rattle.std.specs.Prelude.{◌≡◌};
+ghost use Rattle.std.specs.Prelude.{◌≡◌, ◌<◌, length, OnOk, OnErr};
+ghost use Rattle.trace_text.specs.CallReading.{with_call};
 
 use crate::writer_calls::WriterCalls;
+use arg_records::Call;
 use log_dictionary::{Clock, Dictionary};
+use std::alloc::AllocError;
 use std::marker::Model;
 
 /// The most calls of a run.
@@ -27,5 +30,20 @@ impl Model for Trace {
 
     ghost view = { λ t. record { dictionary = t.dictionary; clock = t.clock; writers = t.writers } };
 
-    ghost invariant = { λ t. IsRecording (record { dictionary = t.dictionary; clock = t.clock; writers = t.writers }) };
+    ghost invariant = { λ t. IsRecording
+        (record { dictionary = t.dictionary; clock = t.clock; writers = t.writers }) };
+}
+
+impl Trace {
+    ghost use Rattle.trace_text.specs.Recordings.{IsRecording};
+
+    /// Adds a call at the end of the writer's.
+    pub(crate) fn push_call(&mut self, writer: u32, call: Call) -> Result<(), AllocError>
+        requires writer { writer < length self.old.writers }
+        requires recorded { IsRecording (with_call self.old (record { writer = writer; call = call })) }
+        ensures ok { OnOk result (self.new ≡ with_call self.old (record { writer = writer; call = call })) }
+        ensures err { OnErr result (self.new ≡ self.old) }
+    {
+        self.writers.push_call(writer, call)
+    }
 }

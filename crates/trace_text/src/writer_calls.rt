@@ -1,10 +1,11 @@
 //! The calls of all writers.
 
-ghost use Rattle.std.specs.Prelude.{◌≡◌, ◌≤◌, ◌↔◌, [], ◌∷◌, ◌++◌, length, slice_get, IsNone, IsTrue, OnOk, OnErr};
+ghost use Rattle.std.specs.Prelude.{◌≡◌, ◌<◌, ◌≤◌, ◌↔◌, [], ◌∷◌, ◌++◌, length, slice_get, replicate, IsNone, IsTrue, IfOk, OnOk, OnErr};
+ghost use Rattle.trace_text.specs.CallReading.{with_call_of};
 ghost use Rattle.std.specs.Option.{option_copied};
 ghost use Rattle.std.specs.Slice.Iter.{iter_rest};
 
-use arg_records::Calls;
+use arg_records::{Call, Calls};
 use std::alloc::{AllocError, Global};
 use std::marker::Model;
 use std::slice;
@@ -43,6 +44,26 @@ impl WriterCalls {
         Ok(())
     }
 
+    /// So many writers, each with no calls.
+    pub fn without_calls(alloc: Global, count: u32) -> Result<WriterCalls, AllocError>
+        ensures { IfOk result (λ writers. writers ≡ replicate count []) }
+    {
+        let mut writers = WriterCalls::make(alloc);
+        for _ in 0..count {
+            writers.push(Calls::make(alloc))?;
+        }
+        Ok(writers)
+    }
+
+    /// Adds a call at the end of a writer's. Where that is refused the call is dropped.
+    pub fn push_call(&mut self, writer: u32, call: Call) -> Result<(), AllocError>
+        requires { writer < length self.old }
+        ensures ok { OnOk result (self.new ≡ with_call_of self.old writer call) }
+        ensures err { OnErr result (self.new ≡ self.old) }
+    {
+        self.items[writer as usize].push(call)
+    }
+
     /// The number of writers.
     pub fn len(&self) -> usize
         ensures { result ≡ length self.now }
@@ -63,6 +84,14 @@ impl WriterCalls {
         ensures none { IsNone result ↔ (length self.now ≤ place) }
     {
         self.items.get(place)
+    }
+
+    /// The calls of a writer that is there.
+    pub fn calls(&self, writer: usize) -> &Calls
+        requires { writer < length self.now }
+        ensures { slice_get self.now writer ≡ Some result.now }
+    {
+        &self.items[writer]
     }
 
     /// The calls of each writer, one writer after the other.

@@ -1,10 +1,7 @@
 use Rattle.std.proofs.Common.{pos, arith}
 use Rattle.printf_grammar.specs.declared.argument.Arg.TheVariants.{Signed}
-use Rattle.arg_records.proofs.Arguments.{short_at, words_from, FrameLen-bound}
+use Rattle.arg_records.proofs.Arguments.{words_from, FrameLen-bound}
 use Rattle.arg_records.proofs.frame.frame_len.Goals as goal
-
-pub word_count-len-requires : goal.word_count-len-requires
-word_count-len-requires c = short_at _ _ _ c.loop-arg-test.true c.requires
 
 pub overflow_add-len : goal.overflow_add-len
 overflow_add-len c = omega (arith, c.word_count-len.ensures, c.loop-arg.invariant, words_from c.args.args.now c.loop-arg.arg-index (Signed (pos 0)) c.loop-arg-test.true, FrameLen-bound _ c.requires)

@@ -1,5 +1,6 @@
-use Rattle.log_dictionary.proofs.Distinct.{has_is}
+use Rattle.std.proofs.Common.{sym, ◌∙◌}
+use Rattle.log_dictionary.proofs.Distinct.{there_from_test, test_from_there}
 use Rattle.log_dictionary.proofs.dictionary.has_message.Goals as goal
 
 pub returns : goal.returns
-returns c = has_is c.id_of.result c.is_some.result c.args.messages.now c.args.message.now c.is_some.ensures c.id_of.ensures.some c.id_of.ensures.none.0
+returns c = (λ yes. there_from_test c.args.messages.now.keys c.args.message.now (sym c.contains.ensures ∙ yes), λ there. c.contains.ensures ∙ test_from_there c.args.messages.now.keys c.args.message.now there)

@@ -1,6 +1,9 @@
-use Rattle.std.proofs.Common.{◌≡◌, take}
+use Rattle.std.proofs.Common.{◌≡◌, List, ◌++◌}
+use Rattle.std.specs.Slice.Iter.{iter_rest}
+use Rattle.arg_records.specs.declared.call.Call.{Call}
 use Rattle.checkpoint_io.specs.Logs.{ids_used}
 use Rattle.nanolog_cli.proofs.log_of_run.count_of_ids.Given as goal
 
-abbrev pub invariant-loop-place : goal.invariant-loop-place
-invariant-loop-place l = l.count ≡ ids_used (take l.place l.calls)
+-- the count is that of the calls that were seen
+abbrev pub invariant-loop-call : goal.invariant-loop-call
+invariant-loop-call l = (seen : List Call) × (seen ++ iter_rest l.call-iterator ≡ l.calls) × (l.count ≡ ids_used seen)

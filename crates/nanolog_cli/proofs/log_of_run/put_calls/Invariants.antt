@@ -1,5 +1,8 @@
+use Rattle.std.proofs.Common.{◌≡◌, List, ◌++◌}
+use Rattle.std.specs.Slice.Iter.{iter_rest}
+use Rattle.arg_records.specs.declared.call.Call.{Call}
 use Rattle.nanolog_cli.proofs.RunBytes.{IsPacked}
 use Rattle.nanolog_cli.proofs.log_of_run.put_calls.Given as goal
 
-abbrev pub invariant-loop-place : goal.invariant-loop-place
-invariant-loop-place l = IsPacked l.dictionary l.tick l.calls l.place l.end l.before l.body
+abbrev pub invariant-loop-call : goal.invariant-loop-call
+invariant-loop-call l = (seen : List Call) × (seen ++ iter_rest l.call-iterator ≡ l.calls) × IsPacked l.dictionary l.tick seen l.end l.before l.body

@@ -2,8 +2,7 @@ use Rattle.std.proofs.Common.{◌∷◌, ◌++◌, [], sym, subst, ℕ, arith}
 use Rattle.std.proofs.lemmas.List.{length-append}
 use Rattle.std.proofs.lemmas.Result.{err_from_is_err_and}
 use Rattle.nanolog_cli.specs.LogParts.{BeginsWithEntries}
-use Rattle.nanolog_cli.proofs.LogParts.{one_read, next_entry}
-use Rattle.nanolog_cli.proofs.MessageForms.{not_there}
+use Rattle.nanolog_cli.proofs.LogParts.{one_read, next_entry, not_there}
 use Rattle.nanolog_cli.proofs.narrow_log.read_entries.Goals as goal
 
 pub returns-in_err-rest-clause-not_yet : goal.returns-in_err-rest-clause-not_yet

@@ -1,10 +1,11 @@
 use Rattle.std.proofs.Common.{refl, inr, ap, ◌∙◌}
 use Rattle.nl_io.specs.Desk.{Desk}
+use Rattle.nanolog_cli.specs.Commands.{Replay}
 use Rattle.nanolog_cli.proofs.Endings.{printed}
 use Rattle.nanolog_cli.proofs.replay.replay.Goals as goal
 
 pub returns-in-Ok-clause-ends : goal.returns-in-Ok-clause-ends
-returns-in-Ok-clause-ends g c = printed _ _ _ c.in_ok-text.text.items _ _ c.print.result (
+returns-in-Ok-clause-ends g c = printed (Replay c.args.trace.now c.args.log.now) _ _ c.in_ok-text.text.items _ _ _ (
   c.in_ok-run.run',
   c.in_ok-run.ensures.found,
   record {
@@ -16,7 +17,7 @@ returns-in-Ok-clause-ends g c = printed _ _ _ c.in_ok-text.text.items _ _ c.prin
   },
   c.in_ok-text.ensures,
 )
-    (rw c.deref-in-Ok.ensures.value at c.print.ensures.printed) c.print.ensures.counted c.print.ensures.status c.print.ensures.name (rw c.deref-in-Ok.ensures.value at c.print.ensures.cut_off) c.print.ensures.cause
+    (rw c.deref-in-Ok.ensures.value at c.print.ensures.printed) c.print.ensures.memory
 
 pub returns-clause-ends : goal.returns-clause-ends
 returns-clause-ends g c = inr (
@@ -35,3 +36,9 @@ returns-clause-ends g c = inr (
   refl,
   refl,
 )
+
+pub returns-in-Ok-clause-files_others : goal.returns-in-Ok-clause-files_others
+returns-in-Ok-clause-files_others g c = g.met.F.Files.rest_then _ _ _ c.narrow_run_of_file.ensures.others c.save.ensures.others
+
+pub returns-clause-files_others : goal.returns-clause-files_others
+returns-clause-files_others g c = g.met.F.Files.rest_then _ _ _ c.narrow_run_of_file.ensures.others c.save.ensures.others

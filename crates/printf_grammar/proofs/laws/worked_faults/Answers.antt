@@ -1,4 +1,4 @@
-use Rattle.printf_grammar.proofs.Worked.{float, long_float, wide, store, bad_percent, bad_length, positional, too_wide, ends, nul, too_many_args, percent_after_l, l_after_l, third_h, digit_after_star, precise}
+use Rattle.printf_grammar.proofs.Worked.{float, long_float, wide, store, bad_percent, bad_length, positional, ends, nul, percent_after_l, l_after_l, third_h, digit_after_star}
 use Rattle.printf_grammar.proofs.laws.worked_faults.Goals as goal
 
 pub returns-clause-float : goal.returns-clause-float
@@ -22,17 +22,11 @@ returns-clause-bad_length c = bad_length
 pub returns-clause-positional : goal.returns-clause-positional
 returns-clause-positional c = positional
 
-pub returns-clause-too_wide : goal.returns-clause-too_wide
-returns-clause-too_wide c = too_wide
-
 pub returns-clause-ends : goal.returns-clause-ends
 returns-clause-ends c = ends
 
 pub returns-clause-nul : goal.returns-clause-nul
 returns-clause-nul c = nul
-
-pub returns-clause-too_many_args : goal.returns-clause-too_many_args
-returns-clause-too_many_args c = too_many_args
 
 pub returns-clause-percent_after_l : goal.returns-clause-percent_after_l
 returns-clause-percent_after_l c = percent_after_l
@@ -45,6 +39,3 @@ returns-clause-third_h c = third_h
 
 pub returns-clause-digit_after_star : goal.returns-clause-digit_after_star
 returns-clause-digit_after_star c = digit_after_star
-
-pub returns-clause-precise : goal.returns-clause-precise
-returns-clause-precise c = precise

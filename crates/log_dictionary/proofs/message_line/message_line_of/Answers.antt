@@ -1,0 +1,46 @@
+use Rattle.std.proofs.Common.{◌≡◌, ℕ, List, length, sym, ap, ◌∙◌, arith}
+use Rattle.std.proofs.lemmas.Bool.{false≢true}
+use Rattle.std.specs.Prelude.{decimal}
+use Rattle.log_dictionary.specs.Severities.{severity_name}
+use Rattle.log_dictionary.specs.MessageLines.{SpelledParts, spelled_parts, LineParts}
+use Rattle.log_dictionary.proofs.LineParts.{parts_at-spelled, same_spelling, spells_parts}
+use Rattle.log_dictionary.proofs.message_line.message_line_of.Goals as goal
+
+abbrev made : List ℕ → List ℕ → List ℕ → List ℕ → List ℕ → SpelledParts
+made id severity number file format = record { id = id; severity = severity; number = number; file = file; format = format }
+
+pub returns-in_err-fields-clause-none : goal.returns-in_err-fields-clause-none
+returns-in_err-fields-clause-none c = rw c.from_residual.ensures (λ found. cc (parts_at-spelled _ found.0 found.1, c.in_err-fields.ensures))
+
+pub returns-in_err-id-clause-none : goal.returns-in_err-id-clause-none
+returns-in_err-id-clause-none c = rw c.from_residual-in_err-id.ensures (λ found.
+    let same = same_spelling c.args.line.now (spelled_parts c.in_ok-fields.fields) found.0 c.in_ok-fields.ensures found.1 in
+    c.in_err-id.ensures.none found.0.id found.1.id_fits (ap (λ (p : SpelledParts). p.id) same))
+
+pub returns-in_err-severity-clause-none : goal.returns-in_err-severity-clause-none
+returns-in_err-severity-clause-none c = rw c.from_residual-in_err-severity.ensures (λ found.
+    let same = same_spelling c.args.line.now (spelled_parts c.in_ok-fields.fields) found.0 c.in_ok-fields.ensures found.1 in
+    c.in_err-severity.ensures.none found.0.severity (ap (λ (p : SpelledParts). p.severity) same))
+
+pub returns-in_err-line-clause-none : goal.returns-in_err-line-clause-none
+returns-in_err-line-clause-none c = rw c.from_residual-in_err-line.ensures (λ found.
+    let same = same_spelling c.args.line.now (spelled_parts c.in_ok-fields.fields) found.0 c.in_ok-fields.ensures found.1 in
+    c.in_err-line.ensures.none found.0.number found.1.number_fits (ap (λ (p : SpelledParts). p.number) same))
+
+pub returns-then-not-are_within_limits-clause-none : goal.returns-then-not-are_within_limits-clause-none
+returns-then-not-are_within_limits-clause-none c = λ found.
+    let same = same_spelling c.args.line.now (spelled_parts c.in_ok-fields.fields) found.0 c.in_ok-fields.ensures found.1 in
+    let file : length c.in_ok-fields.fields.file ≡ length found.0.file = ap (λ (p : SpelledParts). length p.file) same in
+    let format : length c.in_ok-fields.fields.format ≡ length found.0.format = ap (λ (p : SpelledParts). length p.format) same in
+    let within = c.are_within_limits.ensures.1 (omega (arith, c.len.ensures, found.1.named), omega (arith, c.len.ensures, found.1.short_name), omega (arith, c.len-2.ensures, found.1.short_format)) in
+    absurd (false≢true (sym c.if-not-are_within_limits.true ∙ within))
+
+pub returns-clause-some : goal.returns-clause-some
+returns-clause-some c =
+    let parts : LineParts = record { id = c.in_ok-id.id; severity = c.in_ok-severity.severity; number = c.in_ok-line.line; file = c.in_ok-fields.fields.file; format = c.in_ok-fields.fields.format } in
+    let within = c.are_within_limits.ensures.0 c.if-not-are_within_limits.false in
+    spells_parts c.args.line.now (spelled_parts c.in_ok-fields.fields) parts c.in_ok-fields.ensures
+    (ap (λ (id : List ℕ). made id c.in_ok-fields.fields.severity.now c.in_ok-fields.fields.number.now parts.file parts.format) c.in_ok-id.ensures.some
+    ∙ ap (λ (severity : List ℕ). made (decimal parts.id) severity c.in_ok-fields.fields.number.now parts.file parts.format) c.in_ok-severity.ensures.some
+    ∙ ap (λ (number : List ℕ). made (decimal parts.id) (severity_name parts.severity) number parts.file parts.format) c.in_ok-line.ensures.some)
+    (omega arith) (omega arith) (omega (arith, c.len.ensures, within.0)) (omega (arith, c.len.ensures, within.1)) (omega (arith, c.len-2.ensures, within.2))

@@ -1,0 +1,9 @@
+use Rattle.std.proofs.Common.{length}
+use Rattle.log_dictionary.proofs.TextLemmas.{IsWalked}
+use Rattle.log_dictionary.proofs.text.unescape.Given as goal
+
+abbrev pub invariant-loop-byte : goal.invariant-loop-byte
+invariant-loop-byte l = IsWalked l.spelled l.rest l.bytes.items
+
+abbrev pub decreases-loop-byte : goal.decreases-loop-byte
+decreases-loop-byte l = length l.rest

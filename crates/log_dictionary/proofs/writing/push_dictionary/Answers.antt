@@ -1,0 +1,15 @@
+use Rattle.std.proofs.Common.{◌≡◌, take, vec_len, ap, length, arith, rules}
+use Rattle.log_dictionary.proofs.Appending.{kept, begun}
+use Rattle.log_dictionary.proofs.writing.push_dictionary.Goals as goal
+
+pub loop-id-init : goal.loop-id-init
+loop-id-init c =
+    let all = c.iter-message-items.ensures in
+    let appended = c.in_ok-extend_from_slice.ensures.items in
+    ((_, appended), rw all (begun _ _ _ _ appended), omega (arith, ap length all))
+
+pub returns-in_err-push_message-clause-err : goal.returns-in_err-push_message-clause-err
+returns-in_err-push_message-clause-err c =
+    let stands : take (vec_len c.args.out.now) c.push_message.new.out.items ≡ c.args.out.now.items =
+    kept _ _ _ _ _ _ c.args.out.now.ok.0 c.loop-id.out.ok.0 c.loop-id.invariant.0.1 c.in_err-push_message.ensures.err in
+    search rules

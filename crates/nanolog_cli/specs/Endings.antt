@@ -1,0 +1,61 @@
+-- How a command ends: all of it is done, or why it isn't.
+use Rattle.std.specs.Prelude.{ℕ, List, Result, Ok, Err, codes}
+use Rattle.trace_text.specs.Causes.{cause_number, cause_name}
+use Rattle.trace_text.specs.declared.reading.TraceFault.{TraceFault}
+use Rattle.trace_text.specs.declared.reading.TraceFault.TheVariants as faults
+use Rattle.nanolog_cli.specs.declared.status.Status.{Status}
+use Rattle.nanolog_cli.specs.declared.status.Status.TheVariants as statuses
+use Rattle.nanolog_cli.specs.declared.refusal.Cause.{Cause}
+use Rattle.nanolog_cli.specs.declared.refusal.Cause.TheVariants.{Trace, NotYet}
+use Rattle.nanolog_cli.specs.declared.refusal.Refusal.{Refusal}
+use Rattle.nanolog_cli.specs.declared.refusal.Refusal.TheVariants as refusals
+
+-- an end, with the name that it tells of; a refused file is told with a line, which is 0 where that is none, and a cause
+pub data Ending : Type 0 where
+  Done : Ending
+  Usage : Ending
+  Absent : (name : List ℕ) → Ending
+  ReadFault : (name : List ℕ) → Ending
+  Refused : (name : List ℕ) (line : ℕ) (cause : Cause) → Ending
+  WriteFault : (name : List ℕ) → Ending
+  NoMemory : Ending
+
+-- the status that goes with it
+abbrev pub status_of : Ending → Status
+status_of Done = statuses.Done
+status_of Usage = statuses.Usage
+status_of (Absent name) = statuses.Absent
+status_of (ReadFault name) = statuses.ReadFault
+status_of (Refused name line cause) = statuses.Refused
+status_of (WriteFault name) = statuses.WriteFault
+status_of NoMemory = statuses.NoMemory
+
+-- the number of a cause
+abbrev pub number_of : Cause → ℕ
+number_of (Trace cause) = cause_number cause
+number_of NotYet = 99
+
+-- the name of a cause
+abbrev pub name_of : Cause → List ℕ
+name_of (Trace cause) = cause_name cause
+name_of NotYet = codes "NotYet"
+
+-- a refusal as an end
+abbrev pub refusal_ending : Refusal → Ending
+refusal_ending refusals.Usage = Usage
+refusal_ending (refusals.Absent name) = Absent name.now
+refusal_ending (refusals.ReadFault name) = ReadFault name.now
+refusal_ending (refusals.Refused name line cause) = Refused name.now line cause
+refusal_ending (refusals.WriteFault name) = WriteFault name.now
+refusal_ending refusals.NoMemory = NoMemory
+
+-- what a call answers, as an end
+abbrev pub ending_of : {T : Type 0} → Result T Refusal → Ending
+ending_of (Ok x) = Done
+ending_of (Err refusal) = refusal_ending refusal
+
+-- why the name gave no trace, as an end
+abbrev pub fault_ending : List ℕ → TraceFault → Ending
+fault_ending name faults.ReadFault = ReadFault name
+fault_ending name (faults.Refused line cause) = Refused name line (Trace cause)
+fault_ending name faults.NoMemory = NoMemory

@@ -1,0 +1,63 @@
+-- What lines begin with, which lines are equal, and where fields end.
+use Rattle.std.proofs.Common.{◌≡◌, ◌≢◌, eqb, ℕ, Bool, true, false, cond, List, [], ◌∷◌, length, take, Option, None, Some, refl, sym, ap, ◌∙◌}
+use Rattle.std.specs.Prelude.{not, ◌&&◌, codes}
+use Rattle.std.specs.Option.{is_some}
+use Rattle.std.specs.List.{starts_with}
+use Rattle.std.specs.Cmp.Lexicographic.{pointwise, bytes_decides}
+use Rattle.std.proofs.lemmas.Bool.Decides.{Decides-eqb, same_from_decides}
+use Rattle.std.proofs.lemmas.Bool.{false≢true}
+use Rattle.log_dictionary.specs.Fields.{after}
+use Rattle.trace_text.proofs.HeadLines.{found}
+use Rattle.trace_text.specs.LineFields.{begins_with, CallHead, head_of, head_at}
+
+-- a line of a call begins with the word
+pub call_begins : (line : List ℕ) (head : CallHead) → head_at line ≡ Some head → begins_with (codes "call ") line ≡ true
+call_begins line head e =
+    let rest = found (after (codes "call ") line) head_of head e in
+    ap is_some rest.first
+
+-- ---- lines that are equal, or begin with a word
+
+eqb_comm : (a b : ℕ) → eqb a b ≡ eqb b a
+eqb_comm a b = same_from_decides (eqb a b) (eqb b a) (Decides-eqb a b) (λ e. sym ((Decides-eqb b a).0 e), λ e. (Decides-eqb b a).1 (sym e))
+
+begun : (test : Bool) (o : Option (List ℕ)) (b : Bool) → b ≡ is_some o → (test && b) ≡ is_some (cond test o None)
+begun true o b e = e
+begun false o b e = refl
+
+-- what a test of the front says
+pub begins_is : (front line : List ℕ) → starts_with eqb line front ≡ begins_with front line
+begins_is [] line = refl
+begins_is (x ∷ front) [] = refl
+begins_is (x ∷ front) (byte ∷ line) = ap (λ (b : Bool). b && pointwise eqb front (take (length front) line)) (eqb_comm x byte) ∙ begun (eqb byte x) (after front line) (pointwise eqb front (take (length front) line)) (begins_is front line)
+
+pub same_line : (line other : List ℕ) → pointwise eqb line other ≡ true → line ≡ other
+same_line line other e = (bytes_decides line other).0 e
+
+pub other_line : (line other : List ℕ) → pointwise eqb line other ≡ false → line ≢ other
+other_line line other e is = false≢true (sym e ∙ (bytes_decides line other).1 is)
+
+turned : (test : Bool) → not test ≡ true → test ≡ false
+turned true e = absurd cc
+turned false e = refl
+
+turned_back : (test : Bool) → not test ≡ false → test ≡ true
+turned_back true e = refl
+turned_back false e = absurd cc
+
+-- what a test that the line is another one says
+pub line_differs : (line other : List ℕ) (test : Bool) → test ≡ not (pointwise eqb line other) → test ≡ true → line ≢ other
+line_differs line other test is e = other_line line other (turned _ (sym is ∙ e))
+
+pub line_equals : (line other : List ℕ) (test : Bool) → test ≡ not (pointwise eqb line other) → test ≡ false → line ≡ other
+line_equals line other test is e = same_line line other (turned_back _ (sym is ∙ e))
+
+abbrev message_word : List ℕ
+message_word = codes "message "
+
+-- what a test of the front says of lines of messages
+pub line_begins : (line : List ℕ) (test : Bool) → test ≡ starts_with eqb line message_word → test ≡ true → begins_with message_word line ≡ true
+line_begins line test is e = sym (begins_is message_word line) ∙ sym is ∙ e
+
+pub line_begins_not : (line : List ℕ) (test : Bool) → test ≡ starts_with eqb line message_word → test ≡ false → begins_with message_word line ≡ false
+line_begins_not line test is e = sym (begins_is message_word line) ∙ sym is ∙ e

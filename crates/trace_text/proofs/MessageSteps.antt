@@ -1,0 +1,40 @@
+-- What reading a line of a message says of the text.
+use Rattle.std.proofs.Common.{◌≡◌, ℕ, true, List, length, Ok, Err, refl, ap, inl, inr, arith}
+use Rattle.std.specs.Prelude.{codes}
+use Rattle.log_dictionary.specs.declared.message.Message.{Message}
+use Rattle.log_dictionary.specs.declared.dictionary.LineFault.{LineFault}
+use Rattle.log_dictionary.specs.declared.dictionary.LineFault.TheVariants as faults
+use Rattle.log_dictionary.specs.Additions.{SpellsNew, SpellsNoneNew, SpellsOutOfOrder, ReadsLine}
+use Rattle.log_dictionary.specs.Fields.{IsFirstSplit}
+use Rattle.log_dictionary.proofs.LineMessages.{one_message}
+use Rattle.trace_text.specs.declared.cause.TraceCause.TheVariants as causes
+use Rattle.trace_text.specs.declared.lines.Lines.{Lines}
+use Rattle.trace_text.specs.LineFields.{begins_with}
+use Rattle.trace_text.specs.Reading.{messages, FollowsMessages}
+use Rattle.trace_text.specs.Progress.{progress, IsRefusal, message_fault}
+use Rattle.trace_text.proofs.Steps.{refused_here}
+
+-- ---- what the reader of a message line says
+
+abbrev message_word : List ℕ
+message_word = codes "message "
+
+pub follows_read : (before after : List Message) (line : List ℕ) → begins_with message_word line ≡ true → ReadsLine before line after (Ok tt) → FollowsMessages before line (messages after)
+follows_read before after line begun read = (begun, read.2, (read.0, read.1, ap messages read.3))
+
+none_with_next : (before : List Message) (line : List ℕ) → SpellsNoneNew before line → (message : Message) → ¬ (SpellsNew before line (length before) message)
+none_with_next before line none message new = new.new (none (length before) message new.spelled)
+
+none_in_order : (before : List Message) (line : List ℕ) → SpellsOutOfOrder before line → (message : Message) → ¬ (SpellsNew before line (length before) message)
+none_in_order before line other message new = other.3 (one_message line other.0 (length before) other.1 message other.2.spelled new.spelled).0
+
+-- the line is refused as its fault says
+pub breaks_read : (before after : List Message) (lines : Lines) (line behind : List ℕ) (fault : LineFault) → IsFirstSplit 10 lines.bytes.now line behind → begins_with message_word line ≡ true → ReadsLine before line after (Err fault)
+    → IsRefusal (progress (messages before) lines) (message_fault lines.number fault)
+breaks_read before after lines line behind faults.TooMany split begun read =
+    refused_here (progress (messages before) lines) line behind causes.TooMany split (inl (begun, inl (omega (arith, read.0), refl)))
+breaks_read before after lines line behind faults.BadEntry split begun read =
+    refused_here (progress (messages before) lines) line behind causes.Message split (inl (begun, inr (read.0, none_with_next before line read.1, refl)))
+breaks_read before after lines line behind faults.Order split begun read =
+    refused_here (progress (messages before) lines) line behind causes.Message split (inl (begun, inr (read.0, none_in_order before line read.1, refl)))
+breaks_read before after lines line behind faults.NoMemory split begun read = tt

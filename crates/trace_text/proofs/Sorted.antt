@@ -1,0 +1,57 @@
+-- A list can be sorted in one way, where two elements of which neither is less are the same.
+use Rattle.std.proofs.Common.{◌≡◌, ℕ, suc, ◌+◌, ◌<◌, Bool, true, false, List, [], ◌∷◌, length, get_or, refl, ap, sym, ◌∙◌, subst, arith}
+use Rattle.std.specs.Prelude.{sum_by}
+use Rattle.std.specs.Cmp.{IsStrictWeakOrder}
+use Rattle.std.specs.List.{AllByRecursion}
+use Rattle.std.specs.List.Sorted.{IsSortedBy, IsPermutation}
+use Rattle.std.proofs.lemmas.List.Sums.{sum_by-cons}
+use Rattle.std.proofs.lemmas.List.Sorted.{sorted_far, sum_by-IsPermutation}
+
+-- 1 for what passes a test, and 0 for all else
+abbrev passed : Bool → ℕ
+passed true = 1
+passed false = 0
+
+passed-zero : (b : Bool) → passed b ≡ 0 → b ≡ false
+passed-zero true h = absurd (omega (arith, h))
+passed-zero false h = refl
+
+-- where no element passes a test, the count is 0
+none_pass : {X : Type 0} (test : X → Bool) (xs : List X) → AllByRecursion (λ x. test x ≡ false) xs → sum_by (λ x. passed (test x)) xs ≡ 0
+none_pass test [] all = refl
+none_pass test (x ∷ xs) all = omega (arith, sum_by-cons (λ y. passed (test y)) x xs, none_pass test xs all.1, ap passed all.0)
+
+module _ {X : Type 0} (lt : X → X → Bool) (order : IsStrictWeakOrder lt) (tied : (a b : X) → lt a b ≡ false → lt b a ≡ false → a ≡ b) where
+  -- in a sorted list nothing is less than the first element
+  rest_not_less : (x : X) (ys : List X) → ((k : ℕ) (d : X) → k < length ys → lt (get_or ys k d) x ≡ false) → AllByRecursion (λ y. lt y x ≡ false) ys
+  rest_not_less x [] h = tt
+  rest_not_less x (y ∷ ys) h = (h 0 y (omega arith), rest_not_less x ys (λ k d within. h (suc k) d (omega (arith, within))))
+
+  none_less : (x : X) (xs : List X) → IsSortedBy lt (x ∷ xs) → AllByRecursion (λ y. lt y x ≡ false) (x ∷ xs)
+  none_less x xs sorted = rest_not_less x (x ∷ xs) (λ k d within. sorted_far lt order (x ∷ xs) sorted 0 k d (omega arith) within)
+
+  sorted_rest : (x : X) (xs : List X) → IsSortedBy lt (x ∷ xs) → IsSortedBy lt xs
+  sorted_rest x xs sorted k d least within =
+      let next : suc k + 1 ≡ suc (k + 1) = omega arith in
+      subst (λ j. lt (get_or (x ∷ xs) j d) (get_or xs k d) ≡ false) next (sorted (suc k) d (omega arith) (omega (arith, within)))
+
+  first_not_less : (x y : X) (xs ys : List X) → IsSortedBy lt (x ∷ xs) → ((f : X → ℕ) → sum_by f (x ∷ xs) ≡ sum_by f (y ∷ ys)) → lt y x ≡ false
+  first_not_less x y xs ys sorted same =
+      let count : X → ℕ = λ z. passed (lt z x) in
+      let none : sum_by count (x ∷ xs) ≡ 0 = none_pass (λ z. lt z x) (x ∷ xs) (none_less x xs sorted) in
+      let some : sum_by count (y ∷ ys) ≡ count y + sum_by count ys = sum_by-cons count y ys in
+      passed-zero (lt y x) (omega (arith, same count, none, some))
+
+  -- sorted lists with the same elements are one list
+  same_counts : (xs ys : List X) → IsSortedBy lt xs → IsSortedBy lt ys → ((f : X → ℕ) → sum_by f xs ≡ sum_by f ys) → xs ≡ ys
+  same_counts [] [] first second same = refl
+  same_counts [] (y ∷ ys) first second same = absurd (omega (arith, sum_by-cons (λ _. 1) y ys, same (λ _. 1)))
+  same_counts (x ∷ xs) [] first second same = absurd (omega (arith, sum_by-cons (λ _. 1) x xs, same (λ _. 1)))
+  same_counts (x ∷ xs) (y ∷ ys) first second same =
+      let e : x ≡ y = tied x y (first_not_less y x ys xs second (λ f. sym (same f))) (first_not_less x y xs ys first same) in
+      let rest : xs ≡ ys = same_counts xs ys (sorted_rest x xs first) (sorted_rest y ys second) (λ f. omega (arith, same f, sum_by-cons f x xs, sum_by-cons f y ys, ap f e)) in
+      cc
+
+  pub sorted_once : (all xs ys : List X) → IsPermutation all xs → IsPermutation ys all → IsSortedBy lt xs → IsSortedBy lt ys → xs ≡ ys
+  sorted_once all xs ys first second up also =
+      same_counts xs ys up also (λ f. sum_by-IsPermutation f all xs first ∙ sum_by-IsPermutation f ys all second)

@@ -1,0 +1,138 @@
+-- A text of a run, read line by line, gives that run.
+use Rattle.std.proofs.Common.{◌≡◌, ◌≢◌, ℕ, ◌+◌, ◌<◌, ◌≤◌, true, List, [], ◌∷◌, ◌++◌, length, get_or, Result, Ok, Err, refl, ap, sym, ◌∙◌, subst, append_assoc, inl, inr, arith}
+use Rattle.std.specs.Prelude.{codes, Some, slice_get}
+use Rattle.std.specs.List.{AllByRecursion}
+use Rattle.std.proofs.lemmas.List.{append-nil, length-append, length-replicate, get_or_append_left, get_or_at}
+use Rattle.std.proofs.lemmas.Option.{slice_get-get_or}
+use Rattle.log_dictionary.specs.declared.message.Message.{Message}
+use Rattle.log_dictionary.specs.declared.dictionary.TheConstants.{MAX_MESSAGES}
+use Rattle.log_dictionary.specs.Messages.{SpellsMessage, SameMessage, HasMessage, AreDistinct}
+use Rattle.arg_records.specs.declared.call.Call.{Call}
+use Rattle.trace_text.specs.declared.cause.TraceCause.TheVariants.{CallForm}
+use Rattle.trace_text.specs.Recordings.{Recording, IsRecording}
+use Rattle.trace_text.specs.Lines.{WriterCall, first_line, last_line, clock_line, writers_line, SpellsMessages, SpellsCalls, text_of_lines}
+use Rattle.trace_text.specs.LineFields.{begins_with}
+use Rattle.trace_text.specs.Traces.{TraceText}
+use Rattle.trace_text.specs.CallReading.{call_at, with_call_of, with_call}
+use Rattle.trace_text.specs.Reading.{opening, messages, clock, calls, ended, Broken, IsOneLine, Reads, Gives}
+use Rattle.trace_text.proofs.OneLines.{first_is_line, last_is_line, clock_is_line, writers_is_line, message_is_line, call_is_line}
+use Rattle.trace_text.proofs.HeadLines.{clock_read, writers_read}
+use Rattle.trace_text.proofs.CallRuns.{writers_with, with_calls, writers_are, recorded_before, length-with_call_of}
+use Rattle.trace_text.proofs.RunSteps.{start_of}
+use Rattle.trace_text.proofs.CallLines.{call_read}
+
+-- ---- no line has a line feed
+
+lines-append : (front back : List (List ℕ)) → AllByRecursion IsOneLine front → AllByRecursion IsOneLine back → AllByRecursion IsOneLine (front ++ back)
+lines-append [] back first second = second
+lines-append (line ∷ front) back first second = (first.0, lines-append front back first.1 second)
+
+messages_are_lines : (id : ℕ) (lines : List (List ℕ)) (dictionary : List Message) → SpellsMessages id lines dictionary → AllByRecursion IsOneLine lines
+messages_are_lines id [] [] spells = tt
+messages_are_lines id (line ∷ lines) (message ∷ dictionary) spells = (message_is_line line id message spells.0, messages_are_lines (id + 1) lines dictionary spells.1)
+messages_are_lines id [] (message ∷ dictionary) spells = absurd spells
+messages_are_lines id (line ∷ lines) [] spells = absurd spells
+
+calls_are_lines : (lines : List (List ℕ)) (made : List WriterCall) → SpellsCalls lines made → AllByRecursion IsOneLine lines
+calls_are_lines [] [] spells = tt
+calls_are_lines (line ∷ lines) (first ∷ made) spells = (call_is_line line first spells.0, calls_are_lines lines made spells.1)
+calls_are_lines [] (first ∷ made) spells = absurd spells
+calls_are_lines (line ∷ lines) [] spells = absurd spells
+
+-- ---- messages
+
+message_begins : (line : List ℕ) (id : ℕ) (message : Message) → SpellsMessage line id message → begins_with (codes "message ") line ≡ true
+message_begins line id message spells = subst (λ text. begins_with (codes "message ") text ≡ true) (sym spells.spelled) refl
+
+-- of distinct messages none is among those before it
+is_new : (before others : List Message) (message : Message) → AreDistinct (before ++ message ∷ others) → ¬ (HasMessage before message)
+is_new before others message distinct (k, other, within, is, same) =
+    let all : List Message = before ++ message ∷ others in
+    let earlier : get_or all k other ≡ other = get_or_append_left before (message ∷ others) other k within ∙ is in
+    let here : get_or all (length before) other ≡ message = get_or_at before message others other (length before) refl in
+    let back : SameMessage other message = record { file = sym same.file; line = sym same.line; severity = sym same.severity; format = sym same.format } in
+    distinct k (length before) other within (omega (arith, length-append before (message ∷ others))) (subst (λ (m : Message). SameMessage m (get_or all (length before) other)) (sym earlier) (subst (SameMessage other) (sym here) back))
+
+module _ (rest : List ℕ) (outcome : Result Recording Broken) where
+  -- lines of messages lead from the messages before them to all messages
+  messages_read : (before : List Message) (lines : List (List ℕ)) (dictionary : List Message) (behind : List (List ℕ)) (n : ℕ) → SpellsMessages (length before) lines dictionary → AreDistinct (before ++ dictionary) → length (before ++ dictionary) ≤ MAX_MESSAGES
+      → ((m : ℕ) → Reads (messages (before ++ dictionary)) m behind rest outcome) → Reads (messages before) n (lines ++ behind) rest outcome
+  messages_read before [] [] behind n spells distinct few then = subst (λ all. Reads (messages all) n behind rest outcome) (append-nil before) (then n)
+  messages_read before (line ∷ lines) (message ∷ dictionary) behind n spells distinct few then =
+      let one : (before ++ message ∷ []) ++ dictionary ≡ before ++ message ∷ dictionary = append_assoc before (message ∷ []) dictionary in
+      let next = before ++ message ∷ [] in
+      let count : length before + 1 ≡ length next = sym (length-append before (message ∷ [])) in
+      let room : length before < MAX_MESSAGES = omega (arith, few, length-append before (message ∷ dictionary)) in
+      inl (
+        messages next,
+        inl (message_begins line (length before) message spells.0, room, (message, record { spelled = spells.0; new = is_new before dictionary message distinct }, refl)),
+        messages_read next lines dictionary behind (n + 1) (subst (λ id. SpellsMessages id lines dictionary) count spells.1) (subst AreDistinct (sym one) distinct) (subst (λ all. length all ≤ MAX_MESSAGES) (sym one) few) (λ m. subst (λ all. Reads (messages all) m behind rest outcome) (sym one) (then m)),
+      )
+  messages_read before [] (message ∷ dictionary) behind n spells distinct few then = absurd spells
+  messages_read before (line ∷ lines) [] behind n spells distinct few then = absurd spells
+
+-- ---- calls
+
+-- the lines, one after the other, are read as these calls
+abbrev pub NextCalls : Recording → List (List ℕ) → List WriterCall → Type 0
+NextCalls run [] [] = Unit {0}
+NextCalls run (line ∷ lines) (made ∷ others) = (call_at run line ≡ Ok made) × NextCalls (with_call run made) lines others
+NextCalls run [] (made ∷ others) = ⊥
+NextCalls run (line ∷ lines) [] = ⊥
+
+-- no call is read of the last line
+pub not_last : (run : Recording) (line : List ℕ) (made : WriterCall) → call_at run line ≡ Ok made → line ≢ last_line
+not_last run line made found last = let wrong : Err CallForm ≡ Ok made = subst (λ (text : List ℕ). call_at run text ≡ Ok made) last found in cc
+
+module _ (rest : List ℕ) (outcome : Result Recording Broken) where
+  -- lines of calls lead from a run to the run with these calls
+  calls_read : (run : Recording) (lines : List (List ℕ)) (made : List WriterCall) (behind : List (List ℕ)) (n : ℕ) → NextCalls run lines made
+      → ((m : ℕ) → Reads (calls (with_calls run made)) m behind rest outcome) → Reads (calls run) n (lines ++ behind) rest outcome
+  calls_read run [] [] behind n next then = then n
+  calls_read run (line ∷ lines) (made ∷ others) behind n next then =
+      inl (calls (with_call run made), inr (not_last run line made next.0, (made, next.0, refl)), calls_read (with_call run made) lines others behind (n + 1) next.1 then)
+  calls_read run [] (made ∷ others) behind n next then = absurd next
+  calls_read run (line ∷ lines) [] behind n next then = absurd next
+
+-- the writer of a call is there
+writer_there : (writers : List (List Call)) (writer : ℕ) → writer < length writers → (list : List Call) × (slice_get writers writer ≡ Some list)
+writer_there writers writer within = (get_or writers writer [], slice_get-get_or writers writer [] within)
+
+-- the calls of a run that is recorded could be made one after the other
+calls_follow : (run : Recording) (lines : List (List ℕ)) (made : List WriterCall) → length run.dictionary ≤ MAX_MESSAGES → SpellsCalls lines made → AllByRecursion (λ call. call.writer < length run.writers) made → IsRecording (with_calls run made) → IsRecording run × NextCalls run lines made
+calls_follow run [] [] few spells known recorded = (recorded, tt)
+calls_follow run (line ∷ lines) (made ∷ others) few spells known recorded =
+    let there = writer_there run.writers made.writer known.0 in
+    let long : length run.writers ≡ length (with_call_of run.writers made.writer made.call) = sym (length-with_call_of run.writers made.writer made.call) in
+    let then = calls_follow (with_call run made) lines others few spells.1 (subst (λ n. AllByRecursion (λ call. call.writer < n) others) long known.1) recorded in
+    let here = recorded_before run made there.0 there.1 then.0 in
+    (here.0, (call_read run line made here.0 few spells.0 here.1, then.1))
+calls_follow run [] (made ∷ others) few spells known recorded = absurd spells
+calls_follow run (line ∷ lines) [] few spells known recorded = absurd spells
+
+-- ---- the text
+
+-- what a text of a run gives is that run
+pub text_reads : (bytes : List ℕ) (run : Recording) → TraceText bytes run → Gives opening 1 bytes (Ok run)
+text_reads bytes run text =
+    let count : ℕ = length run.writers in
+    let start : Recording = start_of run.dictionary run.clock count in
+    let last : List (List ℕ) = text.call_lines ++ last_line ∷ [] in
+    let numbered : List (List ℕ) = writers_line count ∷ last in
+    let clocked : List (List ℕ) = clock_line run.clock ∷ numbered in
+    let all : run.writers ≡ writers_with start.writers text.calls = text.by_writer ∙ sym (writers_are count text.calls) in
+    let made : run ≡ with_calls start text.calls = ap (λ (writers : List (List Call)). record run { writers = writers }) all in
+    let long : count ≡ length start.writers = sym (length-replicate count []) in
+    let follow = calls_follow start text.call_lines text.calls text.few_messages text.calls_spelled (subst (λ (n : ℕ). AllByRecursion (λ (call : WriterCall). call.writer < n) text.calls) long text.known_writers) (subst IsRecording made text.recorded) in
+    let ends : (m : ℕ) → Reads (calls (with_calls start text.calls)) m (last_line ∷ []) [] (Ok run) = λ m. inl (ended (with_calls start text.calls), inl (refl, refl), ap Ok made) in
+    let from_calls : (m : ℕ) → Reads (calls start) m last [] (Ok run) = λ m. calls_read [] (Ok run) start text.call_lines text.calls (last_line ∷ []) m follow.1 ends in
+    let from_writers : (m : ℕ) → Reads (clock run.dictionary run.clock) m numbered [] (Ok run) = λ m. inl (calls start, (count, writers_read count text.recorded.some_writer text.recorded.few_writers, refl), from_calls (m + 1)) in
+    let from_clock : (m : ℕ) → Reads (messages run.dictionary) m clocked [] (Ok run) = λ m. inl (clock run.dictionary run.clock, inr (refl, (run.clock, clock_read run.clock text.clock_fits text.recorded.rate, refl)), from_writers (m + 1)) in
+    let last_lines = lines-append text.call_lines (last_line ∷ []) (calls_are_lines text.call_lines text.calls text.calls_spelled) (last_is_line, tt) in
+    let other_lines = lines-append text.message_lines clocked (messages_are_lines 0 text.message_lines run.dictionary text.messages_spelled) (clock_is_line run.clock, (writers_is_line count, last_lines)) in
+    record {
+      lines = first_line ∷ text.message_lines ++ clocked;
+      rest = [];
+      cut = record { joined = text.whole ∙ sym (append-nil (text_of_lines (first_line ∷ text.message_lines ++ clocked))); whole = (first_is_line, other_lines); unended = tt };
+      reads = inl (messages [], (refl, refl), messages_read [] (Ok run) [] text.message_lines run.dictionary clocked 2 text.messages_spelled text.distinct text.few_messages from_clock);
+    }

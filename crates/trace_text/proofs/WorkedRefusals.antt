@@ -1,0 +1,139 @@
+-- Worked texts that are refused.
+use Rattle.std.proofs.Common.{◌≡◌, ◌≢◌, ℕ, lit<, lit≤, true, not, eqb, List, [], ◌∷◌, ◌++◌, Result, Err, get_or, refl, ap, inl, inr, arith}
+use Rattle.std.specs.Prelude.{codes}
+use Rattle.std.specs.Fmt.{digits}
+use Rattle.std.specs.List.{list_all}
+use Rattle.log_dictionary.specs.declared.clock.Clock.{Clock}
+use Rattle.log_dictionary.specs.declared.message.Message.{Message}
+use Rattle.log_dictionary.specs.Additions.{SpellsNew}
+use Rattle.log_dictionary.specs.Fields.{split_at_first}
+use Rattle.log_dictionary.specs.Numbers.{number_from}
+use Rattle.log_dictionary.proofs.Lines.{none_by_test}
+use Rattle.trace_text.specs.declared.cause.TraceCause.TheVariants as causes
+use Rattle.trace_text.specs.Recordings.{Recording}
+use Rattle.trace_text.specs.Lines.{first_line}
+use Rattle.trace_text.specs.Reading.{opening, messages, clock, calls, ended, Broken, Reads, IsOneLine, TraceBreak}
+
+is_line : (line : List ℕ) → list_all (λ byte. not (eqb byte 10)) line ≡ true → IsOneLine line
+is_line line e = none_by_test 10 line e
+
+abbrev small_clock : Clock
+small_clock = record { tick = 1; nanos = 2; rate = 3 }
+
+-- a run of two writers without messages
+abbrev two_writers : Recording
+two_writers = record { dictionary = []; clock = small_clock; writers = [] ∷ [] ∷ [] }
+
+abbrev front : List (List ℕ)
+front = first_line ∷ codes "clock 1 2 3" ∷ codes "writers 2" ∷ []
+
+-- the lines of that run lead to its calls
+begins : (lines : List (List ℕ)) (rest : List ℕ) (outcome : Result Recording Broken) → Reads (calls two_writers) 4 lines rest outcome → Reads opening 1 (first_line ∷ codes "clock 1 2 3" ∷ codes "writers 2" ∷ lines) rest outcome
+unfolding split_at_first number_from
+begins lines rest outcome reads =
+    inl (messages [], (refl, refl), inl (clock [] small_clock, inr (refl, (small_clock, refl, refl)), inl (calls two_writers, (2, refl, refl), reads)))
+
+pub empty : TraceBreak [] 1 causes.NoEnd
+empty = inr (lit≤ tt, record { lines = []; rest = []; cut = record { joined = refl; whole = tt; unended = tt }; reads = refl })
+
+pub no_line_feed : TraceBreak (codes "nanolog-trace 1") 1 causes.NoEnd
+no_line_feed = inr (lit≤ tt, record { lines = []; rest = first_line; cut = record { joined = refl; whole = tt; unended = is_line first_line refl }; reads = refl })
+
+pub no_last_line : TraceBreak (codes "nanolog-trace 1\nclock 1 2 3\nwriters 2\nend") 4 causes.NoEnd
+no_last_line = inr (
+  lit≤ tt,
+  record {
+    lines = front;
+    rest = codes "end";
+    cut = record { joined = refl; whole = (is_line first_line refl, (is_line (codes "clock 1 2 3") refl, (is_line (codes "writers 2") refl, tt))); unended = is_line (codes "end") refl };
+    reads = begins [] (codes "end") (Err (record { line = 4; cause = causes.NoEnd })) refl;
+  },
+)
+
+pub other_version : TraceBreak (codes "nanolog-trace 2\nclock") 1 causes.Header
+other_version = inr (
+  lit≤ tt,
+  record {
+    lines = codes "nanolog-trace 2" ∷ [];
+    rest = codes "clock";
+    cut = record { joined = refl; whole = (is_line (codes "nanolog-trace 2") refl, tt); unended = is_line (codes "clock") refl };
+    reads = inr (causes.Header, ((λ e. let wrong : ◌≡◌ {A = ℕ} 50 49 = ap (λ line. get_or line 14 0) e in omega arith), refl), refl);
+  },
+)
+
+-- the id of the first message is 0
+no_message : (message : Message) → ¬ (SpellsNew [] (codes "message 1 DEBUG 1 \"a\" \"b\"") 0 message)
+unfolding digits
+no_message message new = let wrong : ◌≡◌ {A = ℕ} 49 48 = ap (λ line. get_or line 8 0) new.spelled.spelled in omega arith
+
+pub other_id : TraceBreak (codes "nanolog-trace 1\nmessage 1 DEBUG 1 \"a\" \"b\"\n") 2 causes.Message
+other_id = inr (
+  lit≤ tt,
+  record {
+    lines = first_line ∷ codes "message 1 DEBUG 1 \"a\" \"b\"" ∷ [];
+    rest = [];
+    cut = record { joined = refl; whole = (is_line first_line refl, (is_line (codes "message 1 DEBUG 1 \"a\" \"b\"") refl, tt)); unended = tt };
+    reads = inl (messages [], (refl, refl), inr (causes.Message, inl (refl, inr (lit< tt, no_message, refl)), refl));
+  },
+)
+
+pub no_rate : TraceBreak (codes "nanolog-trace 1\nclock 1 2 0\nend\n") 2 causes.Clock
+unfolding split_at_first number_from
+no_rate = inr (
+  lit≤ tt,
+  record {
+    lines = first_line ∷ codes "clock 1 2 0" ∷ codes "end" ∷ [];
+    rest = [];
+    cut = record { joined = refl; whole = (is_line first_line refl, (is_line (codes "clock 1 2 0") refl, (is_line (codes "end") refl, tt))); unended = tt };
+    reads = inl (messages [], (refl, refl), inr (causes.Clock, inr (refl, refl, refl), refl));
+  },
+)
+
+pub many_writers : TraceBreak (codes "nanolog-trace 1\nclock 1 2 3\nwriters 65\nend\n") 3 causes.Writers
+unfolding split_at_first number_from
+many_writers = inr (
+  lit≤ tt,
+  record {
+    lines = first_line ∷ codes "clock 1 2 3" ∷ codes "writers 65" ∷ codes "end" ∷ [];
+    rest = [];
+    cut = record { joined = refl; whole = (is_line first_line refl, (is_line (codes "clock 1 2 3") refl, (is_line (codes "writers 65") refl, (is_line (codes "end") refl, tt)))); unended = tt };
+    reads = inl (messages [], (refl, refl), inl (clock [] small_clock, inr (refl, (small_clock, refl, refl)), inr (causes.Writers, (refl, refl), refl)));
+  },
+)
+
+no_end : codes "call 2 1 0" ≢ codes "end"
+no_end e = let wrong : ◌≡◌ {A = ℕ} 99 101 = ap (λ line. get_or line 0 0) e in omega arith
+
+pub call_of_none : TraceBreak (codes "nanolog-trace 1\nclock 1 2 3\nwriters 2\ncall 2 1 0\nend\n") 4 causes.Writer
+unfolding split_at_first number_from
+call_of_none = inr (
+  lit≤ tt,
+  record {
+    lines = front ++ codes "call 2 1 0" ∷ codes "end" ∷ [];
+    rest = [];
+    cut = record { joined = refl; whole = (is_line first_line refl, (is_line (codes "clock 1 2 3") refl, (is_line (codes "writers 2") refl, (is_line (codes "call 2 1 0") refl, (is_line (codes "end") refl, tt))))); unended = tt };
+    reads = begins (codes "call 2 1 0" ∷ codes "end" ∷ []) [] (Err (record { line = 4; cause = causes.Writer })) (inr (causes.Writer, (no_end, refl), refl));
+  },
+)
+
+pub line_behind : TraceBreak (codes "nanolog-trace 1\nclock 1 2 3\nwriters 2\nend\nend\n") 5 causes.AfterEnd
+line_behind = inr (
+  lit≤ tt,
+  record {
+    lines = front ++ codes "end" ∷ codes "end" ∷ [];
+    rest = [];
+    cut = record { joined = refl; whole = (is_line first_line refl, (is_line (codes "clock 1 2 3") refl, (is_line (codes "writers 2") refl, (is_line (codes "end") refl, (is_line (codes "end") refl, tt))))); unended = tt };
+    reads = begins (codes "end" ∷ codes "end" ∷ []) [] (Err (record { line = 5; cause = causes.AfterEnd })) (inl (ended two_writers, inl (refl, refl), inr (causes.AfterEnd, refl, refl)));
+  },
+)
+
+pub byte_behind : TraceBreak (codes "nanolog-trace 1\nclock 1 2 3\nwriters 2\nend\n ") 5 causes.AfterEnd
+byte_behind = inr (
+  lit≤ tt,
+  record {
+    lines = front ++ codes "end" ∷ [];
+    rest = 32 ∷ [];
+    cut = record { joined = refl; whole = (is_line first_line refl, (is_line (codes "clock 1 2 3") refl, (is_line (codes "writers 2") refl, (is_line (codes "end") refl, tt)))); unended = is_line (32 ∷ []) refl };
+    reads = begins (codes "end" ∷ []) (32 ∷ []) (Err (record { line = 5; cause = causes.AfterEnd })) (inl (ended two_writers, inl (refl, refl), refl));
+  },
+)

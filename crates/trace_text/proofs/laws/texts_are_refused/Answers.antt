@@ -1,0 +1,18 @@
+use Rattle.std.proofs.Common.{refl, inl}
+use Rattle.trace_text.proofs.WorkedRefusals.{empty, no_line_feed, no_last_line, other_version, other_id, no_rate, many_writers, call_of_none, line_behind, byte_behind}
+use Rattle.trace_text.proofs.laws.texts_are_refused.Goals as goal
+
+pub returns : goal.returns
+returns c = record {
+  too_large = λ bytes long. inl (long, refl, refl);
+  empty = empty;
+  no_line_feed = no_line_feed;
+  no_last_line = no_last_line;
+  other_version = other_version;
+  other_id = other_id;
+  no_rate = no_rate;
+  many_writers = many_writers;
+  call_of_none = call_of_none;
+  line_behind = line_behind;
+  byte_behind = byte_behind;
+}

@@ -1,0 +1,42 @@
+-- The arguments of a call's line as they are read.
+use Rattle.std.specs.Prelude.{◌≡◌, ℕ, List, [], ◌∷◌, ⊤, Result, Ok, Err}
+use Rattle.std.specs.Option.{ok_or}
+use Rattle.printf_grammar.specs.declared.arg_type.ArgType.{ArgType}
+use Rattle.printf_grammar.specs.declared.argument.Value.{Value}
+use Rattle.printf_grammar.specs.declared.argument.Value.TheVariants as values
+use Rattle.trace_text.specs.declared.cause.TraceCause.{TraceCause}
+use Rattle.trace_text.specs.declared.cause.TraceCause.TheVariants.{ArgCount, ArgKind}
+use Rattle.trace_text.specs.declared.call_fields.Field.{Field}
+use Rattle.trace_text.specs.declared.call_fields.Field.TheVariants as fields
+use Rattle.trace_text.specs.declared.call_line.CallFault.{CallFault}
+use Rattle.trace_text.specs.declared.call_line.CallFault.TheVariants.{Refused, NoMemory}
+use Rattle.trace_text.specs.CallReading.{◌>>=◌, item_at, argument_of, arguments_at}
+
+-- an argument without where its text lies
+abbrev pub field_value : Field → Value
+field_value (fields.Signed z) = values.Signed z
+field_value (fields.Unsigned n) = values.Unsigned n
+field_value (fields.Text bytes) = values.Text bytes
+
+-- what was read, seen so, or the cause
+abbrev pub read_as : {A B : Type 0} → (A → B) → Result A TraceCause → Result B TraceCause
+read_as view (Ok x) = Ok (view x)
+read_as view (Err cause) = Err cause
+
+-- an argument of the type, and what follows it
+abbrev pub item_argument : ArgType → List ℕ → Result (Value × List ℕ) TraceCause
+item_argument type bytes = do
+  item ← ok_or (item_at bytes) ArgKind
+  value ← argument_of type item.0
+  Ok (value, item.1)
+
+-- an argument of the type behind a space, and what follows it
+abbrev pub argument_at : ArgType → List ℕ → Result (Value × List ℕ) TraceCause
+argument_at type [] = Err ArgCount
+argument_at type (space ∷ bytes) = item_argument type bytes
+
+-- the values are the arguments, or are refused so; want of memory says nothing of them
+abbrev pub ReadsArguments : List ArgType → List ℕ → Result (List Value) CallFault → Type 0
+ReadsArguments types bytes (Ok args) = arguments_at types bytes ≡ Ok args
+ReadsArguments types bytes (Err (Refused cause)) = arguments_at types bytes ≡ Err cause
+ReadsArguments types bytes (Err NoMemory) = ⊤

@@ -1,0 +1,59 @@
+-- The fields of the lines of a trace that are no messages.
+use Rattle.std.specs.Prelude.{ℕ, Bool, ◌==◌, ◌&&◌, nat_le, List, codes, Option, None, Some, if◌then◌else◌}
+use Rattle.std.specs.Option.{is_some}
+use Rattle.arg_records.specs.declared.call.TheConstants.{MAX_WRITERS}
+use Rattle.log_dictionary.specs.declared.clock.Clock.{Clock}
+use Rattle.log_dictionary.specs.Fields.{first_field}
+use Rattle.log_dictionary.specs.Numbers.{natural_of, if_small}
+use Rattle.log_dictionary.specs.Fields.{◌>>=◌, after, split_at_first}
+
+-- the line begins with these bytes
+abbrev pub begins_with : List ℕ → List ℕ → Bool
+begins_with front line = is_some (after front line)
+
+-- the number below 2^64 that the field spells
+abbrev pub number_of : List ℕ → Option ℕ
+number_of field = if_small (natural_of field)
+
+-- the tick, the nanoseconds and the rate of a clock, which ticks
+abbrev pub clock_of : List ℕ → Option Clock
+clock_of fields = do
+  first ← split_at_first 32 fields
+  tick ← number_of first.0
+  second ← split_at_first 32 first.1
+  nanos ← number_of second.0
+  rate ← number_of second.1
+  if rate == 0 then None else Some (record { tick = tick; nanos = nanos; rate = rate })
+
+-- what a line of a clock says
+abbrev pub clock_at : List ℕ → Option Clock
+clock_at line = after (codes "clock ") line >>= clock_of
+
+-- a number from 1 to 64
+abbrev pub writer_count : ℕ → Option ℕ
+writer_count writers = if nat_le 1 writers && nat_le writers MAX_WRITERS then Some writers else None
+
+-- the number of writers of their line
+abbrev pub writers_at : List ℕ → Option ℕ
+writers_at line = after (codes "writers ") line >>= number_of >>= writer_count
+
+-- what a line of a call says before its arguments, and the bytes behind its id: none, or a space and more
+pub record CallHead : Type 0 where
+  pub writer : ℕ
+  pub stamp : ℕ
+  pub id : ℕ
+  pub fields : List ℕ
+
+-- a writer, a stamp and an id, and what follows them
+abbrev pub head_of : List ℕ → Option CallHead
+head_of fields = do
+  first ← split_at_first 32 fields
+  writer ← number_of first.0
+  second ← split_at_first 32 first.1
+  stamp ← number_of second.0
+  id ← number_of (first_field second.1).0
+  Some (record { writer = writer; stamp = stamp; id = id; fields = (first_field second.1).1 })
+
+-- the front of a line of a call
+abbrev pub head_at : List ℕ → Option CallHead
+head_at line = after (codes "call ") line >>= head_of

@@ -1,0 +1,96 @@
+-- Reading the text of a trace line by line: where it gives a run, and where a line is refused.
+use Rattle.std.specs.Prelude.{◌≡◌, ◌≢◌, ◌⊎◌, ℕ, ◌+◌, ◌<◌, ◌≤◌, true, false, List, [], ◌∷◌, ◌++◌, length, replicate, codes, None, Some, Result, Ok, Err}
+use Rattle.std.specs.List.{AllByRecursion}
+use Rattle.log_dictionary.specs.declared.clock.Clock.{Clock}
+use Rattle.log_dictionary.specs.declared.message.Message.{Message}
+use Rattle.log_dictionary.specs.declared.dictionary.TheConstants.{MAX_MESSAGES}
+use Rattle.log_dictionary.specs.Additions.{SpellsNew}
+use Rattle.trace_text.specs.declared.cause.TraceCause.{TraceCause}
+use Rattle.trace_text.specs.declared.cause.TraceCause.TheVariants as causes
+use Rattle.trace_text.specs.declared.trace.TheConstants.{MAX_TRACE}
+use Rattle.trace_text.specs.Recordings.{Recording}
+use Rattle.trace_text.specs.Lines.{WriterCall, first_line, last_line, text_of_lines}
+use Rattle.trace_text.specs.LineFields.{begins_with, clock_at, writers_at}
+use Rattle.trace_text.specs.CallReading.{call_at, with_call}
+
+-- how far the lines of a text have come
+pub data Part : Type 0 where
+  opening : Part
+  -- behind the first line
+  messages : List Message → Part
+  -- behind the clock's line
+  clock : List Message → Clock → Part
+  -- behind the writers' line: the run so far
+  calls : Recording → Part
+  -- behind the last line
+  ended : Recording → Part
+
+-- a line that is refused, and why
+pub record Broken : Type 0 where
+  pub line : ℕ
+  pub cause : TraceCause
+
+-- ---- one line
+
+-- the line spells a new message with the next id
+abbrev pub FollowsMessages : List Message → List ℕ → Part → Type 0
+FollowsMessages before line next = (begins_with (codes "message ") line ≡ true) × (length before < MAX_MESSAGES) × ((message : Message) × SpellsNew before line (length before) message × (next ≡ messages (before ++ message ∷ [])))
+
+-- a line of a message is one too many, or spells no new message with the next id
+abbrev pub BreaksMessages : List Message → List ℕ → TraceCause → Type 0
+BreaksMessages before line cause =
+    (begins_with (codes "message ") line ≡ true)
+    × (((MAX_MESSAGES ≤ length before) × (cause ≡ causes.TooMany)) ⊎ ((length before < MAX_MESSAGES) × ((message : Message) → ¬ (SpellsNew before line (length before) message)) × (cause ≡ causes.Message)))
+
+-- the line is right in this part, and the next line stands in that part
+abbrev pub Follows : Part → List ℕ → Part → Type 0
+Follows opening line next = (line ≡ first_line) × (next ≡ messages [])
+Follows (messages before) line next = FollowsMessages before line next ⊎ ((begins_with (codes "message ") line ≡ false) × ((time : Clock) × (clock_at line ≡ Some time) × (next ≡ clock before time)))
+Follows (clock dictionary time) line next = (count : ℕ) × (writers_at line ≡ Some count) × (next ≡ calls (record { dictionary = dictionary; clock = time; writers = replicate count [] }))
+Follows (calls run) line next = ((line ≡ last_line) × (next ≡ ended run)) ⊎ ((line ≢ last_line) × ((made : WriterCall) × (call_at run line ≡ Ok made) × (next ≡ calls (with_call run made))))
+Follows (ended run) line next = ⊥
+
+-- the line is refused in this part, and this is the first cause that holds
+abbrev pub Breaks : Part → List ℕ → TraceCause → Type 0
+Breaks opening line cause = (line ≢ first_line) × (cause ≡ causes.Header)
+Breaks (messages before) line cause = BreaksMessages before line cause ⊎ ((begins_with (codes "message ") line ≡ false) × (clock_at line ≡ None) × (cause ≡ causes.Clock))
+Breaks (clock dictionary time) line cause = (writers_at line ≡ None) × (cause ≡ causes.Writers)
+Breaks (calls run) line cause = (line ≢ last_line) × (call_at run line ≡ Err cause)
+Breaks (ended run) line cause = cause ≡ causes.AfterEnd
+
+-- ---- all lines
+
+-- what it gives that no whole line is left, where the next line would have this number and these bytes are left
+abbrev pub at_end : Part → ℕ → List ℕ → Result Recording Broken
+at_end (ended run) n [] = Ok run
+at_end (ended run) n (byte ∷ rest) = Err (record { line = n; cause = causes.AfterEnd })
+at_end _ n rest = Err (record { line = n; cause = causes.NoEnd })
+
+-- what whole lines, of which the first has this number, and the bytes after them give
+abbrev pub Reads : Part → ℕ → List (List ℕ) → List ℕ → Result Recording Broken → Type 0
+Reads part n [] rest outcome = outcome ≡ at_end part n rest
+Reads part n (line ∷ lines) rest outcome =
+    ((next : Part) × Follows part line next × Reads next (n + 1) lines rest outcome) ⊎ ((cause : TraceCause) × Breaks part line cause × (outcome ≡ Err (record { line = n; cause = cause })))
+
+-- bytes without a line feed
+abbrev pub IsOneLine : List ℕ → Type 0
+IsOneLine bytes = AllByRecursion (λ byte. byte ≢ 10) bytes
+
+-- the bytes are whole lines, and a rest in which no line ends
+pub record IsCut (bytes : List ℕ) (lines : List (List ℕ)) (rest : List ℕ) : Type 0 where
+  pub joined : bytes ≡ text_of_lines lines ++ rest
+  pub whole : AllByRecursion IsOneLine lines
+  pub unended : IsOneLine rest
+
+-- what the bytes from a line on give, which has this number
+pub record Gives (part : Part) (n : ℕ) (bytes : List ℕ) (outcome : Result Recording Broken) : Type 0 where
+  pub lines : List (List ℕ)
+  pub rest : List ℕ
+  pub cut : IsCut bytes lines rest
+  pub reads : Reads part n lines rest outcome
+
+-- ---- a text
+
+-- the text is refused at this line, from this cause: it is too long, or a line of it is refused
+abbrev pub TraceBreak : List ℕ → ℕ → TraceCause → Type 0
+TraceBreak bytes line cause = ((MAX_TRACE < length bytes) × (line ≡ 0) × (cause ≡ causes.TooLarge)) ⊎ ((length bytes ≤ MAX_TRACE) × Gives opening 1 bytes (Err (record { line = line; cause = cause })))

@@ -1,0 +1,152 @@
+//! Lines of calls.
+
+ghost use Rattle.std.specs.Prelude.{◌≡◌, ◌<◌, length, sum_by, slice_get, Err, IfOk, IfErr, IsOk, OnSome};
+ghost use Rattle.std.specs.Option.{option_copied, option_map};
+ghost use Rattle.log_dictionary.specs.declared.dictionary.TheConstants.{MAX_MESSAGES};
+ghost use Rattle.trace_text.specs.LineFields.{head_of, head_at};
+ghost use Rattle.trace_text.specs.CallReading.{last_stamp, call_at};
+ghost use Rattle.trace_text.specs.CallAnswers.{ReadsCall};
+ghost use Rattle.trace_text.specs.CallPlaces.{head_view, call_of};
+
+use crate::call_fields::{frame_len_of, read_arguments};
+use crate::cause::TraceCause;
+use crate::trace::{MAX_CALLS, Trace};
+use arg_records::{Call, Calls, MAX_FRAME_WORDS};
+use log_dictionary::{Dictionary, Message, first_field, read_number, split_at_byte};
+use std::alloc::Global;
+
+/// Why a line gave no call.
+#[derive(Clone, Copy, Debug, PartialEq, Eq)]
+pub(crate) enum CallFault {
+    Refused(TraceCause),
+    NoMemory,
+}
+
+/// What a call's line says before its arguments, and the bytes from behind its id on.
+#[derive(Clone, Copy)]
+struct Head<'a> {
+    writer: u64,
+    stamp: u64,
+    id: u64,
+    fields: &'a [u8],
+}
+
+/// A call whose writer, stamp and id are right, before its arguments are read.
+#[derive(Clone, Copy)]
+struct Begun<'a> {
+    writer: u32,
+    stamp: u64,
+    id: u32,
+    message: &'a Message,
+    fields: &'a [u8],
+}
+
+// A writer, a stamp and an id, and what follows them.
+fn head_of(fields: &[u8]) -> Option<Head<'_>>
+    ensures { option_map head_view result ≡ head_of fields.now }
+{
+    let (writer, rest) = split_at_byte(fields, b' ')?;
+    let writer = read_number(writer)?;
+    let (stamp, rest) = split_at_byte(rest, b' ')?;
+    let stamp = read_number(stamp)?;
+    let (id, fields) = first_field(rest);
+    let id = read_number(id)?;
+    Some(Head {
+        writer,
+        stamp,
+        id,
+        fields,
+    })
+}
+
+fn head_at(line: &[u8]) -> Option<Head<'_>>
+    ensures { option_map head_view result ≡ head_at line.now }
+{
+    head_of(line.strip_prefix(b"call ")?)
+}
+
+fn last_stamp(least: u64, calls: &Calls) -> u64
+    ensures { result ≡ last_stamp least calls.now }
+{
+    match calls.last() {
+        Some(call) => call.stamp,
+        None => least,
+    }
+}
+
+fn message_at(dictionary: &Dictionary, id: u64) -> Option<&Message>
+    ensures value { option_copied result ≡ slice_get dictionary.now id }
+    ensures bound { OnSome result (id < MAX_MESSAGES) }
+{
+    if id >= u64::from(dictionary.len()) {
+        return None;
+    }
+    dictionary.get(id as u32)
+}
+
+// All of a line but its arguments.
+fn begin_call<'a>(run: &'a Trace, calls: usize, line: &'a [u8]) -> Result<Begun<'a>, TraceCause>
+    requires { calls ≡ sum_by length run.now.writers }
+    ensures ok { IfOk result (λ begun. call_at run.now line.now ≡ call_of begun) }
+    ensures err { IfErr result (λ cause. call_at run.now line.now ≡ Err cause) }
+{
+    if line.starts_with(b"call ") && calls >= MAX_CALLS {
+        return Err(TraceCause::TooMany);
+    }
+    let Some(head) = head_at(line) else {
+        return Err(TraceCause::CallForm);
+    };
+    let Some(made) = run.writers.get(head.writer as usize) else {
+        return Err(TraceCause::Writer);
+    };
+    if head.stamp < run.clock.tick {
+        return Err(TraceCause::BeforeClock);
+    }
+    if head.stamp < last_stamp(run.clock.tick, made) {
+        return Err(TraceCause::StampFalls);
+    }
+    let Some(message) = message_at(&run.dictionary, head.id) else {
+        return Err(TraceCause::Id);
+    };
+    Ok(Begun {
+        writer: head.writer as u32,
+        stamp: head.stamp,
+        id: head.id as u32,
+        message,
+        fields: head.fields,
+    })
+}
+
+/// The writer and the call that the line says in the run, in which so many calls were made so far.
+pub(crate) fn read_call(
+    alloc: Global,
+    run: &Trace,
+    calls: usize,
+    line: &[u8],
+) -> Result<(u32, Call), CallFault>
+    requires { calls ≡ sum_by length run.now.writers }
+    ensures read { ReadsCall run.now line.now result }
+
+    // No memory is wanted for a line that is refused.
+    ensures memory { result ≡ Err CallFault.NoMemory → IsOk (call_at run.now line.now) }
+{
+    let begun = match begin_call(run, calls, line) {
+        Ok(begun) => begun,
+        Err(cause) => return Err(CallFault::Refused(cause)),
+    };
+    let types = begun.message.format.types();
+    match frame_len_of(types, begun.fields) {
+        Ok(words) if words > MAX_FRAME_WORDS as u64 => {
+            return Err(CallFault::Refused(TraceCause::TooLong));
+        }
+        Ok(_) => {}
+        Err(cause) => return Err(CallFault::Refused(cause)),
+    }
+    let args = read_arguments(alloc, types, begun.fields)?;
+    let call = Call {
+        stamp: begun.stamp,
+        id: begun.id,
+        args,
+    };
+    Ok((begun.writer, call))
+}
