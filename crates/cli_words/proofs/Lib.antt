@@ -1,0 +1,9 @@
+pub mod Words
+pub mod Shapes
+pub mod Rows
+pub mod Walks
+pub mod Readings
+pub mod Inductions
+pub mod Answers
+pub mod Commands
+pub mod Lines

@@ -1,0 +1,10 @@
+-- Commands as the program has them.
+use Rattle.cli_words.specs.declared.command.Command.{Command as Asked}
+use Rattle.cli_words.specs.declared.command.Command.TheVariants as asked
+use Rattle.cli_words.specs.Commands.{Command, Direct, Replay, Decompress}
+
+-- what is asked for
+abbrev pub command_is : Asked → Command
+command_is (asked.Direct trace) = Direct trace.now
+command_is (asked.Replay trace log level) = Replay trace.now log.now level
+command_is (asked.Decompress log) = Decompress log.now

@@ -1,0 +1,135 @@
+-- What the words of a command line ask for.
+use Rattle.std.specs.Prelude.{ℕ, Bool, true, false, not, ◌&&◌, ◌==◌, List, [], ◌∷◌, map, find, Option, Some, None, codes, if◌then◌else◌}
+use Rattle.std.specs.Prelude.{String, option_map, option_and_then}
+use Rattle.std.specs.List.{list_any, before_first, after_first}
+use Rattle.std.specs.String.{string_bytes}
+use Rattle.std.specs.Str.{bytes_eq}
+use Rattle.log_dictionary.specs.Severities.{severity_name}
+use Rattle.log_dictionary.specs.declared.severity.Severity.{Severity}
+use Rattle.log_dictionary.specs.declared.severity.Severity.TheVariants.{Error, Warning, Notice, Debug}
+
+-- a word, a name or a value: the bytes of its text
+abbrev pub Text : Type 0
+Text = List ℕ
+
+-- the words' texts
+abbrev pub texts_of : {A : Type 0} → List (String A) → List Text
+texts_of words = map string_bytes words
+
+-- what the program is asked to do
+pub data Command : Type 0 where
+  Direct : (trace : Text) → Command
+  Replay : (trace log : Text) (level : Severity) → Command
+  Decompress : (log : Text) → Command
+
+-- ---- what a word is
+
+-- what a word after the command is: a name; `--`, which ends the options; `--option`, whose value is the next word;
+-- `--option=value`; or an option that no command has, as `-o`
+pub data Word : Type 0 where
+  Name : Word
+  End : Word
+  Awaits : (option : Text) → Word
+  Sets : (option value : Text) → Word
+  Unknown : Word
+
+-- the byte is `=`
+abbrev pub is_equals : ℕ → Bool
+is_equals byte = byte == 61
+
+-- the word that begins with `--`, by what follows
+abbrev pub after_dashes : Text → Word
+after_dashes [] = End
+after_dashes (byte ∷ bytes) =
+    if list_any is_equals (byte ∷ bytes)
+    then Sets (before_first is_equals (byte ∷ bytes)) (after_first is_equals (byte ∷ bytes))
+    else Awaits (byte ∷ bytes)
+
+-- a word of two or more characters, by its first two bytes and the rest: it is an option where the first is `-`
+abbrev pub long_word : ℕ → ℕ → Text → Word
+long_word first second bytes = if first == 45 then (if second == 45 then after_dashes bytes else Unknown) else Name
+
+-- what a word is; `-` alone is a name
+abbrev pub word_of : Text → Word
+word_of [] = Name
+word_of (first ∷ []) = Name
+word_of (first ∷ second ∷ bytes) = long_word first second bytes
+
+-- ---- what the words give
+
+-- the options that are given, each with its value, and the names, both in the order of the words
+pub record Given : Type 0 where
+  pub options : List (Text × Text)
+  pub names : List Text
+
+-- one more option, before those that are given
+abbrev pub with_option : Text → Text → Option Given → Option Given
+with_option option value found =
+    option_map (λ (given : Given). record given { options = (option, value) ∷ given.options }) found
+
+-- one more name, before those that are given
+abbrev pub with_name : Text → Option Given → Option Given
+with_name name found = option_map (λ (given : Given). record given { names = name ∷ given.names }) found
+
+-- what the words give, after an option that waits for its value, or after none; None where an option lacks its value,
+-- or where no command has it
+abbrev pub given_from : Option Text → List Text → Option Given
+given_from (Some option) [] = None
+given_from (Some option) (value ∷ words) = with_option option value (given_from None words)
+given_from None [] = Some (record { options = []; names = [] })
+given_from None (word ∷ words) = elim (word_of word) [
+  | Name ↦ with_name word (given_from None words)
+  | End ↦ Some (record { options = []; names = words })
+  | Awaits option ↦ given_from (Some option) words
+  | Sets option value ↦ with_option option value (given_from None words)
+  | Unknown ↦ None
+]
+
+-- what the words after the command give
+abbrev pub given_of : List Text → Option Given
+given_of = given_from None
+
+-- ---- what that asks for
+
+-- the severity of this name
+abbrev pub severity_named : Text → Option Severity
+severity_named name = find (λ severity. bytes_eq (severity_name severity) name) (Error ∷ Warning ∷ Notice ∷ Debug ∷ [])
+
+-- the level that the options set, where `--level` is the only one and is given once at most
+abbrev pub level_of : List (Text × Text) → Option Severity
+level_of [] = Some Debug
+level_of ((option, value) ∷ []) = if bytes_eq (codes "level") option then severity_named value else None
+level_of _ = None
+
+-- a name is not empty
+abbrev pub is_name : Text → Bool
+is_name [] = false
+is_name (byte ∷ bytes) = true
+
+-- the name, where there is one and no more
+abbrev pub only_name : List Text → Option Text
+only_name (name ∷ []) = if is_name name then Some name else None
+only_name _ = None
+
+-- the name, where there is one and no more, and no option
+abbrev pub lone_name : Given → Option Text
+lone_name given = elim given.options [ [] ↦ only_name given.names | option ∷ options ↦ None ]
+
+-- the command `replay` with these names: there are two, which differ
+abbrev pub replay_of : List Text → Severity → Option Command
+replay_of (trace ∷ log ∷ []) level =
+    if is_name trace && is_name log && not (bytes_eq trace log) then Some (Replay trace log level) else None
+replay_of _ level = None
+
+-- the command that this word and what is given after it ask for
+abbrev pub asked : Text → Given → Option Command
+asked word given =
+    if bytes_eq word (codes "direct") then option_map Direct (lone_name given)
+    else if bytes_eq word (codes "replay") then option_and_then (replay_of given.names) (level_of given.options)
+    else if bytes_eq word (codes "decompress") then option_map Decompress (lone_name given)
+    else None
+
+-- the command that the words after the program's name ask for, if they ask for one
+abbrev pub command_of : List Text → Option Command
+command_of [] = None
+command_of (word ∷ words) = option_and_then (asked word) (given_of words)

@@ -1,0 +1,5 @@
+pub mod Commands
+pub mod CommandViews
+pub mod Apps
+pub mod Uses
+pub mod Rows

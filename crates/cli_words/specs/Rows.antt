@@ -1,0 +1,25 @@
+-- Worked command lines, and lines for all commands.
+use Rattle.std.specs.Prelude.{◌≡◌, ◌≢◌, ◌==◌, List, [], ◌∷◌, Option, true, codes}
+use Rattle.std.specs.List.{slice_split}
+use Rattle.cli_words.specs.Commands.{Text, Command, Direct, Replay, Decompress, command_of, is_name}
+use Rattle.log_dictionary.specs.Severities.{severity_name}
+
+-- the words of a line, which one space each stands between
+abbrev pub words_of : Text → List Text
+words_of = slice_split (λ byte. byte == 32)
+
+-- what the line asks for
+abbrev pub meaning : Text → Option Command
+meaning line = command_of (words_of line)
+
+-- the names of the command aren't empty, and its trace isn't its log
+abbrev pub IsLawful : Command → Type 0
+IsLawful (Direct trace) = is_name trace ≡ true
+IsLawful (Replay trace log level) = (is_name trace ≡ true) × (is_name log ≡ true) × (trace ≢ log)
+IsLawful (Decompress log) = is_name log ≡ true
+
+-- a line that asks for the command
+abbrev pub line_of : Command → List Text
+line_of (Direct trace) = codes "direct" ∷ codes "--" ∷ trace ∷ []
+line_of (Replay trace log level) = codes "replay" ∷ codes "--level" ∷ severity_name level ∷ codes "--" ∷ trace ∷ log ∷ []
+line_of (Decompress log) = codes "decompress" ∷ codes "--" ∷ log ∷ []

@@ -1,0 +1,131 @@
+//! The commands of the program, and which one a command line asks for.
+
+ghost use Rattle.std.specs.Prelude.{◌≡◌, IfOk, option_map, map};
+ghost use Rattle.cli_words.specs.Commands.{command_of, texts_of, severity_named, is_name, only_name, replay_of};
+ghost use Rattle.cli_words.specs.CommandViews.{command_is};
+ghost use Rattle.cli_words.specs.Uses.{form_named, found_command, found_level, uses_of};
+
+use crate::reading::{Form, LEVEL, NAMES};
+use clap::ArgMatches;
+use log_dictionary::Severity;
+use std::alloc::{AllocError, Global};
+
+/// What the program is asked to do.
+#[derive(Clone, Copy, Debug, PartialEq, Eq)]
+pub enum Command<'a> {
+    /// To print the lines of a trace.
+    Direct {
+        trace: &'a str,
+    },
+    /// To write the log of a trace, of the calls up to a level.
+    Replay {
+        trace: &'a str,
+        log: &'a str,
+        level: Severity,
+    },
+    /// To print the lines of a log.
+    Decompress {
+        log: &'a str,
+    },
+}
+
+/// The form of the command that a word names.
+fn form_named(word: &str) -> Option<Form>
+    ensures { result ≡ form_named word.now }
+{
+    match word {
+        "direct" => Some(Form::Direct),
+        "replay" => Some(Form::Replay),
+        "decompress" => Some(Form::Decompress),
+        _ => None,
+    }
+}
+
+/// The severity of this name.
+fn severity_named(name: &str) -> Option<Severity>
+    ensures { result ≡ severity_named name.now }
+{
+    match name {
+        "ERROR" => Some(Severity::Error),
+        "WARNING" => Some(Severity::Warning),
+        "NOTICE" => Some(Severity::Notice),
+        "DEBUG" => Some(Severity::Debug),
+        _ => None,
+    }
+}
+
+/// Whether a word that isn't an option can be a name: it isn't empty.
+fn is_name(word: &str) -> bool
+    ensures { result ≡ is_name word.now }
+{
+    !word.is_empty()
+}
+
+/// The name, where there is one and no more.
+fn only_name<'a>(names: &[&'a str]) -> Option<&'a str>
+    ensures { option_map (λ name. name.now) result ≡ only_name (map (λ name. name.now) names.now) }
+{
+    match names {
+        [name] if is_name(name) => Some(name),
+        _ => None,
+    }
+}
+
+/// The command `replay`, where there are two names and they differ.
+fn replay_of<'a>(names: &[&'a str], level: Severity) -> Option<Command<'a>>
+    ensures { option_map command_is result ≡ replay_of (map (λ name. name.now) names.now) level }
+{
+    match names {
+        [trace, log] if is_name(trace) && is_name(log) && trace != log => Some(Command::Replay {
+            trace,
+            log,
+            level,
+        }),
+        _ => None,
+    }
+}
+
+/// The level that was found, or the default.
+fn found_level(found: &ArgMatches<'_>) -> Option<Severity>
+    ensures { result ≡ found_level (uses_of found.now) }
+{
+    match found.get_str(LEVEL) {
+        Some(name) => severity_named(name),
+        None => Some(Severity::Debug),
+    }
+}
+
+/// The command of this form with what was found.
+fn found_command<'a>(form: Form, found: &ArgMatches<'a>) -> Option<Command<'a>>
+    ensures { option_map command_is result ≡ found_command form (uses_of found.now) }
+{
+    let names = found.get_strs(NAMES)?;
+    match form {
+        Form::Direct => Some(Command::Direct {
+            trace: only_name(names)?,
+        }),
+        Form::Replay => replay_of(names, found_level(found)?),
+        Form::Decompress => Some(Command::Decompress {
+            log: only_name(names)?,
+        }),
+    }
+}
+
+/// The command that the words after the program's name ask for, or None where the line is faulty.
+///
+/// The first word is the command: `direct TRACE`, `replay TRACE LOG [--level S]` or `decompress LOG`. Options stand
+/// anywhere after it, as `--level S` or `--level=S`, until a word `--`, after which every word is a name.
+pub fn command_of(alloc: Global, words: &[String]) -> Result<Option<Command<'_>>, AllocError>
+    ensures { IfOk result (λ command. option_map command_is command ≡ command_of (texts_of words.now)) }
+{
+    let Some((word, rest)) = words.split_first() else {
+        return Ok(None);
+    };
+    let Some(form) = form_named(word.as_str()) else {
+        return Ok(None);
+    };
+    match form.read(alloc, rest)? {
+        Some(found) => Ok(found_command(form, &found)),
+        None => Ok(None),
+    }
+}

@@ -1,0 +1,10 @@
+//! What the words of the command line ask for.
+#![tactic(auto)]
+
+mod command;
+pub mod laws;
+mod reading;
+#[cfg(test)]
+mod tests;
+
+pub use command::{Command, command_of};
