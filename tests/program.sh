@@ -62,6 +62,12 @@ expect 1 '' "$usage" direct --help
 expect 1 '' "$usage" direct t t
 expect 1 '' "$usage" replay t
 expect 1 '' "$usage" replay t t
+expect 1 '' "$usage" replay t l --level
+expect 1 '' "$usage" replay t l --level notice
+expect 1 '' "$usage" replay t l --level ERROR --level ERROR
+expect 1 '' "$usage" replay t l --ring 2048
+expect 1 '' "$usage" direct t --level ERROR
+expect 1 '' "$usage" direct -t
 expect 1 '' "$usage" decompress
 expect 1 '' "$usage" direct $'\xff'
 
@@ -77,6 +83,15 @@ log='4e4c4f470101 e803000000000000 0000445e8f860515 0094357700000000 01000000000
 log+=' 0400783d2564 020004000000 10030107 0400'
 [ "$(od -An -v -tx1 l | tr -d ' \n')" = "${log// /}" ] || fail "the log of t is: $(od -An -v -tx1 l)"
 expect 0 "$line" '' decompress l
+
+# The level leaves the call out, or doesn't. It stands anywhere, and behind `--` any word is a name.
+expect 0 $'accepted 0 dropped 0 filtered 1\n' '' replay t l --level WARNING
+[ "$(wc -c <l)" = 32 ] || fail "the log without a call has $(wc -c <l) bytes"
+expect 0 '' '' decompress l
+expect 0 $'accepted 0 dropped 0 filtered 1\n' '' replay --level=ERROR t l
+expect 0 "$accepted" '' replay t --level NOTICE -- -l
+expect 0 "$line" '' decompress -- -l
+expect 0 "$accepted" '' replay t l
 
 # Pipes in place of files, which have no size.
 expect 0 "$line" '' direct <(cat t)

@@ -1,9 +1,10 @@
 -- Words as packed numbers.
-use Rattle.std.proofs.Common.{◌≡◌, ℕ, suc, ◌+◌, ◌/◌, ◌<◌, ◌≤◌, ◌^◌, List, [], ◌∷◌, ◌++◌, length, take, get_or, refl, sym, ap, subst, ◌∙◌, arith, rules, inl, inr}
+use Rattle.std.proofs.Common.{◌≡◌, ℕ, zero, suc, ◌+◌, ◌/◌, ◌<◌, ◌≤◌, ◌^◌, List, [], ◌∷◌, ◌++◌, length, map, take, drop, get_or, refl, sym, ap, subst, ◌∙◌, arith, rules}
 use Rattle.std.proofs.Math.ListN.{set}
-use Rattle.std.proofs.lemmas.List.{take_more, take_more_set}
+use Rattle.std.proofs.lemmas.List.{length-take, take_all, take_more, take_more_set, drop_more, map-append}
 use Rattle.std.proofs.lemmas.Int.{ints, to_z-of_z, of_z-to_z}
-use Rattle.std.specs.Prelude.{ℤ, pos, negsuc, FitsSigned, ◌⊎◌}
+use Rattle.std.specs.Prelude.{ℤ, pos, negsuc, FitsSigned, All}
+use Rattle.std.proofs.lemmas.List.Elements.{All-head, All-tail}
 use Rattle.std.specs.Int.{w64, cast_signed, cast_unsigned}
 use Rattle.std.specs.List.{flat_map, AllByRecursion}
 use Rattle.printf_grammar.specs.declared.arg_type.ArgType.{ArgType}
@@ -11,26 +12,18 @@ use Rattle.printf_grammar.specs.declared.arg_type.ArgType.TheVariants as argumen
 use Rattle.printf_grammar.specs.declared.argument.Value.{Value}
 use Rattle.printf_grammar.specs.declared.argument.Value.TheVariants as values
 use Rattle.printf_grammar.specs.Types.{FitsType, Fits}
+use Rattle.printf_grammar.proofs.Fitting.{Fits-length}
 use Rattle.arg_records.specs.Frames.{words_of_argument}
+use Rattle.arg_records.specs.Kinds.{HoldsBytes}
 use Rattle.nibble_pack.specs.declared.pack.Packed.{Packed as PackedBytes}
 use Rattle.nibble_pack.specs.Packing.{Kind, unsigned, signed, byte_count, Packed}
 use Rattle.nibble_pack.specs.PackingLaws.{Packed-length}
-use Rattle.buffer_extent.specs.Records.{kind_of, number_of, PacksArguments, code_bytes}
+use Rattle.buffer_extent.specs.Records.{PackedNumber, kind_of, number_of, PacksArguments, code_bytes}
 use Rattle.buffer_extent.specs.RecordLaws.{codes_of}
-use Rattle.buffer_extent.specs.Integers.{IsInteger, AreIntegers}
+use Rattle.buffer_extent.specs.Writing.{AreWordsOf, BeginsWithWords, packed_number, packed_numbers, IsWhole, PacksWord}
 use Rattle.buffer_extent.proofs.Codes.{length-code_bytes}
-use Rattle.buffer_extent.specs.Writing.{packed_numbers, IsWhole, PacksWord, PackWords}
 
 -- ---- one word
-
-pub kind_signed : (type : ArgType) → IsInteger type → (type ≡ argument_types.UInt → ⊥) → (type ≡ argument_types.ULong → ⊥) → kind_of type ≡ signed
-kind_signed argument_types.Int integer not_uint not_ulong = refl
-kind_signed argument_types.Long integer not_uint not_ulong = refl
-kind_signed argument_types.Width integer not_uint not_ulong = refl
-kind_signed argument_types.Precision integer not_uint not_ulong = refl
-kind_signed argument_types.UInt integer not_uint not_ulong = absurd (not_uint refl)
-kind_signed argument_types.ULong integer not_uint not_ulong = absurd (not_ulong refl)
-kind_signed argument_types.Text integer not_uint not_ulong = absurd integer
 
 width_fits : (z : ℤ) → FitsType (values.Signed z) argument_types.Width → FitsSigned w64 z
 width_fits (pos n) fits = record { sfits = omega (arith, ints) }
@@ -44,15 +37,15 @@ signed_fits argument_types.Precision z fits = record { sfits = omega arith }
 signed_fits _ z fits = absurd fits
 
 signed_value_packed : (type : ArgType) (word : ℕ) (code : ℕ) (bytes : List ℕ) → kind_of type ≡ signed → Packed signed (cast_signed w64 word) code bytes
-    → (value : Value) → FitsType value type → words_of_argument value ≡ word ∷ [] → Packed (kind_of type) (number_of value) code bytes
-signed_value_packed type word code bytes kind packed (values.Signed z) fits is =
+    → (value : Value) (more : List ℕ) → FitsType value type → words_of_argument value ≡ word ∷ more → Packed (kind_of type) (number_of value) code bytes
+signed_value_packed type word code bytes kind packed (values.Signed z) more fits is =
     let of_word : cast_unsigned w64 z ≡ word = cc in
     let number : z ≡ cast_signed w64 word = sym (to_z-of_z w64 z (signed_fits type z fits)) ∙ ap (cast_signed w64) of_word in
     subst (λ (k : Kind). Packed k z code bytes) (sym kind) (subst (λ (v : ℤ). Packed signed v code bytes) (sym number) packed)
-signed_value_packed argument_types.UInt word code bytes kind packed _ fits is = cc
-signed_value_packed argument_types.ULong word code bytes kind packed _ fits is = cc
-signed_value_packed argument_types.Text word code bytes kind packed _ fits is = cc
-signed_value_packed _ word code bytes kind packed _ fits is = absurd fits
+signed_value_packed argument_types.UInt word code bytes kind packed _ more fits is = cc
+signed_value_packed argument_types.ULong word code bytes kind packed _ more fits is = cc
+signed_value_packed argument_types.Text word code bytes kind packed _ more fits is = cc
+signed_value_packed _ word code bytes kind packed _ more fits is = absurd fits
 
 is_whole : (kind : Kind) (z : ℤ) (packed : PackedBytes) → Packed kind z packed.code (take packed.len packed.bytes) → packed.len ≡ byte_count kind packed.code → packed.len ≤ 8 → IsWhole packed
 is_whole kind z packed packs len room = record { room = room; whole = Packed-length kind z packed.code (take packed.len packed.bytes) packs ∙ sym len }
@@ -64,73 +57,103 @@ signed_word type word number packed kind is below packs len room =
     let of_word = subst (λ (z : ℤ). Packed signed z packed.code (take packed.len packed.bytes)) again packs in
     record { packs = signed_value_packed type word packed.code (take packed.len packed.bytes) kind of_word; whole = is_whole signed (cast_signed w64 word) packed of_word len room }
 
-pub kind_unsigned : (type : ArgType) → (type ≡ argument_types.UInt) ⊎ (type ≡ argument_types.ULong) → kind_of type ≡ unsigned
-kind_unsigned type (inl is) = ap kind_of is
-kind_unsigned type (inr is) = ap kind_of is
+unsigned_value_packed : (type : ArgType) (word code : ℕ) (bytes : List ℕ) → kind_of type ≡ unsigned → Packed unsigned (pos word) code bytes
+    → (value : Value) (more : List ℕ) → FitsType value type → words_of_argument value ≡ word ∷ more → Packed (kind_of type) (number_of value) code bytes
+unsigned_value_packed argument_types.UInt word code bytes kind packed (values.Unsigned n) more fits is = let same : word ≡ n = cc in subst (λ (k : ℕ). Packed unsigned (pos k) code bytes) same packed
+unsigned_value_packed argument_types.ULong word code bytes kind packed (values.Unsigned n) more fits is = let same : word ≡ n = cc in subst (λ (k : ℕ). Packed unsigned (pos k) code bytes) same packed
+unsigned_value_packed argument_types.Text word code bytes kind packed (values.Text text) more fits is = let same : word ≡ length text = cc in subst (λ (k : ℕ). Packed unsigned (pos k) code bytes) same packed
+unsigned_value_packed argument_types.Int word code bytes kind packed _ more fits is = cc
+unsigned_value_packed argument_types.Long word code bytes kind packed _ more fits is = cc
+unsigned_value_packed argument_types.Width word code bytes kind packed _ more fits is = cc
+unsigned_value_packed argument_types.Precision word code bytes kind packed _ more fits is = cc
+unsigned_value_packed _ word code bytes kind packed _ more fits is = absurd fits
 
-unsigned_value_packed : (type : ArgType) (word code : ℕ) (bytes : List ℕ) → IsInteger type → kind_of type ≡ unsigned → Packed unsigned (pos word) code bytes
-    → (value : Value) → FitsType value type → words_of_argument value ≡ word ∷ [] → Packed (kind_of type) (number_of value) code bytes
-unsigned_value_packed argument_types.UInt word code bytes integer kind packed (values.Unsigned n) fits is = let same : word ≡ n = cc in subst (λ (k : ℕ). Packed unsigned (pos k) code bytes) same packed
-unsigned_value_packed argument_types.ULong word code bytes integer kind packed (values.Unsigned n) fits is = let same : word ≡ n = cc in subst (λ (k : ℕ). Packed unsigned (pos k) code bytes) same packed
-unsigned_value_packed argument_types.Text word code bytes integer kind packed _ fits is = absurd integer
-unsigned_value_packed argument_types.Int word code bytes integer kind packed _ fits is = cc
-unsigned_value_packed argument_types.Long word code bytes integer kind packed _ fits is = cc
-unsigned_value_packed argument_types.Width word code bytes integer kind packed _ fits is = cc
-unsigned_value_packed argument_types.Precision word code bytes integer kind packed _ fits is = cc
-unsigned_value_packed _ word code bytes integer kind packed _ fits is = absurd fits
-
-pub unsigned_word : (type : ArgType) (word : ℕ) (packed : PackedBytes) → IsInteger type → kind_of type ≡ unsigned
+pub unsigned_word : (type : ArgType) (word : ℕ) (packed : PackedBytes) → kind_of type ≡ unsigned
     → Packed unsigned (pos word) packed.code (take packed.len packed.bytes) → packed.len ≡ byte_count unsigned packed.code → packed.len ≤ 8 → PacksWord type word packed
-unsigned_word type word packed integer kind packs len room =
-    record { packs = unsigned_value_packed type word packed.code (take packed.len packed.bytes) integer kind packs; whole = is_whole unsigned (pos word) packed packs len room }
+unsigned_word type word packed kind packs len room =
+    record { packs = unsigned_value_packed type word packed.code (take packed.len packed.bytes) kind packs; whole = is_whole unsigned (pos word) packed packs len room }
+
+-- ---- the argument at a place
+
+-- any argument, where there is none at a place
+abbrev pub no_value : Value
+no_value = values.Unsigned 0
+
+pub value_at : (types : List ArgType) (args : List Value) (place : ℕ) → Fits args types → place < length types → FitsType (get_or args place no_value) (get_or types place argument_types.Int)
+value_at [] args place fits within = absurd (omega arith)
+value_at (type ∷ types) (arg ∷ args) zero fits within = fits.0
+value_at (type ∷ types) (arg ∷ args) (suc place) fits within = value_at types args place fits.1 (omega arith)
+value_at (type ∷ types) [] place fits within = absurd fits
+
+-- the words of the arguments from a place on begin with those of the first of them
+pub words_begin : (types : List ArgType) (args : List Value) (place : ℕ) (rest : List ℕ) → Fits args types → place < length types → rest ≡ flat_map words_of_argument (drop place args)
+    → BeginsWithWords (get_or types place argument_types.Int) rest (get_or args place no_value) (flat_map words_of_argument (drop (place + 1) args))
+words_begin types args place rest fits within is = record {
+  fits = value_at types args place fits within;
+  is = is ∙ ap (flat_map words_of_argument) (drop_more args place no_value (omega (arith, Fits-length args types fits)));
+}
+
+first_of_words : (value : Value) → words_of_argument value ≡ get_or (words_of_argument value) 0 0 ∷ drop 1 (words_of_argument value)
+first_of_words (values.Signed z) = refl
+first_of_words (values.Unsigned n) = refl
+first_of_words (values.Text bytes) = refl
+
+pub some_words : (value : Value) → 0 < length (words_of_argument value)
+some_words (values.Signed z) = omega arith
+some_words (values.Unsigned n) = omega arith
+some_words (values.Text bytes) = omega arith
 
 -- ---- words
 
-PackWords-push : (types : List ArgType) (words : List ℕ) (numbers : List PackedBytes) (type : ArgType) (word : ℕ) (packed : PackedBytes) → PackWords types words numbers → PacksWord type word packed
-    → PackWords (types ++ type ∷ []) (words ++ word ∷ []) (numbers ++ packed ∷ [])
-PackWords-push [] [] [] type word packed so_far here = (here, tt)
-PackWords-push (t ∷ types) (w ∷ words) (p ∷ numbers) type word packed so_far here = (so_far.0, PackWords-push types words numbers type word packed so_far.1 here)
-PackWords-push _ _ _ type word packed so_far here = absurd so_far
+-- The numbers of the arguments in front of a place were packed, and these words are left.
+pub record ArePackedSoFar (types : List ArgType) (args : List Value) (numbers : List PackedBytes) (place : ℕ) (rest : List ℕ) : Type 0 where
+  pub rest_is : rest ≡ flat_map words_of_argument (drop place args)
+  pub packs : PacksArguments (take place types) (take place args) (packed_numbers (take place numbers))
+
+pub none_packed : (types : List ArgType) (args : List Value) (words : List ℕ) (numbers : List PackedBytes) → AreWordsOf types args words → ArePackedSoFar types args numbers 0 words
+none_packed types args words numbers are = record { rest_is = are.is; packs = tt }
+
+PacksArguments-push : (types : List ArgType) (args : List Value) (numbers : List PackedNumber) (type : ArgType) (arg : Value) (number : PackedNumber) → PacksArguments types args numbers → Packed (kind_of type) (number_of arg) number.code number.bytes
+    → PacksArguments (types ++ type ∷ []) (args ++ arg ∷ []) (numbers ++ number ∷ [])
+PacksArguments-push [] [] [] type arg number so_far here = (here, tt)
+PacksArguments-push (t ∷ types) (a ∷ args) (n ∷ numbers) type arg number so_far here = (so_far.0, PacksArguments-push types args numbers type arg number so_far.1 here)
+PacksArguments-push _ _ _ type arg number so_far here = absurd (search rules)
 
 -- one word more was packed
-pub one_packed : (types : List ArgType) (words : List ℕ) (numbers : List PackedBytes) (place : ℕ) (type : ArgType) (word : ℕ) (packed : PackedBytes) → place < length types → place < length words → place < length numbers
-    → type ≡ get_or types place argument_types.Int → word ≡ get_or words place 0 → PackWords (take place types) (take place words) (take place numbers) → PacksWord type word packed
-    → PackWords (take (place + 1) types) (take (place + 1) words) (take (place + 1) (set numbers place packed))
-one_packed types words numbers place type word packed in_types in_words in_numbers type_is word_is so_far here =
-    let types_more : take (place + 1) types ≡ take place types ++ type ∷ [] = take_more types place argument_types.Int in_types ∙ ap (λ (t : ArgType). take place types ++ t ∷ []) (sym type_is) in
-    let words_more : take (place + 1) words ≡ take place words ++ word ∷ [] = take_more words place 0 in_words ∙ ap (λ (w : ℕ). take place words ++ w ∷ []) (sym word_is) in
-    let numbers_more = take_more_set numbers place packed in_numbers in
-    rw (types_more, words_more, numbers_more) (PackWords-push (take place types) (take place words) (take place numbers) type word packed so_far here)
+pub one_packed : (types : List ArgType) (args : List Value) (numbers : List PackedBytes) (place : ℕ) (rest argument more : List ℕ) (packed : PackedBytes) → Fits args types → ArePackedSoFar types args numbers place rest → place < length types → place < length numbers
+    → argument ≡ words_of_argument (get_or args place no_value) → more ≡ flat_map words_of_argument (drop (place + 1) args) → PacksWord (get_or types place argument_types.Int) (get_or argument 0 0) packed
+    → ArePackedSoFar types args (set numbers place packed) (place + 1) more
+one_packed types args numbers place rest argument more packed fits so_far within room argument_is more_is here =
+    let value : Value = get_or args place no_value in
+    let word = subst (λ (ws : List ℕ). PacksWord (get_or types place argument_types.Int) (get_or ws 0 0) packed) argument_is here in
+    let one = word.packs value (drop 1 (words_of_argument value)) (value_at types args place fits within) (first_of_words value) in
+    let types_more = take_more types place argument_types.Int within in
+    let args_more = take_more args place no_value (omega (arith, Fits-length args types fits)) in
+    let numbers_more : packed_numbers (take (place + 1) (set numbers place packed)) ≡ packed_numbers (take place numbers) ++ packed_number packed ∷ [] =
+    ap packed_numbers (take_more_set numbers place packed room) ∙ map-append packed_number (take place numbers) (packed ∷ []) in
+    record {
+      rest_is = more_is;
+      packs = rw (types_more, args_more, numbers_more) (PacksArguments-push (take place types) (take place args) (packed_numbers (take place numbers)) (get_or types place argument_types.Int) value (packed_number packed) so_far.packs one);
+    }
 
--- the packed words of arguments stand for the arguments
-pub words_pack : (types : List ArgType) (words : List ℕ) (numbers : List PackedBytes) (args : List Value) → AreIntegers types → Fits args types → words ≡ flat_map words_of_argument args → PackWords types words numbers
-    → PacksArguments types args (packed_numbers numbers)
-words_pack [] [] [] [] integers fits is packed = tt
-words_pack (type ∷ types) (word ∷ words) (number ∷ numbers) (values.Signed z ∷ args) integers fits is packed =
-    let first : words_of_argument (values.Signed z) ≡ word ∷ [] = let same : word ≡ cast_unsigned w64 z = cc in λ t. sym same t ∷ [] in
-    let more : words ≡ flat_map words_of_argument args = cc in
-    (packed.0.packs (values.Signed z) fits.0 first, words_pack types words numbers args integers.1 fits.1 more packed.1)
-words_pack (type ∷ types) (word ∷ words) (number ∷ numbers) (values.Unsigned n ∷ args) integers fits is packed =
-    let first : words_of_argument (values.Unsigned n) ≡ word ∷ [] = let same : word ≡ n = cc in λ t. sym same t ∷ [] in
-    let more : words ≡ flat_map words_of_argument args = cc in
-    (packed.0.packs (values.Unsigned n) fits.0 first, words_pack types words numbers args integers.1 fits.1 more packed.1)
-words_pack (argument_types.Text ∷ types) (word ∷ words) (number ∷ numbers) (values.Text bytes ∷ args) integers fits is packed = absurd integers.0
-words_pack (_ ∷ types) (word ∷ words) (number ∷ numbers) (values.Text bytes ∷ args) integers fits is packed = absurd fits.0
-words_pack _ [] _ (arg ∷ args) integers fits is packed = absurd (search rules)
-words_pack _ _ _ _ integers fits is packed = absurd (search rules)
+whole_push : (numbers : List PackedBytes) (packed : PackedBytes) → AllByRecursion IsWhole numbers → IsWhole packed → AllByRecursion IsWhole (numbers ++ packed ∷ [])
+whole_push [] packed all here = (here, tt)
+whole_push (number ∷ numbers) packed all here = (all.0, whole_push numbers packed all.1 here)
 
-pub packed_whole : (types : List ArgType) (words : List ℕ) (numbers : List PackedBytes) → PackWords types words numbers → AllByRecursion IsWhole numbers
-packed_whole [] [] [] packed = tt
-packed_whole (type ∷ types) (word ∷ words) (number ∷ numbers) packed = (packed.0.whole, packed_whole types words numbers packed.1)
-packed_whole _ _ _ packed = absurd packed
+pub one_whole : (numbers : List PackedBytes) (place : ℕ) (packed : PackedBytes) → place < length numbers → AllByRecursion IsWhole (take place numbers) → IsWhole packed → AllByRecursion IsWhole (take (place + 1) (set numbers place packed))
+one_whole numbers place packed room all here = rw (take_more_set numbers place packed room) (whole_push (take place numbers) packed all here)
+
+-- all words were packed
+pub all_packed : (types : List ArgType) (args : List Value) (numbers : List PackedBytes) (place : ℕ) (rest : List ℕ) → Fits args types → ArePackedSoFar types args numbers place rest → place ≡ length types
+    → PacksArguments types args (packed_numbers (take (length types) numbers))
+all_packed types args numbers place rest fits so_far end =
+    let packs = subst (λ (n : ℕ). PacksArguments (take n types) (take n args) (packed_numbers (take n numbers))) end so_far.packs in
+    rw (take_all (length types) types (omega arith), take_all (length types) args (omega (arith, Fits-length args types fits))) at packs
+
+-- ---- how many
 
 pub id_short : (id code : ℕ) (bytes : List ℕ) → Packed unsigned (pos id) code bytes → id < 65536 → code ≤ 2
 id_short id code bytes (n, is, packs) below = let same : id ≡ n = cc in packs.count.least 2 (omega arith)
-
-pub packed_many : (types : List ArgType) (words : List ℕ) (numbers : List PackedBytes) → PackWords types words numbers → length numbers ≡ length types
-packed_many [] [] [] packed = refl
-packed_many (type ∷ types) (word ∷ words) (number ∷ numbers) packed = ap suc (packed_many types words numbers packed.1)
-packed_many _ _ _ packed = absurd packed
 
 as_many_codes : (numbers : List PackedBytes) → length (codes_of (packed_numbers numbers)) ≡ length numbers
 as_many_codes [] = refl
@@ -139,3 +162,19 @@ as_many_codes (number ∷ numbers) = ap suc (as_many_codes numbers)
 -- two codes to a byte
 pub codes_room : (numbers : List PackedBytes) → length (code_bytes (codes_of (packed_numbers numbers))) ≡ (length numbers + 1) / 2
 codes_room numbers = omega (arith, length-code_bytes (codes_of (packed_numbers numbers)), as_many_codes numbers)
+
+-- ---- what is left
+
+-- the value at a place, and the words behind it
+pub begins_at : (types : List ArgType) (args : List Value) (numbers : List PackedBytes) (place : ℕ) (rest : List ℕ) → Fits args types → ArePackedSoFar types args numbers place rest → place < length types
+    → BeginsWithWords (get_or types place argument_types.Int) rest (get_or args place no_value) (flat_map words_of_argument (drop (place + 1) args))
+begins_at types args numbers place rest fits so_far within = words_begin types args place rest fits within so_far.rest_is
+
+-- a text at a place is bytes
+pub bytes_at : (args : List Value) (place : ℕ) → All HoldsBytes args → HoldsBytes (get_or args place no_value)
+bytes_at [] place are = tt
+bytes_at (arg ∷ args) zero are = All-head HoldsBytes arg args are
+bytes_at (arg ∷ args) (suc place) are = bytes_at args place (All-tail HoldsBytes arg args are)
+
+pub taken_few : (n : ℕ) (numbers : List PackedBytes) → length (take n numbers) ≤ n
+taken_few n numbers = omega (arith, length-take n numbers)

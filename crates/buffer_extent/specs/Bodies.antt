@@ -5,6 +5,8 @@ use Rattle.printf_grammar.specs.Types.{Types}
 use Rattle.log_dictionary.specs.declared.message.Message.{Message}
 use Rattle.arg_records.specs.Calls.{IsCall, NeverFalls}
 use Rattle.arg_records.specs.declared.call.Call.{Call}
+use Rattle.buffer_extent.specs.declared.fault.Cause.{Cause}
+use Rattle.buffer_extent.specs.declared.fault.Cause.TheVariants as causes
 use Rattle.buffer_extent.specs.Records.{RecordBytes}
 
 -- the bytes spell the record, whose id names one of the messages; its step counts from the stamp before
@@ -25,3 +27,8 @@ pub record IsBody (messages : List Message) (tick last : ℕ) (entries : List Ca
   pub spelled : SpellsRecords messages tick entries body
   pub right : AllByRecursion (IsCall messages) entries
   pub rising : NeverFalls last entries
+
+-- the body isn't whole records that keep the rules; which rule breaks isn't told
+pub record BodyBreak (messages : List Message) (tick last : ℕ) (body : List ℕ) (cause : Cause) : Type 0 where
+  pub cause_is : cause ≡ causes.Body
+  pub no_records : (entries : List Call) → ¬ IsBody messages tick last entries body

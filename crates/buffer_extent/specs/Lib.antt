@@ -1,7 +1,6 @@
 pub mod Records
 pub mod Bodies
 pub mod Parts
-pub mod Integers
+pub mod Steps
 pub mod Writing
-pub mod IntegerLaws
 pub mod RecordLaws

@@ -8,23 +8,24 @@ use Rattle.printf_grammar.specs.declared.arg_type.ArgType.{ArgType}
 use Rattle.printf_grammar.specs.declared.arg_type.ArgType.TheVariants as types
 use Rattle.printf_grammar.specs.declared.argument.Value.{Value}
 use Rattle.printf_grammar.specs.declared.argument.Value.TheVariants as values
-use Rattle.printf_grammar.specs.Types.{Types, FitsType, Fits}
+use Rattle.printf_grammar.specs.Types.{Types, FitsType, Fits, text_of}
 use Rattle.log_dictionary.specs.declared.message.Message.{Message}
 use Rattle.nibble_pack.specs.Packing.{Kind, unsigned, Packed}
 use Rattle.nibble_pack.specs.PackingLaws.{Packed-code, IsCode-lt, same_front}
 use Rattle.arg_records.specs.declared.call.Call.{Call}
-use Rattle.buffer_extent.specs.Records.{PackedNumber, kind_of, number_of, text_of, PacksArguments, code_bytes, RecordBytes}
-use Rattle.buffer_extent.specs.Bodies.{SpellsRecord, SpellsRecords, IsBody}
+use Rattle.buffer_extent.specs.Records.{PackedNumber, kind_of, number_of, PacksArguments, code_bytes, RecordBytes}
+use Rattle.buffer_extent.specs.declared.fault.Cause.{Cause}
+use Rattle.buffer_extent.specs.Bodies.{SpellsRecord, SpellsRecords, IsBody, BodyBreak}
 use Rattle.arg_records.specs.Calls.{IsCall}
 use Rattle.buffer_extent.specs.Parts.{AreCodes, BeginsWithNumber, BeginsWithHead, BeginsWithArguments, BeginsWithRecord}
 
 -- ---- fronts
 
 -- behind one front stands one back
-same_back : (xs ys r s : List ℕ) → xs ≡ ys → xs ++ r ≡ ys ++ s → r ≡ s
+pub same_back : (xs ys r s : List ℕ) → xs ≡ ys → xs ++ r ≡ ys ++ s → r ≡ s
 same_back xs ys r s front same = append_cancel_left ys r s (ap (λ (f : List ℕ). f ++ r) (sym front) ∙ same)
 
-same_length_front : (xs ys r s : List ℕ) → length xs ≡ length ys → xs ++ r ≡ ys ++ s → (xs ≡ ys) × (r ≡ s)
+pub same_length_front : (xs ys r s : List ℕ) → length xs ≡ length ys → xs ++ r ≡ ys ++ s → (xs ≡ ys) × (r ≡ s)
 same_length_front [] [] r s len same = (refl, same)
 same_length_front [] (y ∷ ys) r s len same = absurd (omega arith)
 same_length_front (x ∷ xs) [] r s len same = absurd (omega arith)
@@ -294,3 +295,11 @@ SpellsRecords-unique messages before (x ∷ xs) (y ∷ ys) bytes all all_too (fr
 -- a body spells one list of records
 pub IsBody-unique : (messages : List Message) (tick last : ℕ) (xs ys : List Call) (body : List ℕ) → IsBody messages tick last xs body → IsBody messages tick last ys body → xs ≡ ys
 IsBody-unique messages tick last xs ys body p q = SpellsRecords-unique messages tick xs ys body p.right q.right p.spelled q.spelled
+
+-- whole records that keep the rules break none
+pub IsBody-not_broken : (messages : List Message) (tick last : ℕ) (entries : List Call) (cause : Cause) (body : List ℕ) → IsBody messages tick last entries body → BodyBreak messages tick last body cause → ⊥
+IsBody-not_broken messages tick last entries cause body is broken = broken.no_records entries is
+
+-- a body breaks by one cause
+pub BodyBreak-unique : (messages : List Message) (tick last : ℕ) (a b : Cause) (body : List ℕ) → BodyBreak messages tick last body a → BodyBreak messages tick last body b → a ≡ b
+BodyBreak-unique messages tick last a b body p q = p.cause_is ∙ sym q.cause_is

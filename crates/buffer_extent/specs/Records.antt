@@ -4,6 +4,7 @@ use Rattle.std.specs.List.{flat_map}
 use Rattle.printf_grammar.specs.declared.arg_type.ArgType.{ArgType}
 use Rattle.printf_grammar.specs.declared.argument.Value.{Value}
 use Rattle.printf_grammar.specs.declared.argument.Value.TheVariants as values
+use Rattle.printf_grammar.specs.Types.{text_of}
 use Rattle.arg_records.specs.Kinds.{ArgKind, type_kind, signed as signed_kind, unsigned as unsigned_kind, text as text_kind}
 use Rattle.nibble_pack.specs.Packing.{Kind, unsigned, signed, Packed}
 
@@ -27,12 +28,6 @@ abbrev pub number_of : Value → ℤ
 number_of (values.Signed z) = z
 number_of (values.Unsigned n) = pos n
 number_of (values.Text bytes) = pos (length bytes)
-
--- the bytes of a text; an integer has none
-abbrev pub text_of : Value → List ℕ
-text_of (values.Signed z) = []
-text_of (values.Unsigned n) = []
-text_of (values.Text bytes) = bytes
 
 -- the numbers stand for the arguments, in order, each packed as its type's kind
 abbrev pub PacksArguments : List ArgType → List Value → List PackedNumber → Type 0

@@ -1,11 +1,15 @@
 -- What is asked of a frame whose record is to be written, and the room that the record takes.
-use Rattle.std.specs.Prelude.{◌≡◌, ℕ, ◌+◌, ◌*◌, ◌/◌, ◌<◌, ◌≤◌, List, [], ◌∷◌, ◌++◌, pos, ⊤, length, take, map, sum_by}
+use Rattle.std.specs.Prelude.{◌≡◌, ℕ, ◌+◌, ◌*◌, ◌/◌, ◌<◌, ◌≤◌, List, [], ◌∷◌, ◌++◌, pos, length, take, map, sum_by, All}
+use Rattle.std.specs.List.{flat_map}
+use Rattle.std.specs.Int.{bytes_low_first}
 use Rattle.printf_grammar.specs.declared.arg_type.ArgType.{ArgType}
 use Rattle.printf_grammar.specs.declared.arg_type.ArgType.TheVariants as types
 use Rattle.printf_grammar.specs.declared.argument.Value.{Value}
-use Rattle.printf_grammar.specs.Types.{FitsType, Fits}
+use Rattle.printf_grammar.specs.Types.{FitsType, Fits, text_of}
 use Rattle.log_dictionary.specs.declared.dictionary.TheConstants.{MAX_MESSAGES}
-use Rattle.arg_records.specs.Frames.{words_of_argument, Frame}
+use Rattle.arg_records.specs.declared.frame.TheConstants.{MAX_FRAME_WORDS}
+use Rattle.arg_records.specs.Frames.{words_of_argument, FrameLen, Frame}
+use Rattle.arg_records.specs.Kinds.{HoldsBytes}
 use Rattle.nibble_pack.specs.declared.pack.Packed.{Packed as PackedBytes}
 use Rattle.nibble_pack.specs.Packing.{unsigned, Packed}
 use Rattle.buffer_extent.specs.Records.{PackedNumber, kind_of, number_of}
@@ -18,7 +22,20 @@ pub record IsFrameSince (types : List ArgType) (before : ℕ) (frame : List ℕ)
   pub id_in_range : id < MAX_MESSAGES
   pub not_before : before ≤ stamp
   pub fits : Fits args types
+  pub bytes : All HoldsBytes args
+  pub within : FrameLen args ≤ MAX_FRAME_WORDS
   pub is : frame ≡ Frame id stamp args
+
+-- the words are those of arguments that fit the types, one argument behind another
+pub record AreWordsOf (types : List ArgType) (args : List Value) (words : List ℕ) : Type 0 where
+  pub fits : Fits args types
+  pub bytes : All HoldsBytes args
+  pub is : words ≡ flat_map words_of_argument args
+
+-- the words begin with those of an argument of the type, and these follow
+pub record BeginsWithWords (type : ArgType) (words : List ℕ) (value : Value) (more : List ℕ) : Type 0 where
+  pub fits : FitsType value type
+  pub is : words ≡ words_of_argument value ++ more
 
 -- the number that was packed
 abbrev pub packed_number : PackedBytes → PackedNumber
@@ -32,15 +49,11 @@ pub record IsWhole (packed : PackedBytes) : Type 0 where
   pub room : packed.len ≤ 8
   pub whole : length (take packed.len packed.bytes) ≡ packed.len
 
--- of whatever argument of the type this is the word, this is the packed number
+-- of whatever argument of the type this is the first word, this is the packed number
 pub record PacksWord (type : ArgType) (word : ℕ) (packed : PackedBytes) : Type 0 where
-  pub packs : (value : Value) → FitsType value type → words_of_argument value ≡ word ∷ [] → Packed (kind_of type) (number_of value) packed.code (take packed.len packed.bytes)
+  pub packs : (value : Value) (more : List ℕ) → FitsType value type → words_of_argument value ≡ word ∷ more
+      → Packed (kind_of type) (number_of value) packed.code (take packed.len packed.bytes)
   pub whole : IsWhole packed
-
-abbrev pub PackWords : List ArgType → List ℕ → List PackedBytes → Type 0
-PackWords [] [] [] = ⊤
-PackWords (type ∷ types) (word ∷ words) (packed ∷ numbers) = PacksWord type word packed × PackWords types words numbers
-PackWords _ _ _ = ⊥
 
 -- the bytes of a head, which has the id and the step
 pub record HeadBytes (id step : ℕ) (bytes : List ℕ) : Type 0 where
@@ -50,16 +63,21 @@ pub record HeadBytes (id step : ℕ) (bytes : List ℕ) : Type 0 where
   pub step_packed : Packed unsigned (pos step) step_number.code step_number.bytes
   pub joined : bytes ≡ (id_number.code + 16 * step_number.code) ∷ (id_number.bytes ++ step_number.bytes)
 
--- the most bytes that an integer of the type has
-abbrev pub integer_room : ArgType → ℕ
-integer_room types.Int = 4
-integer_room types.UInt = 4
-integer_room types.Long = 8
-integer_room types.ULong = 8
-integer_room types.Width = 2
-integer_room types.Precision = 4
-integer_room types.Text = 0
+-- the most bytes of the number of an argument of the type
+abbrev pub number_room : ArgType → ℕ
+number_room types.Int = 4
+number_room types.UInt = 4
+number_room types.Long = 8
+number_room types.ULong = 8
+number_room types.Width = 2
+number_room types.Precision = 4
+number_room types.Text = 2
 
--- the most bytes that a record with integers of these types has: a byte of codes, two of the id, eight of the step, and the arguments
-abbrev pub record_room : List ArgType → ℕ
-record_room types = 11 + (length types + 1) / 2 + sum_by integer_room types
+-- The most bytes that a record with such arguments has: a byte of codes, two of the id, eight of the step, the codes of the
+-- arguments, their numbers, and the texts.
+abbrev pub record_room : List ArgType → List Value → ℕ
+record_room types args = 11 + (length types + 1) / 2 + sum_by number_room types + length (flat_map text_of args)
+
+-- the bytes of words, eight of each, the lowest first
+abbrev pub bytes_of_words : List ℕ → List ℕ
+bytes_of_words words = flat_map (bytes_low_first 0 8) words

@@ -1,77 +1,76 @@
 //! Reading the records of a body.
 
-ghost use Rattle.std.specs.Prelude.{◌≡◌, ◌≢◌, ℕ, ◌<◌, ◌≤◌, List, [], slice_get, IfOk, IsSome, MatchResult, Ok, Err};
-ghost use Rattle.std.specs.Option.{option_copied};
-ghost use Rattle.log_dictionary.specs.declared.dictionary.TheConstants.{MAX_MESSAGES};
+ghost use Rattle.std.specs.Prelude.{◌≡◌, ◌≢◌, ◌⊎◌, ℕ, ◌≤◌, List, [], length, take, slice_get, IfOk, MatchResult, Ok, Err};
 ghost use Rattle.arg_records.specs.declared.call.Call.{Call};
-ghost use Rattle.buffer_extent.specs.Integers.{TakeIntegers};
-ghost use Rattle.buffer_extent.specs.Parts.{BeginsWithRecord, StartsRecord};
-ghost use Rattle.buffer_extent.specs.Bodies.{IsBody};
+ghost use Rattle.buffer_extent.specs.declared.fault.Cause.{Cause as BodyCause};
+ghost use Rattle.buffer_extent.specs.Parts.{Lacks, IsDamage, BeginsWithRightRecord};
+ghost use Rattle.buffer_extent.specs.Steps.{BeginsWithStart, StartsRecord};
+ghost use Rattle.buffer_extent.specs.Bodies.{IsBody, BodyBreak};
 
 use crate::fault::{BodyFault, Cause};
-use crate::take::{take_arguments, take_head};
+use crate::numbers::{NO_NUMBERS, Number, is_staged};
+use crate::take::{Head, take_coded_numbers, take_head};
+use crate::texts::take_texts;
 use arg_records::{Call, Calls};
-use log_dictionary::{Dictionary, Message};
+use log_dictionary::Dictionary;
+use printf_grammar::MAX_ARGUMENTS;
 use std::alloc::Global;
 
-/// The message with the id, if the dictionary has one.
-fn message_of(dictionary: &Dictionary, id: u64) -> Option<&Message>
-    ensures value { option_copied result ≡ slice_get dictionary.now id }
-    ensures small { IsSome result → id < MAX_MESSAGES }
+/// What a record has in front of its texts. Its step counts from `before`, and its stamp isn't below
+/// `least`. The frame of the call that it is of isn't too long.
+fn take_start<'a>(
+    dictionary: &Dictionary,
+    before: u64,
+    least: u64,
+    bytes: &'a [u8],
+    numbers: &mut [Number; MAX_ARGUMENTS],
+) -> Result<(Head, &'a [u8]), Cause>
+    ensures { MatchResult result
+        (λ pair. BeginsWithStart dictionary.now before least bytes.now (pair.0, numbers.new) pair.1.now)
+        (Lacks (BeginsWithStart dictionary.now before least bytes.now)) }
 {
-    if id >= u64::from(dictionary.len()) {
-        return None;
+    let (head, rest) = take_head(dictionary.len(), before, least, bytes)?;
+    let types = dictionary.message(head.id).format.types();
+    let rest = take_coded_numbers(types, rest, numbers)?;
+    if !is_staged(types, &numbers[..types.len()]) {
+        return Err(Cause::Body);
     }
-    dictionary.get(id as u32)
+    Ok((head, rest))
 }
 
-/// The record at the front of bytes, and the bytes behind it. Its step counts from `before`, and its
-/// stamp isn't below `least`.
+/// The record at the front of bytes, and the bytes behind it. `numbers` is room for its numbers.
 fn take_record<'a>(
     alloc: Global,
     dictionary: &Dictionary,
     before: u64,
     least: u64,
     bytes: &'a [u8],
+    numbers: &mut [Number; MAX_ARGUMENTS],
 ) -> Result<(Call, &'a [u8]), BodyFault>
-    requires { TakeIntegers dictionary.now }
-    ensures ok { IfOk result (λ pair. BeginsWithRecord dictionary.now before bytes.now pair.0 pair.1.now) }
-    ensures rises { IfOk result (λ pair. least ≤ pair.0.stamp) }
-    ensures only { (entry : Call) (back : List ℕ) → BeginsWithRecord dictionary.now before bytes.now entry back
-        → least ≤ entry.stamp → MatchResult result
-        (λ pair. (pair.0 ≡ entry) × (pair.1.now ≡ back))
-        (λ fault. fault ≡ BodyFault.NoMemory) }
+    ensures record { MatchResult result
+        (λ pair. BeginsWithRightRecord dictionary.now before least bytes.now pair.0 pair.1.now)
+        (IsDamage (Lacks (BeginsWithRightRecord dictionary.now before least bytes.now))) }
 
     // How the record starts is judged before any memory is wanted.
     ensures no_start { ¬ (StartsRecord dictionary.now before least bytes.now)
         → result ≡ Err (BodyFault.Damaged Cause.Body) }
 {
-    let Some((head, rest)) = take_head(before, bytes) else {
-        return Err(BodyFault::Damaged(Cause::Body));
+    let (head, rest) = match take_start(dictionary, before, least, bytes, numbers) {
+        Ok(start) => start,
+        Err(cause) => return Err(BodyFault::Damaged(cause)),
     };
-    if head.stamp < least {
-        return Err(BodyFault::Damaged(Cause::Body));
-    }
-    let Some(message) = message_of(dictionary, head.id) else {
-        return Err(BodyFault::Damaged(Cause::Body));
+    let types = dictionary.message(head.id).format.types();
+    let (args, rest) = take_texts(alloc, types, &numbers[..types.len()], rest)?;
+    let entry = Call {
+        stamp: head.stamp,
+        id: head.id,
+        args,
     };
-    match take_arguments(alloc, message.format.types(), rest) {
-        Ok((args, back)) => {
-            let entry = Call {
-                stamp: head.stamp,
-                id: head.id as u32,
-                args,
-            };
-            Ok((entry, back))
-        }
-        Err(fault) => Err(fault),
-    }
+    Ok((entry, rest))
 }
 
 /// The records of a body. `base` is the tick of the clock, from which the first step counts; `last`
 /// is the last stamp of the writer, or the tick.
-///
-/// For now no message takes a text.
 pub fn read_body(
     alloc: Global,
     body: &[u8],
@@ -79,30 +78,30 @@ pub fn read_body(
     base: u64,
     last: u64,
 ) -> Result<Calls, BodyFault>
-    requires { TakeIntegers dictionary.now }
     ensures ok { IfOk result (λ entries. IsBody dictionary.now base last entries body.now) }
 
-    // A body is read, unless memory runs out.
+    // A body is read, and bytes that break the rules are refused, unless memory runs out.
     ensures only { (entries : List Call) → IsBody dictionary.now base last entries body.now → MatchResult result
         (λ read. read ≡ entries)
         (λ fault. fault ≡ BodyFault.NoMemory) }
-    ensures damaged { result ≡ Err (BodyFault.Damaged Cause.Body)
-        → (entries : List Call) → ¬ IsBody dictionary.now base last entries body.now }
+    ensures damaged { (cause : BodyCause) → result ≡ Err (BodyFault.Damaged cause)
+        → BodyBreak dictionary.now base last body.now cause }
+    ensures broken { (cause : BodyCause) → BodyBreak dictionary.now base last body.now cause → MatchResult result
+        (λ read. ⊥)
+        (λ fault. (fault ≡ BodyFault.Damaged cause) ⊎ (fault ≡ BodyFault.NoMemory)) }
 
     // No memory is wanted for no records, and how the first one starts is judged before any is.
     ensures empty { body.now ≡ [] → result ≡ Ok [] }
     ensures no_start { body.now ≢ [] → ¬ (StartsRecord dictionary.now base last body.now)
         → result ≡ Err (BodyFault.Damaged Cause.Body) }
 {
+    let mut numbers = NO_NUMBERS;
     let mut records = Calls::make(alloc);
     let mut before = base;
     let mut least = last;
     let mut rest = body;
     while !rest.is_empty() {
-        let (entry, back) = match take_record(alloc, dictionary, before, least, rest) {
-            Ok(pair) => pair,
-            Err(fault) => return Err(fault),
-        };
+        let (entry, back) = take_record(alloc, dictionary, before, least, rest, &mut numbers)?;
         before = entry.stamp;
         least = entry.stamp;
         let Ok(()) = records.push(entry) else {

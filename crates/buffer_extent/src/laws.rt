@@ -1,20 +1,16 @@
 //! Laws over the definitions of records and bodies. The functions do nothing: what they ensure is proved of the
 //! definitions.
 
-ghost use Rattle.std.specs.Prelude.{◌≡◌, ◌≤◌, ℕ, length, List, [], ◌∷◌, ◌++◌, pos, negsuc};
-ghost use Rattle.printf_grammar.specs.declared.limits.TheConstants.{MAX_ARGUMENTS};
+ghost use Rattle.std.specs.Prelude.{◌≡◌, ℕ, List, [], ◌∷◌, ◌++◌, pos, negsuc};
 ghost use Rattle.printf_grammar.specs.declared.arg_type.ArgType.TheVariants.{Int, Text as TextType};
 ghost use Rattle.printf_grammar.specs.declared.argument.Value.TheVariants.{Signed, Text};
-ghost use Rattle.printf_grammar.specs.declared.piece.Piece.{Piece};
-ghost use Rattle.printf_grammar.specs.Narrow.{IsNarrow};
-ghost use Rattle.printf_grammar.specs.Types.{Types};
 ghost use Rattle.log_dictionary.specs.declared.message.Message.{Message};
 ghost use Rattle.arg_records.specs.declared.call.Call.{Call};
 ghost use Rattle.buffer_extent.specs.Records.{code_bytes, RecordBytes};
-ghost use Rattle.buffer_extent.specs.Writing.{record_room};
-ghost use Rattle.buffer_extent.specs.Bodies.{SpellsRecord, IsBody};
+ghost use Rattle.buffer_extent.specs.declared.fault.Cause.{Cause as BodyCause};
+ghost use Rattle.buffer_extent.specs.Bodies.{SpellsRecord, IsBody, BodyBreak};
 ghost use Rattle.arg_records.specs.Calls.{IsCall};
-ghost use Rattle.buffer_extent.specs.Parts.{StartsRecord};
+ghost use Rattle.buffer_extent.specs.Steps.{StartsRecord};
 
 /// A call of id 0 at the stamp 1003, where the step counts from 1000, with the number 7.
 pub fn a_record_with_a_number()
@@ -44,12 +40,19 @@ pub fn no_record_begins_another()
         → (a ≡ b) × (front ≡ front_too) × (back ≡ back_too) }
 {}
 
-/// A body spells one list of records.
-pub fn one_list_per_body()
-    ensures { (messages : List Message) (tick last : ℕ) (a b : List Call) (body : List ℕ)
+/// A body is one list of records, or it breaks by one cause, and never both.
+pub fn bodies_are_told_apart()
+    ensures one_list { (messages : List Message) (tick last : ℕ) (a b : List Call) (body : List ℕ)
         → IsBody messages tick last a body
         → IsBody messages tick last b body
         → a ≡ b }
+    ensures one_cause { (messages : List Message) (tick last : ℕ) (a b : BodyCause) (body : List ℕ)
+        → BodyBreak messages tick last body a
+        → BodyBreak messages tick last body b
+        → a ≡ b }
+    ensures not_both { (messages : List Message) (tick last : ℕ) (entries : List Call) (cause : BodyCause)
+        (body : List ℕ) → IsBody messages tick last entries body
+        → ¬ (BodyBreak messages tick last body cause) }
 {}
 
 /// A body that has a record starts as a record does.
@@ -57,10 +60,4 @@ pub fn a_body_starts_with_a_record()
     ensures { (messages : List Message) (tick last : ℕ) (entry : Call) (entries : List Call) (body : List ℕ)
         → IsBody messages tick last (entry ∷ entries) body
         → StartsRecord messages tick last body }
-{}
-
-/// A record of a narrow format has at most 299 bytes.
-pub fn narrow_records_are_short()
-    ensures { (pieces : List Piece) → IsNarrow pieces → length (Types pieces) ≤ MAX_ARGUMENTS
-        → record_room (Types pieces) ≤ 299 }
 {}

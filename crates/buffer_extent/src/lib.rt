@@ -4,15 +4,18 @@
 mod body;
 mod fault;
 mod laws;
+mod numbers;
 mod put;
+mod staged;
 mod take;
+mod texts;
 
 pub use arg_records::{Call as LogRecord, Calls as Records};
 pub use body::read_body;
 pub use fault::{BodyFault, Cause};
 pub use laws::{
-    a_record_with_a_number, a_record_with_a_text, narrow_records_are_short,
-    no_record_begins_another, one_list_per_body, three_codes_in_two_bytes,
+    a_body_starts_with_a_record, a_record_with_a_number, a_record_with_a_text,
+    bodies_are_told_apart, no_record_begins_another, three_codes_in_two_bytes,
 };
 pub use put::put_record;
 

@@ -1,21 +1,22 @@
 //! Writing a record.
 
-ghost use Rattle.std.specs.Prelude.{◌≡◌, ℕ, ◌+◌, ◌/◌, ◌<◌, ◌≤◌, List, ◌++◌, length, take, drop};
-ghost use Rattle.std.specs.List.{AllByRecursion};
+ghost use Rattle.std.specs.Prelude.{◌≡◌, ℕ, ◌+◌, ◌*◌, ◌/◌, ◌<◌, ◌≤◌, List, ◌++◌, length, take, drop, All};
+ghost use Rattle.std.specs.List.{flat_map, AllByRecursion};
 ghost use Rattle.printf_grammar.specs.declared.limits.TheConstants.{MAX_ARGUMENTS};
 ghost use Rattle.printf_grammar.specs.declared.argument.Value.{Value};
-ghost use Rattle.printf_grammar.specs.Types.{Fits};
+ghost use Rattle.printf_grammar.specs.Types.{Fits, text_of};
 ghost use Rattle.log_dictionary.specs.declared.dictionary.TheConstants.{MAX_MESSAGES};
 ghost use Rattle.arg_records.specs.Frames.{Frame};
+ghost use Rattle.arg_records.specs.Kinds.{HoldsBytes};
 ghost use Rattle.arg_records.specs.Places.{with_words};
-ghost use Rattle.buffer_extent.specs.Records.{code_bytes, RecordBytes};
+ghost use Rattle.buffer_extent.specs.Records.{code_bytes, PacksArguments, RecordBytes};
 ghost use Rattle.buffer_extent.specs.Parts.{AreCodes};
 ghost use Rattle.buffer_extent.specs.RecordLaws.{codes_of, bytes_of};
-ghost use Rattle.buffer_extent.specs.Integers.{IsInteger, AreIntegers};
-ghost use Rattle.buffer_extent.specs.Writing.{IsFrameSince, packed_numbers, IsWhole, PacksWord, PackWords, HeadBytes, record_room};
+ghost use Rattle.buffer_extent.specs.Writing.{IsFrameSince, AreWordsOf, packed_numbers, IsWhole, HeadBytes, record_room};
 
+use crate::staged::{pack_word, put_argument_text, put_slice, split_argument};
 use arg_records::{frame_id, frame_stamp};
-use nibble_pack::{Packed, pack_signed, pack_unsigned};
+use nibble_pack::{Packed, pack_unsigned};
 use printf_grammar::{ArgType, MAX_ARGUMENTS};
 
 /// What stands where no number is yet.
@@ -25,27 +26,20 @@ const NOTHING: Packed = Packed {
     len: 0,
 };
 
-/// The number of an argument of the type, whose word this is.
-fn pack_word(kind: ArgType, word: u64) -> Packed
-    requires { IsInteger kind }
-    ensures { PacksWord kind word result }
-{
-    match kind {
-        ArgType::UInt | ArgType::ULong => pack_unsigned(word),
-        _ => pack_signed(word.cast_signed()),
-    }
-}
-
-/// The numbers of the words, in order. Those behind them are nothing.
+/// The numbers of the arguments whose words these are, in order. Those behind them are nothing.
 fn pack_words(types: &[ArgType], words: &[u64]) -> [Packed; MAX_ARGUMENTS]
-    requires integers { AreIntegers types.now }
+    requires words { (args : List Value) × AreWordsOf types.now args words.now }
     requires few { length types.now ≤ MAX_ARGUMENTS }
-    requires many { length words.now ≡ length types.now }
-    ensures { PackWords types.now words.now (take (length types.now) result) }
+    ensures packs { (args : List Value) → AreWordsOf types.now args words.now
+        → PacksArguments types.now args (packed_numbers (take (length types.now) result)) }
+    ensures whole { AllByRecursion IsWhole (take (length types.now) result) }
 {
     let mut numbers = [NOTHING; MAX_ARGUMENTS];
+    let mut rest = words;
     for (place, kind) in types.iter().enumerate() {
-        numbers[place] = pack_word(*kind, words[place]);
+        let (argument, more) = split_argument(*kind, rest);
+        numbers[place] = pack_word(*kind, argument[0]);
+        rest = more;
     }
     numbers
 }
@@ -57,9 +51,7 @@ fn put_number(number: &Packed, body: &mut [u8], at: usize) -> usize
     ensures written { body.new ≡ with_words body.old at (take number.now.len number.now.bytes) }
     ensures end { result ≡ at + number.now.len }
 {
-    let end = at + number.len;
-    body[at..end].copy_from_slice(&number.bytes[..number.len]);
-    end
+    put_slice(&number.bytes[..number.len], body, at)
 }
 
 /// Writes the codes of the id and of the step, and the two.
@@ -112,10 +104,27 @@ fn put_numbers(numbers: &[Packed], body: &mut [u8], at: usize) -> usize
     end
 }
 
+/// Writes the texts of the arguments whose words these are.
+fn put_texts(types: &[ArgType], words: &[u64], body: &mut [u8], at: usize) -> usize
+    requires room { (args : List Value) × AreWordsOf types.now args words.now
+        × (at + length (flat_map text_of args) ≤ length body.old) }
+    ensures written { (args : List Value) → AreWordsOf types.now args words.now
+        → body.new ≡ with_words body.old at (flat_map text_of args) }
+    ensures end { (args : List Value) → AreWordsOf types.now args words.now
+        → result ≡ at + length (flat_map text_of args) }
+{
+    let mut end = at;
+    let mut rest = words;
+    for kind in types {
+        let (argument, more) = split_argument(*kind, rest);
+        end = put_argument_text(*kind, argument, body, end);
+        rest = more;
+    }
+    end
+}
+
 /// Writes the record of a call at a place, and answers the place behind it. Its step counts from
 /// `before`. The frame is the call's, and the types are those that its message takes.
-///
-/// For now no type is that of a text.
 pub fn put_record(
     frame: &[u64],
     types: &[ArgType],
@@ -124,23 +133,25 @@ pub fn put_record(
     at: usize,
 ) -> usize
     requires frame { IsFrameSince types.now before frame.now }
-    requires integers { AreIntegers types.now }
     requires few { length types.now ≤ MAX_ARGUMENTS }
     requires room { at + 8192 ≤ length body.old }
 
     // All bytes but the record's stay.
-    ensures written { (id stamp : ℕ) (args : List Value) → Fits args types.now → frame.now ≡ Frame id stamp args
+    ensures written { (id stamp : ℕ) (args : List Value) → Fits args types.now → All HoldsBytes args
+        → frame.now ≡ Frame id stamp args
         → (bytes : List ℕ)
         × RecordBytes types.now id stamp before args bytes
+        × (length bytes ≤ record_room types.now args)
         × (body.new ≡ take at body.old ++ bytes ++ drop (at + length bytes) body.old)
         × (result ≡ at + length bytes) }
-    ensures bound { result ≤ at + record_room types.now }
-    ensures within { (at < result) × (result ≤ at + 555) }
+    ensures within { (at < result) × (result ≤ at + (27 + 8 * length frame.now)) }
 {
-    let numbers = pack_words(types, &frame[2..]);
+    let words = &frame[2..];
+    let numbers = pack_words(types, words);
     let numbers = &numbers[..types.len()];
     let step = frame_stamp(frame) - before;
     let end = put_head(frame_id(frame), step, body, at);
     let end = put_codes(numbers, body, end);
-    put_numbers(numbers, body, end)
+    let end = put_numbers(numbers, body, end);
+    put_texts(types, words, body, end)
 }

@@ -36,11 +36,11 @@ same_numbers k m n r q m_fits n_fits e =
 
 -- ---- heads
 
-fragment_nested : (first count : ℕ) (entries back : List ℕ) → fragment_head_bytes first count ++ entries ++ back ≡ 1 ∷ (le_bytes 4 first ++ (le_bytes 2 count ++ (entries ++ back)))
+pub fragment_nested : (first count : ℕ) (entries back : List ℕ) → fragment_head_bytes first count ++ entries ++ back ≡ 1 ∷ (le_bytes 4 first ++ (le_bytes 2 count ++ (entries ++ back)))
 fragment_nested first count entries back =
     append_assoc (1 ∷ le_bytes 4 first ++ le_bytes 2 count) entries back ∙ append_assoc (1 ∷ le_bytes 4 first) (le_bytes 2 count) (entries ++ back)
 
-extent_nested : (writer len : ℕ) (body back : List ℕ) → extent_head_bytes writer len ++ body ++ back ≡ 2 ∷ writer ∷ (le_bytes 4 len ++ (body ++ back))
+pub extent_nested : (writer len : ℕ) (body back : List ℕ) → extent_head_bytes writer len ++ body ++ back ≡ 2 ∷ writer ∷ (le_bytes 4 len ++ (body ++ back))
 extent_nested writer len body back = append_assoc (2 ∷ writer ∷ le_bytes 4 len) body back
 
 -- ---- tags

@@ -13,7 +13,7 @@ use Rattle.checkpoint_io.proofs.BlockLaws.{le_length, same_numbers, one_block}
 
 -- ---- headers
 
-header_nested : (header : Header) (back : List ℕ) → header_bytes header ++ back ≡ codes "NLOG" ++ (1 ∷ header.writers ∷ (le_bytes 8 header.clock.tick ++ (le_bytes 8 header.clock.nanos ++ (le_bytes 8 header.clock.rate ++ back))))
+pub header_nested : (header : Header) (back : List ℕ) → header_bytes header ++ back ≡ codes "NLOG" ++ (1 ∷ header.writers ∷ (le_bytes 8 header.clock.tick ++ (le_bytes 8 header.clock.nanos ++ (le_bytes 8 header.clock.rate ++ back))))
 header_nested header back =
     let magic : List ℕ = codes "NLOG" ++ 1 ∷ header.writers ∷ [] in
     append_assoc (magic ++ le_bytes 8 header.clock.tick ++ le_bytes 8 header.clock.nanos) (le_bytes 8 header.clock.rate) back
@@ -99,7 +99,7 @@ file_goes_on header blocks block bytes spelled file is = record {
 
 -- ---- fronts
 
-begins_apart : (bytes : List ℕ) (header : Header) (blocks : List Block) (count : ℕ) → (b : BeginsWith bytes header blocks count) → bytes ≡ header_bytes header ++ (b.file.block_bytes ++ b.rest)
+pub begins_apart : (bytes : List ℕ) (header : Header) (blocks : List Block) (count : ℕ) → (b : BeginsWith bytes header blocks count) → bytes ≡ header_bytes header ++ (b.file.block_bytes ++ b.rest)
 begins_apart bytes header blocks count b = b.whole ∙ ap (λ (f : List ℕ). f ++ b.rest) b.file.joined ∙ append_assoc (header_bytes header) b.file.block_bytes b.rest
 
 -- a log behind which no right block stands is the front

@@ -2,5 +2,16 @@ pub mod BlockLaws
 pub mod FrontLaws
 pub mod ValidityLaws
 pub mod LogLaws
+mod ReadingLaws
+mod ReadingForms
+mod BreakLaws
+mod StepLaws
+mod EntryLaws
+mod FragmentLaws
+mod WorkedBreaks
+mod StartLaws
+mod WriterLaws
+mod NextLaws
+mod ReaderLaws
 pub mod Worked
 pub mod LimitLaws

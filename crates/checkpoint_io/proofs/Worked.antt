@@ -20,7 +20,7 @@ entry_spelled : SpellsEntry row_entry_bytes row_message
 unfolding le_bytes
 entry_spelled = record { spelled = refl; line_fits = lit< tt; formed = formed }
 
-fragment_spelled : SpellsFragment 0 (row_message ∷ []) row_fragment_bytes
+pub fragment_spelled : SpellsFragment 0 (row_message ∷ []) row_fragment_bytes
 unfolding le_bytes
 fragment_spelled = record {
   entries = row_entry_bytes;

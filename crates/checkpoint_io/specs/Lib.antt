@@ -2,4 +2,11 @@ pub mod Blocks
 pub mod Validity
 pub mod Fronts
 pub mod Logs
+pub mod Causes
+pub mod Reading
+pub mod Places
+pub mod Entries
+pub mod Writers
+pub mod NextBlocks
+pub mod Readers
 pub mod Rows

@@ -13,15 +13,18 @@ pub const MAX_FRAGMENT_MESSAGES: u16 = 16;
 /// The most bytes of an extent's body.
 pub const MAX_BODY: u32 = 65_536;
 
-const MAGIC: &[u8] = b"NLOG";
+/// The most bytes of a log that are read.
+pub const MAX_LOG: u64 = 134_217_728;
 
-const VERSION: u8 = 1;
+pub(crate) const MAGIC: &[u8] = b"NLOG";
 
-const FRAGMENT: u8 = 1;
+pub(crate) const VERSION: u8 = 1;
 
-const EXTENT: u8 = 2;
+pub(crate) const FRAGMENT: u8 = 1;
 
-const CLOSE: u8 = 4;
+pub(crate) const EXTENT: u8 = 2;
+
+pub(crate) const CLOSE: u8 = 4;
 
 // Copies the bytes to this place, and gives the place after them.
 fn put(into: &mut [u8], at: usize, bytes: &[u8]) -> usize

@@ -1,6 +1,6 @@
 //! Laws over the definitions of logs. The functions do nothing: what they ensure is proved of the definitions.
 
-ghost use Rattle.std.specs.Prelude.{◌≡◌, ◌≢◌, ℕ, ◌+◌, ◌<◌, ◌≤◌, ◌^◌, List, [], ◌∷◌, ◌++◌, length, map};
+ghost use Rattle.std.specs.Prelude.{◌≡◌, ◌≢◌, ◌⊎◌, ℕ, ◌+◌, ◌<◌, ◌≤◌, ◌^◌, List, [], ◌∷◌, ◌++◌, length, map, take, slice_set};
 ghost use Rattle.std.specs.List.{AllByRecursion, range_with_len};
 ghost use Rattle.log_dictionary.specs.declared.clock.Clock.{Clock};
 ghost use Rattle.log_dictionary.specs.declared.message.Message.{Message};
@@ -9,10 +9,13 @@ ghost use Rattle.log_dictionary.specs.BinaryEntries.{SpellsEntry};
 ghost use Rattle.arg_records.specs.declared.call.Call.{Call};
 ghost use Rattle.buffer_extent.specs.Bodies.{SpellsRecords};
 ghost use Rattle.arg_records.specs.Calls.{IsCall, NeverFalls};
+ghost use Rattle.checkpoint_io.specs.declared.cause.Cause.{Cause};
+ghost use Rattle.checkpoint_io.specs.declared.cause.Cause.TheVariants.{BadMagic, BadVersion, BadHeader, Cut, BadBlock, FragmentOrder, BadEntry, UnknownWriter, AfterClose, BadLength};
 ghost use Rattle.checkpoint_io.specs.declared.header.Header.{Header};
 ghost use Rattle.checkpoint_io.specs.Blocks.{Block, Fragment, Extent, Close, IsFragment, messages_of, header_bytes, fragment_head_bytes, extent_head_bytes, close_bytes, SpellsEntries, SpellsFragment, SpellsExtent, SpellsClose, SpellsBlock, FileOf};
-ghost use Rattle.checkpoint_io.specs.Fronts.{Front, HasNoHeader};
+ghost use Rattle.checkpoint_io.specs.Fronts.{Front, HasNoHeader, Break};
 ghost use Rattle.checkpoint_io.specs.Logs.{ids_used, new_messages, AreFragments, HasAtMost, IsLaidOut, LogOf};
+ghost use Rattle.checkpoint_io.specs.Reading.{Outcome, found, ReadsHeader, ReadsBlock};
 ghost use Rattle.checkpoint_io.specs.Rows.{row_header, row_blocks, row_bytes, row_record, full_record, mixed_blocks};
 ghost use Rattle.arg_records.specs.Rows.{full_message};
 ghost use Rattle.log_dictionary.specs.Rows.{row_message};
@@ -347,4 +350,65 @@ pub fn logs_tell_of_their_run()
         (batch : ℕ) (header : Header) (blocks : List Block) (count : ℕ)
         → LogOf bytes taken dictionary clock batch → Front bytes header blocks count
         → IsLaidOut dictionary batch [] blocks }
+{}
+
+/// Read from left to right, bytes give one header or one cause, and behind the same blocks they give
+/// one block or one cause.
+pub fn reading_gives_one_outcome()
+    ensures header { (bytes : List ℕ) (a b : Outcome Header) → ReadsHeader bytes a → ReadsHeader bytes b
+        → a ≡ b }
+    ensures block { (header : Header) (before : List Block) (bytes : List ℕ) (a b : Outcome Block)
+        → ReadsBlock header before bytes a → ReadsBlock header before bytes b
+        → a ≡ b }
+{}
+
+/// A right header is read as what it is, and so is a right block.
+pub fn right_blocks_are_read()
+    ensures header { (header : Header) (rest : List ℕ) → IsHeader header
+        → ReadsHeader (header_bytes header ++ rest) (found header rest) }
+    ensures block { (header : Header) (before : List Block) (block : Block) (front rest : List ℕ)
+        → IsRightAfter header before block
+        → SpellsBlock (messages_of before) header.clock.tick block front
+        → ReadsBlock header before (front ++ rest) (found block rest) }
+{}
+
+/// What is read of a file is right: its bytes are the block's, and it keeps the rules.
+pub fn what_is_read_is_right()
+    ensures { (header : Header) (before : List Block) (bytes : List ℕ) (block : Block) (rest : List ℕ)
+        → Valid header before
+        → ReadsBlock header before bytes (found block rest)
+        → (front : List ℕ) × (bytes ≡ front ++ rest)
+        × SpellsBlock (messages_of before) header.clock.tick block front
+        × IsRightAfter header before block }
+{}
+
+/// A file is broken at most at one offset, where its front ends, and from one cause. A file that is a
+/// log from its first byte to its last isn't broken.
+pub fn files_break_at_the_end_of_their_front()
+    ensures front { (bytes : List ℕ) (offset : ℕ) (cause : Cause) → Break bytes offset cause
+        → (HasNoHeader bytes × (offset ≡ 0))
+        ⊎ ((header : Header) × (blocks : List Block) × Front bytes header blocks offset) }
+    ensures one { (bytes : List ℕ) (a b : ℕ) (cause other : Cause)
+        → Break bytes a cause
+        → Break bytes b other
+        → (a ≡ b) × (cause ≡ other) }
+    ensures whole { (header : Header) (blocks : List Block) (bytes : List ℕ) (offset : ℕ) (cause : Cause)
+        → FileOf header blocks bytes
+        → Valid header blocks
+        → ¬ (Break bytes offset cause) }
+{}
+
+/// The worked log with one byte changed, cut off, or with a block behind its close mark.
+pub fn worked_breaks()
+    ensures no_bytes { Break [] 0 Cut }
+    ensures other_magic { Break (slice_set row_bytes 0 0) 0 BadMagic }
+    ensures other_version { Break (slice_set row_bytes 4 9) 0 BadVersion }
+    ensures no_writers { Break (slice_set row_bytes 5 0) 0 BadHeader }
+    ensures other_tag { Break (slice_set row_bytes 30 7) 30 BadBlock }
+    ensures other_first_id { Break (slice_set row_bytes 31 1) 30 FragmentOrder }
+    ensures no_messages { Break (slice_set row_bytes 35 0) 30 BadLength }
+    ensures other_severity { Break (slice_set row_bytes 37 5) 30 BadEntry }
+    ensures other_writer { Break (slice_set row_bytes 57 1) 56 UnknownWriter }
+    ensures cut_at_60 { Break (take 60 row_bytes) 56 Cut }
+    ensures closed_twice { Break (row_bytes ++ 4 ∷ 0 ∷ []) 68 AfterClose }
 {}

@@ -1,14 +1,29 @@
 //! Log files: a header, and blocks behind it.
 #![tactic(auto)]
 
+mod block;
+mod block_reading;
+mod cause;
+mod fault;
+mod fragment_reading;
 mod header;
+mod header_reading;
 mod heads;
 pub mod laws;
+mod pending;
+mod reader;
+mod steps;
+mod writers;
 
+pub use block::Block;
+pub use cause::Cause;
+pub use fault::BlockFault;
 pub use header::Header;
 pub use heads::{
-    MAX_BODY, MAX_FRAGMENT_MESSAGES, put_close, put_extent_head, put_fragment_head, put_header,
+    MAX_BODY, MAX_FRAGMENT_MESSAGES, MAX_LOG, put_close, put_extent_head, put_fragment_head,
+    put_header,
 };
+pub use reader::Reader;
 
 #[cfg(test)]
 mod tests;

@@ -34,8 +34,8 @@ impl Form {
         }
     }
 
-    /// What `clap` is told of the words after the command. How many names there are, and what they and the level are, is
-    /// judged once they are read.
+    /// What `clap` is told of the words after the command. How many names there are, and what they and the level are,
+    /// is judged once they are read.
     fn reader<'a>(self, alloc: Global) -> Result<Command<'a>, AllocError>
         ensures { IfOk result (λ command. app_of command ≡ app (has_level self)) }
     {

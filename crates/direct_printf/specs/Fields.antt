@@ -1,9 +1,11 @@
 -- What printf writes for a format and its arguments (C11 7.21.6.1, paragraphs 4 to 8), as functions of whole values.
-use Rattle.std.specs.Prelude.{ℕ, ◌+◌, ◌-◌, ◌%◌, ◌^◌, Bool, true, false, ◌&&◌, ◌||◌, if◌then◌else◌, ◌==◌, ℤ, pos, unsigned_abs, List, [], ◌∷◌, ◌++◌, length, take, drop, replicate, slice_index_or, slice_range, Option, Some, None, is_none, codes}
+use Rattle.std.specs.Prelude.{ℕ, ◌+◌, ◌-◌, ◌%◌, ◌^◌, Bool, true, false, ◌&&◌, ◌||◌, if◌then◌else◌, ◌==◌, ℤ, pos, unsigned_abs, List, []}
+use Rattle.std.specs.Prelude.{◌∷◌, ◌++◌, length, take, drop, replicate, slice_index_or, slice_range, Option, Some, None, is_none, codes}
 use Rattle.std.specs.Option.{unwrap_or}
 use Rattle.std.specs.Int.{w8, w16, int_wrap, int_rem_euclid, is_negative}
 use Rattle.std.specs.Fmt.{digits}
 use Rattle.printf_grammar.specs.Pieces.{Parsed}
+use Rattle.printf_grammar.specs.Types.{text_of}
 use Rattle.printf_grammar.specs.declared.piece.Piece.{Piece}
 use Rattle.printf_grammar.specs.declared.piece.Piece.TheVariants as piece
 use Rattle.printf_grammar.specs.declared.piece.Spec.{Spec}
@@ -33,12 +35,6 @@ abbrev pub unsigned_of : Value → ℕ
 unsigned_of (value.Signed z) = 0
 unsigned_of (value.Unsigned n) = n
 unsigned_of (value.Text bytes) = 0
-
--- an argument as a text; empty where it is of another kind
-abbrev pub text_of : Value → List ℕ
-text_of (value.Signed z) = []
-text_of (value.Unsigned n) = []
-text_of (value.Text bytes) = bytes
 
 -- the value converted to signed char for `hh` and to short for `h`, in two's complement (paragraph 7)
 abbrev pub wrap_signed : Length → ℤ → ℤ

@@ -35,5 +35,6 @@ unfolding Direct
 Direct-sorted clock calls h = ap (flat_map (Line clock)) (in_order-sorted calls h)
 
 -- a later call of the same writer, whose stamp is no smaller, does not come before this one
-pub comes_before-later : (call next : LogCall) → call.stamp ≤ next.stamp → call.writer ≡ next.writer → call.ordinal ≤ next.ordinal → comes_before next call ≡ false
+pub comes_before-later : (call next : LogCall) → call.stamp ≤ next.stamp → call.writer ≡ next.writer → call.ordinal ≤ next.ordinal
+    → comes_before next call ≡ false
 comes_before-later call next stamps writers ordinals = grind (arith, nat_tests)

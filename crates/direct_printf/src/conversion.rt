@@ -1,8 +1,8 @@
 //! Each conversion's text.
 
 ghost use Rattle.std.specs.Prelude.{◌≡◌, ◌++◌, [], OnOk, OnErr, take, vec_len, replicate};
-ghost use Rattle.printf_grammar.specs.Types.{value_of};
-ghost use Rattle.direct_printf.specs.Fields.{padded, converted, signed_of, unsigned_of, text_of, wrap_signed, wrap_unsigned, sign_of, signed_number, unsigned_number, octal_front, octal_number, hexadecimal_front, hexadecimal_number, pointer, cut};
+ghost use Rattle.printf_grammar.specs.Types.{value_of, text_of};
+ghost use Rattle.direct_printf.specs.Fields.{padded, converted, signed_of, unsigned_of, wrap_signed, wrap_unsigned, sign_of, signed_number, unsigned_number, octal_front, octal_number, hexadecimal_front, hexadecimal_number, pointer, cut};
 
 use crate::digits::{MAX_DIGITS, number, write_digits};
 use crate::padding::{Padding, Parts, append_padded};

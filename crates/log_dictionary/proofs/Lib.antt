@@ -2,6 +2,7 @@ pub mod Decimals
 pub mod NumberLemmas
 pub mod NumberLaws
 pub mod TextLemmas
+pub mod TextRuns
 pub mod TextLaws
 pub mod FieldLemmas
 pub mod Splits

@@ -9,6 +9,7 @@ use Rattle.log_dictionary.specs.Texts.SpellsByte.{itself, quotation_mark, backsl
 use Rattle.log_dictionary.specs.Texts.TextPlace.{outside, behind_backslash, behind_x, behind_digit}
 use Rattle.log_dictionary.specs.Texts.TextStep.{ends, goes_on, gives, breaks}
 use Rattle.log_dictionary.proofs.TextLemmas.{follow_step, text_nil, with_bytes, with_no_bytes}
+use Rattle.log_dictionary.proofs.TextRuns.{plain_step, front_bytes}
 
 -- ---- the tests of bytes
 
@@ -24,14 +25,11 @@ hexadecimal_test b is = grind (arith, nat_tests)
 test_hexadecimal : (b : ℕ) → is_hexadecimal b ≡ true → IsAsciiHexdigit b
 test_hexadecimal b is = grind (arith, nat_tests)
 
-plain_step : (b : ℕ) → IsPlain b → text_step outside b ≡ gives b
-plain_step b is = grind (arith, nat_tests)
-
 -- ---- what is spelled is read
 
 byte_read : (unit : List ℕ) (b : ℕ) → SpellsByte unit b → (r : List ℕ) → text_from outside (unit ++ r) ≡ with_front b (text_from outside r)
 unfolding text_from
-byte_read unit b (itself plain e) r = ap (λ (u : List ℕ). text_from outside (u ++ r)) e ∙ follow_step outside b r (gives b) (plain_step b plain)
+byte_read unit b (itself plain e) r = ap (λ (u : List ℕ). text_from outside (u ++ r)) e ∙ follow_step outside b r (gives b) (plain_step b (plain_test b plain))
 byte_read unit b (quotation_mark e is) r = ap (λ (u : List ℕ). text_from outside (u ++ r)) e ∙ ap (λ (n : ℕ). with_front n (text_from outside r)) (sym is)
 byte_read unit b (backslash e is) r = ap (λ (u : List ℕ). text_from outside (u ++ r)) e ∙ ap (λ (n : ℕ). with_front n (text_from outside r)) (sym is)
 byte_read unit b (line_feed e is) r = ap (λ (u : List ℕ). text_from outside (u ++ r)) e ∙ ap (λ (n : ℕ). with_front n (text_from outside r)) (sym is)
@@ -43,10 +41,6 @@ byte_read unit b (hexadecimal high low h l e is) r =
     ∙ follow_step behind_x high (low ∷ r) (goes_on (behind_digit (digit_value high))) first
     ∙ follow_step (behind_digit (digit_value high)) low r (gives (16 * digit_value high + digit_value low)) second
     ∙ ap (λ (n : ℕ). with_front n (text_from outside r)) (sym is)
-
-front_bytes : (b : ℕ) (value : List ℕ) (text : Option (List ℕ × List ℕ)) → with_front b (with_bytes value text) ≡ with_bytes (b ∷ value) text
-front_bytes b value None = refl
-front_bytes b value (Some text) = refl
 
 -- a spelling is read as the bytes that it spells
 pub spelled_read : (value spelled : List ℕ) → SpellsText spelled value → (r : List ℕ) → text_from outside (spelled ++ r) ≡ with_bytes value (text_from outside r)

@@ -1,11 +1,8 @@
 -- Texts that are read byte by byte.
-use Rattle.std.proofs.Common.{◌≡◌, ◌≢◌, ℕ, ◌+◌, ◌*◌, ◌≤◌, ◌<◌, true, false, cond, eqb, ◌||◌, List, [], ◌∷◌, ◌++◌, length, take, subst, ◌-◌, Bool, Option, Some, None, refl, sym, ap, ◌∙◌, append_assoc, append-nil, arith, length-append}
+use Rattle.std.proofs.Common.{◌≡◌, ◌≢◌, ℕ, ◌+◌, ◌*◌, ◌≤◌, ◌<◌, true, false, cond, eqb, List, [], ◌∷◌, ◌++◌, length, Bool, Option, Some, None, refl, sym, ap, ◌∙◌, append_assoc, append-nil, arith, length-append}
 use Rattle.std.specs.Char.{digit_value}
-use Rattle.std.proofs.Math.Bool.{or-false}
 use Rattle.std.proofs.lemmas.Bool.{eqb-true, false≢true}
-use Rattle.std.proofs.lemmas.List.{take_at}
 use Rattle.std.proofs.lemmas.Option.{some_pair_parts}
-use Rattle.std.proofs.lemmas.List.Folds.{list_any-append}
 use Rattle.log_dictionary.specs.Texts.{TextPlace, TextStep, text_step, is_plain, is_hexadecimal, unit_from, text_from, with_front, unescaped, has_nul, IsSpelled}
 use Rattle.log_dictionary.specs.Texts.TextPlace.{outside, behind_backslash, behind_x, behind_digit}
 use Rattle.log_dictionary.specs.Texts.TextStep.{ends, goes_on, gives, breaks}
@@ -232,44 +229,6 @@ walk_ends spelled rest value whole walked none = more (text_from outside (rest +
       let same = some_pair_parts (value ++ text.0) (unescaped spelled) text.1 [] e in
       let last : [] ≡ text.0 = nothing_more outside rest text.0 none (at ∙ ap (λ (r : List ℕ). Some (text.0, r)) same.1) in
       sym (append-nil value) ∙ ap (λ (l : List ℕ). value ++ l) last ∙ same.0
-
--- ---- the loops
-
--- the front of a body that was read, as a loop keeps it
-pub record IsReadText (body rest : List ℕ) (len : ℕ) (nul : Bool) : Type 0 where
-  pub value : List ℕ
-  pub walked : IsWalked body rest value
-  pub len_is : len ≡ length value
-  pub nul_is : nul ≡ has_nul value
-  pub short : len + length rest ≤ length body
-
-pub read_begins : (body : List ℕ) → IsReadText body body 0 false
-read_begins body = record { value = []; walked = walk_begins body; len_is = refl; nul_is = refl; short = omega arith }
-
-pub read_goes_on : (body rest after : List ℕ) (len byte : ℕ) (nul : Bool) → IsReadText body rest len nul → unit_from outside rest ≡ Some (byte, after) → IsReadText body after (len + 1) (nul || eqb byte 0)
-read_goes_on body rest after len byte nul read e = record {
-  value = read.value ++ byte ∷ [];
-  walked = walk_goes_on body rest read.value after byte read.walked e;
-  len_is = omega (arith, read.len_is, length-append read.value (byte ∷ []));
-  nul_is = ap (λ (t : Bool). t || eqb byte 0) read.nul_is ∙ sym (list_any-append (λ b. eqb b 0) read.value (byte ∷ []) ∙ ap (λ (t : Bool). has_nul read.value || t) (or-false (eqb byte 0)));
-  short = omega (arith, read.short, unit_shorter rest after byte e);
-}
-
--- the bytes before the rest are the front
-front_is : (body rest value : List ℕ) (walked : IsWalked body rest value) → take (length body - length rest) body ≡ walked.front
-front_is body rest value walked =
-    let at : length body - length rest ≡ length walked.front = omega (arith, ap length walked.joined, length-append walked.front rest) in
-    rw at (ap (take (length walked.front)) walked.joined ∙ take_at walked.front rest (length walked.front) refl)
-
-pub read_is_spelled : (body rest : List ℕ) (len : ℕ) (nul : Bool) → IsReadText body rest len nul → IsSpelled (take (length body - length rest) body) len nul
-read_is_spelled body rest len nul read =
-    let whole = walk_is_spelled body rest read.value read.walked in
-    subst (λ (l : List ℕ). IsSpelled l len nul) (sym (front_is body rest read.value read.walked)) (subst (λ (n : ℕ). IsSpelled read.walked.front n nul) (sym read.len_is) (subst (λ (t : Bool). IsSpelled read.walked.front (length read.value) t) (sym read.nul_is) whole))
-
-pub read_opens : (body rest after : List ℕ) (len : ℕ) (nul : Bool) → IsReadText body rest len nul → rest ≡ 34 ∷ after → ◌≡◌ {A = Option (List ℕ × List ℕ)} (Some (unescaped (take (length body - length rest) body), after)) (text_from outside body)
-read_opens body rest after len nul read mark =
-    let value_is : unescaped (take (length body - length rest) body) ≡ read.value = ap unescaped (front_is body rest read.value read.walked) ∙ walk_spells body rest read.value read.walked in
-    ap (λ (v : List ℕ). Some (v, after)) value_is ∙ sym (walk_opens body after read.value (subst (λ (r : List ℕ). IsWalked body r read.value) mark read.walked))
 
 -- ---- digits
 

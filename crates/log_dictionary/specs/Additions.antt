@@ -37,7 +37,8 @@ SpellsNoneNew messages line = (id : ℕ) (message : Message) → SpellsMessage l
 abbrev pub SpellsOutOfOrder : List Message → List ℕ → Type 0
 SpellsOutOfOrder messages line = (id : ℕ) × (message : Message) × SpellsNew messages line id message × (id ≢ length messages)
 
--- what reading a message line made of the messages: it spells a new one with the next id, which goes last, or they stay as they are, since they are full, the line spells none that is new, its id isn't the next one, or memory ran out; the first of these causes counts
+-- what reading a message line made of the messages: it spells a new one with the next id, which goes last, or they stay as they are,
+-- since they are full, the line spells none that is new, its id isn't the next one, or memory ran out; the first of these causes counts
 abbrev pub ReadsLine : List Message → List ℕ → List Message → Result (Unit {0}) LineFault → Type 0
 ReadsLine before line after (Ok _) = (message : Message) × SpellsNew before line (length before) message × (length before < MAX_MESSAGES) × (after ≡ before ++ message ∷ [])
 ReadsLine before line after (Err TooMany) = (length before ≡ MAX_MESSAGES) × (after ≡ before)

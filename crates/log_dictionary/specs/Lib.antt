@@ -1,6 +1,7 @@
 pub mod Severities
 pub mod Times
 pub mod Texts
+pub mod TextRuns
 pub mod Numbers
 pub mod Fields
 pub mod Messages

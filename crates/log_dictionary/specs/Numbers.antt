@@ -1,5 +1,6 @@
 -- Numbers as fields spell them.
-use Rattle.std.specs.Prelude.{ℕ, zero, suc, ◌+◌, ◌-◌, ◌*◌, ◌^◌, Bool, List, [], ◌∷◌, length, Option, Some, None, ◌==◌, nat_le, nat_lt, ◌&&◌, not, if◌then◌else◌, ℤ, pos, negsuc}
+use Rattle.std.specs.Prelude.{ℕ, zero, suc, ◌+◌, ◌-◌, ◌*◌, ◌^◌, Bool, List, [], ◌∷◌, length, Option, Some, None, ◌==◌, nat_le, nat_lt}
+use Rattle.std.specs.Prelude.{◌&&◌, not, if◌then◌else◌, ℤ, pos, negsuc}
 use Rattle.std.specs.Option.{option_map}
 use Rattle.log_dictionary.specs.declared.numbers.Natural.{Natural}
 use Rattle.log_dictionary.specs.declared.numbers.Natural.TheVariants.{Small, Large}

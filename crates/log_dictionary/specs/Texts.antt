@@ -1,5 +1,6 @@
 -- Texts as they stand between quotation marks.
-use Rattle.std.specs.Prelude.{◌≡◌, ◌≢◌, ℕ, ◌+◌, ◌*◌, ◌≤◌, Bool, List, [], ◌∷◌, ◌++◌, codes, ◌⊎◌, Option, Some, None, ◌==◌, nat_le, nat_lt, ◌&&◌, ◌||◌, not, if◌then◌else◌, length}
+use Rattle.std.specs.Prelude.{◌≡◌, ◌≢◌, ℕ, ◌+◌, ◌*◌, ◌≤◌, Bool, List, [], ◌∷◌, ◌++◌, codes, ◌⊎◌, Option, Some, None, ◌==◌, nat_le, nat_lt}
+use Rattle.std.specs.Prelude.{◌&&◌, ◌||◌, not, if◌then◌else◌, length}
 use Rattle.std.specs.List.{list_any}
 use Rattle.std.specs.Option.{option_map_or}
 use Rattle.std.specs.Char.{digit_value, IsAsciiHexdigit}
@@ -15,7 +16,8 @@ pub data SpellsByte (unit : List ℕ) (b : ℕ) : Type 0 where
   backslash : unit ≡ codes "\\\\" → b ≡ 92 → SpellsByte unit b
   line_feed : unit ≡ codes "\\n" → b ≡ 10 → SpellsByte unit b
   tab : unit ≡ codes "\\t" → b ≡ 9 → SpellsByte unit b
-  hexadecimal : (high low : ℕ) → IsAsciiHexdigit high → IsAsciiHexdigit low → unit ≡ codes "\\x" ++ high ∷ low ∷ [] → b ≡ 16 * digit_value high + digit_value low → SpellsByte unit b
+  hexadecimal : (high low : ℕ) → IsAsciiHexdigit high → IsAsciiHexdigit low → unit ≡ codes "\\x" ++ high ∷ low ∷ []
+      → b ≡ 16 * digit_value high + digit_value low → SpellsByte unit b
 
 -- a text's spelling is the spellings of its bytes, joined
 abbrev pub SpellsText : List ℕ → List ℕ → Type 0

@@ -1,10 +1,13 @@
 //! Texts in quotation marks.
 
-ghost use Rattle.std.specs.Prelude.{◌≡◌, ◌≢◌, ℕ, List, [], ◌∷◌, ◌++◌, length, IfOk, MatchOption};
+ghost use Rattle.std.specs.Prelude.{◌≡◌, ◌≢◌, ◌⊎◌, ℕ, ◌<◌, ◌≤◌, true, false, List, [], ◌∷◌, ◌++◌, length, slice_index, IfOk, IfSome, IfNone, MatchOption, None};
+ghost use Rattle.std.specs.List.{list_all};
 ghost use Rattle.std.specs.Option.{option_map};
 ghost use Rattle.log_dictionary.specs.Texts.{text_at, is_plain, has_nul, hexadecimal_of, unit_from, text_from, unescaped};
+ghost use Rattle.log_dictionary.specs.TextRuns.{ends_run, EndsRun, IsRun, IsEscapedRun, BeginsNoText};
 ghost use Rattle.log_dictionary.specs.Texts.TextPlace.{outside, behind_backslash, behind_x};
 
+use bstr::ByteSlice;
 use printf_grammar::Bytes;
 use std::alloc::{AllocError, Global};
 use std::marker::Model;
@@ -74,17 +77,58 @@ fn split_escape(bytes: &[u8]) -> Option<(u8, &[u8])>
     }
 }
 
-// The byte of a text that stands first, and what follows its spelling. A closing mark is none.
-#[inline]
-#[tactic(auto, unfolding(crate::specs::Texts::unit_from))]
-fn split_byte(bytes: &[u8]) -> Option<(u8, &[u8])>
-    ensures { option_map (λ found. (found.0, found.1.now)) result ≡ unit_from outside bytes.now }
+// What follows the byte, where it stands first.
+fn after_byte(bytes: &[u8], byte: u8) -> Option<&[u8]>
+    ensures { MatchOption result
+        ((rest : List ℕ) → bytes.now ≢ byte ∷ rest)
+        (λ rest. bytes.now ≡ byte ∷ rest.now) }
 {
     match bytes {
-        [b'\\', rest @ ..] => split_escape(rest),
-        [byte, rest @ ..] if is_plain(*byte) => Some((*byte, rest)),
+        [first, rest @ ..] if *first == byte => Some(rest),
         _ => None,
     }
+}
+
+// The number of bytes before the first quotation mark or backslash.
+fn run_len(bytes: &[u8]) -> usize
+    ensures within { result ≤ length bytes.now }
+    ensures before { (k : ℕ) → k < result → ends_run (slice_index bytes.now k) ≡ false }
+    ensures end { result < length bytes.now → ends_run (slice_index bytes.now result) ≡ true }
+{
+    match bytes.find_byteset(b"\"\\") {
+        Some(at) => at,
+        None => bytes.len(),
+    }
+}
+
+fn are_plain(bytes: &[u8]) -> bool
+    ensures { result ≡ list_all is_plain bytes.now }
+{
+    bytes.iter().all(|byte| is_plain(*byte))
+}
+
+// The run that the bytes begin with, and what follows it.
+fn split_run(bytes: &[u8]) -> Option<(&[u8], &[u8])>
+    ensures some { IfSome result (λ parts. IsRun bytes.now parts.0.now parts.1.now) }
+    ensures none { IfNone result (BeginsNoText bytes.now) }
+{
+    let (run, rest) = bytes.split_at(run_len(bytes));
+    if are_plain(run) {
+        return Some((run, rest));
+    }
+    None
+}
+
+// The byte of the escape that stands first, the run behind it, and what follows that.
+fn split_escaped_run(bytes: &[u8]) -> Option<(u8, &[u8], &[u8])>
+    requires { EndsRun bytes.now }
+    ensures some { IfSome result (λ parts. IsEscapedRun bytes.now parts.0 parts.1.now parts.2.now) }
+    ensures none { IfNone result ((unit_from outside bytes.now ≡ None) ⊎ BeginsNoText bytes.now) }
+{
+    let escape = after_byte(bytes, b'\\')?;
+    let (byte, behind) = split_escape(escape)?;
+    let (run, rest) = split_run(behind)?;
+    Some((byte, run, rest))
 }
 
 // The bytes that a text's spelling stands for, of which there are so many.
@@ -93,39 +137,31 @@ fn unescape(alloc: Global, spelled: &[u8], len: usize) -> Result<Vec<u8>, AllocE
     ensures { IfOk result (λ bytes. bytes.items ≡ unescaped spelled.now) }
 {
     let mut bytes = Vec::with_capacity(alloc, len)?;
-    let mut rest = spelled;
-    while let Some((byte, after)) = split_byte(rest) {
+    let Some((run, mut rest)) = split_run(spelled) else {
+        return Ok(bytes);
+    };
+    bytes.extend_from_slice(run)?;
+    while let Some((byte, run, after)) = split_escaped_run(rest) {
         bytes.push(byte)?;
+        bytes.extend_from_slice(run)?;
         rest = after;
     }
     Ok(bytes)
-}
-
-// What follows a quotation mark.
-fn after_mark(bytes: &[u8]) -> Option<&[u8]>
-    ensures { MatchOption result
-        ((rest : List ℕ) → bytes.now ≢ 34 ∷ rest)
-        (λ rest. bytes.now ≡ 34 ∷ rest.now) }
-{
-    match bytes {
-        [b'"', rest @ ..] => Some(rest),
-        _ => None,
-    }
 }
 
 // A text from behind its opening mark, and the bytes behind its closing mark.
 fn split_body(body: &[u8]) -> Option<(SpelledText<'_>, &[u8])>
     ensures { option_map (λ found. (found.0, found.1.now)) result ≡ text_from outside body.now }
 {
-    let mut rest = body;
-    let mut len = 0;
+    let (run, mut rest) = split_run(body)?;
+    let mut len = run.len();
     let mut has_nul = false;
-    while let Some((byte, after)) = split_byte(rest) {
-        len += 1;
+    while let Some((byte, run, after)) = split_escaped_run(rest) {
+        len += 1 + run.len();
         has_nul |= byte == 0;
         rest = after;
     }
-    let Some(after) = after_mark(rest) else {
+    let Some(after) = after_byte(rest, b'"') else {
         return None;
     };
     let spelled = &body[..body.len() - rest.len()];
@@ -141,7 +177,7 @@ fn split_body(body: &[u8]) -> Option<(SpelledText<'_>, &[u8])>
 pub fn split_text(bytes: &[u8]) -> Option<(SpelledText<'_>, &[u8])>
     ensures { option_map (λ found. (found.0, found.1.now)) result ≡ text_at bytes.now }
 {
-    match after_mark(bytes) {
+    match after_byte(bytes, b'"') {
         Some(body) => split_body(body),
         None => None,
     }

@@ -7,7 +7,8 @@ use Rattle.nl_io.specs.Desk.{Desk, Held, OnlyReadFaults, OnlyName, found_in}
 use Rattle.nl_io.specs.Content.{Told}
 use Rattle.nanolog_cli.specs.declared.refusal.Cause.{Cause}
 use Rattle.nanolog_cli.specs.declared.refusal.Cause.TheVariants.{Trace, NotYet}
-use Rattle.nanolog_cli.specs.Commands.{Command, Direct, Replay, Decompress, input_name, output_name}
+use Rattle.cli_words.specs.Commands.{Command, Direct, Replay, Decompress}
+use Rattle.nanolog_cli.specs.CommandFiles.{input_name, output_name}
 use Rattle.nanolog_cli.specs.Endings.{Ending, Done, Usage, Absent, ReadFault, Refused, WriteFault, NoMemory}
 use Rattle.nanolog_cli.specs.Inputs.{input_form, input_refused}
 use Rattle.nanolog_cli.specs.Outcomes.{Scene, Holds, HasText, Prints, PrintsText, LosesLog, IsUnread, ReadsNothing, LacksMemory, Ends}
@@ -44,12 +45,12 @@ log_stays log old new only = record {
 
 text_stays : (command : Command) (old new : Desk) (text : List ℕ) → HasText command old new text → Stays (output_name command) old new
 text_stays (Direct trace) old new text made = all_stays None old new made.3
-text_stays (Replay trace log) old new text made = log_stays log old new made.2.only
+text_stays (Replay trace log level) old new text made = log_stays log old new made.2.only
 text_stays (Decompress log) old new text made = all_stays None old new made.1
 
 lost_stays : (command : Command) (old new : Scene) (name : List ℕ) → LosesLog command old new name → Stays (output_name command) old.desk new.desk
 lost_stays (Direct trace) old new name lost = absurd lost
-lost_stays (Replay trace log) old new name lost = log_stays log old.desk new.desk lost.1.2.only
+lost_stays (Replay trace log level) old new name lost = log_stays log old.desk new.desk lost.1.2.only
 lost_stays (Decompress log) old new name lost = absurd lost
 
 unread_stays : (refused : List ℕ → ℕ → Cause → Type 0) (input : List ℕ) (log : Option (List ℕ)) (old new : Desk) (ending : Ending) → IsUnread refused input old new ending → Stays log old new
@@ -69,7 +70,7 @@ data Way (command : Command) (old new : Scene) (ending : Ending) : Type 0 where
 
 memory_way : (command : Command) (old new : Scene) → LacksMemory command old new → Way command old new NoMemory
 memory_way (Direct trace) old new lacks = elim lacks [ inl none ↦ gave_nothing none | inr part ↦ gave_text part ]
-memory_way (Replay trace log) old new lacks = gave_nothing lacks
+memory_way (Replay trace log level) old new lacks = gave_nothing lacks
 memory_way (Decompress log) old new lacks = gave_nothing lacks
 
 way : (command : Command) (old new : Scene) (ending : Ending) → Ends command old new ending → Way command old new ending
@@ -99,22 +100,22 @@ made_stays command old new ending ends = (stays command old new ending (way comm
 
 text_reads : (command : Command) (old new : Desk) (text : List ℕ) → HasText command old new text → new.read_faults ≡ old.read_faults
 text_reads (Direct trace) old new text made = ap (λ (d : Desk). d.read_faults) made.3
-text_reads (Replay trace log) old new text made = made.2.only.read_faults
+text_reads (Replay trace log level) old new text made = made.2.only.read_faults
 text_reads (Decompress log) old new text made = ap (λ (d : Desk). d.read_faults) made.1
 
 text_writes : (command : Command) (old new : Desk) (text : List ℕ) → HasText command old new text → new.write_faults ≡ old.write_faults
 text_writes (Direct trace) old new text made = ap (λ (d : Desk). d.write_faults) made.3
-text_writes (Replay trace log) old new text made = made.2.counted
+text_writes (Replay trace log level) old new text made = made.2.counted
 text_writes (Decompress log) old new text made = ap (λ (d : Desk). d.write_faults) made.1
 
 lost_reads : (command : Command) (old new : Scene) (name : List ℕ) → LosesLog command old new name → new.desk.read_faults ≡ old.desk.read_faults
 lost_reads (Direct trace) old new name lost = absurd lost
-lost_reads (Replay trace log) old new name lost = lost.1.2.only.read_faults
+lost_reads (Replay trace log level) old new name lost = lost.1.2.only.read_faults
 lost_reads (Decompress log) old new name lost = absurd lost
 
 lost_rose : (command : Command) (old new : Scene) (name : List ℕ) → LosesLog command old new name → Rose old.desk.write_faults new.desk.write_faults
 lost_rose (Direct trace) old new name lost = absurd lost
-lost_rose (Replay trace log) old new name lost = lost.1.2.failed
+lost_rose (Replay trace log level) old new name lost = lost.1.2.failed
 lost_rose (Decompress log) old new name lost = absurd lost
 
 unread_reads : (refused : List ℕ → ℕ → Cause → Type 0) (input : List ℕ) (old new : Desk) (ending : Ending) → IsUnread refused input old new ending → (ending ≡ ReadFault input) ⊎ (new.read_faults ≡ old.read_faults)
@@ -182,8 +183,8 @@ not_such (Some names) held name bytes such is has isnt (found, there, so) = isnt
 not_refused : (command : Command) (bytes : List ℕ) (line : ℕ) (cause : Cause) → input_form command bytes → input_refused command bytes line cause → ⊥
 not_refused (Direct trace) bytes line (Trace cause) (run, spelled) breaks = not_broken bytes run line cause spelled breaks
 not_refused (Direct trace) bytes line NotYet formed refused = refused
-not_refused (Replay trace log) bytes line (Trace cause) (run, narrow) breaks = not_broken bytes run line cause narrow.text breaks
-not_refused (Replay trace log) bytes line NotYet formed refused = refused.2 formed
+not_refused (Replay trace log level) bytes line (Trace cause) (run, narrow) breaks = not_broken bytes run line cause narrow.text breaks
+not_refused (Replay trace log level) bytes line NotYet formed refused = refused.2 formed
 not_refused (Decompress log) bytes line (Trace cause) formed refused = refused
 not_refused (Decompress log) bytes line NotYet formed refused = refused.1 formed
 
@@ -235,12 +236,12 @@ such_there (Some names) held name such is none (found, there, so) = absurd cc
 
 text_there : (command : Command) (old new : Desk) (text : List ℕ) (held : Held) → HasText command old new text → old.held ≡ Some held → map.get held (input_name command) ≡ None → ⊥
 text_there (Direct trace) old new text held made is none = such_there old.held held trace (λ bytes. TraceText bytes made.0) is none made.1
-text_there (Replay trace log) old new text held made is none = such_there old.held held trace (λ bytes. NarrowTrace bytes made.0) is none made.1
+text_there (Replay trace log level) old new text held made is none = such_there old.held held trace (λ bytes. NarrowTrace bytes made.0) is none made.1
 text_there (Decompress log) old new text held made is none = not_held old.held held log made.0.bytes is none made.0.was_held
 
 lost_there : (command : Command) (old new : Scene) (name : List ℕ) (held : Held) → LosesLog command old new name → old.desk.held ≡ Some held → map.get held (input_name command) ≡ None → ⊥
 lost_there (Direct trace) old new name held lost is none = absurd lost
-lost_there (Replay trace log) old new name held lost is none = such_there old.desk.held held trace (λ bytes. NarrowTrace bytes lost.1.0) is none lost.1.1
+lost_there (Replay trace log level) old new name held lost is none = such_there old.desk.held held trace (λ bytes. NarrowTrace bytes lost.1.0) is none lost.1.1
 lost_there (Decompress log) old new name held lost is none = absurd lost
 
 unread_absent : (refused : List ℕ → ℕ → Cause → Type 0) (input : List ℕ) (old new : Desk) (ending : Ending) → IsUnread refused input old new ending → (held : Held) → old.held ≡ Some held → map.get held input ≡ None

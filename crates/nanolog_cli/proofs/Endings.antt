@@ -5,14 +5,15 @@ use Rattle.nl_io.specs.Content.{Told, with_end}
 use Rattle.nl_io.specs.Desk.{Desk}
 use Rattle.trace_text.specs.Recordings.{Recording}
 use Rattle.trace_text.specs.Traces.{TraceText}
-use Rattle.nanolog_cli.specs.Commands.{Command, Direct, Replay, Decompress, input_name}
+use Rattle.cli_words.specs.Commands.{Command, Direct, Replay, Decompress}
+use Rattle.nanolog_cli.specs.CommandFiles.{input_name}
 use Rattle.nanolog_cli.specs.declared.refusal.Refusal.{Refusal}
 use Rattle.nanolog_cli.specs.declared.refusal.Refusal.TheVariants as refusals
 use Rattle.nanolog_cli.specs.Endings.{Ending, Done, Usage, Absent, ReadFault, Refused, WriteFault, NoMemory, refusal_ending, ending_of}
 use Rattle.nanolog_cli.specs.Inputs.{input_refused}
 use Rattle.nanolog_cli.specs.Outcomes.{Scene, scene, HeldRun, HasText, Prints, IsUnread, LacksMemory, Ends}
 use Rattle.nanolog_cli.specs.Texts.{direct_text}
-use Rattle.nanolog_cli.proofs.Fronts.{front-first, front-second, with_end-both}
+use Rattle.trace_text.proofs.Fronts.{front-first, front-second, with_end-both}
 
 -- a call answered this refusal
 pub ended_as : {T : Type 0} (r : Result T Refusal) (refusal : Refusal) → IsErrAnd r (λ e. e ≡ refusal) → ending_of r ≡ refusal_ending refusal
@@ -31,7 +32,7 @@ not_done refusals.NoMemory e = cc
 -- memory was wanting before anything was printed
 memory_read : (command : Command) (old : Scene) (desk : Desk) → IsUnread (input_refused command) (input_name command) old.desk desk NoMemory → LacksMemory command old (scene desk old.put old.faults)
 memory_read (Direct trace) old desk unread = inl (unread, refl, refl)
-memory_read (Replay trace log) old desk unread = (unread, refl, refl)
+memory_read (Replay trace log level) old desk unread = (unread, refl, refl)
 memory_read (Decompress log) old desk unread = (unread, refl, refl)
 
 -- nothing was read, and nothing printed

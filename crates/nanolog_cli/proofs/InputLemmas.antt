@@ -1,6 +1,6 @@
 -- What was read is what the name held.
-use Rattle.std.proofs.Common.{◌≡◌, ◌≢◌, ℕ, ◌<◌, ◌≤◌, List, length, take, Option, Some, None, Result, Ok, Err, refl, sym, ap, subst, ◌∙◌}
-use Rattle.std.specs.Prelude.{IfSome, IfOk, IfErr, IsErrOf, Contains, is_some, option_map, ⊤}
+use Rattle.std.proofs.Common.{◌≡◌, ◌≢◌, ℕ, ◌≤◌, List, take, Option, Some, None, Result, Ok, Err, refl, sym, ap, subst, ◌∙◌}
+use Rattle.std.specs.Prelude.{IfSome, IfOk, IfErr, IsErrOf, Contains, is_some, option_map}
 use Rattle.std.specs.FinMap as map
 use Rattle.nl_io.specs.Content.{Told, PutsFront}
 use Rattle.nl_io.specs.Desk.{Desk, Held, OnlyReadFaults, IsReading, Opens, Creates, Finishes, SameButHeld, put_by}
@@ -15,17 +15,11 @@ use Rattle.trace_text.specs.declared.reading.TraceFault.TheVariants as faults
 use Rattle.trace_text.specs.Recordings.{Recording}
 use Rattle.trace_text.specs.Traces.{TraceText}
 use Rattle.trace_text.specs.TraceReading.{IsAnswer}
-use Rattle.nanolog_cli.specs.NarrowTraces.{IsNarrowRun, NarrowTrace}
+use Rattle.nanolog_cli.specs.NarrowTraces.{IsNarrowRun}
 use Rattle.trace_text.proofs.ToldApart.{one_run}
 use Rattle.nl_io.specs.Count.{Rose}
 use Rattle.nanolog_cli.specs.Outcomes.{IsHeld, HoldsFront, HoldsSuch, IsThere, IsUnread}
 use Rattle.nanolog_cli.proofs.Choices.{some_same}
-
-pub is_open : (old : Desk) (name : List ℕ) (id : ℕ) (new : Desk) → Opens old name id new → map.get new.left id ≢ None
-is_open old name id new opened none = none_open (map.get new.left id) opened.content (Opens-content old name id new opened) none
-  where
-    none_open : (o : Option Told) (content : Told) → o ≡ Some content → o ≡ None → ⊥
-    none_open o content e n = cc
 
 -- what is known of a content that the name holds holds of what it holds
 of_held : (held : Option Held) (name : List ℕ) (content : Told) (P : List ℕ → Type 0) → IfSome held (λ h. (bytes : List ℕ) × (map.get h name ≡ Some bytes) × (content ≡ Some bytes)) → IfSome content P

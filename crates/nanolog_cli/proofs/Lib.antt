@@ -5,12 +5,14 @@ pub mod LineLemmas
 pub mod LogLemmas
 pub mod RunLogs
 pub mod RunBytes
+pub mod NarrowRecords
 pub mod RunFrames
 pub mod LogParts
 pub mod LogForms
-pub mod Fronts
 pub mod NarrowLemmas
 pub mod Pieces
 pub mod Endings
 pub mod PrintLemmas
 pub mod EndLaws
+pub mod Levels
+pub mod Sayings

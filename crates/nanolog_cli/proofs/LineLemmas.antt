@@ -1,10 +1,10 @@
 -- The lines of calls, of one writer and of a run.
-use Rattle.std.proofs.Common.{◌≡◌, ℕ, zero, suc, ◌+◌, ◌<◌, ◌≤◌, Bool, true, false, List, [], ◌∷◌, ◌++◌, length, map, take, drop, get_or, take-append-drop, Option, Some, None, refl, sym, ap, subst, ◌∙◌, add-zero, append_assoc, arith}
-use Rattle.std.specs.Prelude.{slice_get, if◌then◌else◌}
+use Rattle.std.proofs.Common.{◌≡◌, ℕ, zero, suc, ◌+◌, ◌<◌, ◌≤◌, Bool, true, false, List, [], ◌∷◌, ◌++◌, length, map, take, drop, get_or, take-append-drop, Option, Some, None, refl, sym, ap, subst, ◌∙◌, add-zero, arith}
+use Rattle.std.specs.Prelude.{slice_get, option_and_then}
 use Rattle.std.specs.List.{flat_map, filter_map, enumerate_from, AllByRecursion, cons_option}
 use Rattle.std.specs.Option.{option_map}
 use Rattle.std.proofs.lemmas.Grind.{flat_map-append}
-use Rattle.std.proofs.lemmas.List.{take_more, append-nil, length-map}
+use Rattle.std.proofs.lemmas.List.{append-nil, length-map}
 use Rattle.std.proofs.lemmas.List.Concat.{flat_map-cons}
 use Rattle.std.proofs.lemmas.List.Elements.{filter_map-append}
 use Rattle.std.proofs.lemmas.Option.{slice_get_within}
@@ -18,6 +18,7 @@ use Rattle.arg_records.specs.Calls.{IsCall, NeverFalls, log_call, writer_calls}
 use Rattle.trace_text.specs.declared.order.Place.{Place}
 use Rattle.trace_text.specs.Recordings.{Recording, IsRecording, calls_of}
 use Rattle.trace_text.specs.Order.{place_of, places_in_order}
+use Rattle.trace_text.proofs.CallPlaces.{IsAtPlace, all_at_places}
 use Rattle.nanolog_cli.specs.Texts.{direct_text, HasCall}
 use Rattle.nanolog_cli.proofs.Choices.{some_same}
 use Rattle.nanolog_cli.proofs.Walks.{seen_next}
@@ -93,59 +94,23 @@ single (w ∷ v ∷ writers) calls one e = absurd (omega arith)
 
 -- ---- the calls of a run
 
-both_have : (P : LogCall → Type 0) (a b : List LogCall) → AllByRecursion P a → AllByRecursion P b → AllByRecursion P (a ++ b)
-both_have P [] b ha hb = hb
-both_have P (x ∷ a) b ha hb = (ha.0, both_have P a b ha.1 hb)
+call_at_ordinal : (run : Recording) (made : LogCall) (calls : List Call) (found : Option Call) → slice_get run.writers made.writer ≡ Some calls → slice_get calls made.ordinal ≡ found
+    → option_and_then (λ call. log_call run.dictionary made.writer (made.ordinal, call)) found ≡ Some made → HasCall run made
+call_at_ordinal run made calls None by at is = absurd cc
+call_at_ordinal run made calls (Some call) by at is = record { calls = calls; call = call; of_writer = by; at_ordinal = at; is = is }
 
--- the call at a place of a writer's list
-call_there : (run : Recording) (writer ordinal : ℕ) (whole : List Call) (call : Call) (others : List LogCall) (named : Option Message) → slice_get run.dictionary call.id ≡ named
-    → slice_get run.writers writer ≡ Some whole → slice_get whole ordinal ≡ Some call → AllByRecursion (HasCall run) others
-    → AllByRecursion (HasCall run) (cons_option (option_map (λ message. record { writer = writer; ordinal = ordinal; stamp = call.stamp; message = message; args = call.args }) named) others)
-call_there run writer ordinal whole call others None is by at rest = rest
-call_there run writer ordinal whole call others (Some message) is by at rest = (
-  record {
-    calls = whole;
-    call = call;
-    of_writer = by;
-    at_ordinal = at;
-    is = ap (option_map (λ (m : Message). let line : LogCall = record { writer = writer; ordinal = ordinal; stamp = call.stamp; message = m; args = call.args } in line)) is;
-  },
-  rest,
-)
+call_of_writer : (run : Recording) (made : LogCall) (found : Option (List Call)) → slice_get run.writers made.writer ≡ found
+    → option_and_then (λ calls. option_and_then (λ call. log_call run.dictionary made.writer (made.ordinal, call)) (slice_get calls made.ordinal)) found ≡ Some made → HasCall run made
+call_of_writer run made None by is = absurd cc
+call_of_writer run made (Some calls) by is = call_at_ordinal run made calls (slice_get calls made.ordinal) by refl is
 
-calls_there : (run : Recording) (writer n : ℕ) (whole calls : List Call) → slice_get run.writers writer ≡ Some whole → ((i : ℕ) → slice_get whole (n + i) ≡ slice_get calls i)
-    → AllByRecursion (HasCall run) (filter_map (log_call run.dictionary writer) (enumerate_from n calls))
-calls_there run writer n whole [] by at = tt
-calls_there run writer n whole (call ∷ calls) by at =
-    call_there run writer n whole call (filter_map (log_call run.dictionary writer) (enumerate_from (n + 1) calls)) (slice_get run.dictionary call.id) refl by (ap (slice_get whole) (sym (add-zero n)) ∙ at zero)
-    (calls_there run writer (n + 1) whole calls by (λ i. let place : (n + 1) + i ≡ n + suc i = omega arith in ap (slice_get whole) place ∙ at (suc i)))
-
-writers_there : (run : Recording) (n : ℕ) (writers : List (List Call)) → ((i : ℕ) → slice_get run.writers (n + i) ≡ slice_get writers i)
-    → AllByRecursion (HasCall run) (flat_map (writer_calls run.dictionary) (enumerate_from n writers))
-writers_there run n [] at = tt
-writers_there run n (calls ∷ writers) at =
-    both_have (HasCall run) (writer_calls run.dictionary (n, calls)) (flat_map (writer_calls run.dictionary) (enumerate_from (n + 1) writers))
-    (calls_there run n 0 calls calls (ap (slice_get run.writers) (sym (add-zero n)) ∙ at zero) (λ i. ap (slice_get calls) (let place : 0 + i ≡ i = omega arith in place)))
-    (writers_there run (n + 1) writers (λ i. let place : (n + 1) + i ≡ n + suc i = omega arith in ap (slice_get run.writers) place ∙ at (suc i)))
-
-inserted_has : (P : LogCall → Type 0) (call first : LogCall) (others : List LogCall) (before : Bool) → P call → P first → AllByRecursion P others → AllByRecursion P (insert_call call others)
-    → AllByRecursion P (if before then first ∷ insert_call call others else call ∷ first ∷ others)
-inserted_has P call first others true c f os inserted = (f, inserted)
-inserted_has P call first others false c f os inserted = (c, (f, os))
-
-insert_has : (P : LogCall → Type 0) (call : LogCall) (calls : List LogCall) → P call → AllByRecursion P calls → AllByRecursion P (insert_call call calls)
-unfolding insert_call
-insert_has P call [] c all = (c, tt)
-insert_has P call (first ∷ others) c all = inserted_has P call first others (comes_before first call) c all.0 all.1 (insert_has P call others c all.1)
-
-order_has : (P : LogCall → Type 0) (calls : List LogCall) → AllByRecursion P calls → AllByRecursion P (in_order calls)
-unfolding in_order
-order_has P [] all = tt
-order_has P (call ∷ calls) all = insert_has P call (in_order calls) all.0 (order_has P calls all.1)
+all_there : (run : Recording) (calls : List LogCall) → AllByRecursion (IsAtPlace run) calls → AllByRecursion (HasCall run) calls
+all_there run [] found = tt
+all_there run (call ∷ calls) found = (call_of_writer run call (slice_get run.writers call.writer) refl found.0, all_there run calls found.1)
 
 -- each of a run's calls in order stands in the run
 pub calls_in_run : (run : Recording) → AllByRecursion (HasCall run) (in_order (calls_of run))
-calls_in_run run = order_has (HasCall run) (calls_of run) (writers_there run 0 run.writers (λ i. ap (slice_get run.writers) (let place : 0 + i ≡ i = omega arith in place)))
+calls_in_run run = all_there run (in_order (calls_of run)) (all_at_places run)
 
 -- the call whose place stands at an index of the places
 pub record CallAt (run : Recording) (calls : List LogCall) (i : ℕ) (place : Place) : Type 0 where

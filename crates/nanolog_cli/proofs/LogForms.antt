@@ -6,6 +6,7 @@ use Rattle.std.specs.Hash.{le_bytes}
 use Rattle.std.specs.List.{AllByRecursion}
 use Rattle.log_dictionary.specs.declared.clock.Clock.{Clock}
 use Rattle.log_dictionary.specs.declared.message.Message.{Message}
+use Rattle.log_dictionary.proofs.BinaryLaws.{first_is}
 use Rattle.arg_records.specs.declared.call.Call.{Call}
 use Rattle.buffer_extent.specs.Bodies.{SpellsRecords, IsBody}
 use Rattle.arg_records.specs.Calls.{IsCall, NeverFalls}
@@ -144,10 +145,6 @@ log_of_parts bytes clock messages entries parts = record {
 
 -- ---- from blocks to parts
 
--- the first of bytes is one byte
-other_front : (x y : ℕ) (xs ys : List ℕ) → x ∷ xs ≡ y ∷ ys → x ≡ y
-other_front x y xs ys e = ap (λ (l : List ℕ). get_or l 0 0) e
-
 blocks_close : (tick : ℕ) (before : List Block) (bytes : List ℕ) → SpellsBlocks tick before (Close 0 ∷ []) bytes → bytes ≡ close_bytes 0
 blocks_close tick before bytes (front, back, joined, is, none) = joined ∙ (λ i. is.joined i ++ none i)
 
@@ -155,7 +152,7 @@ blocks_records : (tick : ℕ) (before : List Block) (messages : List Message) (e
     → SpellsBlocks tick before (extent_blocks entries ++ Close 0 ∷ []) bytes → BeginsWithRecords messages tick bytes entries (close_bytes 0)
 blocks_records tick before messages [] bytes same right rising few spelled =
     let is = blocks_close tick before bytes spelled in
-    no_extent (λ rest e. omega (arith, other_front 4 2 (0 ∷ []) (0 ∷ rest) (sym is ∙ e))) refl (sym is)
+    no_extent (λ rest e. omega (arith, first_is 4 2 (0 ∷ []) (0 ∷ rest) (sym is ∙ e))) refl (sym is)
 blocks_records tick before messages (e ∷ entries) bytes same right rising few (front, back, joined, is, more) =
     let end = blocks_close tick (before ++ Extent 0 (e ∷ entries) ∷ []) back more in
     let whole : bytes ≡ extent_head_bytes 0 (length is.body) ++ is.body ++ close_bytes 0 = joined ∙ (λ i. is.joined i ++ end i) in
@@ -165,8 +162,8 @@ blocks_records tick before messages (e ∷ entries) bytes same right rising few 
 
 -- bytes that begin with records or a close mark begin with no fragment
 not_fragment : (messages : List Message) (tick : ℕ) (entries : List Call) (bytes rest : List ℕ) → BeginsWithRecords messages tick bytes entries (close_bytes 0) → bytes ≡ fragment_front ++ rest → ⊥
-not_fragment messages tick entries bytes rest (no_extent lacks none behind) e = omega (arith, other_front 4 1 _ _ (behind ∙ e))
-not_fragment messages tick entries bytes rest (extent measured body begins is right few) e = omega (arith, other_front 2 1 _ _ (sym begins ∙ e))
+not_fragment messages tick entries bytes rest (no_extent lacks none behind) e = omega (arith, first_is 4 1 _ _ (behind ∙ e))
+not_fragment messages tick entries bytes rest (extent measured body begins is right few) e = omega (arith, first_is 2 1 _ _ (sym begins ∙ e))
 
 -- what the rules say of the records
 record RecordsAre (tick : ℕ) (messages : List Message) (entries : List Call) : Type 0 where

@@ -7,22 +7,17 @@ use Rattle.std.specs.Hash.{le_bytes}
 use Rattle.std.specs.Int.{w16, w32, w64, from_le_bytes}
 use Rattle.printf_grammar.specs.declared.piece.Piece.{Piece}
 use Rattle.printf_grammar.specs.declared.piece.Piece.TheVariants.{Literal, Percent, Field}
-use Rattle.printf_grammar.specs.declared.piece.Spec.{Spec}
-use Rattle.printf_grammar.specs.declared.arg_type.ArgType.{ArgType}
 use Rattle.printf_grammar.specs.Narrow.{IsNarrow}
-use Rattle.printf_grammar.specs.Types.{field_types, Types}
 use Rattle.log_dictionary.specs.declared.clock.Clock.{Clock}
 use Rattle.log_dictionary.specs.declared.message.Message.{Message}
 use Rattle.log_dictionary.specs.Messages.{SameMessage, HasMessage, AreDistinct}
 use Rattle.log_dictionary.specs.BinaryEntries.{SpellsEntry}
 use Rattle.log_dictionary.proofs.BinaryLaws.{one_entry}
 use Rattle.log_dictionary.proofs.Distinct.{still_distinct}
-use Rattle.nibble_pack.specs.Bytes.{length-bytes_low_first}
 use Rattle.arg_records.specs.declared.call.Call.{Call}
 use Rattle.buffer_extent.specs.Bodies.{IsBody}
-use Rattle.buffer_extent.specs.Integers.{AreIntegers, TakeIntegers}
 use Rattle.checkpoint_io.specs.Blocks.{header_bytes, SpellsEntries}
-use Rattle.checkpoint_io.proofs.BlockLaws.{same_fronts, same_numbers}
+use Rattle.checkpoint_io.proofs.BlockLaws.{le_length, same_fronts, same_numbers}
 use Rattle.checkpoint_io.proofs.FrontLaws.{one_header}
 use Rattle.nanolog_cli.specs.NarrowTraces.{HasNarrowFormats}
 use Rattle.nanolog_cli.specs.NarrowLogs.{narrow_header}
@@ -62,13 +57,9 @@ unfolding le_bytes
 eight_read bytes front rest n small long is behind read =
     sym (ap (λ (f : List ℕ). f ++ rest) (le_bytes_8 front n (chunk_long 8 bytes front long is) (small_chunk 8 bytes front small is) read) ∙ chunk_joined 8 bytes front rest is behind)
 
-pub number_length : (k n : ℕ) → length (le_bytes k n) ≡ k
-unfolding le_bytes
-number_length k n = length-bytes_low_first 0 k n
-
 -- bytes that begin with a number have its bytes
 pub no_number : (k n : ℕ) (bytes rest : List ℕ) → bytes ≡ le_bytes k n ++ rest → length bytes < k → ⊥
-no_number k n bytes rest e short = omega (arith, ap length e, length-append (le_bytes k n) rest, number_length k n, short)
+no_number k n bytes rest e short = omega (arith, ap length e, length-append (le_bytes k n) rest, le_length k n, short)
 
 -- ---- the header
 
@@ -110,7 +101,7 @@ narrow_push : (messages : List Message) (message : Message) → HasNarrowFormats
 narrow_push [] message narrow is = (is, tt)
 narrow_push (m ∷ messages) message narrow is = (narrow.0, narrow_push messages message narrow.1 is)
 
-entries_push : (messages : List Message) (message : Message) (bytes entry : List ℕ) → SpellsEntries messages bytes → SpellsEntry entry message → SpellsEntries (messages ++ message ∷ []) (bytes ++ entry)
+pub entries_push : (messages : List Message) (message : Message) (bytes entry : List ℕ) → SpellsEntries messages bytes → SpellsEntry entry message → SpellsEntries (messages ++ message ∷ []) (bytes ++ entry)
 entries_push [] message bytes entry none is = (entry, [], ap (λ (b : List ℕ). b ++ entry) none ∙ sym (append-nil entry), is, refl)
 entries_push (m ∷ messages) message bytes entry (x, xs, joined, first, others) is =
     (x, xs ++ entry, ap (λ (b : List ℕ). b ++ entry) joined ∙ append_assoc x xs entry, first, entries_push messages message xs entry others is)
@@ -246,23 +237,6 @@ records_behind messages tick bytes rest back a b (no_extent lacks none behind) (
 records_behind messages tick bytes rest back a b (extent other body begins is right few) q =
     let found = measured messages tick bytes other back b begins q in
     (body_same other body found.body rest back is found.begins).1
-
--- ---- formats that are narrow
-
-integers_append : (xs ys : List ArgType) → AreIntegers xs → AreIntegers ys → AreIntegers (xs ++ ys)
-integers_append [] ys p q = q
-integers_append (x ∷ xs) ys p q = (p.0, integers_append xs ys p.1 q)
-
-narrow_types : (pieces : List Piece) → IsNarrow pieces → AreIntegers (Types pieces)
-narrow_types [] narrow = tt
-narrow_types (Literal start end ∷ pieces) narrow = narrow_types pieces narrow.1
-narrow_types (Percent ∷ pieces) narrow = narrow_types pieces narrow.1
-narrow_types (Field spec ∷ pieces) narrow = integers_append (field_types spec) (Types pieces) (subst (λ (s : Spec). AreIntegers (field_types s)) (sym narrow.0) (tt, tt)) (narrow_types pieces narrow.1)
-
--- they take integers alone
-pub narrow_integers : (messages : List Message) → HasNarrowFormats messages → TakeIntegers messages
-narrow_integers [] narrow = tt
-narrow_integers (message ∷ messages) narrow = (narrow_types message.format.pieces narrow.0, narrow_integers messages narrow.1)
 
 -- a message that follows is none of those before it
 pub not_there : (read messages : List Message) (next : Message) (others : List Message) → messages ≡ read ++ next ∷ others → AreDistinct messages → ¬ (HasMessage read next)

@@ -1,11 +1,10 @@
 -- Which runs are narrow, by what is tested of them.
-use Rattle.std.proofs.Common.{◌≡◌, ◌≢◌, ℕ, ◌<◌, ◌≤◌, Bool, true, false, List, [], ◌∷◌, length, Some, refl, sym, ap, subst, arith}
+use Rattle.std.proofs.Common.{◌≡◌, ◌≢◌, ◌<◌, ◌≤◌, Bool, true, false, List, length, Some, refl, sym, subst, arith}
 use Rattle.std.specs.Prelude.{IsTrue, ◌↔◌, slice_get}
 use Rattle.std.specs.List.{AllByRecursion}
 use Rattle.arg_records.specs.declared.call.Call.{Call}
 use Rattle.trace_text.specs.Recordings.{Recording}
 use Rattle.nanolog_cli.specs.NarrowTraces.{HasNarrowFormats, IsNarrowRun}
-use Rattle.nanolog_cli.proofs.Choices.{some_same}
 use Rattle.nanolog_cli.proofs.LineLemmas.{single}
 
 not_true : {P : Type 0} → IsTrue false → P

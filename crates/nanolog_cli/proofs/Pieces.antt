@@ -6,7 +6,7 @@ use Rattle.std.proofs.lemmas.List.{take_more, append-nil, map-append}
 use Rattle.std.proofs.lemmas.List.Folds.{concat-append}
 use Rattle.nl_io.specs.Content.{Told, with_end, PutsFront}
 use Rattle.nanolog_cli.specs.Words.{contents}
-use Rattle.nanolog_cli.proofs.Fronts.{front-first, front-second}
+use Rattle.trace_text.proofs.Fronts.{front-first, front-second}
 
 joined : (a b : List (Bor (List ℕ))) → concat (contents (a ++ b)) ≡ concat (contents a) ++ concat (contents b)
 joined a b = ap concat (map-append (λ (piece : Bor (List ℕ)). piece.now) a b) ∙ concat-append (contents a) (contents b)

@@ -1,19 +1,16 @@
 -- Lines that are printed in pieces.
-use Rattle.std.proofs.Common.{◌≡◌, ◌≢◌, ℕ, ◌+◌, ◌≤◌, List, [], ◌∷◌, ◌++◌, length, take, drop, Some, None, Result, Ok, Err, refl, sym, ap, subst, ◌∙◌, append_assoc, arith}
-use Rattle.std.specs.Prelude.{OnErr}
+use Rattle.std.proofs.Common.{◌≡◌, ◌≢◌, ℕ, ◌+◌, ◌≤◌, List, [], ◌++◌, length, take, drop, Some, None, refl, sym, ap, subst, ◌∙◌, append_assoc, arith}
 use Rattle.std.specs.List.{flat_map}
 use Rattle.std.proofs.lemmas.List.{take_all, append-nil, length-map}
 use Rattle.nl_io.specs.Content.{Told, with_end}
-use Rattle.log_dictionary.specs.Calls.{LogCall}
 use Rattle.direct_printf.specs.Lines.{Line, in_order, Direct}
 use Rattle.trace_text.specs.declared.order.Place.{Place}
 use Rattle.trace_text.specs.Recordings.{Recording, calls_of}
 use Rattle.trace_text.specs.Order.{place_of, places_in_order}
-use Rattle.nanolog_cli.specs.declared.refusal.Refusal.{Refusal}
-use Rattle.nanolog_cli.specs.Endings.{Ending, Done, NoMemory, ending_of, refusal_ending}
+use Rattle.nanolog_cli.specs.Endings.{Ending, Done, NoMemory}
 use Rattle.nanolog_cli.specs.Outcomes.{Prints}
 use Rattle.nanolog_cli.specs.Texts.{direct_text}
-use Rattle.nanolog_cli.proofs.Fronts.{front-first, front-whole}
+use Rattle.trace_text.proofs.Fronts.{front-first, front-whole}
 use Rattle.nanolog_cli.proofs.Endings.{prints_first, prints_second}
 use Rattle.nanolog_cli.proofs.LineLemmas.{CallAt, line_more, lines_cut}
 

@@ -1,6 +1,6 @@
 -- The bytes of a run's log, as they are appended.
-use Rattle.std.proofs.Common.{◌≡◌, ℕ, zero, suc, ◌+◌, ◌*◌, ◌<◌, ◌≤◌, List, [], ◌∷◌, ◌++◌, length, take, drop, Some, refl, sym, ap, subst, ◌∙◌, append_assoc, arith}
-use Rattle.std.specs.Prelude.{slice_get, max}
+use Rattle.std.proofs.Common.{◌≡◌, ℕ, ◌+◌, ◌*◌, ◌<◌, ◌≤◌, Bool, true, false, List, [], ◌∷◌, ◌++◌, length, take, drop, Some, refl, sym, ap, subst, ◌∙◌, append_assoc, arith}
+use Rattle.std.specs.Prelude.{slice_get, max, filter}
 use Rattle.std.proofs.lemmas.List.{append-nil, take_at, take_more, length-append, length-take-le, length-drop}
 use Rattle.std.proofs.lemmas.Option.{slice_get_within, get_or_from_slice_get}
 use Rattle.log_dictionary.specs.declared.message.Message.{Message}
@@ -11,7 +11,10 @@ use Rattle.buffer_extent.specs.Bodies.{SpellsRecord, SpellsRecords}
 use Rattle.checkpoint_io.specs.Blocks.{SpellsEntries}
 use Rattle.checkpoint_io.specs.Validity.{last_stamp}
 use Rattle.checkpoint_io.specs.Logs.{ids_used}
-use Rattle.arg_records.specs.Calls.{NeverFalls}
+use Rattle.arg_records.specs.Calls.{IsCall, NeverFalls}
+use Rattle.nanolog_cli.proofs.Levels.{filter_yes, filter_no, filter_fewer, not_below}
+use Rattle.checkpoint_io.proofs.ValidityLaws.{last_stamp-push}
+use Rattle.nanolog_cli.proofs.LogParts.{entries_push}
 use Rattle.nanolog_cli.proofs.Walks.{seen_next}
 
 -- ---- ids
@@ -20,32 +23,24 @@ ids_used-push : (entries : List Call) (entry : Call) → ids_used (entries ++ en
 ids_used-push [] entry = grind arith
 ids_used-push (e ∷ entries) entry = let others = ids_used-push entries entry in grind arith
 
-id_counted : (front back : List Call) (call : Call) → call.id < ids_used (front ++ call ∷ back)
-id_counted [] back call = grind arith
-id_counted (c ∷ front) back call = let here = id_counted front back call in grind arith
+-- a call's id is one of the first so many
+pub id_below : (messages : List Message) (call : Call) (limit : ℕ) → IsCall messages call → length messages ≤ limit → call.id < limit
+id_below messages call limit is few = omega (arith, slice_get_within messages call.id is.message is.known, few)
 
--- the next call is counted among those whose ids are at most so many
-pub id_below : (seen rest all left : List Call) (call : Call) (limit : ℕ) → seen ++ rest ≡ all → rest ≡ call ∷ left → ids_used all ≤ limit → call.id < limit
-id_below seen rest all left call limit joined next most =
-    let here = id_counted seen left call in
-    omega (arith, here, most, ap ids_used (seen_next seen rest all left call joined next))
+pub ids_more : (p : Call → Bool) (seen : List Call) (call : Call) (count : ℕ) → p call ≡ true → count ≡ ids_used (filter p seen) → max count (call.id + 1) ≡ ids_used (filter p (seen ++ call ∷ []))
+ids_more p seen call count kept so_far = ap (λ (n : ℕ). max n (call.id + 1)) so_far ∙ sym (ap ids_used (filter_yes p seen call kept) ∙ ids_used-push (filter p seen) call)
 
-pub ids_more : (seen : List Call) (call : Call) (count : ℕ) → count ≡ ids_used seen → max count (call.id + 1) ≡ ids_used (seen ++ call ∷ [])
-ids_more seen call count so_far = ap (λ (n : ℕ). max n (call.id + 1)) so_far ∙ sym (ids_used-push seen call)
+pub ids_same : (p : Call → Bool) (seen : List Call) (call : Call) (count : ℕ) → p call ≡ false → count ≡ ids_used (filter p seen) → count ≡ ids_used (filter p (seen ++ call ∷ []))
+ids_same p seen call count left so_far = so_far ∙ sym (ap ids_used (filter_no p seen call left))
 
 -- ---- entries
-
-entries-push : (messages : List Message) (message : Message) (bytes entry : List ℕ) → SpellsEntries messages bytes → SpellsEntry entry message → SpellsEntries (messages ++ message ∷ []) (bytes ++ entry)
-entries-push [] message bytes entry spelled is = (entry, [], ap (λ (b : List ℕ). b ++ entry) spelled ∙ sym (append-nil entry), is, refl)
-entries-push (m ∷ messages) message bytes entry (front, back, joined, first, others) is =
-    (front, back ++ entry, ap (λ (b : List ℕ). b ++ entry) joined ∙ append_assoc front back entry, first, entries-push messages message back entry others is)
 
 pub entries_more : (messages : List Message) (i : ℕ) (message : Message) (bytes entry : List ℕ) → Some message ≡ slice_get messages i → SpellsEntries (take i messages) bytes → SpellsEntry entry message
     → SpellsEntries (take (i + 1) messages) (bytes ++ entry)
 entries_more messages i message bytes entry e spelled is =
     let more : take (i + 1) messages ≡ take i messages ++ message ∷ [] =
     take_more messages i message (slice_get_within messages i message (sym e)) ∙ ap (λ (m : Message). take i messages ++ m ∷ []) (get_or_from_slice_get messages i message message (sym e)) in
-    subst (λ (ms : List Message). SpellsEntries ms (bytes ++ entry)) (sym more) (entries-push (take i messages) message bytes entry spelled is)
+    subst (λ (ms : List Message). SpellsEntries ms (bytes ++ entry)) (sym more) (entries_push (take i messages) message bytes entry spelled is)
 
 -- ---- records
 
@@ -54,10 +49,6 @@ records-push : (messages : List Message) (before : ℕ) (entries : List Call) (e
 records-push messages before [] entry bytes packed spelled is = (packed, [], ap (λ (b : List ℕ). b ++ packed) spelled ∙ sym (append-nil packed), is, refl)
 records-push messages before (e ∷ entries) entry bytes packed (front, back, joined, first, others) is =
     (front, back ++ packed, ap (λ (b : List ℕ). b ++ packed) joined ∙ append_assoc front back packed, first, records-push messages e.stamp entries entry back packed others is)
-
-last-push : (before : ℕ) (entries : List Call) (entry : Call) → last_stamp before (entries ++ entry ∷ []) ≡ entry.stamp
-last-push before [] entry = refl
-last-push before (e ∷ entries) entry = last-push e.stamp entries entry
 
 -- what stands before a place after words were written there, and these words
 pub written_behind : (list words : List ℕ) (at : ℕ) → at ≤ length list → take (at + length words) (with_words list at words) ≡ take at list ++ words
@@ -72,14 +63,11 @@ records_more messages tick seen call before end body packed within spelled last 
     let pushed = records-push messages tick seen call (take end body) packed spelled (subst (λ (n : ℕ). SpellsRecord messages n call packed) last is) in
     subst (SpellsRecords messages tick (seen ++ call ∷ [])) (sym (written_behind body packed end within)) pushed
 
-not_below : (tick : ℕ) (front back : List Call) (call : Call) → NeverFalls tick (front ++ call ∷ back) → last_stamp tick front ≤ call.stamp
-not_below tick [] back call later = later.0
-not_below tick (c ∷ front) back call later = not_below c.stamp front back call later.1
-
--- a call isn't earlier than those before it
-pub not_before : (tick : ℕ) (seen rest all left : List Call) (call : Call) (before : ℕ) → seen ++ rest ≡ all → rest ≡ call ∷ left → NeverFalls tick all → before ≡ last_stamp tick seen → before ≤ call.stamp
-not_before tick seen rest all left call before joined next later last =
-    omega (arith, last, not_below tick seen left call (subst (NeverFalls tick) (sym (seen_next seen rest all left call joined next)) later))
+-- a call isn't earlier than those before it that are kept
+pub not_before : (p : Call → Bool) (tick : ℕ) (seen rest all left : List Call) (call : Call) (before : ℕ) → seen ++ rest ≡ all → rest ≡ call ∷ left → NeverFalls tick all → before ≡ last_stamp tick (filter p seen)
+    → before ≤ call.stamp
+not_before p tick seen rest all left call before joined next later last =
+    omega (arith, last, not_below p tick seen left call (subst (NeverFalls tick) (sym (seen_next seen rest all left call joined next)) later))
 
 -- the entry is appended behind those before it
 pub fragment_more : (messages : List Message) (i : ℕ) (message : Message) (old head before now entry : List ℕ) → Some message ≡ slice_get messages i
@@ -107,9 +95,10 @@ pub record IsPacked (messages : List Message) (tick : ℕ) (seen : List Call) (e
   pub size : length body ≡ 65536
   pub last : before ≡ last_stamp tick seen
 
--- of 128 calls at most, those that were seen are fewer while one is left
-pub seen_few : (seen rest all left : List Call) (call : Call) → seen ++ rest ≡ all → rest ≡ call ∷ left → length all ≤ 128 → length seen + 1 ≤ 128
-seen_few seen rest all left call joined next few = omega (arith, few, ap length (seen_next seen rest all left call joined next), length-append seen (call ∷ left))
+-- of 128 calls at most, those that were seen and are kept are fewer while one is left
+pub seen_few : (p : Call → Bool) (seen rest all left : List Call) (call : Call) → seen ++ rest ≡ all → rest ≡ call ∷ left → length all ≤ 128 → length (filter p seen) + 1 ≤ 128
+seen_few p seen rest all left call joined next few =
+    omega (arith, few, ap length (seen_next seen rest all left call joined next), length-append seen (call ∷ left), filter_fewer p seen)
 
 pub packed_more : (messages : List Message) (tick : ℕ) (seen : List Call) (call : Call) (before end next : ℕ) (body new : List ℕ) → length seen + 1 ≤ 128
     → IsPacked messages tick seen end before body
@@ -125,5 +114,18 @@ packed_more messages tick seen call before end next body new few was (packed, is
           (subst (λ (b : List ℕ). SpellsRecords messages tick (seen ++ call ∷ []) (take (end + length packed) b)) (sym written) spelled);
       short = omega (arith, room, small, ends, length-append seen (call ∷ []));
       size = ap length written ∙ same_length body packed end (omega (arith, few, room, small, size)) ∙ size;
-      last = sym (last-push tick seen call);
+      last = sym (last_stamp-push tick seen call);
     }
+
+-- one more call is kept, and its record stands behind the others
+pub kept_more : (messages : List Message) (p : Call → Bool) (tick : ℕ) (seen : List Call) (call : Call) (before end next : ℕ) (body new : List ℕ) → p call ≡ true → length (filter p seen) + 1 ≤ 128
+    → IsPacked messages tick (filter p seen) end before body
+    → (packed : List ℕ) × SpellsRecord messages before call packed × (length packed ≤ 320) × (next ≡ end + length packed) × (new ≡ with_words body end packed)
+    → IsPacked messages tick (filter p (seen ++ call ∷ [])) next call.stamp new
+kept_more messages p tick seen call before end next body new kept few was put =
+    subst (λ (calls : List Call). IsPacked messages tick calls next call.stamp new) (sym (filter_yes p seen call kept)) (packed_more messages tick (filter p seen) call before end next body new few was put)
+
+-- one more isn't
+pub kept_same : (messages : List Message) (p : Call → Bool) (tick : ℕ) (seen : List Call) (call : Call) (before end : ℕ) (body : List ℕ) → p call ≡ false → IsPacked messages tick (filter p seen) end before body
+    → IsPacked messages tick (filter p (seen ++ call ∷ [])) end before body
+kept_same messages p tick seen call before end body left was = subst (λ (calls : List Call). IsPacked messages tick calls end before body) (sym (filter_no p seen call left)) was

@@ -6,7 +6,6 @@ use Rattle.printf_grammar.specs.Types.{Types, Fits}
 use Rattle.printf_grammar.specs.Narrow.{IsNarrow}
 use Rattle.log_dictionary.specs.declared.message.Message.{Message}
 use Rattle.buffer_extent.specs.Writing.{record_room}
-use Rattle.buffer_extent.specs.IntegerLaws.{narrow_record_room}
 use Rattle.arg_records.specs.Places.{with_words}
 use Rattle.buffer_extent.specs.Records.{RecordBytes}
 use Rattle.buffer_extent.specs.Bodies.{SpellsRecord}
@@ -14,6 +13,7 @@ use Rattle.arg_records.specs.declared.call.Call.{Call}
 use Rattle.arg_records.specs.Calls.{IsCall}
 use Rattle.nanolog_cli.specs.NarrowTraces.{HasNarrowFormats}
 use Rattle.nanolog_cli.proofs.Choices.{some_same}
+use Rattle.nanolog_cli.proofs.NarrowRecords.{narrow_room}
 
 -- ---- the message of a call
 
@@ -32,9 +32,9 @@ small_id messages call is few = omega (arith, slice_get_within messages call.id 
 
 -- the record is that of the call, and is short
 pub record_is : (messages : List Message) (call : Call) (message : Message) (before at end : ℕ) (old new : List ℕ) → Some message ≡ slice_get messages call.id → HasNarrowFormats messages → length (Types message.format.pieces) ≤ 64
-    → end ≤ at + record_room (Types message.format.pieces)
-    → (packed : List ℕ) × RecordBytes (Types message.format.pieces) call.id call.stamp before call.args packed × (new ≡ take at old ++ packed ++ drop (at + length packed) old) × (end ≡ at + length packed)
+    → Fits call.args (Types message.format.pieces)
+    → (packed : List ℕ) × RecordBytes (Types message.format.pieces) call.id call.stamp before call.args packed × (length packed ≤ record_room (Types message.format.pieces) call.args) × (new ≡ take at old ++ packed ++ drop (at + length packed) old) × (end ≡ at + length packed)
     → (packed : List ℕ) × SpellsRecord messages before call packed × (length packed ≤ 320) × (end ≡ at + length packed) × (new ≡ with_words old at packed)
-record_is messages call message before at end old new e narrow few bound (packed, is, written, ends) =
-    let room = narrow_record_room message.format.pieces (narrow_at messages call.id message narrow e) few in
-    (packed, record { message = message; known = sym e; spelled = is }, omega (arith, room, bound, ends), ends, written ∙ append_assoc (take at old) packed (drop (at + length packed) old))
+record_is messages call message before at end old new e narrow few fits (packed, is, short, written, ends) =
+    let room = narrow_room message.format.pieces call.args (narrow_at messages call.id message narrow e) fits few in
+    (packed, record { message = message; known = sym e; spelled = is }, omega (arith, room, short), ends, written ∙ append_assoc (take at old) packed (drop (at + length packed) old))

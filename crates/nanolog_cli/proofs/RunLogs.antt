@@ -1,12 +1,13 @@
 -- The bytes of a run's log, and what they are.
 use Rattle.std.proofs.Common.{◌≡◌, ℕ, zero, suc, ◌+◌, ◌*◌, ◌<◌, ◌≤◌, true, false, List, [], ◌∷◌, ◌++◌, length, map, take, drop, get_or, Some, inl, refl, sym, ap, subst, ◌∙◌, append_assoc, arith}
-use Rattle.std.specs.Prelude.{slice_get, IsTrue}
+use Rattle.std.specs.Prelude.{slice_get, filter}
 use Rattle.std.specs.List.{flat_map, filter_map, enumerate_from, range_with_len, AllByRecursion, cons_option}
 use Rattle.std.proofs.lemmas.List.{append-nil, take-append-drop, length-append, length-take, length-take-le, get_or-take}
 use Rattle.std.specs.Hash.{le_bytes}
 use Rattle.std.proofs.lemmas.Option.{slice_get_within}
 use Rattle.log_dictionary.specs.declared.clock.Clock.{Clock}
 use Rattle.checkpoint_io.specs.declared.header.Header.{Header}
+use Rattle.log_dictionary.specs.declared.severity.Severity.{Severity}
 use Rattle.log_dictionary.specs.declared.message.Message.{Message}
 use Rattle.log_dictionary.specs.Messages.{SameMessage, AreDistinct}
 use Rattle.log_dictionary.specs.BinaryEntries.{raw_of}
@@ -27,8 +28,10 @@ use Rattle.nanolog_cli.specs.NarrowLogs.{narrow_header, narrow_blocks, IsLog}
 use Rattle.nanolog_cli.specs.Texts.{direct_text}
 use Rattle.nanolog_cli.specs.Replays.{LogOfRun}
 use Rattle.nanolog_cli.specs.Appending.{FragmentAndExtent, AppendsCalls}
+use Rattle.nanolog_cli.specs.Levels.{keeps, kept_run}
+use Rattle.nanolog_cli.proofs.Levels.{recorded_kept, narrow_kept, kept_at}
 use Rattle.nanolog_cli.proofs.LineLemmas.{single}
-use Rattle.nanolog_cli.proofs.LogParts.{number_length}
+use Rattle.checkpoint_io.proofs.BlockLaws.{le_length}
 
 -- ---- the messages that are used
 
@@ -181,9 +184,9 @@ header_length header =
       arith,
       length-append (le_bytes 8 header.clock.tick ++ le_bytes 8 header.clock.nanos) (le_bytes 8 header.clock.rate),
       length-append (le_bytes 8 header.clock.tick) (le_bytes 8 header.clock.nanos),
-      number_length 8 header.clock.tick,
-      number_length 8 header.clock.nanos,
-      number_length 8 header.clock.rate,
+      le_length 8 header.clock.tick,
+      le_length 8 header.clock.nanos,
+      le_length 8 header.clock.rate,
     )
 
 entries_length : (messages : List Message) (bytes : List ℕ) → SpellsEntries messages bytes → length bytes ≤ 4359 * length messages
@@ -219,11 +222,11 @@ log_length clock count entries body bytes joined entries_short body_short =
       length-append (fragment_head_bytes 0 count ++ entries) ((extent_head_bytes 0 (length body) ++ body) ++ close_bytes 0),
       length-append (fragment_head_bytes 0 count) entries,
       length-append (le_bytes 4 0) (le_bytes 2 count),
-      number_length 4 0,
-      number_length 2 count,
+      le_length 4 0,
+      le_length 2 count,
       length-append (extent_head_bytes 0 (length body) ++ body) (close_bytes 0),
       length-append (extent_head_bytes 0 (length body)) body,
-      number_length 4 (length body),
+      le_length 4 (length body),
     )
 
 -- the blocks of a log with messages and records
@@ -350,7 +353,7 @@ log_of run [] after bytes narrow recorded one appended is = empty_log run bytes 
 log_of run (call ∷ calls) after bytes narrow recorded one parts is = full_log run (call ∷ calls) after bytes narrow recorded one (omega arith) parts is
 
 -- what was appended is the log of the run
-pub whole_log : (seen run : Recording) (calls : List Call) (empty head after bytes : List ℕ) → seen ≡ run → Replayed run → IsRecording seen → Some calls ≡ slice_get seen.writers 0
+whole_log : (seen run : Recording) (calls : List Call) (empty head after bytes : List ℕ) → seen ≡ run → Replayed run → IsRecording seen → Some calls ≡ slice_get seen.writers 0
     → empty ≡ [] → head ≡ empty ++ header_bytes (narrow_header seen.clock) → AppendsCalls seen.dictionary seen.clock.tick calls head after → bytes ≡ after ++ close_bytes 0 → LogOfRun run bytes
 whole_log seen run calls empty head after bytes same narrow recorded first nothing headed appended is =
     let narrow_too = subst Replayed (sym same) narrow in
@@ -358,11 +361,20 @@ whole_log seen run calls empty head after bytes same narrow recorded first nothi
     subst (λ (r : Recording). LogOfRun r bytes) same
     (log_of seen calls after bytes narrow_too recorded one (subst (λ (h : List ℕ). AppendsCalls seen.dictionary seen.clock.tick calls h after) (headed ∙ ap (λ (e : List ℕ). e ++ header_bytes (narrow_header seen.clock)) nothing) appended) is)
 
+-- it is that of the calls that the level keeps
+pub kept_log : (level : Severity) (seen run : Recording) (calls : List Call) (empty head after bytes : List ℕ) → seen ≡ run → Replayed run → IsRecording seen → Some calls ≡ slice_get seen.writers 0
+    → empty ≡ [] → head ≡ empty ++ header_bytes (narrow_header seen.clock) → AppendsCalls seen.dictionary seen.clock.tick (filter (keeps seen.dictionary level) calls) head after → bytes ≡ after ++ close_bytes 0
+    → LogOfRun (kept_run run level) bytes
+kept_log level seen run calls empty head after bytes same narrow recorded first nothing headed appended is =
+    whole_log (kept_run seen level) (kept_run run level) (filter (keeps seen.dictionary level) calls) empty head after bytes (ap (λ (r : Recording). kept_run r level) same)
+    (record { narrow = narrow_kept run level narrow.narrow; clock_fits = narrow.clock_fits; distinct = narrow.distinct }) (recorded_kept seen level recorded)
+    (kept_at (keeps seen.dictionary level) seen.writers 0 calls first) nothing headed appended is
+
 -- ---- what is asked of the parts
 
-pub some_calls : (calls : List Call) → (calls ≡ [] → IsTrue false) → 1 ≤ length calls
-some_calls [] some = let e = some refl in absurd cc
-some_calls (call ∷ calls) some = omega arith
+pub kept_some : (calls : List Call) (count : ℕ) → count ≡ ids_used calls → (count ≡ 0 → ⊥) → 1 ≤ length calls
+kept_some [] count is some = absurd (some is)
+kept_some (call ∷ calls) count is some = omega arith
 
 pub run_named : (seen run : Recording) (calls : List Call) → seen ≡ run → IsNarrowRun run → IsRecording seen → Some calls ≡ slice_get seen.writers 0 → AllByRecursion (IsCall seen.dictionary) calls
 run_named seen run calls same narrow recorded first =

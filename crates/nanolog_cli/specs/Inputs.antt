@@ -5,7 +5,7 @@ use Rattle.trace_text.specs.Traces.{TraceText}
 use Rattle.trace_text.specs.Reading.{TraceBreak}
 use Rattle.nanolog_cli.specs.declared.refusal.Cause.{Cause}
 use Rattle.nanolog_cli.specs.declared.refusal.Cause.TheVariants.{Trace, NotYet}
-use Rattle.nanolog_cli.specs.Commands.{Command, Direct, Replay, Decompress}
+use Rattle.cli_words.specs.Commands.{Command, Direct, Replay, Decompress}
 use Rattle.nanolog_cli.specs.Endings.{Ending, Refused, NoMemory}
 use Rattle.nanolog_cli.specs.NarrowTraces.{NarrowTrace}
 use Rattle.nanolog_cli.specs.NarrowLogs.{IsLog}
@@ -21,7 +21,7 @@ IsNarrowTrace bytes = (run : Recording) × NarrowTrace bytes run
 -- of which form the file is that a command takes
 abbrev pub input_form : Command → (List ℕ → Type 0)
 input_form (Direct trace) = IsTrace
-input_form (Replay trace log) = IsNarrowTrace
+input_form (Replay trace log level) = IsNarrowTrace
 input_form (Decompress log) = IsLog
 
 -- nothing is refused
@@ -46,7 +46,7 @@ UntakenLog bytes line NotYet = (line ≡ 0) × (¬ (IsLog bytes))
 -- why the file that a command reads is refused
 abbrev pub input_refused : Command → (List ℕ → ℕ → Cause → Type 0)
 input_refused (Direct trace) = WrongTrace
-input_refused (Replay trace log) = UntakenTrace
+input_refused (Replay trace log level) = UntakenTrace
 input_refused (Decompress log) = UntakenLog
 
 -- why the bytes of a file gave nothing: they are refused, or memory was wanting

@@ -1,5 +1,6 @@
-pub mod Commands
-pub mod CommandViews
+pub use Rattle.cli_words.specs.Commands
+pub mod CommandFiles
+pub mod Levels
 pub mod Statuses
 pub mod Endings
 pub mod Words

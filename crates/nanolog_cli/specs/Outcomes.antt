@@ -1,5 +1,5 @@
 -- How a command ends: what its answer says of the files and of the standard output.
-use Rattle.std.specs.Prelude.{◌≡◌, ◌≢◌, ◌⊎◌, ℕ, ◌<◌, ◌≤◌, List, length, take, Option, Some, None, IfSome}
+use Rattle.std.specs.Prelude.{◌≡◌, ◌≢◌, ◌⊎◌, ℕ, ◌≤◌, List, length, take, Option, Some, None, IfSome}
 use Rattle.std.specs.FinMap as map
 use Rattle.nl_io.specs.Count.{Rose}
 use Rattle.nl_io.specs.Content.{Told, with_end, PutsFront}
@@ -11,7 +11,9 @@ use Rattle.trace_text.specs.Recordings.{Recording}
 use Rattle.trace_text.specs.Traces.{TraceText}
 use Rattle.decompressor.specs.Decompression.{Decompressed}
 use Rattle.nanolog_cli.specs.declared.refusal.Cause.{Cause}
-use Rattle.nanolog_cli.specs.Commands.{Command, Direct, Replay, Decompress, input_name}
+use Rattle.cli_words.specs.Commands.{Command, Direct, Replay, Decompress}
+use Rattle.nanolog_cli.specs.CommandFiles.{input_name}
+use Rattle.nanolog_cli.specs.Levels.{kept_run}
 use Rattle.nanolog_cli.specs.Endings.{Ending, Done, Usage, Absent, ReadFault, Refused, WriteFault, NoMemory}
 use Rattle.nanolog_cli.specs.Inputs.{input_refused}
 use Rattle.nanolog_cli.specs.NarrowTraces.{NarrowTrace}
@@ -95,7 +97,8 @@ scene desk put faults = record { desk = desk; put = put; faults = faults }
 -- The text that a command prints, when all else is done: its file was read to the last byte, and its log is written, where it has one.
 abbrev pub HasText : Command → Desk → Desk → List ℕ → Type 0
 HasText (Direct trace) old new text = (run : Recording) × HeldRun TraceText old trace run × (text ≡ direct_text run) × (new ≡ old)
-HasText (Replay trace log) old new text = (run : Recording) × HeldRun NarrowTrace old trace run × LogWritten old new log run × (text ≡ accepted_text run)
+HasText (Replay trace log level) old new text =
+    (run : Recording) × HeldRun NarrowTrace old trace run × LogWritten old new log (kept_run run level) × (text ≡ accepted_text run level)
 HasText (Decompress log) old new text = HeldLog old log text × (new ≡ old)
 
 -- how the printing of a text ends: all of it is printed, or a front of it where a call failed or memory was wanting
@@ -107,25 +110,29 @@ Prints text was is before after ending = ⊥
 
 -- all was done that comes before the text is printed, and the printing of it ended so
 abbrev pub PrintsText : Command → Scene → Scene → Ending → Type 0
-PrintsText command old new ending = (text : List ℕ) × HasText command old.desk new.desk text × Prints text old.put new.put old.faults new.faults ending
+PrintsText command old new ending =
+    (text : List ℕ) × HasText command old.desk new.desk text × Prints text old.put new.put old.faults new.faults ending
 
 -- the log of the run that was read couldn't be written whole, and nothing was printed; only `replay` writes one
 abbrev pub LosesLog : Command → Scene → Scene → List ℕ → Type 0
-LosesLog (Replay trace log) old new name =
-    (name ≡ log) × ((run : Recording) × HeldRun NarrowTrace old.desk trace run × LogCutOff old.desk new.desk log run) × (new.put ≡ old.put) × (new.faults ≡ old.faults)
+LosesLog (Replay trace log level) old new name =
+    (name ≡ log) × ((run : Recording) × HeldRun NarrowTrace old.desk trace run × LogCutOff old.desk new.desk log (kept_run run level))
+    × (new.put ≡ old.put) × (new.faults ≡ old.faults)
 LosesLog _ old new name = ⊥
 
 -- Why a file gave nothing: it isn't there, a call failed, it is refused for a cause that its bytes have, or memory was wanting.
 abbrev pub IsUnread : (List ℕ → ℕ → Cause → Type 0) → List ℕ → Desk → Desk → Ending → Type 0
 IsUnread refused input old new (Absent name) = (name ≡ input) × (new ≡ old) × IsAbsent old input
 IsUnread refused input old new (ReadFault name) = (name ≡ input) × OnlyReadFaults old new × Rose old.read_faults new.read_faults
-IsUnread refused input old new (Refused name line cause) = (name ≡ input) × (new ≡ old) × HoldsSuch old input (λ bytes. refused bytes line cause)
+IsUnread refused input old new (Refused name line cause) =
+    (name ≡ input) × (new ≡ old) × HoldsSuch old input (λ bytes. refused bytes line cause)
 IsUnread refused input old new NoMemory = (new ≡ old) × IsThere old input
 IsUnread refused input old new ending = ⊥
 
 -- the file that the command reads gave nothing, and nothing was printed
 abbrev pub ReadsNothing : Command → Scene → Scene → Ending → Type 0
-ReadsNothing command old new ending = IsUnread (input_refused command) (input_name command) old.desk new.desk ending × (new.put ≡ old.put) × (new.faults ≡ old.faults)
+ReadsNothing command old new ending =
+    IsUnread (input_refused command) (input_name command) old.desk new.desk ending × (new.put ≡ old.put) × (new.faults ≡ old.faults)
 
 -- memory was wanting: nothing was printed or, of the lines of `direct`, a front
 abbrev pub LacksMemory : Command → Scene → Scene → Type 0
@@ -139,10 +146,14 @@ Ends command old new (WriteFault name) = PrintsText command old new (WriteFault 
 Ends command old new NoMemory = LacksMemory command old new
 Ends command old new ending = ReadsNothing command old new ending
 
--- what the answer says of words that spell a command or none
+-- what the answer says of words that were read, which spell a command or none
+abbrev pub AnswersRead : Option Command → Scene → Scene → Ending → Type 0
+AnswersRead None old new ending = (ending ≡ Usage) × (new ≡ old)
+AnswersRead (Some command) old new ending = Ends command old new ending
+
+-- What the answer says of words: memory was wanting while they were read, and all is as it was; or it is that of the words that were read.
 abbrev pub Answers : Option Command → Scene → Scene → Ending → Type 0
-Answers None old new ending = (ending ≡ Usage) × (new ≡ old)
-Answers (Some command) old new ending = Ends command old new ending
+Answers asked old new ending = ((ending ≡ NoMemory) × (new ≡ old)) ⊎ AnswersRead asked old new ending
 
 -- these words were said whole, and no call failed, or a front of them, and a call failed
 abbrev pub Says : List ℕ → Told → Told → ℕ → ℕ → Type 0

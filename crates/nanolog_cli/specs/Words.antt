@@ -24,7 +24,8 @@ words_of Usage = usage_text
 words_of (Absent name) = codes "nanolog: " ++ name ++ codes ": absent\n"
 words_of (ReadFault name) = codes "nanolog: " ++ name ++ codes ": read fault\n"
 words_of (Refused name line cause) =
-    codes "nanolog: " ++ name ++ codes ":" ++ decimal line ++ codes ": refused: " ++ decimal (number_of cause) ++ codes " " ++ name_of cause ++ codes "\n"
+    codes "nanolog: " ++ name ++ codes ":" ++ decimal line
+    ++ codes ": refused: " ++ decimal (number_of cause) ++ codes " " ++ name_of cause ++ codes "\n"
 words_of (WriteFault name) = codes "nanolog: " ++ name ++ codes ": write fault\n"
 words_of NoMemory = codes "nanolog: want of memory\n"
 

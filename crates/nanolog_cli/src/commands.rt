@@ -1,8 +1,8 @@
 //! What the program does, from its words to its answer.
 
 ghost use Rattle.std.specs.Prelude.{◌≡◌};
-ghost use Rattle.nanolog_cli.specs.Commands.{command_of as command_spelled, texts_of};
-ghost use Rattle.nanolog_cli.specs.CommandViews.{command_is};
+ghost use Rattle.cli_words.specs.Commands.{command_of as command_spelled, texts_of};
+ghost use Rattle.cli_words.specs.CommandViews.{command_is};
 ghost use Rattle.nanolog_cli.specs.Endings.{Ending, status_of, ending_of};
 ghost use Rattle.nanolog_cli.specs.Words.{words_of};
 ghost use Rattle.nanolog_cli.specs.Outcomes.{scene, Ends, Answers, Says};
@@ -13,7 +13,7 @@ use crate::refusal::Refusal;
 use crate::replay::replay;
 use crate::report::say;
 use crate::status::Status;
-use crate::words::{Command, command_of};
+use cli_words::{Command, command_of};
 use nl_io::{Files, Sink};
 use std::alloc::Global;
 
@@ -30,9 +30,9 @@ fn run<'a, F: Files, O: Sink>(
     ensures out_others { O.rest out.old out.new }
 {
     match command {
-        Command::Direct(trace) => direct(alloc, files, trace, out),
-        Command::Replay(trace, log) => replay(alloc, files, trace, log, out),
-        Command::Decompress(log) => decompress(alloc, files, log, out),
+        Command::Direct { trace } => direct(alloc, files, trace, out),
+        Command::Replay { trace, log, level } => replay(alloc, files, trace, log, level, out),
+        Command::Decompress { log } => decompress(alloc, files, log, out),
     }
 }
 
@@ -49,7 +49,7 @@ fn run_words<'a, F: Files, O: Sink>(
     ensures files_others { F.rest files.old files.new }
     ensures out_others { O.rest out.old out.new }
 {
-    match command_of(words) {
+    match command_of(alloc, words)? {
         Some(command) => run(alloc, command, files, out),
         None => Err(Refusal::Usage),
     }
@@ -57,9 +57,10 @@ fn run_words<'a, F: Files, O: Sink>(
 
 /// Does what the words after the program's name ask for, and answers how that ended. It waits for nobody.
 ///
-/// So far there are three commands. `direct TRACE` prints the lines of all calls of the trace. `replay TRACE LOG`
-/// writes the log of these calls, and prints how many there are. `decompress LOG` prints the lines of the log. A file
-/// that is no trace is refused, and so is a trace, or a log, that isn't narrow, with the last two.
+/// So far there are three commands. `direct TRACE` prints the lines of all calls of the trace. `replay TRACE LOG
+/// [--level S]` writes the log of the calls that the level keeps, and prints how many it keeps and how many it doesn't.
+/// `decompress LOG` prints the lines of the log. A file that is no trace is refused, and so is a trace, or a log, that
+/// isn't narrow, with the last two.
 pub fn quick<F: Files, O: Sink, E: Sink>(
     alloc: Global,
     words: &[String],

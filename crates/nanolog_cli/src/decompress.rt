@@ -1,6 +1,6 @@
 //! The command `decompress`.
 
-ghost use Rattle.nanolog_cli.specs.Commands.{Decompress};
+ghost use Rattle.cli_words.specs.Commands.{Decompress};
 ghost use Rattle.nanolog_cli.specs.Endings.{ending_of};
 ghost use Rattle.nanolog_cli.specs.Outcomes.{scene, Ends};
 

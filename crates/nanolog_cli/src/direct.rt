@@ -1,6 +1,6 @@
 //! The command `direct`.
 
-ghost use Rattle.nanolog_cli.specs.Commands.{Direct};
+ghost use Rattle.cli_words.specs.Commands.{Direct};
 ghost use Rattle.nanolog_cli.specs.Endings.{ending_of};
 ghost use Rattle.nanolog_cli.specs.Outcomes.{scene, Ends};
 

@@ -6,6 +6,7 @@ mod decompress;
 mod direct;
 mod input;
 pub mod laws;
+mod level;
 mod lines;
 mod log_of_run;
 #[cfg(test)]
@@ -19,7 +20,6 @@ mod report;
 mod status;
 #[cfg(test)]
 mod tests;
-mod words;
 
 pub use commands::quick;
 pub use status::Status;

@@ -1,6 +1,6 @@
 //! The log of a run.
 
-ghost use Rattle.std.specs.Prelude.{◌≡◌, ◌+◌, ◌*◌, ◌<◌, ◌≤◌, ◌++◌, ℕ, List, [], ◌∷◌, length, map, max, take, codes, IfOk, OnOk};
+ghost use Rattle.std.specs.Prelude.{◌≡◌, ◌+◌, ◌*◌, ◌<◌, ◌≤◌, ◌++◌, ℕ, List, [], ◌∷◌, length, map, filter, max, take, codes, IfOk, OnOk};
 ghost use Rattle.std.specs.Fmt.{decimal};
 ghost use Rattle.std.specs.List.{AllByRecursion};
 ghost use Rattle.log_dictionary.specs.declared.clock.Clock.{Clock as ClockRecord};
@@ -12,14 +12,16 @@ ghost use Rattle.checkpoint_io.specs.Logs.{ids_used};
 ghost use Rattle.arg_records.specs.Calls.{IsCall, NeverFalls};
 ghost use Rattle.nanolog_cli.specs.NarrowTraces.{HasNarrowFormats, NarrowTrace};
 ghost use Rattle.nanolog_cli.specs.NarrowLogs.{narrow_header};
-ghost use Rattle.nanolog_cli.specs.Replays.{LogOfRun, accepted_text};
+ghost use Rattle.nanolog_cli.specs.Levels.{keeps, kept_run};
+ghost use Rattle.nanolog_cli.specs.Replays.{LogOfRun, accepted_text as text_of_accepted, counts_text};
 ghost use Rattle.nanolog_cli.specs.Appending.{AppendsCalls};
 
+use crate::level::{is_kept, kept_count};
 use arg_records::frame_words;
 use buffer_extent::put_record;
 use checkpoint_io::{Header, put_close, put_extent_head, put_fragment_head, put_header};
 use itoa::Buffer;
-use log_dictionary::{Clock, Dictionary, Message, entry_len, put_entry};
+use log_dictionary::{Clock, Dictionary, Message, Severity, entry_len, put_entry};
 use std::alloc::{AllocError, Global};
 use trace_text::{Call, Calls, Trace, call_count};
 
@@ -54,31 +56,41 @@ fn put_call(
     put_record(&frame[..len], types, before, body, at)
 }
 
-/// Writes the records of the calls, one behind the other, and answers their end.
-fn put_calls(dictionary: &Dictionary, tick: u64, calls: &Calls, body: &mut [u8]) -> usize
+/// Writes the records of the calls that the level keeps, one behind the other, and answers their end.
+fn put_calls(
+    dictionary: &Dictionary,
+    level: Severity,
+    tick: u64,
+    calls: &Calls,
+    body: &mut [u8],
+) -> usize
     requires named { AllByRecursion (IsCall dictionary.now) calls.now }
     requires few_messages { length dictionary.now ≤ 16 }
     requires narrow { HasNarrowFormats dictionary.now }
     requires later { NeverFalls tick calls.now }
     requires few_calls { length calls.now ≤ 128 }
     requires room { length body.old ≡ 65536 }
-    ensures spelled { SpellsRecords dictionary.now tick calls.now (take result body.new) }
+    ensures spelled { SpellsRecords dictionary.now tick (filter (keeps dictionary.now level) calls.now)
+        (take result body.new) }
     ensures short { result ≤ length body.new }
 {
     let mut frame = [0; 512];
     let mut before = tick;
     let mut end = 0;
     for call in calls {
-        end = put_call(dictionary, call, before, &mut frame, body, end);
-        before = call.stamp;
+        if is_kept(dictionary, level, call) {
+            end = put_call(dictionary, call, before, &mut frame, body, end);
+            before = call.stamp;
+        }
     }
     end
 }
 
-/// The records of the calls, one behind the other.
+/// The records of the calls that the level keeps, one behind the other.
 fn body_of(
     alloc: Global,
     dictionary: &Dictionary,
+    level: Severity,
     tick: u64,
     calls: &Calls,
 ) -> Result<Vec<u8>, AllocError>
@@ -87,11 +99,12 @@ fn body_of(
     requires narrow { HasNarrowFormats dictionary.now }
     requires later { NeverFalls tick calls.now }
     requires few_calls { length calls.now ≤ 128 }
-    ensures spelled { IfOk result (λ body. SpellsRecords dictionary.now tick calls.now body.items) }
+    ensures spelled { IfOk result (λ body.
+        SpellsRecords dictionary.now tick (filter (keeps dictionary.now level) calls.now) body.items) }
     ensures short { IfOk result (λ body. length body.items ≤ MAX_BODY) }
 {
     let mut body = Vec::from_elem(alloc, 0, MAX_BODY)?;
-    let end = put_calls(dictionary, tick, calls, &mut body);
+    let end = put_calls(dictionary, level, tick, calls, &mut body);
     body.truncate(end);
     Ok(body)
 }
@@ -104,14 +117,17 @@ fn counted(count: u32, id: u32) -> u32
     if count <= id { id + 1 } else { count }
 }
 
-/// One more than the greatest id of the calls.
-fn count_of_ids(calls: &Calls) -> u32
-    requires { ids_used calls.now ≤ 65536 }
-    ensures { result ≡ ids_used calls.now }
+/// One more than the greatest id of the calls that the level keeps, and 0 where it keeps none.
+fn count_of_ids(dictionary: &Dictionary, level: Severity, calls: &Calls) -> u32
+    requires named { AllByRecursion (IsCall dictionary.now) calls.now }
+    requires few_messages { length dictionary.now ≤ 16 }
+    ensures { result ≡ ids_used (filter (keeps dictionary.now level) calls.now) }
 {
     let mut count = 0;
     for call in calls {
-        count = counted(count, call.id);
+        if is_kept(dictionary, level, call) {
+            count = counted(count, call.id);
+        }
     }
     count
 }
@@ -183,10 +199,11 @@ fn append_close(log: &mut Vec<u8>) -> Result<(), AllocError>
     log.extend_from_slice(&mark)
 }
 
-/// Appends the fragment and the extent of the calls of writer 0; nothing, where there are no calls.
+/// Appends the fragment and the extent of the calls of writer 0 that the level keeps; nothing, where it keeps none.
 fn append_calls(
     alloc: Global,
     dictionary: &Dictionary,
+    level: Severity,
     tick: u64,
     calls: &Calls,
     log: &mut Vec<u8>,
@@ -196,43 +213,60 @@ fn append_calls(
     requires narrow { HasNarrowFormats dictionary.now }
     requires later { NeverFalls tick calls.now }
     requires few_calls { length calls.now ≤ 128 }
-    ensures { OnOk result (AppendsCalls dictionary.now tick calls.now log.old.items log.new.items) }
+    ensures { OnOk result (AppendsCalls dictionary.now tick (filter (keeps dictionary.now level) calls.now)
+        log.old.items log.new.items) }
 {
-    if calls.is_empty() {
+    let count = count_of_ids(dictionary, level, calls);
+    if count == 0 {
         return Ok(());
     }
-    append_fragment(dictionary, count_of_ids(calls), log)?;
-    let body = body_of(alloc, dictionary, tick, calls)?;
+    append_fragment(dictionary, count, log)?;
+    let body = body_of(alloc, dictionary, level, tick, calls)?;
     append_extent(&body, log)
 }
 
-/// The log of all calls of a run that has a narrow trace.
-pub(crate) fn log_of_run(alloc: Global, run: &Trace) -> Result<Vec<u8>, AllocError>
+/// The log of the calls that the level keeps of a run that has a narrow trace.
+pub(crate) fn log_of_run(alloc: Global, run: &Trace, level: Severity) -> Result<Vec<u8>, AllocError>
     requires { (text : List ℕ) × NarrowTrace text run.now }
-    ensures { IfOk result (λ log. LogOfRun run.now log.items) }
+    ensures { IfOk result (λ log. LogOfRun (kept_run run.now level) log.items) }
 {
     let calls = run.writers.calls(0);
     let mut log = Vec::new(alloc);
     append_header(&run.clock, &mut log)?;
-    append_calls(alloc, &run.dictionary, run.clock.tick, calls, &mut log)?;
+    append_calls(
+        alloc,
+        &run.dictionary,
+        level,
+        run.clock.tick,
+        calls,
+        &mut log,
+    )?;
     append_close(&mut log)?;
     Ok(log)
 }
 
-/// What is printed where so many calls were written.
-fn text_of_count(alloc: Global, count: u64) -> Result<Vec<u8>, AllocError>
-    ensures { IfOk result (λ text. text.items ≡ codes "accepted " ++ decimal count ++ codes " dropped 0 filtered 0\n") }
+/// What is printed where so many calls were written, and so many weren't kept.
+fn text_of_counts(alloc: Global, accepted: u64, filtered: u64) -> Result<Vec<u8>, AllocError>
+    ensures { IfOk result (λ text. text.items ≡ counts_text accepted filtered) }
 {
     let mut buffer = Buffer::new();
     let mut text = Vec::from_slice(alloc, b"accepted ")?;
-    text.extend_from_slice(buffer.format(count).as_bytes())?;
-    text.extend_from_slice(b" dropped 0 filtered 0\n")?;
+    text.extend_from_slice(buffer.format(accepted).as_bytes())?;
+    text.extend_from_slice(b" dropped 0 filtered ")?;
+    text.extend_from_slice(buffer.format(filtered).as_bytes())?;
+    text.extend_from_slice(b"\n")?;
     Ok(text)
 }
 
-/// What is printed where all calls of a run were written.
-pub(crate) fn accepted_text(alloc: Global, run: &Trace) -> Result<Vec<u8>, AllocError>
-    ensures { IfOk result (λ text. text.items ≡ accepted_text run.now) }
+/// What is printed where the calls of a run that the level keeps were written.
+pub(crate) fn accepted_text(
+    alloc: Global,
+    run: &Trace,
+    level: Severity,
+) -> Result<Vec<u8>, AllocError>
+    ensures { IfOk result (λ text. text.items ≡ text_of_accepted run.now level) }
 {
-    text_of_count(alloc, call_count(run) as u64)
+    let accepted = kept_count(run, level);
+    let filtered = call_count(run) - accepted;
+    text_of_counts(alloc, accepted as u64, filtered as u64)
 }

@@ -3,6 +3,7 @@
 use super::*;
 use crate::tests::{
     Failing, LINE, NONE, PIECE, TRACE, counted_lines, counted_trace, owned_words, run, run_over,
+    words_of,
 };
 use nl_io::{MemFiles, MemSink};
 use std::alloc::Global;
@@ -13,8 +14,8 @@ const ACCEPTED: &str = "accepted 1 dropped 0 filtered 0\n";
 
 const REFUSED_LOG: &str = "nanolog: l:0: refused: 99 NotYet\n";
 
-/// The log of [`TRACE`], a line for each part: the magic, the version and the number of writers; the clock; a fragment with
-/// its message; an extent with its record; and the close mark.
+/// The log of [`TRACE`], a line for each part: the magic, the version and the number of writers; the clock; a fragment
+/// with its message; an extent with its record; and the close mark.
 const LOG: &str = "4e 4c 4f 47 01 01
 e8 03 00 00 00 00 00 00 00 00 44 5e 8f 86 05 15 00 94 35 77 00 00 00 00
 01 00 00 00 00 01 00 03 0c 00 00 00 06 00 73 72 76 2e 63 63 04 00 78 3d 25 64
@@ -61,6 +62,26 @@ fn a_run_without_calls_has_no_fragment(rt: HostRuntime) -> Result<(), Fail> {
     Ok(())
 }
 
+/// The one message of [`TRACE`] is no WARNING, wherever that stands as the level.
+#[test]
+fn the_level_stands_anywhere(rt: HostRuntime) -> Result<(), Fail> {
+    let log = bytes_of(rt.alloc(), EMPTY_LOG)?;
+    for line in "replay t l --level WARNING
+replay --level WARNING t l
+replay t --level WARNING l
+replay t l --level=WARNING
+replay --level=WARNING -- t l"
+        .lines()
+    {
+        let words = words_of(rt.alloc(), line)?;
+        let ran = run(&rt, rt.alloc(), &words, TRACE, NONE)?;
+        let filtered = "accepted 0 dropped 0 filtered 1\n";
+        assert_eq!(rt; ran.shown(), (Status::Done, filtered, ""), "{line}");
+        assert_eq!(rt; ran.log.as_deref(), Some(log.as_slice()));
+    }
+    Ok(())
+}
+
 /// Asserts that a command over one file prints these lines.
 fn expect_lines(
     rt: &impl Abort,
@@ -94,6 +115,68 @@ fn expect_same_lines(rt: &impl Abort, alloc: Global, text: &str, lines: &str) ->
         ("l", log.as_slice()),
         lines,
     )
+}
+
+/// A trace with a message of each severity.
+const LEVELS: &str = "nanolog-trace 1
+message 0 ERROR 1 \"f\" \"e%d\"
+message 1 WARNING 2 \"f\" \"w%d\"
+message 2 NOTICE 3 \"f\" \"n%d\"
+message 3 DEBUG 4 \"f\" \"d%d\"
+clock 0 0 1
+writers 1
+call 0 0 3 1
+call 0 1 1 2
+call 0 1 2 3
+call 0 2 0 4
+call 0 3 3 5
+call 0 4 1 6
+end
+";
+
+/// Asserts how many calls the level keeps, and which lines the log has.
+fn expect_kept(
+    rt: &impl Abort,
+    alloc: Global,
+    level: &str,
+    counts: &str,
+    lines: &str,
+) -> Result<(), Fail> {
+    let words = ["replay", "t", "l", "--level", level];
+    let ran = run(rt, alloc, &words, LEVELS, NONE)?;
+    let printed = format!(in alloc; "{counts}\n")?;
+    assert_eq!(rt;
+        ran.shown(),
+        (Status::Done, printed.as_str(), ""),
+        "{level}"
+    );
+    let log = ran.log.as_deref().unwrap_or(&[]);
+    let lines = lines.replace(alloc, ";", "\n")?;
+    expect_lines(rt, alloc, &["decompress", "l"], ("l", log), lines.as_str())
+}
+
+#[test]
+fn a_level_keeps_the_calls_up_to_it(rt: HostRuntime) -> Result<(), Fail> {
+    for row in "ERROR|accepted 1 dropped 0 filtered 5|2.000000000 f:1 ERROR[0]: e4;
+WARNING|accepted 3 dropped 0 filtered 3|1.000000000 f:2 WARNING[0]: w2;2.000000000 f:1 ERROR[0]: e4;\
+4.000000000 f:2 WARNING[0]: w6;
+NOTICE|accepted 4 dropped 0 filtered 2|1.000000000 f:2 WARNING[0]: w2;1.000000000 f:3 NOTICE[0]: n3;\
+2.000000000 f:1 ERROR[0]: e4;4.000000000 f:2 WARNING[0]: w6;
+DEBUG|accepted 6 dropped 0 filtered 0|0.000000000 f:4 DEBUG[0]: d1;1.000000000 f:2 WARNING[0]: w2;\
+1.000000000 f:3 NOTICE[0]: n3;2.000000000 f:1 ERROR[0]: e4;3.000000000 f:4 DEBUG[0]: d5;4.000000000 f:2 WARNING[0]: w6;"
+        .lines()
+    {
+        let mut columns = row.split('|');
+        let level = columns.next().ok_or("a row without a level")?;
+        let counts = columns.next().ok_or("a row without counts")?;
+        let lines = columns.next().ok_or("a row without lines")?;
+        expect_kept(&rt, rt.alloc(), level, counts, lines)?;
+    }
+    // All calls are printed, whatever their severity.
+    let ran = run(&rt, rt.alloc(), &["direct", "t"], LEVELS, NONE)?;
+    let (status, out, _) = ran.shown();
+    assert_eq!(rt; (status, out.lines().count()), (Status::Done, 6));
+    Ok(())
 }
 
 #[test]
@@ -185,8 +268,8 @@ fn count_of_logs(
 fn each_changed_byte_gives_a_log_or_is_refused(rt: HostRuntime) -> Result<(), Fail> {
     let mut log = bytes_of(rt.alloc(), LOG)?;
     // The first and the last place of a part, and how many changes of each of its bytes are logs. A severity is one of
-    // four; NUL and `%` can't stand for the first two bytes of the format; a step or a value with a byte isn't 0; and the
-    // code 1 of the value 7 can be the code 10, of -8.
+    // four; NUL and `%` can't stand for the first two bytes of the format; a step or a value with a byte isn't 0; and
+    // the code 1 of the value 7 can be the code 10, of -8.
     for row in "0 5 0
 6 29 255
 30 36 0
@@ -258,8 +341,8 @@ fn a_refused_trace_creates_no_log(rt: HostRuntime) -> Result<(), Fail> {
 #[test]
 fn a_failed_call_of_replay_is_told(rt: HostRuntime) -> Result<(), Fail> {
     let log = bytes_of(rt.alloc(), LOG)?;
-    // One call opens the trace, one takes each piece of it, one finds its end; one creates the log, one puts each piece of
-    // it, and one ends it.
+    // One call opens the trace, one takes each piece of it, one finds its end; one creates the log, one puts each piece
+    // of it, and one ends it.
     let reads = 2 + TRACE.len().div_ceil(PIECE) as u64;
     let calls = reads + 2 + log.len().div_ceil(PIECE) as u64;
     for call in 0..=calls {
@@ -297,8 +380,8 @@ fn a_failed_write_of_the_count_leaves_the_log(rt: HostRuntime) -> Result<(), Fai
     Ok(())
 }
 
-/// Runs the words where the file `t` holds [`TRACE`] and `l` holds the log. Where memory is wanting that is told, and else
-/// the text is printed.
+/// Runs the words where the file `t` holds [`TRACE`] and `l` holds the log. Where memory is wanting that is told, and
+/// else the text is printed.
 fn expect_told_or_done(
     rt: &impl Abort,
     alloc: Global,

@@ -11,7 +11,6 @@ ghost use Rattle.arg_records.specs.declared.call.Call.{Call};
 ghost use Rattle.buffer_extent.specs.Bodies.{IsBody};
 ghost use Rattle.buffer_extent.specs.declared.fault.BodyFault.TheVariants as body_faults;
 ghost use Rattle.nanolog_cli.specs.declared.narrow_log.NarrowFault.TheVariants as narrow_faults;
-ghost use Rattle.nanolog_cli.specs.NarrowTraces.{HasNarrowFormats};
 ghost use Rattle.nanolog_cli.specs.NarrowLogs.{NarrowLog};
 ghost use Rattle.nanolog_cli.specs.LogParts.{NarrowEntry, BeginsWithHeader, BeginsWithCount, BeginsWithEntries, BeginsWithMessages, BeginsWithBody, BeginsWithRecords};
 
@@ -121,7 +120,8 @@ fn read_header(bytes: &[u8]) -> Option<(Clock, &[u8])>
 fn read_narrow_entry(alloc: Global, bytes: &[u8]) -> Result<(Message, usize), NarrowFault>
     ensures within { IfOk result (λ read. read.1 ≤ length bytes.now) }
     ensures ok { IfOk result (λ read. NarrowEntry (take read.1 bytes.now) read.0) }
-    ensures only { (message : MessageRecord) (front rest : List ℕ) → NarrowEntry front message → bytes.now ≡ front ++ rest → MatchResult result
+    ensures only { (message : MessageRecord) (front rest : List ℕ) → NarrowEntry front message
+        → bytes.now ≡ front ++ rest → MatchResult result
         (λ read. (read.0 ≡ message) × (read.1 ≡ length front))
         (λ fault. fault ≡ NarrowFault.NoMemory) }
 {
@@ -145,7 +145,8 @@ fn add_entry<'a>(
         × (bytes.now ≡ front ++ rest.now)
         × (¬ (HasMessage dictionary.old message))
         × (dictionary.new ≡ dictionary.old ++ message ∷ [])) }
-    ensures not_yet { IsErrOf result NarrowFault.NotYet → (message : MessageRecord) (front rest : List ℕ) → NarrowEntry front message → bytes.now ≡ front ++ rest → ¬ (HasMessage dictionary.old message) → ⊥ }
+    ensures not_yet { IsErrOf result NarrowFault.NotYet → (message : MessageRecord) (front rest : List ℕ)
+        → NarrowEntry front message → bytes.now ≡ front ++ rest → ¬ (HasMessage dictionary.old message) → ⊥ }
 {
     let (message, len) = read_narrow_entry(alloc, bytes)?;
     match dictionary.add(message)? {
@@ -158,7 +159,8 @@ fn add_entry<'a>(
 fn read_entries(alloc: Global, count: u32, bytes: &[u8]) -> Result<(Dictionary, &[u8]), NarrowFault>
     requires { count ≤ MAX_MESSAGES }
     ensures found { IfOk result (λ read. BeginsWithEntries count bytes.now read.0 read.1.now) }
-    ensures not_yet { IsErrOf result NarrowFault.NotYet → (messages : List MessageRecord) (rest : List ℕ) → BeginsWithEntries count bytes.now messages rest → ⊥ }
+    ensures not_yet { IsErrOf result NarrowFault.NotYet → (messages : List MessageRecord) (rest : List ℕ)
+        → BeginsWithEntries count bytes.now messages rest → ⊥ }
 {
     let mut dictionary = Dictionary::make(alloc);
     let mut rest = bytes;
@@ -184,7 +186,8 @@ fn read_count(bytes: &[u8]) -> Option<(u32, &[u8])>
 /// The messages of the fragment at the front, none where no fragment is there, and the bytes behind it.
 fn read_messages(alloc: Global, bytes: &[u8]) -> Result<(Dictionary, &[u8]), NarrowFault>
     ensures found { IfOk result (λ read. BeginsWithMessages bytes.now read.0 read.1.now) }
-    ensures not_yet { IsErrOf result NarrowFault.NotYet → (messages : List MessageRecord) (rest : List ℕ) → BeginsWithMessages bytes.now messages rest → ⊥ }
+    ensures not_yet { IsErrOf result NarrowFault.NotYet → (messages : List MessageRecord) (rest : List ℕ)
+        → BeginsWithMessages bytes.now messages rest → ⊥ }
 {
     let Some(rest) = bytes.strip_prefix(FRAGMENT) else {
         return Ok((Dictionary::make(alloc), bytes));
@@ -215,10 +218,10 @@ fn records_of(
     dictionary: &Dictionary,
     tick: u64,
 ) -> Result<Calls, NarrowFault>
-    requires { HasNarrowFormats dictionary.now }
     ensures found { IfOk result (λ records. IsBody dictionary.now tick tick records body.now) }
     ensures few { IfOk result (λ records. length records ≤ MAX_RECORDS) }
-    ensures not_yet { IsErrOf result NarrowFault.NotYet → (entries : List Call) → IsBody dictionary.now tick tick entries body.now → length entries ≤ MAX_RECORDS → ⊥ }
+    ensures not_yet { IsErrOf result NarrowFault.NotYet → (entries : List Call)
+        → IsBody dictionary.now tick tick entries body.now → length entries ≤ MAX_RECORDS → ⊥ }
 {
     let records = read_body(alloc, body, dictionary, tick, tick)?;
     if records.len() > MAX_RECORDS {
@@ -234,9 +237,9 @@ fn read_records<'a>(
     dictionary: &Dictionary,
     tick: u64,
 ) -> Result<(Calls, &'a [u8]), NarrowFault>
-    requires { HasNarrowFormats dictionary.now }
     ensures found { IfOk result (λ read. BeginsWithRecords dictionary.now tick bytes.now read.0 read.1.now) }
-    ensures not_yet { IsErrOf result NarrowFault.NotYet → (entries : List Call) (rest : List ℕ) → BeginsWithRecords dictionary.now tick bytes.now entries rest → ⊥ }
+    ensures not_yet { IsErrOf result NarrowFault.NotYet → (entries : List Call) (rest : List ℕ)
+        → BeginsWithRecords dictionary.now tick bytes.now entries rest → ⊥ }
 {
     let Some(rest) = bytes.strip_prefix(EXTENT) else {
         return Ok((Calls::make(alloc), bytes));
@@ -250,7 +253,9 @@ fn read_records<'a>(
 /// The log that the bytes are.
 pub(crate) fn read_log(alloc: Global, bytes: &[u8]) -> Result<ReadLog, NarrowFault>
     ensures found { IfOk result (λ log. NarrowLog bytes.now log.clock log.dictionary log.records) }
-    ensures not_yet { IsErrOf result NarrowFault.NotYet → (clock : ClockRecord) (messages : List MessageRecord) (entries : List Call) → NarrowLog bytes.now clock messages entries → ⊥ }
+    ensures not_yet { IsErrOf result NarrowFault.NotYet
+        → (clock : ClockRecord) (messages : List MessageRecord) (entries : List Call)
+        → NarrowLog bytes.now clock messages entries → ⊥ }
 {
     if bytes.len() > MAX_LOG_BYTES {
         return Err(NarrowFault::NotYet);

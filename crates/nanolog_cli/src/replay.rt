@@ -5,7 +5,7 @@ ghost use Rattle.std.specs.FinMap as map;
 ghost use Rattle.nl_io.specs.Count.{Rose};
 ghost use Rattle.nl_io.specs.Content.{with_end, PutsFront};
 ghost use Rattle.nl_io.specs.Desk.{OnlyName, SameButHeld, put_by, found_in};
-ghost use Rattle.nanolog_cli.specs.Commands.{Replay};
+ghost use Rattle.cli_words.specs.Commands.{Replay};
 ghost use Rattle.nanolog_cli.specs.Endings.{ending_of};
 ghost use Rattle.nanolog_cli.specs.Outcomes.{IsHeld, HoldsFront, scene, Ends};
 
@@ -13,6 +13,7 @@ use crate::input::narrow_run_of_file;
 use crate::log_of_run::{accepted_text, log_of_run};
 use crate::output::print;
 use crate::refusal::Refusal;
+use log_dictionary::Severity;
 use nl_io::{Failed, FileSink, Files, Sink, write_all};
 use std::alloc::Global;
 
@@ -47,22 +48,23 @@ fn save<F: Files>(files: &mut F, name: &str, bytes: &[u8]) -> Result<(), Failed>
     finished
 }
 
-/// Writes the log of the run that a name holds, and prints how many calls were written.
+/// Writes the log of the calls that the level keeps of the run that a name holds, and prints how many it keeps.
 pub(crate) fn replay<'a, F: Files, O: Sink>(
     alloc: Global,
     files: &mut F,
     trace: &'a str,
     log: &'a str,
+    level: Severity,
     out: &mut O,
 ) -> Result<(), Refusal<'a>>
-    ensures ends { Ends (Replay trace.now log.now) (scene (F.desk files.old) (O.put out.old) (O.faults out.old))
+    ensures ends { Ends (Replay trace.now log.now level) (scene (F.desk files.old) (O.put out.old) (O.faults out.old))
         (scene (F.desk files.new) (O.put out.new) (O.faults out.new)) (ending_of result) }
     ensures files_others { F.rest files.old files.new }
     ensures out_others { O.rest out.old out.new }
 {
     let run = narrow_run_of_file(alloc, files, trace)?;
-    let bytes = log_of_run(alloc, &run)?;
-    let text = accepted_text(alloc, &run)?;
+    let bytes = log_of_run(alloc, &run, level)?;
+    let text = accepted_text(alloc, &run, level)?;
     match save(files, log, &bytes) {
         Ok(()) => print(out, &text),
         Err(_) => Err(Refusal::WriteFault(log)),

@@ -10,8 +10,16 @@ use crate::refusal::{Cause, Refusal};
 use itoa::Buffer;
 use nl_io::{Sink, write_all};
 
-const USAGE: &str =
-    "usage:\n  nanolog preprocess DICT FILE..\n  nanolog replay TRACE LOG [--ring N] [--batch B] [--full wait|drop] [--level S]\n  nanolog decompress LOG\n  nanolog aggregate LOG ID NTH\n  nanolog direct TRACE\n  nanolog generate SEED CALLS WRITERS\n  nanolog selftest SEED CALLS WRITERS\n  nanolog schedule FILE\n";
+const USAGE: &str = "usage:
+  nanolog preprocess DICT FILE..
+  nanolog replay TRACE LOG [--ring N] [--batch B] [--full wait|drop] [--level S]
+  nanolog decompress LOG
+  nanolog aggregate LOG ID NTH
+  nanolog direct TRACE
+  nanolog generate SEED CALLS WRITERS
+  nanolog selftest SEED CALLS WRITERS
+  nanolog schedule FILE
+";
 
 /// Writes the pieces, one behind the other, up to one that can't be written.
 fn say_pieces<E: Sink>(err: &mut E, pieces: &[&str])

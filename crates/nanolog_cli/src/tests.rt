@@ -8,14 +8,24 @@ use std::process::Abort;
 use std::test::Fail;
 
 /// A trace of one call, and its line.
-pub(crate) const TRACE: &str =
-    "nanolog-trace 1\nmessage 0 NOTICE 12 \"srv.cc\" \"x=%d\"\nclock 1000 1514764800000000000 2000000000\nwriters 1\ncall 0 1003 0 7\nend\n";
+pub(crate) const TRACE: &str = "nanolog-trace 1
+message 0 NOTICE 12 \"srv.cc\" \"x=%d\"
+clock 1000 1514764800000000000 2000000000
+writers 1
+call 0 1003 0 7
+end
+";
 
 pub(crate) const LINE: &str = "1514764800.000000001 srv.cc:12 NOTICE[0]: x=7\n";
 
 /// A trace of one call with two texts.
-const TEXTS: &str =
-    "nanolog-trace 1\nmessage 0 NOTICE 12 \"srv.cc\" \"%s%s\"\nclock 1000 1514764800000000000 2000000000\nwriters 1\ncall 0 1003 0 \"a\" \"b\"\nend\n";
+const TEXTS: &str = "nanolog-trace 1
+message 0 NOTICE 12 \"srv.cc\" \"%s%s\"
+clock 1000 1514764800000000000 2000000000
+writers 1
+call 0 1003 0 \"a\" \"b\"
+end
+";
 
 const USAGE: &str = "usage:
   nanolog preprocess DICT FILE..
@@ -31,8 +41,8 @@ const USAGE: &str = "usage:
 /// How many bytes one call moves at most, if nothing else is said.
 pub(crate) const PIECE: usize = 16;
 
-/// How many bytes one call moves at most, and the numbers of the calls that fail: on the files, on the output and on the
-/// errors.
+/// How many bytes one call moves at most, and the numbers of the calls that fail: on the files, on the output and on
+/// the errors.
 #[derive(Clone, Copy)]
 pub(crate) struct Failing<'a> {
     pub(crate) piece: usize,
@@ -73,6 +83,15 @@ pub(crate) fn owned_words(alloc: Global, words: &[&str]) -> Result<Vec<String>, 
         owned.push(String::from_str(alloc, word)?)?;
     }
     Ok(owned)
+}
+
+/// The words of a line, which one space each stands between.
+pub(crate) fn words_of(alloc: Global, line: &str) -> Result<Vec<&str>, AllocError> {
+    let mut words = Vec::new(alloc);
+    for word in line.split(' ') {
+        words.push(word)?;
+    }
+    Ok(words)
 }
 
 /// A copy of what the name holds.
@@ -142,8 +161,9 @@ fn expect_by(
     Ok(())
 }
 
-/// Asserts how `direct` of the text ends: with these lines, where they are none or end with a line feed, and else refused
-/// at the line that stands first, by the number and the name behind it. It ends so whatever one call moves at most.
+/// Asserts how `direct` of the text ends: with these lines, where they are none or end with a line feed, and else
+/// refused at the line that stands first, by the number and the name behind it. It ends so whatever one call moves at
+/// most.
 fn expect_end(rt: &impl Abort, alloc: Global, text: &str, want: &str) -> Result<(), Fail> {
     if want.is_empty() || want.ends_with('\n') {
         expect_by(rt, alloc, text, want, "", 1)?;
@@ -156,8 +176,8 @@ fn expect_end(rt: &impl Abort, alloc: Global, text: &str, want: &str) -> Result<
 }
 
 /// Asserts this of the trace with one piece of its text in place of another. Each row has the piece that is left out, a
-/// `|`, the piece that stands in its place, a `|` and how that ends. A `;` is a line feed, and `@` the time and the place of
-/// the first call.
+/// `|`, the piece that stands in its place, a `|` and how that ends. A `;` is a line feed, and `@` the time and the
+/// place of the first call.
 fn expect_edited(rt: &impl Abort, alloc: Global, trace: &str, table: &str) -> Result<(), Fail> {
     for row in table.lines() {
         let row = row.replace(alloc, ";", "\n")?;
@@ -284,32 +304,44 @@ fn long_texts_are_told_apart(rt: HostRuntime) -> Result<(), Fail> {
 
 #[test]
 fn lists_the_forms_of_its_words(rt: HostRuntime) -> Result<(), Fail> {
-    let table: [&[&str]; 17] = [
-        &[],
-        &[""],
-        &["direct"],
-        &["direct", ""],
-        &["direct", "-t"],
-        &["direct", "--help"],
-        &["direct", "t", "t"],
-        &["Direct", "t"],
-        &["t"],
-        &["replay", "t"],
-        &["replay", "t", "t"],
-        &["replay", "t", "-l"],
-        &["replay", "", "l"],
-        &["replay", "t", "l", "m"],
-        &["decompress"],
-        &["decompress", "-t"],
-        &["decompress", "t", "l"],
-    ];
-    for words in table {
-        let ran = run(&rt, rt.alloc(), words, TRACE, NONE)?;
-        assert_eq!(rt; ran.shown(), (Status::Usage, "", USAGE), "{words:?}");
+    let ran = run(&rt, rt.alloc(), &[], TRACE, NONE)?;
+    assert_eq!(rt; ran.shown(), (Status::Usage, "", USAGE));
+    // The first line is one empty word, and two spaces stand round another.
+    for line in "
+direct
+direct  t
+direct -t
+direct --help
+direct t t
+direct t --level ERROR
+Direct t
+t
+replay t
+replay t t
+replay t -l
+replay  l
+replay t l m
+replay t l --ring 1000
+replay t l --level
+replay t l --level error
+replay t l --level ERROR --level ERROR
+replay t -- l --level ERROR
+decompress
+decompress -t
+decompress t l"
+        .split('\n')
+    {
+        let words = words_of(rt.alloc(), line)?;
+        let ran = run(&rt, rt.alloc(), &words, TRACE, NONE)?;
+        assert_eq!(rt; ran.shown(), (Status::Usage, "", USAGE), "{line}");
     }
     let ran = run(&rt, rt.alloc(), &["direct", "nofile"], TRACE, NONE)?;
     let absent = "nanolog: nofile: absent\n";
     assert_eq!(rt; ran.shown(), (Status::Absent, "", absent));
+    // Behind `--` any word is a name.
+    let file = ("-t", TRACE.as_bytes());
+    let ran = run_over(&rt, rt.alloc(), &["direct", "--", "-t"], file, NONE)?;
+    assert_eq!(rt; ran.shown(), (Status::Done, LINE, ""));
     Ok(())
 }
 
@@ -442,13 +474,20 @@ fn a_long_text_is_printed_in_pieces(rt: HostRuntime) -> Result<(), Fail> {
 #[test]
 fn one_message_more_than_there_can_be_is_told(rt: HostRuntime) -> Result<(), Fail> {
     let text = counted_trace(rt.alloc(), 65_537, 0)?;
+    // That is told too where the line of the message is wrong.
+    let wrong = text
+        .as_str()
+        .replacen(rt.alloc(), "NOTICE 65536", "Notice 65536", 1)?;
+    assert!(rt; wrong.as_str() != text.as_str());
     let failing = Failing {
         piece: 1_000_000,
         ..NONE
     };
-    let ran = run(&rt, rt.alloc(), &["direct", "t"], text.as_str(), failing)?;
     let told = "nanolog: t:65538: refused: 15 TooMany\n";
-    assert_eq!(rt; ran.shown(), (Status::Refused, "", told));
+    for text in [text.as_str(), wrong.as_str()] {
+        let ran = run(&rt, rt.alloc(), &["direct", "t"], text, failing)?;
+        assert_eq!(rt; ran.shown(), (Status::Refused, "", told));
+    }
     Ok(())
 }
 
@@ -502,8 +541,17 @@ fn numbers_go_to_the_ends_of_their_ranges(rt: HostRuntime) -> Result<(), Fail> {
 2000000000|18446744073709551615|1514764800.000000000 srv.cc:12 NOTICE[0]: x=7;
 2000000000|1|1514764803.000000000 srv.cc:12 NOTICE[0]: x=7;
 12|4294967295|1514764800.000000001 srv.cc:4294967295 NOTICE[0]: x=7;
-1000 1514764800000000000 2000000000;writers 1;call 0 1003 0 7|0 0 1;writers 1;call 0 0 0 7;call 0 18446744073709551615 0 7|0.000000000 srv.cc:12 NOTICE[0]: x=7;18446744073709551615.000000000 srv.cc:12 NOTICE[0]: x=7;",
-    )
+1000 1514764800000000000 2000000000;writers 1;call 0 1003|0 0 1;writers 1;call 0 0|\
+0.000000000 srv.cc:12 NOTICE[0]: x=7;",
+    )?;
+    let last = TRACE.replacen(
+        rt.alloc(),
+        "1000 1514764800000000000 2000000000\nwriters 1\ncall 0 1003",
+        "0 0 1\nwriters 1\ncall 0 18446744073709551615",
+        1,
+    )?;
+    let line = "18446744073709551615.000000000 srv.cc:12 NOTICE[0]: x=7\n";
+    expect_end(&rt, rt.alloc(), last.as_str(), line)
 }
 
 #[test]
@@ -514,8 +562,10 @@ fn every_trace_has_its_lines(rt: HostRuntime) -> Result<(), Fail> {
         TRACE,
         "call 0 1003 0 7;||
 writers 1;call 0 1003 0 7|writers 2|
-writers 1;call 0 1003 0 7|writers 3;call 1 1003 0 2;call 0 1003 0 1;call 1 1003 0 3|@ NOTICE[0]: x=1;@ NOTICE[1]: x=2;@ NOTICE[1]: x=3;
-writers 1;call 0 1003 0 7|writers 64;call 63 1003 0 2;call 0 1005 0 1;call 1 1001 0 3|1514764800.000000000 srv.cc:12 NOTICE[1]: x=3;@ NOTICE[63]: x=2;1514764800.000000002 srv.cc:12 NOTICE[0]: x=1;
+writers 1;call 0 1003 0 7|writers 3;call 1 1003 0 2;call 0 1003 0 1;call 1 1003 0 3|\
+@ NOTICE[0]: x=1;@ NOTICE[1]: x=2;@ NOTICE[1]: x=3;
+writers 1;call 0 1003 0 7|writers 64;call 63 1003 0 2;call 0 1005 0 1;call 1 1001 0 3|\
+1514764800.000000000 srv.cc:12 NOTICE[1]: x=3;@ NOTICE[63]: x=2;1514764800.000000002 srv.cc:12 NOTICE[0]: x=1;
 end|call 0 1003 0 -8;end|@ NOTICE[0]: x=7;@ NOTICE[0]: x=-8;
 x=%d|x=%5d|@ NOTICE[0]: x=    7;
 x=%d|%d%%|@ NOTICE[0]: 7%;

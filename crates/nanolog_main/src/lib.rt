@@ -3,10 +3,10 @@
 //! Two programs are made of it: `nanolog`, and `nanolog_absent`, which is there for a second stored run.
 #![tactic(auto)]
 
-ghost use Rattle.std.specs.Prelude.{◌≡◌, ◌≢◌, ◌⊎◌, Option};
+ghost use Rattle.std.specs.Prelude.{◌≡◌, ◌≢◌, Option};
 ghost use Rattle.std.specs.Process.{exit_status};
 ghost use Rattle.nanolog_cli.specs.Commands.{Command};
-ghost use Rattle.nanolog_cli.specs.Endings.{Ending, NoMemory as WantsMemory, status_of};
+ghost use Rattle.nanolog_cli.specs.Endings.{Ending, status_of};
 ghost use Rattle.nanolog_cli.specs.Outcomes.{scene, Answers, Says};
 ghost use Rattle.nanolog_cli.specs.Statuses.{status_number};
 ghost use Rattle.nanolog_cli.specs.Words.{words_of as said_of};
@@ -60,11 +60,10 @@ fn run_words<R: Env + AllocGlobal, F: Files, O: Sink, E: Sink>(
     out: &mut O,
     err: &mut E,
 ) -> Status
-    // It ends as a command does, or as words that spell none, or there was no memory for the words.
+    // It ends as a command does, or as words that spell none, or memory was wanting for the words.
     ensures ends { (command : Option Command) × (ending : Ending) × (result ≡ status_of ending)
-        × ((Answers command (scene (F.desk files.old) (O.put out.old) (O.faults out.old))
-        (scene (F.desk files.new) (O.put out.new) (O.faults out.new)) ending)
-        ⊎ ((ending ≡ WantsMemory) × (F.desk files.new ≡ F.desk files.old) × (O.put out.new ≡ O.put out.old)))
+        × Answers command (scene (F.desk files.old) (O.put out.old) (O.faults out.old))
+        (scene (F.desk files.new) (O.put out.new) (O.faults out.new)) ending
         × Says (said_of ending) (E.put err.old) (E.put err.new) (E.faults err.old) (E.faults err.new) }
 {
     let Ok(words) = words_of(rt) else {

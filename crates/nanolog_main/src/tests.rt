@@ -8,7 +8,8 @@ use std::process::Abort;
 use std::test::Fail;
 
 const TRACE: &[u8] =
-    b"nanolog-trace 1\nmessage 0 NOTICE 12 \"srv.cc\" \"x=%d\"\nclock 1000 1514764800000000000 2000000000\nwriters 1\ncall 0 1003 0 7\nend\n";
+    b"nanolog-trace 1\nmessage 0 NOTICE 12 \"srv.cc\" \"x=%d\"\nclock 1000 1514764800000000000 2000000000\n\
+    writers 1\ncall 0 1003 0 7\nend\n";
 
 const LINE: &str = "1514764800.000000001 srv.cc:12 NOTICE[0]: x=7\n";
 
@@ -48,8 +49,8 @@ impl Env for Words<'_> {
     }
 }
 
-/// Asserts how a process ends that is started with these words where the file `t` holds [`TRACE`], and what it writes to its
-/// standard output and its standard error.
+/// Asserts how a process ends that is started with these words where the file `t` holds [`TRACE`], and what it writes
+/// to its standard output and its standard error.
 fn expect(
     rt: &impl Abort,
     alloc: Global,

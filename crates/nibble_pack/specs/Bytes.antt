@@ -1,5 +1,6 @@
 -- Numbers as bytes, the lowest first.
-use Rattle.std.proofs.Common.{◌≡◌, ℕ, zero, suc, ◌+◌, ◌*◌, ◌/◌, ◌%◌, ◌^◌, ◌<◌, List, [], ◌∷◌, ◌++◌, length, replicate, refl, sym, ap, ◌∙◌, arith}
+use Rattle.std.proofs.Common.{◌≡◌, ℕ, zero, suc, ◌+◌, ◌*◌, ◌/◌, ◌%◌, ◌^◌, ◌<◌, List, [], ◌∷◌, ◌++◌, length, replicate, refl, sym, ap, ◌∙◌}
+use Rattle.std.proofs.Common.{arith}
 use Rattle.std.specs.Prelude.{All}
 use Rattle.std.specs.Int.{w64, byte_at, bytes_low_first, from_le_bytes}
 use Rattle.std.proofs.lemmas.List.Elements.{All-nil, All-cons, All-head, All-tail}
@@ -46,7 +47,8 @@ number_of_bytes-lt (b ∷ bytes) h =
     omega (arith, pow-succ' 256 (length bytes))
 
 -- bytes spell the number that they represent
-pub low_first-number_of_bytes : (bytes : List ℕ) → All (λ b. b < 256) bytes → bytes_low_first 0 (length bytes) (number_of_bytes bytes) ≡ bytes
+pub low_first-number_of_bytes : (bytes : List ℕ) → All (λ b. b < 256) bytes
+    → bytes_low_first 0 (length bytes) (number_of_bytes bytes) ≡ bytes
 low_first-number_of_bytes [] h = refl
 low_first-number_of_bytes (b ∷ bytes) h =
     let byte = All-head (λ (b : ℕ). b < 256) b bytes h in
@@ -74,7 +76,8 @@ bytes_low_first-zeros (suc k) m zero n e h = absurd (omega arith)
 bytes_low_first-zeros (suc k) m (suc t) n e h =
     let power = pow-succ' 256 k in
     let rest = bytes_low_first-zeros k m t (n / 256) (omega arith) (omega arith) in
-    bytes_low_first-suc t n ∙ ap (λ (r : List ℕ). n % 256 ∷ r) rest ∙ ap (λ (r : List ℕ). r ++ replicate m 0) (sym (bytes_low_first-suc k n))
+    bytes_low_first-suc t n ∙ ap (λ (r : List ℕ). n % 256 ∷ r) rest
+    ∙ ap (λ (r : List ℕ). r ++ replicate m 0) (sym (bytes_low_first-suc k n))
 
 pub number_of_bytes-zeros : (bytes : List ℕ) (m : ℕ) → number_of_bytes (bytes ++ replicate m 0) ≡ number_of_bytes bytes
 number_of_bytes-zeros [] zero = refl

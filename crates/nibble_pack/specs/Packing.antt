@@ -35,7 +35,8 @@ IsWide (negsuc n) = (2 ^ 48 ≤ n) × (n < 2 ^ 63)
 -- A signed number from -2^63 to 2^63 - 1. One that is not wide is spelled by its least count, a negative one as -z - 1.
 pub data PacksSigned (z : ℤ) (code : ℕ) (bytes : List ℕ) : Type 0 where
   small : (n : ℕ) → z ≡ pos n → n < 2 ^ 56 → IsLeastCount code n → bytes ≡ bytes_low_first 0 code n → PacksSigned z code bytes
-  negative : (n count : ℕ) → z ≡ negsuc n → n < 2 ^ 48 → IsLeastCount count n → code ≡ 9 + count → bytes ≡ bytes_low_first 0 count n → PacksSigned z code bytes
+  negative : (n count : ℕ) → z ≡ negsuc n → n < 2 ^ 48 → IsLeastCount count n → code ≡ 9 + count → bytes ≡ bytes_low_first 0 count n
+      → PacksSigned z code bytes
   wide : IsWide z → code ≡ 8 → bytes ≡ bytes_low_first 0 8 (cast_unsigned w64 z) → PacksSigned z code bytes
 
 -- the kind, the value, the code and the bytes

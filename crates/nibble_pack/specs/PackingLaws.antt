@@ -6,7 +6,8 @@ use Rattle.std.proofs.Math.Nat.{pow-le-pow_right}
 use Rattle.std.specs.Prelude.{All, ℤ, pos, negsuc}
 use Rattle.std.specs.Int.{w64, cast_unsigned, bytes_low_first}
 use Rattle.nibble_pack.specs.Bytes.{number_of_bytes, length-bytes_low_first, bytes_low_first-below, number_of_bytes-low_first}
-use Rattle.nibble_pack.specs.Packing.{Kind, unsigned, signed, IsCode, byte_count, IsLeastCount, IsWide, PacksSigned, small, negative, wide, Packed}
+use Rattle.nibble_pack.specs.Packing.{Kind, unsigned, signed, IsCode, byte_count, IsLeastCount, IsWide, PacksSigned, small, negative}
+use Rattle.nibble_pack.specs.Packing.{wide, Packed}
 
 -- ---- one number in so many bytes
 
@@ -30,7 +31,8 @@ IsLeastCount-suc k n low high = record {
 pub same_number : (k m n : ℕ) → m < 256 ^ k → n < 256 ^ k → bytes_low_first 0 k m ≡ bytes_low_first 0 k n → m ≡ n
 same_number k m n p q same = sym (number_of_bytes-low_first k m p) ∙ ap number_of_bytes same ∙ number_of_bytes-low_first k n q
 
-same_least_number : (count m n : ℕ) (bytes : List ℕ) → IsLeastCount count m → IsLeastCount count n → bytes ≡ bytes_low_first 0 count m → bytes ≡ bytes_low_first 0 count n → m ≡ n
+same_least_number : (count m n : ℕ) (bytes : List ℕ) → IsLeastCount count m → IsLeastCount count n → bytes ≡ bytes_low_first 0 count m
+    → bytes ≡ bytes_low_first 0 count n → m ≡ n
 same_least_number count m n bytes p q first second = same_number count m n p.holds q.holds (sym first ∙ second)
 
 -- ---- codes and their bytes
@@ -119,12 +121,14 @@ same_signed a b code bytes (wide a_is of_code a_spelled) (wide b_is of_other b_s
 
 -- a code with its bytes is of one value
 pub same_value : (kind : Kind) (a b : ℤ) (code : ℕ) (bytes : List ℕ) → Packed kind a code bytes → Packed kind b code bytes → a ≡ b
-same_value unsigned a b code bytes (m, a_is, p) (n, b_is, q) = a_is ∙ ap pos (same_least_number code m n bytes p.count q.count p.spelled q.spelled) ∙ sym b_is
+same_value unsigned a b code bytes (m, a_is, p) (n, b_is, q) = a_is
+    ∙ ap pos (same_least_number code m n bytes p.count q.count p.spelled q.spelled) ∙ sym b_is
 same_value signed a b code bytes p q = same_signed a b code bytes p q
 
 -- ---- one pair
 
-same_spelling : (a b m n : ℕ) (xs ys : List ℕ) → m ≡ n → IsLeastCount a m → IsLeastCount b n → xs ≡ bytes_low_first 0 a m → ys ≡ bytes_low_first 0 b n → (a ≡ b) × (xs ≡ ys)
+same_spelling : (a b m n : ℕ) (xs ys : List ℕ) → m ≡ n → IsLeastCount a m → IsLeastCount b n → xs ≡ bytes_low_first 0 a m
+    → ys ≡ bytes_low_first 0 b n → (a ≡ b) × (xs ≡ ys)
 same_spelling a b m n xs ys same p q first second =
     let count : a ≡ b = IsLeastCount-unique n a b (subst (λ (k : ℕ). IsLeastCount a k) same p) q in
     (count, first ∙ (λ i. bytes_low_first 0 (count i) (same i)) ∙ sym second)
@@ -168,11 +172,13 @@ same_pair signed z a b xs ys p q = same_signed_pair z a b xs ys p q
 -- ---- in front of other bytes
 
 -- the bytes of a code are read off the front
-pub Packed-take : (kind : Kind) (z : ℤ) (code : ℕ) (bytes rest : List ℕ) → Packed kind z code bytes → take (byte_count kind code) (bytes ++ rest) ≡ bytes
+pub Packed-take : (kind : Kind) (z : ℤ) (code : ℕ) (bytes rest : List ℕ) → Packed kind z code bytes
+    → take (byte_count kind code) (bytes ++ rest) ≡ bytes
 Packed-take kind z code bytes rest p = take_at bytes rest (byte_count kind code) (Packed-length kind z code bytes p)
 
 -- bytes begin with one spelling at most
-pub same_front : (kind : Kind) (a b : ℤ) (code : ℕ) (xs ys r s : List ℕ) → Packed kind a code xs → Packed kind b code ys → xs ++ r ≡ ys ++ s → (xs ≡ ys) × (a ≡ b)
+pub same_front : (kind : Kind) (a b : ℤ) (code : ℕ) (xs ys r s : List ℕ) → Packed kind a code xs → Packed kind b code ys
+    → xs ++ r ≡ ys ++ s → (xs ≡ ys) × (a ≡ b)
 same_front kind a b code xs ys r s p q same =
     let front : xs ≡ ys = sym (Packed-take kind a code xs r p) ∙ ap (take (byte_count kind code)) same ∙ Packed-take kind b code ys s q in
     (front, same_value kind a b code ys (subst (Packed kind a code) front p) q)

@@ -1,4 +1,5 @@
-//! Laws over the definitions of packed numbers. The functions do nothing: what they ensure is proved of the definitions.
+//! Laws over the definitions of packed numbers. The functions do nothing: what they ensure is proved
+//! of the definitions.
 
 ghost use Rattle.std.specs.Prelude.{◌≡◌, ℕ, ◌^◌, ◌<◌, ◌≤◌, ◌-◌, List, [], ◌∷◌, ◌++◌, length, replicate, All, ℤ, pos, negsuc};
 ghost use Rattle.nibble_pack.specs.Packing.{Kind, unsigned, signed, IsCode, byte_count, Packed};

@@ -1,6 +1,6 @@
 -- What came from a source, and what went to a sink, over several calls.
-use Rattle.std.proofs.Common.{◌≡◌, ℕ, ◌+◌, ◌<◌, ◌≤◌, List, [], ◌++◌, length, take, drop, Some, None, Result, Ok, Err, refl, sym, ap, subst, ◌∙◌, append_assoc, arith}
-use Rattle.std.specs.Prelude.{IfSome, OnErr}
+use Rattle.std.proofs.Common.{◌≡◌, ℕ, ◌+◌, ◌<◌, ◌≤◌, List, [], ◌++◌, length, take, drop, Some, None, refl, sym, ap, subst, ◌∙◌, append_assoc, arith}
+use Rattle.std.specs.Prelude.{IfSome}
 use Rattle.std.proofs.lemmas.List.{append-nil, take-append-drop, length-append}
 use Rattle.std.proofs.Math.Seq.{take-add, drop-append_seam}
 use Rattle.nl_io.specs.Content.{Told, without_front, with_end, IsFront, IsAtEnd, Came}
@@ -41,8 +41,3 @@ with_end-none bytes (Some content) = ap Some (sym (append-nil content))
 pub Came-front : (bytes : List ℕ) (old now : Told) → Came bytes old now → now ≡ without_front (length bytes) old
 Came-front bytes None now came = came
 Came-front bytes (Some content) now (others, whole, is) = is ∙ ap Some (sym (drop-append_seam bytes others) ∙ ap (drop (length bytes)) (sym whole))
-
--- what holds in any case holds at a refusal
-pub at_refusal : {T E P : Type 0} (r : Result T E) → P → OnErr r P
-at_refusal (Ok x) p = tt
-at_refusal (Err e) p = p

@@ -1,16 +1,11 @@
 -- What a file has left after a call.
-use Rattle.std.proofs.Common.{◌≡◌, ◌≢◌, ℕ, Option, Some, None, Result, Ok, Err, refl, sym, ap, subst, ◌∙◌}
+use Rattle.std.proofs.Common.{◌≡◌, ◌≢◌, ℕ, Option, Some, None, Result, Ok, Err, sym, ap, subst, ◌∙◌}
 use Rattle.std.specs.Prelude.{IfOk, OnErr, unwrap_or}
 use Rattle.std.specs.FinMap as map
 use Rattle.nl_io.specs.Content.{Told, without_front}
-use Rattle.nl_io.specs.DeskLaws.{get-given, get-other}
+use Rattle.nl_io.specs.DeskLaws.{some_told, get-given, get-other}
 use Rattle.nl_io.specs.Desk.{Desk, OnlyReadFaults, Takes, SameButLeft}
 use Rattle.nl_io.specs.declared.failed.Failed.{Failed}
-
--- an open file and its content
-some_content : (o : Option Told) → o ≢ None → (content : Told) × (o ≡ Some content)
-some_content None ne = absurd (ne refl)
-some_content (Some content) ne = (content, refl)
 
 given_some : (o : Option Told) (content : Told) → o ≡ Some content → o ≢ None
 given_some o content e n = cc
@@ -18,7 +13,7 @@ given_some o content e n = cc
 pub takes_left : (old new : Desk) (id n : ℕ) → map.get old.left id ≢ None → Takes old id n new
     → map.get new.left id ≡ Some (without_front n (unwrap_or (map.get old.left id) None))
 takes_left old new id n reading takes =
-    let open_file = some_content (map.get old.left id) reading in
+    let open_file = some_told (map.get old.left id) reading in
     let moved = takes.taken open_file.0 open_file.1 in
     ap (λ (d : Desk). map.get d.left id) moved ∙ get-given old.left id (without_front n open_file.0)
     ∙ ap (λ (o : Option Told). Some (without_front n (unwrap_or o None))) (sym open_file.1)
@@ -36,7 +31,7 @@ moved_left (Err f) old new id reading takes = tt
 pub takes_same : (r : Result ℕ Failed) (old new : Desk) (id : ℕ) → map.get old.left id ≢ None → IfOk r (λ n. Takes old id n new) → OnErr r (OnlyReadFaults old new)
     → SameButLeft id old new
 takes_same (Ok n) old new id reading takes err =
-    let open_file = some_content (map.get old.left id) reading in
+    let open_file = some_told (map.get old.left id) reading in
     let moved = takes.taken open_file.0 open_file.1 in
     record {
       held = ap (λ (d : Desk). d.held) moved;

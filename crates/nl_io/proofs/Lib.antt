@@ -3,3 +3,4 @@ pub mod Contents
 pub mod Tables
 pub mod Shelves
 pub mod Names
+pub mod Outcomes

@@ -4,7 +4,6 @@ use Rattle.std.proofs.Common.{Bor, MutBor}
 use Rattle.std.specs.Prelude.{option_map, is_some, option_copied}
 use Rattle.std.specs.Option.{option_copied_mut}
 use Rattle.std.specs.declared.cmp.Ordering.{Ordering}
-use Rattle.std.specs.declared.cmp.Ordering.TheVariants.{Less, Equal, Greater}
 use Rattle.std.specs.Ordering.{nat_cmp, is_eq, eq_by_cmp}
 use Rattle.std.specs.Cmp.{IsTotalOrder, eq_by_cmp_equiv, nat_cmp_total}
 use Rattle.std.specs.Map.{lookup}
@@ -13,6 +12,7 @@ use Rattle.std.specs.BTreeMap.{BTreeMap}
 use Rattle.std.specs.FinMap as map
 use Rattle.std.proofs.lemmas.Result.{IfOk-weaker}
 use Rattle.nl_io.specs.Content.{Told, without_front}
+use Rattle.nl_io.specs.DeskLaws.{same_key}
 use Rattle.nl_io.specs.Tables.{as_map, by_id}
 use Rattle.nl_io.specs.Untold.{ids_in}
 
@@ -48,18 +48,10 @@ module _ {K L V X : Type 0} {R : L → L → Ordering} (total : IsTotalOrder R) 
       ∙ ap (λ (b : Bool). cond b None (option_map value (found old q))) ((eq_by_cmp_equiv total).symm k q)
       ∙ sym (map.get-remove total (as_map key value old) k q ∙ ap (cond (eq_by_cmp R q k) None) (get-as_map old q)))
 
-is_equal : (r : Ordering) → is_eq r ≡ true → r ≡ Equal
-is_equal Less e = absurd cc
-is_equal Equal e = refl
-is_equal Greater e = absurd cc
-
 -- each way of a test leads to the same
 either_way : {A : Type 0} (b : Bool) (x y : A) → (b ≡ true → x ≡ y) → cond b x y ≡ y
 either_way true x y h = h refl
 either_way false x y h = refl
-
-same_key : {L : Type 0} {R : L → L → Ordering} → map.IsAntisymmetric R → (q k : L) → eq_by_cmp R q k ≡ true → q ≡ k
-same_key {R = R} same q k e = same q k (is_equal (R q k) e)
 
 -- what was put and taken out is as it was
 skipped : {X : Type 0} (b : Bool) (o w u : Option X) → o ≡ cond b w u → (b ≡ true → None ≡ u) → cond b None o ≡ u
@@ -77,9 +69,9 @@ module _ {L X : Type 0} {R : L → L → Ordering} (total : IsTotalOrder R) (sam
   remove-insert m k v none = map.same_map total same _ _ (λ q. map.get-remove total (map.insert m k v) k q
       ∙ skipped (eq_by_cmp R q k) _ _ (map.get m q) (map.get-insert total m k v q) (λ e. sym none ∙ ap (map.get m) (sym (same_key same q k e))))
 
-some_told : {V : Type 0} (told : V → Told) (o : Option V) → option_map told o ≢ None → is_some o ≡ true
-some_told told None has = absurd (has refl)
-some_told told (Some v) has = refl
+is_there : {V : Type 0} (told : V → Told) (o : Option V) → option_map told o ≢ None → is_some o ≡ true
+is_there told None has = absurd (has refl)
+is_there told (Some v) has = refl
 
 module _ {V : Type 0} (told : V → Told) where
   pub get-by_id : (m : BTreeMap ℕ V) (id : ℕ) → map.get (by_id told m.entries) id ≡ option_map told (tree.get nat_cmp m id)
@@ -102,7 +94,7 @@ module _ {V : Type 0} (told : V → Told) where
   by_id-free r m free = IfOk-weaker r _ _ (λ id. by_id-unused m id) free
 
   pub by_id-has : (m : BTreeMap ℕ V) (id : ℕ) → map.get (by_id told m.entries) id ≢ None → is_some (tree.get nat_cmp m id) ≡ true
-  by_id-has m id has = some_told told (tree.get nat_cmp m id) (λ none. has (get-by_id m id ∙ none))
+  by_id-has m id has = is_there told (tree.get nat_cmp m id) (λ none. has (get-by_id m id ∙ none))
 
   pub by_id-content : (m : BTreeMap ℕ V) (id : ℕ) (v : V) (content : Told) → tree.get nat_cmp m id ≡ Some v → map.get (by_id told m.entries) id ≡ Some content → content ≡ told v
   by_id-content m id v content found is = let both : Some content ≡ Some (told v) = sym is ∙ get-by_id m id ∙ ap (option_map told) found in cc

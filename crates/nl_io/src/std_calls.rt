@@ -73,7 +73,8 @@ pub(crate) fn flush<W: Write>(writer: &mut W, faults: &mut u64) -> Result<(), Fa
     Err(fail(faults))
 }
 
-/// Opens a file for reading, and again where the call was interrupted. `None` is the answer where there is no such name.
+/// Opens a file for reading, and again where the call was interrupted. `None` is the answer where
+/// there is no such name.
 pub(crate) fn open<R: rt::Files>(
     rt: &R,
     name: &str,

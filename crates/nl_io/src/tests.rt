@@ -37,7 +37,8 @@ fn put_all<F: Files>(files: &mut F, id: u32, bytes: &[u8]) -> Result<(), Failed>
 
 /// Writes a file by a sink. No other name changes.
 fn write_by_sink<F: Files>(files: &mut F, name: &str, bytes: &[u8]) -> Result<(), Failed>
-    ensures holds { OnOk result (IfSome (F.desk files.old).held (λ _. found_in (F.desk files.new) name.now ≡ Some (Some bytes.now))) }
+    ensures holds { OnOk result
+        (IfSome (F.desk files.old).held (λ _. found_in (F.desk files.new) name.now ≡ Some (Some bytes.now))) }
     ensures only { OnlyName name.now (F.desk files.old) (F.desk files.new) }
 {
     let id = files.create(name)?;

@@ -1,11 +1,13 @@
 -- Where bytes break the grammar of formats, and why (C11 7.21.6.1, and this library's limits).
-use Rattle.std.specs.Prelude.{◌≡◌, ◌⊎◌, ℕ, ◌+◌, ◌<◌, ◌≤◌, Bool, true, false, not, ◌&&◌, ◌||◌, ◌==◌, nat_lt, if◌then◌else◌, List, [], ◌∷◌, ◌++◌, length, drop, slice_get, codes, Option, Some, None, IfSome}
+use Rattle.std.specs.Prelude.{◌≡◌, ◌⊎◌, ℕ, ◌+◌, ◌<◌, ◌≤◌, Bool, true, false, not, ◌&&◌, ◌||◌, ◌==◌, nat_lt, if◌then◌else◌, List, [], ◌∷◌}
+use Rattle.std.specs.Prelude.{◌++◌, length, drop, slice_get, codes, Option, Some, None, IfSome}
 use Rattle.std.specs.Char.{is_digit}
 use Rattle.std.specs.List.{AllByRecursion, count_by}
 use Rattle.std.specs.Str.Parse.{digits_value}
 use Rattle.printf_grammar.specs.declared.limits.TheConstants.{MAX_ARGUMENTS, MAX_FORMAT, MAX_SIZE}
 use Rattle.printf_grammar.specs.declared.fault.FormatCause.{FormatCause}
-use Rattle.printf_grammar.specs.declared.fault.FormatCause.TheVariants.{Float, Wide, Store, BadPercent, BadLength, Unknown, TooWide, Ends, Nul, TooManyArgs, Long}
+use Rattle.printf_grammar.specs.declared.fault.FormatCause.TheVariants.{Float, Wide, Store, BadPercent, BadLength, Unknown, TooWide, Ends}
+use Rattle.printf_grammar.specs.declared.fault.FormatCause.TheVariants.{Nul, TooManyArgs, Long}
 use Rattle.printf_grammar.specs.declared.piece.Piece.{Piece}
 use Rattle.printf_grammar.specs.declared.piece.Size.{Size}
 use Rattle.printf_grammar.specs.declared.piece.Length.{Length}

@@ -1,5 +1,6 @@
 -- What bytes begin with: the parts of a field, each as long as it can be, a piece, or a break.
-use Rattle.std.specs.Prelude.{◌≡◌, ℕ, ◌+◌, ◌<◌, ◌≤◌, Bool, true, false, not, ◌&&◌, ◌||◌, ◌==◌, List, [], ◌∷◌, ◌++◌, length, slice_get, codes, Option, Some, IfSome, ⊤}
+use Rattle.std.specs.Prelude.{◌≡◌, ℕ, ◌+◌, ◌<◌, ◌≤◌, Bool, true, false, not, ◌&&◌, ◌||◌, ◌==◌, List, [], ◌∷◌, ◌++◌, length, slice_get}
+use Rattle.std.specs.Prelude.{codes, Option, Some, IfSome, ⊤}
 use Rattle.std.specs.Char.{is_digit}
 use Rattle.std.specs.List.{AllByRecursion}
 use Rattle.std.specs.Str.Parse.{digits_value}
@@ -15,8 +16,11 @@ use Rattle.printf_grammar.specs.declared.piece.Conversion.{Conversion}
 use Rattle.printf_grammar.specs.declared.parts.Flags.{Flags}
 use Rattle.printf_grammar.specs.declared.parts.Modifier.{Modifier}
 use Rattle.printf_grammar.specs.declared.parts.Modifier.TheVariants.{Known, LongDouble}
-use Rattle.printf_grammar.specs.Spelling.{IsFlag, stands, SpellsWidth, SpellsPrecision, SpellsDigits, SpellsField, SpellsPiece, TakesLength, conversion_byte, length_bytes}
-use Rattle.printf_grammar.specs.Breaks.{Head, head_bytes, IsHead, is_empty, is_only, is_bare, has_star, cause_at, takes_flag, takes_width_star, takes_width_digit, takes_period, takes_precision_star, takes_precision_digit, takes_modifier, unfinished_bytes, unfinished_stars}
+use Rattle.printf_grammar.specs.Spelling.{IsFlag, stands, SpellsWidth, SpellsPrecision, SpellsDigits, SpellsField, SpellsPiece}
+use Rattle.printf_grammar.specs.Spelling.{TakesLength, conversion_byte, length_bytes}
+use Rattle.printf_grammar.specs.Breaks.{Head, head_bytes, IsHead, is_empty, is_only, is_bare, has_star, cause_at, takes_flag}
+use Rattle.printf_grammar.specs.Breaks.{takes_width_star, takes_width_digit, takes_period, takes_precision_star, takes_precision_digit}
+use Rattle.printf_grammar.specs.Breaks.{takes_modifier, unfinished_bytes, unfinished_stars}
 use Rattle.printf_grammar.specs.Types.{field_types, piece_types}
 
 -- the first of the bytes, if there is one, fails the test
@@ -109,7 +113,8 @@ after_width flags width = record { flags = flags; width = width; precision = [];
 abbrev pub grows : Head → ℕ → Bool
 grows head byte = takes_flag head byte || takes_width_star head byte || takes_width_digit head byte || takes_period head byte || takes_precision_star head byte || takes_precision_digit head byte || takes_modifier head byte || (byte == 37 && is_bare head)
 
--- behind the start the bytes go on with a head up to the rest, which breaks there; no `*` stands between, and `taken` arguments were taken before
+-- behind the start the bytes go on with a head up to the rest, which breaks there; no `*` stands between, and `taken` arguments were
+-- taken before
 pub record Stops (start : Head) (taken : ℕ) (bytes : List ℕ) (cause : FormatCause) (rest : List ℕ) : Type 0 where
   pub head : Head
   pub joined : head_bytes start ++ bytes ≡ head_bytes head ++ rest

@@ -28,6 +28,12 @@ value_of (args.Text text) = values.Text text.now
 abbrev pub values_of : List Arg → List Value
 values_of list = map value_of list
 
+-- the bytes of a text; a number has none
+abbrev pub text_of : Value → List ℕ
+text_of (values.Signed z) = []
+text_of (values.Unsigned n) = []
+text_of (values.Text bytes) = bytes
+
 -- ---- what a format takes
 
 -- a `*` takes an argument of this type

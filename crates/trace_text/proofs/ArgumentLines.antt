@@ -25,7 +25,7 @@ use Rattle.trace_text.specs.declared.cause.TraceCause.TheVariants.{ArgKind, ArgR
 use Rattle.trace_text.specs.Lines.{SpellsArgument, SpellsArguments}
 use Rattle.trace_text.specs.CallReading.{◌>>=◌, Item, number, text, ends_field, number_item, item_behind, item_at, signed_within, unsigned_below, text_of, argument_of, arguments_at}
 use Rattle.trace_text.proofs.DecimalBytes.{decimal_all}
-use Rattle.trace_text.proofs.Arguments.{bind-ok, ok_or-ok, passes, holds_back}
+use Rattle.trace_text.proofs.Arguments.{with_value, with_item, bind-ok, ok_or-ok, passes, holds_back}
 
 -- ---- fields
 
@@ -275,12 +275,6 @@ arguments_end fields (value ∷ args) (field, others, is, argument, rest) = subs
 -- what follows, where the first result is known
 pub bind-Ok : {A B : Type 0} (r : Result A TraceCause) (a : A) (next : A → Result B TraceCause) → r ≡ Ok a → (r >>= next) ≡ next a
 bind-Ok r a next e = ap (λ r. r >>= next) e
-
-abbrev with_value : List ArgType → List ℕ → Value → Result (List Value) TraceCause
-with_value types rest value = arguments_at types rest >>= (λ values. Ok (value ∷ values))
-
-abbrev with_item : ArgType → List ArgType → Item × List ℕ → Result (List Value) TraceCause
-with_item type types item = argument_of type item.0 >>= with_value types item.1
 
 -- arguments that fit their types are read as these arguments
 pub arguments_read : (types : List ArgType) (fields : List ℕ) (args : List Value) → SpellsArguments fields args → Fits args types → arguments_at types fields ≡ Ok args

@@ -100,10 +100,10 @@ argument_fits types.Text (text bytes) value e = text_fits bytes value e
 
 -- ---- all arguments
 
-abbrev with_value : List ArgType → List ℕ → Value → Result (List Value) TraceCause
+abbrev pub with_value : List ArgType → List ℕ → Value → Result (List Value) TraceCause
 with_value types bytes value = arguments_at types bytes >>= (λ values. Ok (value ∷ values))
 
-abbrev with_item : ArgType → List ArgType → Item × List ℕ → Result (List Value) TraceCause
+abbrev pub with_item : ArgType → List ArgType → Item × List ℕ → Result (List Value) TraceCause
 with_item type types item = argument_of type item.0 >>= with_value types item.1
 
 pub arguments_fit : (types : List ArgType) (bytes : List ℕ) (args : List Value) → arguments_at types bytes ≡ Ok args → Fits args types

@@ -15,7 +15,7 @@ use Rattle.trace_text.specs.Recordings.{Recording, calls_of}
 use Rattle.trace_text.specs.Order.{place_of, places_in_order, call_in}
 
 -- the call is the one at its place
-abbrev IsAtPlace : Recording → LogCall → Type 0
+abbrev pub IsAtPlace : Recording → LogCall → Type 0
 IsAtPlace run call = call_in run (place_of call) ≡ Some call
 
 all-append : (run : Recording) (front back : List LogCall) → AllByRecursion (IsAtPlace run) front → AllByRecursion (IsAtPlace run) back → AllByRecursion (IsAtPlace run) (front ++ back)
@@ -52,9 +52,13 @@ found_again : (run : Recording) (calls : List LogCall) → AllByRecursion (IsAtP
 found_again run [] all = refl
 found_again run (call ∷ calls) all = ap (λ found. found ∷ map (call_in run) (map place_of calls)) all.0 ∙ ap (λ others. Some call ∷ others) (found_again run calls all.1)
 
--- the calls at the places in order are the calls in order
-pub calls_at_places : (run : Recording) → map (call_in run) (places_in_order run) ≡ map Some (in_order (calls_of run))
-calls_at_places run =
+-- each call in order is the one at its place
+pub all_at_places : (run : Recording) → AllByRecursion (IsAtPlace run) (in_order (calls_of run))
+all_at_places run =
     let calls = calls_of run in
     let all = All-from_recursion (IsAtPlace run) calls (all_found run 0 run.writers (λ k. let same : 0 + k ≡ k = omega arith in ap (slice_get run.writers) same)) in
-    found_again run (in_order calls) (recursion_from_All (IsAtPlace run) (in_order calls) (All-permutation (IsAtPlace run) calls (in_order calls) (IsPermutation-sym (in_order calls) calls (in_order-permutation calls)) all))
+    recursion_from_All (IsAtPlace run) (in_order calls) (All-permutation (IsAtPlace run) calls (in_order calls) (IsPermutation-sym (in_order calls) calls (in_order-permutation calls)) all)
+
+-- the calls at the places in order are the calls in order
+pub calls_at_places : (run : Recording) → map (call_in run) (places_in_order run) ≡ map Some (in_order (calls_of run))
+calls_at_places run = found_again run (in_order (calls_of run)) (all_at_places run)

@@ -1,6 +1,5 @@
 pub mod Worked
 pub mod RecordingLaws
-pub mod Sorted
 pub mod PlaceOrder
 pub mod CallRuns
 pub mod CallFieldLemmas
@@ -25,3 +24,8 @@ pub mod ReadTexts
 pub mod OneOutcome
 pub mod SomeOutcome
 pub mod ToldApart
+pub mod Fronts
+pub mod CallTexts
+pub mod OwnCalls
+pub mod CanonicalLaws
+pub mod SpelledRuns

@@ -21,7 +21,8 @@ use Rattle.direct_printf.proofs.Sorting.{in_order-permutation, in_order-is_in_or
 use Rattle.trace_text.specs.declared.order.Place.{Place}
 use Rattle.trace_text.specs.Recordings.{Recording, IsRecording, calls_of}
 use Rattle.trace_text.specs.Order.{place_of, places_in_order, place_in, writer_places, places_by_writer}
-use Rattle.trace_text.proofs.Sorted.{sorted_once}
+use Rattle.stamp_merge.proofs.Sorted.{sorted_once}
+use Rattle.stamp_merge.proofs.Heads.{less_then, less_last}
 
 -- how places compare: by stamp, then by writer, then by ordinal
 abbrev pub place_cmp : Place → Place → Ordering
@@ -37,16 +38,6 @@ place_order : IsStrictWeakOrder place_less
 place_order = ranks_by place_total (λ p. p)
 
 -- ---- the order is that of the calls
-
-less_then : (less same : Bool) (next : Ordering) → is_lt (ordering_then (cond less Less (cond same Equal Greater)) next) ≡ (less || (same && is_lt next))
-less_then true same next = refl
-less_then false true next = refl
-less_then false false next = refl
-
-less_last : (less same : Bool) → is_lt (cond less Less (cond same Equal Greater)) ≡ less
-less_last true same = refl
-less_last false true = refl
-less_last false false = refl
 
 less_is : (a b : Place) → place_less a b ≡ (ltb a.stamp b.stamp || (eqb a.stamp b.stamp && (ltb a.writer b.writer || (eqb a.writer b.writer && ltb a.ordinal b.ordinal))))
 less_is a b =

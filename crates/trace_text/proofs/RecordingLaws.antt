@@ -4,6 +4,7 @@ use Rattle.std.specs.Prelude.{sum_by}
 use Rattle.std.specs.List.{AllByRecursion}
 use Rattle.std.proofs.lemmas.List.{length-replicate}
 use Rattle.std.proofs.lemmas.List.Sums.{sum_by-cons}
+use Rattle.printf_grammar.proofs.Worked.{all_copies}
 use Rattle.log_dictionary.specs.declared.message.Message.{Message}
 use Rattle.arg_records.specs.declared.call.Call.{Call}
 use Rattle.trace_text.specs.Recordings.{Recording, IsRecording}
@@ -11,11 +12,6 @@ use Rattle.arg_records.specs.Calls.{IsCall, NeverFalls}
 use Rattle.arg_records.specs.Rows.{row_call, full_message, full_call}
 use Rattle.log_dictionary.specs.Rows.{row_message}
 use Rattle.trace_text.specs.Rows.{two_messages}
-
--- what holds of an element holds of each of its copies
-pub all_copies : {X : Type 0} (P : X → Type 0) (x : X) (n : ℕ) → P x → AllByRecursion P (replicate n x)
-all_copies P x zero h = tt
-all_copies P x (suc n) h = (h, all_copies P x n h)
 
 -- ---- stamps
 

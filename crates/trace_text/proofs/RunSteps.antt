@@ -10,7 +10,8 @@ use Rattle.arg_records.specs.Calls.{IsCall, NeverFalls}
 use Rattle.trace_text.specs.Recordings.{Recording, IsRecording}
 use Rattle.trace_text.specs.Lines.{WriterCall}
 use Rattle.trace_text.specs.CallReading.{with_call_of, with_call}
-use Rattle.trace_text.proofs.RecordingLaws.{all_copies, sum_of_none}
+use Rattle.printf_grammar.proofs.Worked.{all_copies}
+use Rattle.trace_text.proofs.RecordingLaws.{sum_of_none}
 
 -- a run of so many writers without calls
 abbrev pub start_of : List Message → Clock → ℕ → Recording

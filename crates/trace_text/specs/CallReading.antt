@@ -79,7 +79,8 @@ argument_of types.Precision (number z) = signed_within (negsuc 2147483647) (pos 
 argument_of types.Text (text bytes) = text_of bytes
 argument_of _ _ = Err ArgKind
 
--- The arguments of these types, each behind a space. A field ends before a space or at the end, so that the byte in front of the next one is a space.
+-- The arguments of these types, each behind a space. A field ends before a space or at the end, so that the byte in
+-- front of the next one is a space.
 abbrev pub arguments_at : List ArgType → List ℕ → Result (List Value) TraceCause
 arguments_at [] [] = Ok []
 arguments_at [] (byte ∷ bytes) = Err ArgCount

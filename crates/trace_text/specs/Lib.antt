@@ -12,3 +12,5 @@ pub mod Progress
 pub mod CallAnswers
 pub mod Rows
 pub mod Order
+pub mod Canonical
+pub mod Writing

@@ -34,26 +34,40 @@ pub record Broken : Type 0 where
 
 -- the line spells a new message with the next id
 abbrev pub FollowsMessages : List Message → List ℕ → Part → Type 0
-FollowsMessages before line next = (begins_with (codes "message ") line ≡ true) × (length before < MAX_MESSAGES) × ((message : Message) × SpellsNew before line (length before) message × (next ≡ messages (before ++ message ∷ [])))
+FollowsMessages before line next =
+    (begins_with (codes "message ") line ≡ true)
+    × (length before < MAX_MESSAGES)
+    × ((message : Message) × SpellsNew before line (length before) message × (next ≡ messages (before ++ message ∷ [])))
 
 -- a line of a message is one too many, or spells no new message with the next id
 abbrev pub BreaksMessages : List Message → List ℕ → TraceCause → Type 0
 BreaksMessages before line cause =
     (begins_with (codes "message ") line ≡ true)
-    × (((MAX_MESSAGES ≤ length before) × (cause ≡ causes.TooMany)) ⊎ ((length before < MAX_MESSAGES) × ((message : Message) → ¬ (SpellsNew before line (length before) message)) × (cause ≡ causes.Message)))
+    × (((MAX_MESSAGES ≤ length before) × (cause ≡ causes.TooMany))
+    ⊎ ((length before < MAX_MESSAGES)
+    × ((message : Message) → ¬ (SpellsNew before line (length before) message))
+    × (cause ≡ causes.Message)))
 
 -- the line is right in this part, and the next line stands in that part
 abbrev pub Follows : Part → List ℕ → Part → Type 0
 Follows opening line next = (line ≡ first_line) × (next ≡ messages [])
-Follows (messages before) line next = FollowsMessages before line next ⊎ ((begins_with (codes "message ") line ≡ false) × ((time : Clock) × (clock_at line ≡ Some time) × (next ≡ clock before time)))
-Follows (clock dictionary time) line next = (count : ℕ) × (writers_at line ≡ Some count) × (next ≡ calls (record { dictionary = dictionary; clock = time; writers = replicate count [] }))
-Follows (calls run) line next = ((line ≡ last_line) × (next ≡ ended run)) ⊎ ((line ≢ last_line) × ((made : WriterCall) × (call_at run line ≡ Ok made) × (next ≡ calls (with_call run made))))
+Follows (messages before) line next =
+    FollowsMessages before line next
+    ⊎ ((begins_with (codes "message ") line ≡ false) × ((time : Clock) × (clock_at line ≡ Some time) × (next ≡ clock before time)))
+Follows (clock dictionary time) line next =
+    (count : ℕ) × (writers_at line ≡ Some count)
+    × (next ≡ calls (record { dictionary = dictionary; clock = time; writers = replicate count [] }))
+Follows (calls run) line next =
+    ((line ≡ last_line) × (next ≡ ended run))
+    ⊎ ((line ≢ last_line) × ((made : WriterCall) × (call_at run line ≡ Ok made) × (next ≡ calls (with_call run made))))
 Follows (ended run) line next = ⊥
 
 -- the line is refused in this part, and this is the first cause that holds
 abbrev pub Breaks : Part → List ℕ → TraceCause → Type 0
 Breaks opening line cause = (line ≢ first_line) × (cause ≡ causes.Header)
-Breaks (messages before) line cause = BreaksMessages before line cause ⊎ ((begins_with (codes "message ") line ≡ false) × (clock_at line ≡ None) × (cause ≡ causes.Clock))
+Breaks (messages before) line cause =
+    BreaksMessages before line cause
+    ⊎ ((begins_with (codes "message ") line ≡ false) × (clock_at line ≡ None) × (cause ≡ causes.Clock))
 Breaks (clock dictionary time) line cause = (writers_at line ≡ None) × (cause ≡ causes.Writers)
 Breaks (calls run) line cause = (line ≢ last_line) × (call_at run line ≡ Err cause)
 Breaks (ended run) line cause = cause ≡ causes.AfterEnd
@@ -70,7 +84,8 @@ at_end _ n rest = Err (record { line = n; cause = causes.NoEnd })
 abbrev pub Reads : Part → ℕ → List (List ℕ) → List ℕ → Result Recording Broken → Type 0
 Reads part n [] rest outcome = outcome ≡ at_end part n rest
 Reads part n (line ∷ lines) rest outcome =
-    ((next : Part) × Follows part line next × Reads next (n + 1) lines rest outcome) ⊎ ((cause : TraceCause) × Breaks part line cause × (outcome ≡ Err (record { line = n; cause = cause })))
+    ((next : Part) × Follows part line next × Reads next (n + 1) lines rest outcome)
+    ⊎ ((cause : TraceCause) × Breaks part line cause × (outcome ≡ Err (record { line = n; cause = cause })))
 
 -- bytes without a line feed
 abbrev pub IsOneLine : List ℕ → Type 0
@@ -93,4 +108,6 @@ pub record Gives (part : Part) (n : ℕ) (bytes : List ℕ) (outcome : Result Re
 
 -- the text is refused at this line, from this cause: it is too long, or a line of it is refused
 abbrev pub TraceBreak : List ℕ → ℕ → TraceCause → Type 0
-TraceBreak bytes line cause = ((MAX_TRACE < length bytes) × (line ≡ 0) × (cause ≡ causes.TooLarge)) ⊎ ((length bytes ≤ MAX_TRACE) × Gives opening 1 bytes (Err (record { line = line; cause = cause })))
+TraceBreak bytes line cause =
+    ((MAX_TRACE < length bytes) × (line ≡ 0) × (cause ≡ causes.TooLarge))
+    ⊎ ((length bytes ≤ MAX_TRACE) × Gives opening 1 bytes (Err (record { line = line; cause = cause })))

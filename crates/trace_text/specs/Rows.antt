@@ -1,6 +1,9 @@
 -- Worked examples: runs of three writers, and calls with texts.
 use Rattle.std.specs.Prelude.{◌≡◌, ℕ, List, [], ◌∷◌, ◌++◌, codes, Err}
+use Rattle.printf_grammar.specs.declared.piece.Piece.TheVariants.{Field}
+use Rattle.printf_grammar.specs.declared.piece.Conversion.TheVariants.{S}
 use Rattle.printf_grammar.specs.declared.argument.Value.TheVariants.{Unsigned, Text}
+use Rattle.printf_grammar.specs.Narrow.{plain_d}
 use Rattle.arg_records.specs.Rows.{row_call, full_message, mixed_calls, texts_message}
 use Rattle.log_dictionary.specs.Rows.{row_message}
 use Rattle.trace_text.specs.Recordings.{Recording}
@@ -36,7 +39,10 @@ two_messages = record three_writers {
 
 -- a call with a text in which each escape stands
 abbrev pub text_call : WriterCall
-text_call = record { writer = 3; call = record { stamp = 5; id = 2; args = Text (97 ∷ 34 ∷ 92 ∷ 10 ∷ 9 ∷ 254 ∷ []) ∷ Unsigned 18446744073709551615 ∷ [] } }
+text_call = record {
+  writer = 3;
+  call = record { stamp = 5; id = 2; args = Text (97 ∷ 34 ∷ 92 ∷ 10 ∷ 9 ∷ 254 ∷ []) ∷ Unsigned 18446744073709551615 ∷ [] };
+}
 
 abbrev pub text_call_line : List ℕ
 text_call_line = codes "call 3 5 2 \"a\\\"\\\\\\n\\t\\xFe\" 18446744073709551615"
@@ -48,3 +54,28 @@ begun_run = record three_writers { dictionary = row_message ∷ texts_message �
 -- the cause from which the line is refused in that run
 abbrev pub refused : List ℕ → TraceCause → Type 0
 refused line cause = call_at begun_run line ≡ Err cause
+
+-- ---- runs as they are written
+
+-- the text that is written of the run of three writers: the first writer's call stands first
+abbrev pub three_writers_canonical : List ℕ
+three_writers_canonical =
+    codes "nanolog-trace 1\n"
+    ++ codes "message 0 NOTICE 12 \"srv.cc\" \"x=%d\"\n"
+    ++ codes "clock 1000 1514764800000000000 2000000000\n"
+    ++ codes "writers 3\n"
+    ++ codes "call 0 1003 0 1\n"
+    ++ codes "call 1 1003 0 2\n"
+    ++ codes "call 1 1003 0 3\n"
+    ++ codes "end\n"
+
+-- a run of one writer before its first call, whose message takes one text
+abbrev pub one_text_run : Recording
+one_text_run = record three_writers {
+  dictionary = record row_message { format = record { bytes = codes "%s"; pieces = Field (record plain_d { conversion = S }) ∷ [] } } ∷ [];
+  writers = [] ∷ [];
+}
+
+-- a call of it with a letter, another one and a line feed
+abbrev pub one_text_call : WriterCall
+one_text_call = record { writer = 0; call = record { stamp = 1003; id = 0; args = Text (97 ∷ 65 ∷ 10 ∷ []) ∷ [] } }

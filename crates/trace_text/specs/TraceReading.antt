@@ -20,7 +20,9 @@ IsNoAnswer (Refused line cause) = ⊥
 IsNoAnswer ReadFault = ⊤
 IsNoAnswer NoMemory = ⊤
 
--- where the text is that of a run the answer is the run, and where it is refused the answer is the refusal, unless the answer says nothing of it
+-- where the text is that of a run the answer is the run, and where it is refused the answer is the refusal, unless the
+-- answer says nothing of it
 pub record IsOnlyAnswer (text : List ℕ) (answer : Result Recording TraceFault) : Type 0 where
   pub run : (run : Recording) → TraceText text run → MatchResult answer (λ found. found ≡ run) IsNoAnswer
-  pub refusal : (line : ℕ) (cause : TraceCause) → TraceBreak text line cause → MatchResult answer (λ _. ⊥) (λ fault. (fault ≡ Refused line cause) ⊎ IsNoAnswer fault)
+  pub refusal : (line : ℕ) (cause : TraceCause) → TraceBreak text line cause
+      → MatchResult answer (λ _. ⊥) (λ fault. (fault ≡ Refused line cause) ⊎ IsNoAnswer fault)

@@ -19,7 +19,9 @@ pub record TraceText (bytes : List ℕ) (run : Recording) : Type 0 where
   pub message_lines : List (List ℕ)
   pub call_lines : List (List ℕ)
   pub calls : List WriterCall
-  pub whole : bytes ≡ text_of_lines (first_line ∷ message_lines ++ (clock_line run.clock ∷ writers_line (length run.writers) ∷ call_lines ++ last_line ∷ []))
+  pub whole :
+      bytes ≡ text_of_lines (first_line ∷ message_lines
+      ++ (clock_line run.clock ∷ writers_line (length run.writers) ∷ call_lines ++ last_line ∷ []))
   pub messages_spelled : SpellsMessages 0 message_lines run.dictionary
   pub distinct : AreDistinct run.dictionary
   pub few_messages : length run.dictionary ≤ MAX_MESSAGES

@@ -11,8 +11,9 @@ ghost use Rattle.trace_text.specs.Order.{call_in, places_in_order};
 ghost use Rattle.arg_records.specs.Calls.{IsCall, NeverFalls};
 ghost use Rattle.trace_text.specs.Reading.{Part, Broken, Gives, opening, TraceBreak};
 ghost use Rattle.trace_text.specs.Traces.{TraceText};
+ghost use Rattle.trace_text.specs.Canonical.{call_line, Canonical, HasText};
 ghost use Rattle.trace_text.specs.Lines.{SpellsCall};
-ghost use Rattle.trace_text.specs.Rows.{three_writers, three_writers_text, two_messages, text_call, text_call_line, begun_run, refused};
+ghost use Rattle.trace_text.specs.Rows.{three_writers, three_writers_text, two_messages, text_call, text_call_line, begun_run, refused, three_writers_canonical, one_text_run, one_text_call};
 ghost use Rattle.trace_text.specs.CallReading.{call_at};
 ghost use Rattle.trace_text.specs.declared.cause.TraceCause.{TraceCause};
 ghost use Rattle.trace_text.specs.declared.cause.TraceCause.TheVariants.{TooLarge, NoEnd, Header, Message, Clock, Writers, CallForm, Writer, BeforeClock, StampFalls, Id, ArgCount, ArgKind, ArgRange, NulInText, AfterEnd};
@@ -22,6 +23,7 @@ use crate::order::Place;
 use crate::reading::TraceFault;
 use crate::trace::Trace;
 use crate::writer_calls::WriterCalls;
+use crate::writing::WriteTraceFault;
 
 /// A run of three writers, whose calls are mixed.
 pub fn writers_are_mixed()
@@ -59,6 +61,7 @@ pub fn texts_are_of_recordings()
     ensures few_messages { (bytes : List ℕ) (run : Recording) → TraceText bytes run
         → length run.dictionary ≤ 65536 }
     ensures distinct { (bytes : List ℕ) (run : Recording) → TraceText bytes run → AreDistinct run.dictionary }
+    ensures written { (bytes : List ℕ) (run : Recording) → TraceText bytes run → HasText run }
 {}
 
 /// Lines that go on with a run, and what they say.
@@ -110,6 +113,20 @@ pub fn calls_stand_at_their_places()
     ensures { (run : Recording) → map (call_in run) (places_in_order run) ≡ map Some (in_order (calls_of run)) }
 {}
 
+/// The canonical text of a run spells the run, where it is within the limit: reading what was written
+/// gives the run again.
+pub fn canonical_texts_spell()
+    ensures { (run : Recording) → HasText run → length (Canonical run) ≤ 67108864 → TraceText (Canonical run) run }
+{}
+
+/// A line whose text is spelled with escapes is accepted, and what is written of its call has each byte
+/// in its one canonical spelling. Calls are written by stamp, and then by writer.
+pub fn calls_are_written()
+    ensures read { call_at one_text_run (codes "call 0 1003 0 \"a\\x41\\n\"") ≡ Ok one_text_call }
+    ensures written { call_line one_text_call ≡ codes "call 0 1003 0 \"aA\\n\"" }
+    ensures in_order { Canonical three_writers ≡ three_writers_canonical }
+{}
+
 /// The runs that texts spell are the runs that reading the texts line by line gives.
 pub fn texts_are_read()
     ensures read { (bytes : List ℕ) (run : Recording) → TraceText bytes run → Gives opening 1 bytes (Ok run) }
@@ -138,6 +155,7 @@ pub fn threads() {
     crosses_threads::<Trace>();
     crosses_threads::<WriterCalls>();
     crosses_threads::<TraceFault>();
+    crosses_threads::<WriteTraceFault>();
     crosses_threads::<Place>();
 }
 

@@ -11,6 +11,7 @@ mod order;
 mod reading;
 mod trace;
 mod writer_calls;
+mod writing;
 
 pub use arg_records::{Call, Calls};
 pub use cause::TraceCause;
@@ -18,6 +19,7 @@ pub use order::{Place, call_count, places_in_order};
 pub use reading::{TraceFault, read_text, read_trace};
 pub use trace::{MAX_CALLS, MAX_TRACE, Trace};
 pub use writer_calls::WriterCalls;
+pub use writing::{WriteTraceFault, write_trace};
 
 #[cfg(test)]
 mod call_tests;

@@ -9,166 +9,77 @@ use std::test::Fail;
 
 /// The lines before the calls: two messages, and two writers.
 const HEAD: &[u8] =
-    b"nanolog-trace 1\nmessage 0 NOTICE 12 \"srv.cc\" \"x=%d\"\nmessage 1 DEBUG 3 \"a\" \"%s%*u%s\"\nclock 1000 5 7\nwriters 2\n";
+    b"nanolog-trace 1\nmessage 0 NOTICE 12 \"srv.cc\" \"x=%d\"\nmessage 1 DEBUG 3 \"a\" \"%s%*u%s\"\n\
+clock 1000 5 7\nwriters 2\n";
 
 /// Calls of both writers, and the last line.
 const CALLS: &[u8] =
     b"call 1 1000 0 -2147483648\ncall 0 1003 1 \"\\x41\\n\" 4095 4294967295 \"\"\ncall 1 1000 0 7\nend\n";
 
-/// Texts that are refused, at which line and from which cause.
-const REFUSED: [(&[u8], u64, TraceCause); 24] = [
-    (b"", 1, TraceCause::NoEnd),
-    (b"nanolog-trace 2", 1, TraceCause::NoEnd),
-    (b"nanolog-trace 2\n", 1, TraceCause::Header),
-    (b"\nnanolog-trace 1\n", 1, TraceCause::Header),
-    (b"nanolog-trace 1\nclock", 2, TraceCause::NoEnd),
-    (b"nanolog-trace 1\nend\n", 2, TraceCause::Clock),
-    (b"nanolog-trace 1\nmessage\n", 2, TraceCause::Clock),
-    (
-        b"nanolog-trace 1\nmessage 0 LOUD 1 \"a\" \"b\"\n",
-        2,
-        TraceCause::Message,
-    ),
-    (
-        b"nanolog-trace 1\nmessage 0 ERROR 1 \"\" \"b\"\n",
-        2,
-        TraceCause::Message,
-    ),
-    (
-        b"nanolog-trace 1\nmessage 0 ERROR 1 \"a\" \"%n\"\n",
-        2,
-        TraceCause::Message,
-    ),
-    (
-        b"nanolog-trace 1\nmessage 0 ERROR 1 \"a\" \"\\0\"\n",
-        2,
-        TraceCause::Message,
-    ),
-    (
-        b"nanolog-trace 1\nmessage 1 ERROR 1 \"a\" \"b\"\n",
-        2,
-        TraceCause::Message,
-    ),
-    (
-        b"nanolog-trace 1\nmessage 0 ERROR 1 \"a\" \"b\"\nmessage 1 ERROR 1 \"\\x61\" \"b\"\n",
-        3,
-        TraceCause::Message,
-    ),
-    (b"nanolog-trace 1\nclock 1 2 0\n", 2, TraceCause::Clock),
-    (b"nanolog-trace 1\nclock 1 2 03\n", 2, TraceCause::Clock),
-    (b"nanolog-trace 1\nclock 1 2 3 \n", 2, TraceCause::Clock),
-    (
-        b"nanolog-trace 1\nclock 1 2 18446744073709551616\n",
-        2,
-        TraceCause::Clock,
-    ),
-    (
-        b"nanolog-trace 1\nclock 1 2 3\nwriters 0\n",
-        3,
-        TraceCause::Writers,
-    ),
-    (
-        b"nanolog-trace 1\nclock 1 2 3\nwriters 65\n",
-        3,
-        TraceCause::Writers,
-    ),
-    (
-        b"nanolog-trace 1\nclock 1 2 3\nmessage 0 ERROR 1 \"a\" \"b\"\n",
-        3,
-        TraceCause::Writers,
-    ),
-    (
-        b"nanolog-trace 1\nclock 1 2 3\nwriters 64\nend",
-        4,
-        TraceCause::NoEnd,
-    ),
-    (
-        b"nanolog-trace 1\nclock 1 2 3\nwriters 64\nend\n\n",
-        5,
-        TraceCause::AfterEnd,
-    ),
-    (
-        b"nanolog-trace 1\nclock 1 2 3\nwriters 64\nend\nend",
-        5,
-        TraceCause::AfterEnd,
-    ),
-    (
-        b"nanolog-trace 1\nclock 1 2 3\nwriters 64\nend \n",
-        4,
-        TraceCause::CallForm,
-    ),
-];
+/// At which line and from which cause texts are refused, and the texts. A `/` stands for a line feed.
+const REFUSED: &str = "\
+1 NoEnd|
+1 NoEnd|nanolog-trace 2
+1 Header|nanolog-trace 2/
+1 Header|/nanolog-trace 1/
+2 NoEnd|nanolog-trace 1/clock
+2 Clock|nanolog-trace 1/end/
+2 Clock|nanolog-trace 1/message/
+2 Message|nanolog-trace 1/message 0 LOUD 1 \"a\" \"b\"/
+2 Message|nanolog-trace 1/message 0 ERROR 1 \"\" \"b\"/
+2 Message|nanolog-trace 1/message 0 ERROR 1 \"a\" \"%n\"/
+2 Message|nanolog-trace 1/message 0 ERROR 1 \"a\" \"\\0\"/
+2 Message|nanolog-trace 1/message 1 ERROR 1 \"a\" \"b\"/
+3 Message|nanolog-trace 1/message 0 ERROR 1 \"a\" \"b\"/message 1 ERROR 1 \"\\x61\" \"b\"/
+2 Clock|nanolog-trace 1/clock 1 2 0/
+2 Clock|nanolog-trace 1/clock 1 2 03/
+2 Clock|nanolog-trace 1/clock 1 2 3 /
+2 Clock|nanolog-trace 1/clock 1 2 18446744073709551616/
+3 Writers|nanolog-trace 1/clock 1 2 3/writers 0/
+3 Writers|nanolog-trace 1/clock 1 2 3/writers 65/
+3 Writers|nanolog-trace 1/clock 1 2 3/message 0 ERROR 1 \"a\" \"b\"/
+4 NoEnd|nanolog-trace 1/clock 1 2 3/writers 64/end
+5 AfterEnd|nanolog-trace 1/clock 1 2 3/writers 64/end//
+5 AfterEnd|nanolog-trace 1/clock 1 2 3/writers 64/end/end
+4 CallForm|nanolog-trace 1/clock 1 2 3/writers 64/end /";
 
-/// Lines behind those of `HEAD`, of which there are five, and how they are refused. Where two causes
-/// hold of a line, the first of them is told.
-const REFUSED_CALLS: [(&[u8], u64, TraceCause); 34] = [
-    (b"call 0 1000 0 1\n", 7, TraceCause::NoEnd),
-    (b"calls 0 1000 0 1\n", 6, TraceCause::CallForm),
-    (b"call 0 1000\n", 6, TraceCause::CallForm),
-    (b"call  0 1000 0 1\n", 6, TraceCause::CallForm),
-    (b"call 0 1000 0\t1\n", 6, TraceCause::CallForm),
-    (
-        b"call 0 1000 18446744073709551616 1\n",
-        6,
-        TraceCause::CallForm,
-    ),
-    (b"call -1 1000 0 1\n", 6, TraceCause::CallForm),
-    (b"call 2 1000 0 1\n", 6, TraceCause::Writer),
-    (b"call 2 999 0 1\n", 6, TraceCause::Writer),
-    (b"call 18446744073709551615 1000 7\n", 6, TraceCause::Writer),
-    (b"call 0 999 0 1\n", 6, TraceCause::BeforeClock),
-    (
-        b"call 0 1005 0 1\ncall 0 999 0 1\n",
-        7,
-        TraceCause::BeforeClock,
-    ),
-    (b"call 0 999 7 1\n", 6, TraceCause::BeforeClock),
-    (
-        b"call 0 1005 0 1\ncall 0 1004 0 1\n",
-        7,
-        TraceCause::StampFalls,
-    ),
-    (
-        b"call 0 1005 0 1\ncall 1 1004 0 1\ncall 0 1004 7 1\n",
-        8,
-        TraceCause::StampFalls,
-    ),
-    (b"call 0 1000 2 1\n", 6, TraceCause::Id),
-    (b"call 0 1000 4294967296\n", 6, TraceCause::Id),
-    (b"call 0 1000 0\n", 6, TraceCause::ArgCount),
-    (b"call 0 1000 0 1 \n", 6, TraceCause::ArgCount),
-    (b"call 0 1000 0 1 2\n", 6, TraceCause::ArgCount),
-    (b"call 0 1000 0 \n", 6, TraceCause::ArgKind),
-    (b"call 0 1000 0  1\n", 6, TraceCause::ArgKind),
-    (b"call 0 1000 0 -0\n", 6, TraceCause::ArgKind),
-    (b"call 0 1000 0 \"1\" 2\n", 6, TraceCause::ArgKind),
-    (b"call 0 1000 1 \"a\"b 1 1 \"\"\n", 6, TraceCause::ArgKind),
-    (b"call 0 1000 1 \"\\x4\" 1 1 \"\"\n", 6, TraceCause::ArgKind),
-    (b"call 0 1000 0 2147483648 2\n", 6, TraceCause::ArgRange),
-    (
-        b"call 0 1000 0 -99999999999999999999999999\n",
-        6,
-        TraceCause::ArgRange,
-    ),
-    (
-        b"call 0 1000 1 \"\" 4096 -1 \"\"\n",
-        6,
-        TraceCause::ArgRange,
-    ),
-    (
-        b"call 0 1000 1 \"\" 4095 -1 \"\"\n",
-        6,
-        TraceCause::ArgRange,
-    ),
-    (b"call 0 1000 1 \"\\x00\" 4096\n", 6, TraceCause::NulInText),
-    (
-        b"call 0 1000 1 \"\\x00\" 1 1 \"\"\n",
-        6,
-        TraceCause::NulInText,
-    ),
-    (b"end\n ", 7, TraceCause::AfterEnd),
-    (b"end\ncall 9\n", 7, TraceCause::AfterEnd),
-];
+/// The same of lines behind those of `HEAD`, of which there are five. Where two causes hold of a line,
+/// the first of them is told.
+const REFUSED_CALLS: &str = "\
+7 NoEnd|call 0 1000 0 1/
+6 CallForm|calls 0 1000 0 1/
+6 CallForm|call 0 1000/
+6 CallForm|call  0 1000 0 1/
+6 CallForm|call 0 1000 0\t1/
+6 CallForm|call 0 1000 18446744073709551616 1/
+6 CallForm|call -1 1000 0 1/
+6 Writer|call 2 1000 0 1/
+6 Writer|call 2 999 0 1/
+6 Writer|call 18446744073709551615 1000 7/
+6 BeforeClock|call 0 999 0 1/
+7 BeforeClock|call 0 1005 0 1/call 0 999 0 1/
+6 BeforeClock|call 0 999 7 1/
+7 StampFalls|call 0 1005 0 1/call 0 1004 0 1/
+8 StampFalls|call 0 1005 0 1/call 1 1004 0 1/call 0 1004 7 1/
+6 Id|call 0 1000 2 1/
+6 Id|call 0 1000 4294967296/
+6 ArgCount|call 0 1000 0/
+6 ArgCount|call 0 1000 0 1 /
+6 ArgCount|call 0 1000 0 1 2/
+6 ArgKind|call 0 1000 0 /
+6 ArgKind|call 0 1000 0  1/
+6 ArgKind|call 0 1000 0 -0/
+6 ArgKind|call 0 1000 0 \"1\" 2/
+6 ArgKind|call 0 1000 1 \"a\"b 1 1 \"\"/
+6 ArgKind|call 0 1000 1 \"\\x4\" 1 1 \"\"/
+6 ArgRange|call 0 1000 0 2147483648 2/
+6 ArgRange|call 0 1000 0 -99999999999999999999999999/
+6 ArgRange|call 0 1000 1 \"\" 4096 -1 \"\"/
+6 ArgRange|call 0 1000 1 \"\" 4095 -1 \"\"/
+6 NulInText|call 0 1000 1 \"\\x00\" 4096/
+6 NulInText|call 0 1000 1 \"\\x00\" 1 1 \"\"/
+7 AfterEnd|end/ 
+7 AfterEnd|end/call 9/";
 
 /// Bytes joined.
 fn joined(alloc: Global, parts: &[&[u8]]) -> Result<Vec<u8>, AllocError> {
@@ -183,6 +94,24 @@ fn joined(alloc: Global, parts: &[&[u8]]) -> Result<Vec<u8>, AllocError> {
 fn check_refused(rt: &(impl Abort + AllocGlobal), text: &[u8], line: u64, cause: TraceCause) {
     let fault = TraceFault::Refused { line, cause };
     assert_eq!(rt; read_text(rt.alloc(), text).err(), Some(fault));
+}
+
+/// Asserts that the text of a row is refused as the row says, behind a front.
+fn check_row(rt: &(impl Abort + AllocGlobal), front: &[u8], row: &str) -> Result<(), Fail> {
+    let Some((told, lines)) = row.split_once('|') else {
+        return Err("a row without a text".into());
+    };
+    let mut text = joined(rt.alloc(), &[front])?;
+    for byte in lines.bytes() {
+        text.push(if byte == b'/' { b'\n' } else { byte })?;
+    }
+    let Some(TraceFault::Refused { line, cause }) = read_text(rt.alloc(), &text).err() else {
+        return Err("the text is refused".into());
+    };
+    let name = cause.name();
+    let found = format!(in rt.alloc(); "{line} {name}")?;
+    assert_eq!(rt; found.as_str(), told, "{row}");
+    Ok(())
 }
 
 /// Asserts that the run is that of `HEAD` and `CALLS`.
@@ -208,17 +137,17 @@ fn check_run(rt: &impl Abort, run: &Trace) -> Result<(), Fail> {
 }
 
 #[test]
-fn texts_are_refused(rt: HostRuntime) {
-    for (text, line, cause) in REFUSED {
-        check_refused(&rt, text, line, cause);
+fn texts_are_refused(rt: HostRuntime) -> Result<(), Fail> {
+    for row in REFUSED.lines() {
+        check_row(&rt, b"", row)?;
     }
+    Ok(())
 }
 
 #[test]
 fn calls_are_refused(rt: HostRuntime) -> Result<(), Fail> {
-    for (calls, line, cause) in REFUSED_CALLS {
-        let text = joined(rt.alloc(), &[HEAD, calls])?;
-        check_refused(&rt, &text, line, cause);
+    for row in REFUSED_CALLS.lines() {
+        check_row(&rt, HEAD, row)?;
     }
     Ok(())
 }

@@ -1,5 +1,5 @@
 use Rattle.std.proofs.Common.{length}
-use Rattle.log_dictionary.proofs.TextLemmas.{IsReadText}
+use Rattle.log_dictionary.proofs.TextRuns.{IsReadText}
 use Rattle.log_dictionary.proofs.text.split_body.Given as goal
 
 abbrev pub invariant-loop-byte : goal.invariant-loop-byte

@@ -1,4 +1,4 @@
-use Rattle.nanolog_cli.specs.Commands.{Decompress}
+use Rattle.cli_words.specs.Commands.{Decompress}
 use Rattle.nanolog_cli.proofs.Endings.{printed}
 use Rattle.nanolog_cli.proofs.decompress.decompress.Goals as goal
 

@@ -1,10 +1,10 @@
 use Rattle.std.proofs.Common.{refl, rules}
-use Rattle.nl_io.specs.DeskLaws.{visited, visited-whole}
-use Rattle.nanolog_cli.proofs.InputLemmas.{is_open, all_held, such_held, opened_there}
+use Rattle.nl_io.specs.DeskLaws.{visited, visited-whole, Opens-reading}
+use Rattle.nanolog_cli.proofs.InputLemmas.{all_held, such_held, opened_there}
 use Rattle.nanolog_cli.proofs.input.read_file.Goals as goal
 
 pub read_open-read-requires : goal.read_open-read-requires
-read_open-read-requires g c = is_open _ _ _ _ c.in_ok-id.ensures.opened
+read_open-read-requires g c = Opens-reading _ _ _ _ c.in_ok-id.ensures.opened
 
 pub returns-in-Ok-clause-all : goal.returns-in-Ok-clause-all
 returns-in-Ok-clause-all g c = all_held _ _ _ _ _ c.in_ok-id.ensures.opened c.in-Ok.ensures.all

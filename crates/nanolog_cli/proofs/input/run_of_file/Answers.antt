@@ -1,13 +1,13 @@
 use Rattle.std.proofs.Common.{rules, sym, subst}
-use Rattle.nl_io.specs.DeskLaws.{visited, visited-whole}
-use Rattle.nanolog_cli.proofs.InputLemmas.{is_open, such_held, opened_there, unread_fault}
+use Rattle.nl_io.specs.DeskLaws.{visited, visited-whole, Opens-reading}
+use Rattle.nanolog_cli.proofs.InputLemmas.{such_held, opened_there, unread_fault}
 use Rattle.nanolog_cli.specs.Endings.{Ending}
 use Rattle.nanolog_cli.specs.Inputs.{WrongTrace}
 use Rattle.nanolog_cli.specs.Outcomes.{IsUnread}
 use Rattle.nanolog_cli.proofs.input.run_of_file.Goals as goal
 
 pub trace_of_open-read-requires : goal.trace_of_open-read-requires
-trace_of_open-read-requires g c = is_open _ _ _ _ c.in_ok-id.ensures.opened
+trace_of_open-read-requires g c = Opens-reading _ _ _ _ c.in_ok-id.ensures.opened
 
 pub returns-in-Ok-clause-found : goal.returns-in-Ok-clause-found
 returns-in-Ok-clause-found g c = such_held _ _ _ _ _ c.in_ok-id.ensures.opened c.in-Ok.ensures.answer

@@ -6,7 +6,7 @@ use Rattle.nanolog_cli.specs.Outcomes.{Prints}
 use Rattle.nanolog_cli.specs.Texts.{direct_text}
 use Rattle.nanolog_cli.proofs.Endings.{ended_as, not_done}
 use Rattle.nl_io.specs.Content.{with_end}
-use Rattle.nanolog_cli.proofs.Fronts.{with_end-both}
+use Rattle.trace_text.proofs.Fronts.{with_end-both}
 use Rattle.nanolog_cli.proofs.LineLemmas.{call_at_place}
 use Rattle.nanolog_cli.proofs.PrintLemmas.{put_nothing, gathered_more, others_follow, lacks_behind, cut_behind, last_behind, all_lines}
 use Rattle.nanolog_cli.proofs.lines.print_places.Goals as goal

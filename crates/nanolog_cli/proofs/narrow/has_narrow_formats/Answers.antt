@@ -1,4 +1,4 @@
-use Rattle.std.proofs.Common.{[], ◌∷◌, ◌++◌, sym, subst, ◌∙◌}
+use Rattle.std.proofs.Common.{[], ◌∷◌, ◌++◌, subst}
 use Rattle.nanolog_cli.specs.NarrowTraces.{HasNarrowFormats}
 use Rattle.nanolog_cli.proofs.Walks.{seen_more, seen_all, next_is, all_more}
 use Rattle.nanolog_cli.proofs.NarrowLemmas.{is_not, by_seen, not_narrow}

@@ -1,6 +1,7 @@
 use Rattle.std.proofs.Common.{inr}
 use Rattle.nl_io.specs.DeskLaws.{Creates-made, SameButHeld-made, written, written-holds}
-use Rattle.nanolog_cli.proofs.Fronts.{front-whole, at_ok, at_err}
+use Rattle.nl_io.proofs.Outcomes.{at_ok, at_err}
+use Rattle.trace_text.proofs.Fronts.{front-whole}
 use Rattle.nanolog_cli.proofs.InputLemmas.{holds_written, front_written}
 use Rattle.nanolog_cli.proofs.replay.save.Goals as goal
 

@@ -1,6 +1,6 @@
 use Rattle.std.proofs.Common.{ap, sym, inr, List, ℕ, ◌∙◌}
 use Rattle.nl_io.specs.Content.{with_end}
-use Rattle.nanolog_cli.proofs.Fronts.{with_end-both}
+use Rattle.trace_text.proofs.Fronts.{with_end-both}
 use Rattle.nanolog_cli.proofs.Pieces.{piece_more, piece_cut_off}
 use Rattle.nanolog_cli.proofs.report.say_pieces.Goals as goal
 

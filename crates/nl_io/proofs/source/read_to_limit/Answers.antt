@@ -1,7 +1,8 @@
 use Rattle.std.proofs.Common.{List, ℕ, ◌++◌, ◌+◌, ◌≤◌, length, take, arith}
 use Rattle.std.proofs.lemmas.List.{length-append, length-take}
 use Rattle.nl_io.specs.Content.{Came}
-use Rattle.nl_io.proofs.Contents.{Came-more, Came-front, at_refusal}
+use Rattle.nl_io.proofs.Contents.{Came-more, Came-front}
+use Rattle.nl_io.proofs.Outcomes.{at_err}
 use Rattle.nl_io.proofs.source.read_to_limit.Goals as goal
 
 pub returns-in_err-extend_from_slice-clause-err : goal.returns-in_err-extend_from_slice-clause-err
@@ -11,4 +12,4 @@ returns-in_err-extend_from_slice-clause-err g c =
     Came-more _ _ _ _ _ _ c.loop-piece.invariant.came c.in_ok-count.ensures.front c.in_ok-count.ensures.moved in
     let few : length (c.loop-piece.bytes.items ++ piece) ≤ c.args.limit + 65536 =
     omega (arith, length-append c.loop-piece.bytes.items piece, length-take c.in_ok-count.count c.read.new.into, c.loop-piece.invariant.room, c.in_ok-count.ensures.within) in
-    at_refusal c.from_residual-in_err-extend_from_slice.result (length (c.loop-piece.bytes.items ++ piece), few, Came-front _ _ _ came)
+    at_err c.from_residual-in_err-extend_from_slice.result (length (c.loop-piece.bytes.items ++ piece), few, Came-front _ _ _ came)

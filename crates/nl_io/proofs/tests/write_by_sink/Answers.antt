@@ -1,10 +1,6 @@
-use Rattle.std.proofs.Common.{Result, Ok, Err, OnOk}
 use Rattle.nl_io.specs.DeskLaws.{Creates-made, SameButHeld-made, written, written-holds}
+use Rattle.nl_io.proofs.Outcomes.{at_ok}
 use Rattle.nl_io.proofs.tests.write_by_sink.Goals as goal
-
-where_ok : {T E P : Type 0} (r : Result T E) → P → OnOk r P
-where_ok (Ok x) p = p
-where_ok (Err e) p = tt
 
 pub put_all-wrote-requires : goal.put_all-wrote-requires
 put_all-wrote-requires g c = Creates-made _ _ _ _ c.in_ok-id.ensures.created
@@ -17,7 +13,7 @@ returns-in_err-wrote-clause-only g c = written _ _ _ _ _ _ c.in_ok-id.ensures.cr
 
 pub returns-clause-holds : goal.returns-clause-holds
 returns-clause-holds g c =
-    where_ok c.finish-finished.result (written-holds _ _ _ _ _ _ _ c.in_ok-id.ensures.created c.put_all-wrote.ensures.others c.in_ok-wrote.ensures.ok c.finish-finished.ensures.finished)
+    at_ok c.finish-finished.result (written-holds _ _ _ _ _ _ _ c.in_ok-id.ensures.created c.put_all-wrote.ensures.others c.in_ok-wrote.ensures.ok c.finish-finished.ensures.finished)
 
 pub returns-clause-only : goal.returns-clause-only
 returns-clause-only g c = written _ _ _ _ _ _ c.in_ok-id.ensures.created c.put_all-wrote.ensures.others c.put_all-wrote.ensures.count c.finish-finished.ensures.finished

@@ -1,0 +1,79 @@
+//! The arguments of a record, whose numbers were read: their texts at the front of bytes.
+
+ghost use Rattle.std.specs.Prelude.{◌≡◌, ℕ, ◌≤◌, length, List, MatchResult};
+ghost use Rattle.printf_grammar.specs.declared.limits.TheConstants.{MAX_ARGUMENTS};
+ghost use Rattle.buffer_extent.specs.Parts.{Lacks, IsDamage};
+ghost use Rattle.buffer_extent.specs.Steps.{FitsNumber, FitNumbers, BeginsWithText, BeginsWithValue, BeginsWithTexts};
+
+use crate::fault::{BodyFault, Cause};
+use crate::numbers::Number;
+use printf_grammar::{Arg, ArgType, Bytes, Value, Values};
+use std::alloc::Global;
+
+/// A text of so many bytes. Each of these calls gives the bytes behind what it read.
+fn take_text(alloc: Global, len: usize, bytes: &[u8]) -> Result<(Bytes, &[u8]), BodyFault>
+    ensures { MatchResult result
+        (λ pair. BeginsWithText len bytes.now pair.0 pair.1.now)
+        (IsDamage (Lacks (BeginsWithText len bytes.now))) }
+{
+    if bytes.len() < len {
+        return Err(BodyFault::Damaged(Cause::Body));
+    }
+    let (text, rest) = bytes.split_at(len);
+    if !ArgType::Text.takes(Arg::Text(text)) {
+        return Err(BodyFault::Damaged(Cause::Body));
+    }
+    let Ok(text) = Bytes::from_slice(alloc, text) else {
+        return Err(BodyFault::NoMemory);
+    };
+    Ok((text, rest))
+}
+
+/// The argument of the type that the number stands for.
+fn take_value(
+    alloc: Global,
+    kind: ArgType,
+    number: Number,
+    bytes: &[u8],
+) -> Result<(Value, &[u8]), BodyFault>
+    requires { FitsNumber number kind }
+    ensures { MatchResult result
+        (λ pair. BeginsWithValue kind number bytes.now pair.0 pair.1.now)
+        (IsDamage (Lacks (BeginsWithValue kind number bytes.now))) }
+{
+    match number {
+        Number::Signed(number) => Ok((Value::Signed(number), bytes)),
+        Number::Unsigned(number) => {
+            if kind != ArgType::Text {
+                return Ok((Value::Unsigned(number), bytes));
+            }
+            let (text, rest) = take_text(alloc, number as usize, bytes)?;
+            Ok((Value::Text(text), rest))
+        }
+    }
+}
+
+/// The arguments of the types that the numbers stand for.
+pub(crate) fn take_texts<'a>(
+    alloc: Global,
+    types: &[ArgType],
+    numbers: &[Number],
+    bytes: &'a [u8],
+) -> Result<(Values, &'a [u8]), BodyFault>
+    requires few { length types.now ≤ MAX_ARGUMENTS }
+    requires fit { FitNumbers types.now numbers.now }
+    ensures { MatchResult result
+        (λ pair. BeginsWithTexts types.now numbers.now bytes.now pair.0 pair.1.now)
+        (IsDamage (Lacks (BeginsWithTexts types.now numbers.now bytes.now))) }
+{
+    let mut args = Values::make(alloc);
+    let mut rest = bytes;
+    for (place, kind) in types.iter().enumerate() {
+        let (value, back) = take_value(alloc, *kind, numbers[place], rest)?;
+        let Ok(()) = args.push(value) else {
+            return Err(BodyFault::NoMemory);
+        };
+        rest = back;
+    }
+    Ok((args, rest))
+}

@@ -1,0 +1,179 @@
+-- The next block of a reader.
+use Rattle.std.proofs.Common.{Bool, false, ◌||◌, ◌≡◌, ℕ, ◌<◌, ◌≤◌, List, [], ◌∷◌, ◌++◌, length, Some, None, refl, sym, ap, subst, ◌∙◌, inl, inr, append_assoc, arith}
+use Rattle.std.specs.Prelude.{IfSome, Result, Ok, Err}
+use Rattle.std.specs.List.{list_any}
+use Rattle.std.proofs.lemmas.Bool.Decides.{eqb_tells}
+use Rattle.std.proofs.lemmas.List.{append-nil, length-append}
+use Rattle.nl_io.specs.Content.{Told, IsAtEnd}
+use Rattle.log_dictionary.specs.declared.message.Message.{Message}
+use Rattle.checkpoint_io.specs.declared.cause.Cause.{Cause}
+use Rattle.checkpoint_io.specs.declared.cause.Cause.TheVariants as causes
+use Rattle.checkpoint_io.specs.declared.fault.BlockFault.{BlockFault}
+use Rattle.checkpoint_io.specs.declared.fault.BlockFault.TheVariants.{Damaged, ReadFault, NoMemory}
+use Rattle.checkpoint_io.specs.declared.header.Header.{Header}
+use Rattle.checkpoint_io.specs.declared.block.Block.{Block as ReadBlock}
+use Rattle.checkpoint_io.specs.Blocks.{Block, Fragment, Extent, Close, messages_of, SpellsBlock, FileOf}
+use Rattle.checkpoint_io.specs.Validity.{closes, IsRightAfter, AreRightAfter, Valid}
+use Rattle.checkpoint_io.specs.Reading.{broken, ReadsBlock}
+use Rattle.checkpoint_io.specs.Fronts.{Break, at_block}
+use Rattle.checkpoint_io.specs.Places.{Waiting, Place, with_front, place_of, Takes, Refuses}
+use Rattle.checkpoint_io.specs.Writers.{WriterStates, AreStatesOf}
+use Rattle.checkpoint_io.specs.Readers.{ReaderState, StandsFor}
+use Rattle.checkpoint_io.specs.NextBlocks.{TakesBlock, TakesNext, EndsThere, StopsAt}
+use Rattle.checkpoint_io.proofs.FrontLaws.{file_goes_on}
+use Rattle.checkpoint_io.proofs.ValidityLaws.{goes_on, messages_differ}
+use Rattle.checkpoint_io.proofs.ReadingForms.{read_block_right}
+
+parted : (front back : List ℕ) (told : Told) → with_front front (with_front back told) ≡ with_front (front ++ back) told
+parted front back None = refl
+parted front back (Some content) = ap Some (sym (append_assoc front back content))
+
+-- ---- the end
+
+no_bytes : (bytes : List ℕ) → length bytes < 1 → bytes ≡ []
+no_bytes [] short = refl
+no_bytes (byte ∷ bytes) short = absurd (omega (arith, short))
+
+at_end : (bytes : List ℕ) (told : Told) → bytes ≡ [] → IsAtEnd told → IsAtEnd (with_front bytes told)
+at_end bytes None none ended = tt
+at_end bytes (Some content) none ended = ap (λ (b : List ℕ). b ++ content) none ∙ ended
+
+pub ends_there : (old new : ReaderState) (taken : List ℕ) (before : StandsFor old taken) (left behind : Told) → new.header ≡ old.header → new.messages ≡ old.messages → new.writers ≡ old.writers → new.offset ≡ old.offset → new.waiting.offset ≡ old.waiting.offset → with_front new.waiting.bytes behind ≡ with_front old.waiting.bytes left → length new.waiting.bytes < 1 → IsAtEnd behind
+    → EndsThere old new taken before left behind
+ends_there old new taken before left behind header messages writers offset start same short ended = record {
+  ended = subst IsAtEnd same (at_end new.waiting.bytes behind (no_bytes new.waiting.bytes short) ended);
+  joined = sym same;
+  stands = record {
+    blocks = before.blocks;
+    file = subst (λ (h : Header). FileOf h before.blocks taken) (sym header) before.file;
+    valid = subst (λ (h : Header). Valid h before.blocks) (sym header) before.valid;
+    messages = messages ∙ before.messages;
+    states = subst (λ (h : Header). AreStatesOf new.writers h.clock.tick before.blocks) (sym header) (subst (λ (w : WriterStates). AreStatesOf w old.header.clock.tick before.blocks) (sym writers) before.states);
+    offset = offset ∙ before.offset;
+    at = start ∙ before.at;
+    within = before.within;
+  };
+  blocks = refl;
+}
+
+-- ---- a block
+
+-- the block that was taken is spelled by the bytes between, and is right
+record IsRight (header : Header) (before : List Block) (block : Block) (front : List ℕ) : Type 0 where
+  spelled : SpellsBlock (messages_of before) header.clock.tick block front
+  right : IsRightAfter header before block
+
+is_right : (header : Header) (before : List Block) (block : Block) (from to : Place) → Valid header before → (takes : Takes (ReadsBlock header before) block from to) → IsRight header before block takes.front
+is_right header before block from to valid takes =
+    let read = read_block_right header before (takes.front ++ []) block [] valid.header_right.few_writers (messages_differ header before valid).distinct (takes.found []) in
+    let same : read.front ≡ takes.front = sym (append-nil read.front) ∙ sym read.joined ∙ append-nil takes.front in
+    record { spelled = subst (SpellsBlock (messages_of before) header.clock.tick block) same read.spelled; right = read.right }
+
+pub takes_next : (old new : ReaderState) (taken : List ℕ) (before : StandsFor old taken) (told : ReadBlock) (mid : Waiting) (left between behind : Told) → with_front mid.bytes between ≡ with_front old.waiting.bytes left → mid.offset ≡ old.waiting.offset → new.header ≡ old.header → new.offset ≡ new.waiting.offset → new.waiting.offset ≤ 134217728
+    → TakesBlock old.header before.blocks told new.messages new.writers (place_of mid between) (place_of new.waiting behind) → TakesNext old new taken before told left behind
+takes_next old new taken before told mid left between behind same start header offset within takes =
+    let block = takes.block in
+    let front = takes.takes.front in
+    let is = is_right old.header before.blocks block (place_of mid between) (place_of new.waiting behind) before.valid takes.takes in
+    let passes = takes.takes.passes.offset in
+    let at = before.at in
+    let len = length-append taken front in
+    let blocks = before.blocks ++ block ∷ [] in
+    record {
+      block = block;
+      tells = takes.tells;
+      front = front;
+      joined = sym same ∙ takes.takes.passes.ahead ∙ parted front new.waiting.bytes behind;
+      stands = record {
+        blocks = blocks;
+        file = subst (λ (h : Header). FileOf h blocks (taken ++ front)) (sym header) (file_goes_on old.header before.blocks block taken front before.file is.spelled);
+        valid = subst (λ (h : Header). Valid h blocks) (sym header) (goes_on old.header before.blocks block before.valid is.right);
+        messages = takes.defined;
+        states = subst (λ (h : Header). AreStatesOf new.writers h.clock.tick blocks) (sym header) takes.states;
+        offset = omega (arith, offset, passes, start, at, len, within);
+        at = omega (arith, passes, start, at, len, within);
+        within = omega (arith, passes, start, at, len, within);
+      };
+      blocks = refl;
+    }
+
+-- ---- where it stops
+
+pub same_damage : {T : Type 0} (a b : Cause) → ◌≡◌ {A = Result T BlockFault} (Err (Damaged a)) (Err (Damaged b)) → a ≡ b
+same_damage {T} a b e = ap damage e
+  where
+    damage : Result T BlockFault → Cause
+    damage (Ok x) = a
+    damage (Err (Damaged cause)) = cause
+    damage (Err ReadFault) = a
+    damage (Err NoMemory) = a
+
+-- what holds of the whole file
+in_file : (taken waiting : List ℕ) (left : Told) (P : List ℕ → Type 0) → IfSome (with_front waiting left) (λ bytes. P (taken ++ bytes)) → IfSome (with_front (taken ++ waiting) left) P
+in_file taken waiting None P there = tt
+in_file taken waiting (Some content) P there = subst P (sym (append_assoc taken waiting content)) there
+
+pub breaks_next : (old : ReaderState) (taken : List ℕ) (before : StandsFor old taken) (mid : Waiting) (left between : Told) (cause : Cause) → with_front mid.bytes between ≡ with_front old.waiting.bytes left → 1 ≤ length mid.bytes → Refuses (ReadsBlock old.header before.blocks) (place_of mid between) (Damaged cause)
+    → IfSome (with_front (taken ++ old.waiting.bytes) left) (λ bytes. StopsAt bytes old.offset cause)
+breaks_next old taken before mid left between cause same some refused =
+    in_file taken old.waiting.bytes left (λ bytes. StopsAt bytes old.offset cause) (subst (λ (told : Told). IfSome told (λ bytes. StopsAt (taken ++ bytes) old.offset cause)) same (there between refused))
+  where
+    there : (told : Told) → IfSome (with_front mid.bytes told) (λ bytes. ReadsBlock old.header before.blocks bytes (broken cause)) → IfSome (with_front mid.bytes told) (λ bytes. StopsAt (taken ++ bytes) old.offset cause)
+    there None reads = tt
+    there (Some content) reads =
+        inl (subst (λ (n : ℕ). Break (taken ++ (mid.bytes ++ content)) n cause) (sym before.offset)
+        (at_block old.header before.blocks taken (mid.bytes ++ content) cause refl before.file before.valid (omega (arith, some, length-append mid.bytes content)) reads))
+
+pub too_large : (old : ReaderState) (taken : List ℕ) (before : StandsFor old taken) (told : ReadBlock) (mid : Waiting) (left between : Told) (to : Place) (messages : List Message) (writers : WriterStates) → with_front mid.bytes between ≡ with_front old.waiting.bytes left → mid.offset ≡ old.waiting.offset → 134217728 < to.offset → TakesBlock old.header before.blocks told messages writers (place_of mid between) to
+    → IfSome (with_front (taken ++ old.waiting.bytes) left) (λ bytes. StopsAt bytes old.offset causes.TooLarge)
+too_large old taken before told mid left between to messages writers same start large takes =
+    in_file taken old.waiting.bytes left (λ bytes. StopsAt bytes old.offset causes.TooLarge)
+    (subst (λ (t : Told). IfSome t (λ bytes. StopsAt (taken ++ bytes) old.offset causes.TooLarge)) (sym takes.takes.passes.ahead ∙ same) (there to.ahead))
+  where
+    there : (told : Told) → IfSome (with_front takes.takes.front told) (λ bytes. StopsAt (taken ++ bytes) old.offset causes.TooLarge)
+    there None = tt
+    there (Some rest) =
+        let front = takes.takes.front in
+        let is = is_right old.header before.blocks takes.block (place_of mid between) to before.valid takes.takes in
+        let passes = takes.takes.passes.offset in
+        let at = before.at in
+        inr (
+          refl,
+          record {
+            header = old.header;
+            blocks = before.blocks;
+            block = takes.block;
+            front = taken;
+            file = before.file;
+            ends = before.offset;
+            count = length (taken ++ front);
+            begins = record {
+              prefix = taken ++ front;
+              rest = rest;
+              whole = sym (append_assoc taken front rest);
+              taken = refl;
+              file = file_goes_on old.header before.blocks takes.block taken front before.file is.spelled;
+              valid = goes_on old.header before.blocks takes.block before.valid is.right;
+            };
+            large = omega (arith, large, passes, start, at, length-append taken front);
+          },
+        )
+
+-- ---- closed writers
+
+none_far : (header : Header) (before blocks : List Block) (writer : ℕ) → AreRightAfter header before blocks → header.writers ≤ writer → list_any (closes writer) blocks ≡ false
+none_far header before [] writer right far = refl
+none_far header before (Fragment first messages ∷ blocks) writer right far = none_far header _ blocks writer right.1 far
+none_far header before (Extent w entries ∷ blocks) writer right far = none_far header _ blocks writer right.1 far
+none_far header before (Close w ∷ blocks) writer right far =
+    let known = right.0.known in
+    elim (eqb_tells w writer) [
+      | inl same ↦ absurd (omega (arith, known, far, same.1))
+      | inr differs ↦ ap (λ (b : Bool). b || list_any (closes writer) blocks) differs.0 ∙ none_far header _ blocks writer right.1 far
+    ]
+
+-- no mark of a number that names no writer was read
+pub far_is_open : (reader : ReaderState) (taken : List ℕ) (stands : StandsFor reader taken) (writer : ℕ) → 256 ≤ writer → false ≡ list_any (closes writer) stands.blocks
+far_is_open reader taken stands writer far =
+    let few : reader.header.writers ≤ 64 = stands.valid.header_right.few_writers in
+    sym (none_far reader.header [] stands.blocks writer stands.valid.blocks_right (omega (arith, few, far)))

@@ -1,0 +1,18 @@
+use Rattle.checkpoint_io.proofs.NextLaws.{fragment_block, fragment_broken, extent_block, close_block}
+use Rattle.checkpoint_io.proofs.block_reading.read_block.Goals as goal
+
+pub returns-then-tag-eq-FRAGMENT-clause-ok : goal.returns-then-tag-eq-FRAGMENT-clause-ok
+returns-then-tag-eq-FRAGMENT-clause-ok g c before known are =
+    fragment_block c.read_fragment.result c.args.header.now before c.args.dictionary.now c.read_fragment.new.dictionary c.args.writers.now c.in_ok-tag.tag _ _ _ c.if-tag-eq-FRAGMENT.true known are c.in_ok-tag.ensures.ok c.read_fragment.ensures.ok
+
+pub returns-then-tag-eq-FRAGMENT-clause-err : goal.returns-then-tag-eq-FRAGMENT-clause-err
+returns-then-tag-eq-FRAGMENT-clause-err g c before known are =
+    fragment_broken c.read_fragment.result c.args.header.now before c.args.dictionary.now c.in_ok-tag.tag _ _ c.if-tag-eq-FRAGMENT.true known c.in_ok-tag.ensures.ok c.read_fragment.ensures.err
+
+pub returns-then-tag-eq-EXTENT-clause-ok : goal.returns-then-tag-eq-EXTENT-clause-ok
+returns-then-tag-eq-EXTENT-clause-ok g c before known are =
+    extent_block c.args.header.now before c.args.dictionary.now c.in_ok-writer.writer _ c.in_ok-writer.records c.read_extent.new.writers c.in_ok-tag.tag _ _ _ c.if-tag-eq-EXTENT.true c.from.ensures known c.in_ok-tag.ensures.ok (c.in_ok-writer.ensures.ok before known are)
+
+pub returns-then-tag-eq-CLOSE-clause-ok : goal.returns-then-tag-eq-CLOSE-clause-ok
+returns-then-tag-eq-CLOSE-clause-ok g c before known are =
+    close_block c.args.header.now before c.args.dictionary.now c.in_ok-writer-2.writer _ c.read_close.new.writers c.in_ok-tag.tag _ _ _ c.if-tag-eq-CLOSE.true c.from-then-tag-eq-CLOSE.ensures known c.in_ok-tag.ensures.ok (c.in_ok-writer-2.ensures.ok before are)

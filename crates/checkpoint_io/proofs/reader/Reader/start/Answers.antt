@@ -1,0 +1,16 @@
+use Rattle.std.proofs.Common.{rules, IfErr, false}
+use Rattle.checkpoint_io.specs.Places.{place_of, Refuses}
+use Rattle.checkpoint_io.specs.Reading.{ReadsHeader}
+use Rattle.checkpoint_io.proofs.StartLaws.{started, not_started, told_fault}
+use Rattle.checkpoint_io.proofs.reader.Reader.start.Goals as goal
+
+pub returns-clause-ok : goal.returns-clause-ok
+returns-clause-ok g c =
+    started (record { header = c.in_ok-header.header; messages = c.make.result; writers = c.make-2.result; waiting = c.read_header.new.pending; offset = c.offset-offset.result; failed = false })
+    c.none-pending.result _ _ c.none-pending.ensures.bytes c.none-pending.ensures.offset c.make.ensures (record { lasts = c.make-2.ensures.lasts; closed = c.make-2.ensures.closed }) c.offset-offset.ensures c.in_ok-header.ensures.ok
+
+pub returns-in_err-header-clause-damaged : goal.returns-in_err-header-clause-damaged
+returns-in_err-header-clause-damaged g c cause is =
+    let from = place_of c.none-pending.result (g.S.Source.left c.args.source.now) in
+    let refused : IfErr c.from_residual.result (Refuses ReadsHeader from) = search rules in
+    not_started c.none-pending.result.bytes _ cause c.none-pending.ensures.bytes (told_fault c.from_residual.result (Refuses ReadsHeader from) cause is refused)

@@ -1,0 +1,86 @@
+-- What is said of a block that is read from a source.
+use Rattle.std.specs.Prelude.{◌≡◌, ◌⊎◌, ℕ, ◌<◌, List, [], ◌∷◌, ◌++◌, length, Option, Some, None}
+use Rattle.nl_io.specs.Content.{Told, IsAtEnd}
+use Rattle.log_dictionary.specs.declared.message.Message.{Message}
+use Rattle.arg_records.specs.declared.call.Call.{Call}
+use Rattle.checkpoint_io.specs.declared.header.Header.{Header}
+use Rattle.checkpoint_io.specs.declared.block.Block.{Block as ReadBlock}
+use Rattle.checkpoint_io.specs.declared.block.Block.TheVariants as read
+use Rattle.checkpoint_io.specs.Blocks.{Block, Fragment, Extent, Close, messages_of, FileOf}
+use Rattle.checkpoint_io.specs.declared.cause.Cause.{Cause}
+use Rattle.checkpoint_io.specs.declared.cause.Cause.TheVariants as causes
+use Rattle.checkpoint_io.specs.declared.heads.TheConstants.{MAX_LOG}
+use Rattle.checkpoint_io.specs.Validity.{IsOpen}
+use Rattle.checkpoint_io.specs.Reading.{ReadsExtent, ReadsClose, ReadsBlock}
+use Rattle.checkpoint_io.specs.Fronts.{BeginsWith, Break}
+use Rattle.checkpoint_io.specs.Places.{Place, with_front, Passes, Takes}
+use Rattle.checkpoint_io.specs.Writers.{WriterStates, AreStatesOf}
+use Rattle.checkpoint_io.specs.Readers.{ReaderState, StandsFor}
+
+-- a writer that may still write stands between the two places
+pub record TakesWriter (header : Header) (before : List Block) (writer : ℕ) (from to : Place) : Type 0 where
+  pub passes : Passes (writer ∷ []) from to
+  pub right : IsOpen header before writer
+
+-- the rest of the writer's close mark stands between the two places, and what is kept is that behind it
+pub record TakesClose (header : Header) (before : List Block) (writer : ℕ) (after : WriterStates) (from to : Place) : Type 0 where
+  pub takes : Takes (ReadsClose header before) (Close writer) from to
+  pub states : AreStatesOf after header.clock.tick (before ++ Close writer ∷ [])
+
+-- the rest of the writer's extent stands between the two places, and what is kept is that behind it
+pub record TakesExtent (header : Header) (before : List Block) (writer : ℕ) (entries : List Call) (after : WriterStates) (from to : Place) : Type 0 where
+  pub takes : Takes (ReadsExtent header before) (Extent writer entries) from to
+  pub states : AreStatesOf after header.clock.tick (before ++ Extent writer entries ∷ [])
+
+-- what is told of a block that was read
+abbrev pub Tells : ReadBlock → Block → Type 0
+Tells told (Fragment first messages) = told ≡ read.Fragment first (length messages)
+Tells told (Extent writer entries) = told ≡ read.Extent writer entries
+Tells told (Close writer) = told ≡ read.Closed writer
+
+-- the block stands between the two places, and what is kept is that behind it
+pub record TakesBlock (header : Header) (before : List Block) (told : ReadBlock) (messages : List Message) (after : WriterStates) (from to : Place) : Type 0 where
+  pub block : Block
+  pub tells : Tells told block
+  pub takes : Takes (ReadsBlock header before) block from to
+  pub defined : messages ≡ messages_of (before ++ block ∷ [])
+  pub states : AreStatesOf after header.clock.tick (before ++ block ∷ [])
+
+-- ---- the reader
+
+-- Behind what the reader stood for stands this block, and now the reader stands for it too.
+pub record TakesNext (old new : ReaderState) (taken : List ℕ) (before : StandsFor old taken) (told : ReadBlock) (left behind : Told) : Type 0 where
+  pub block : Block
+  pub tells : Tells told block
+  pub front : List ℕ
+  pub joined : with_front old.waiting.bytes left ≡ with_front (front ++ new.waiting.bytes) behind
+  pub stands : StandsFor new (taken ++ front)
+  pub blocks : stands.blocks ≡ before.blocks ++ block ∷ []
+
+-- Nothing stands behind what the reader stood for, and it stands for the same.
+pub record EndsThere (old new : ReaderState) (taken : List ℕ) (before : StandsFor old taken) (left behind : Told) : Type 0 where
+  pub ended : IsAtEnd (with_front old.waiting.bytes left)
+  pub joined : with_front old.waiting.bytes left ≡ with_front new.waiting.bytes behind
+  pub stands : StandsFor new taken
+  pub blocks : stands.blocks ≡ before.blocks
+
+-- the next block, or that there is none
+abbrev pub AnswersNext : (old new : ReaderState) (taken : List ℕ) → StandsFor old taken → Option ReadBlock → Told → Told → Type 0
+AnswersNext old new taken before (Some told) left behind = TakesNext old new taken before told left behind
+AnswersNext old new taken before None left behind = EndsThere old new taken before left behind
+
+-- the bytes in front of the offset are a log, and a right block begins there, which ends past the most bytes that are read
+pub record IsTooLarge (bytes : List ℕ) (offset : ℕ) : Type 0 where
+  pub header : Header
+  pub blocks : List Block
+  pub block : Block
+  pub front : List ℕ
+  pub file : FileOf header blocks front
+  pub ends : offset ≡ length front
+  pub count : ℕ
+  pub begins : BeginsWith bytes header (blocks ++ block ∷ []) count
+  pub large : MAX_LOG < count
+
+-- the file breaks at this offset, or the block there ends past the most bytes that are read
+abbrev pub StopsAt : List ℕ → ℕ → Cause → Type 0
+StopsAt bytes offset cause = Break bytes offset cause ⊎ ((cause ≡ causes.TooLarge) × IsTooLarge bytes offset)

@@ -1,0 +1,58 @@
+-- Where a reader stands in a file, and what its calls say of the bytes ahead.
+use Rattle.std.specs.Prelude.{◌≡◌, ℕ, ◌+◌, ◌-◌, ◌^◌, ◌<◌, min, List, ◌++◌, length, option_map, IfSome, ⊤}
+use Rattle.nl_io.specs.Content.{Told}
+use Rattle.checkpoint_io.specs.declared.cause.Cause.TheVariants as causes
+use Rattle.checkpoint_io.specs.declared.fault.BlockFault.{BlockFault}
+use Rattle.checkpoint_io.specs.declared.fault.BlockFault.TheVariants.{Damaged, ReadFault, NoMemory}
+use Rattle.checkpoint_io.specs.Reading.{found, broken, Reads}
+
+-- bytes that came from a source and weren't read yet, and the offset of the first of them
+pub record Waiting : Type 0 where
+  pub bytes : List ℕ
+  pub offset : ℕ
+
+-- the bytes from a place in a file on, where they are told, and its offset
+pub record Place : Type 0 where
+  pub ahead : Told
+  pub offset : ℕ
+
+-- the content with these bytes in front
+abbrev pub with_front : List ℕ → Told → Told
+with_front bytes told = option_map (λ content. bytes ++ content) told
+
+-- behind the bytes that wait stand those that the source has left
+abbrev pub place_of : Waiting → Told → Place
+place_of waiting left = record { ahead = with_front waiting.bytes left; offset = waiting.offset }
+
+-- the offset so many bytes further on; a count of 64 bits stops at its last value
+abbrev pub further : ℕ → ℕ → ℕ
+further offset count = min (offset + count) (2 ^ 64 - 1)
+
+-- these bytes stand between the two places
+pub record Passes (front : List ℕ) (from to : Place) : Type 0 where
+  pub ahead : from.ahead ≡ with_front front to.ahead
+  pub offset : to.offset ≡ further from.offset (length front)
+
+-- what stands between the two places is read as this, whatever follows
+pub record Takes {A : Type 0} (reads : Reads A) (thing : A) (from to : Place) : Type 0 where
+  pub front : List ℕ
+  pub passes : Passes front from to
+  pub found : (rest : List ℕ) → reads (front ++ rest) (found thing rest)
+
+-- the bytes ahead are broken so; want of memory and a failed read say nothing of them
+abbrev pub Refuses : {A : Type 0} → Reads A → Place → BlockFault → Type 0
+Refuses reads from (Damaged cause) = IfSome from.ahead (λ bytes. reads bytes (broken cause))
+Refuses reads from ReadFault = ⊤
+Refuses reads from NoMemory = ⊤
+
+-- the fault says nothing of the file
+abbrev pub IsNoDamage : BlockFault → Type 0
+IsNoDamage (Damaged cause) = ⊥
+IsNoDamage ReadFault = ⊤
+IsNoDamage NoMemory = ⊤
+
+-- fewer bytes than this are ahead, and that is told as cut off; want of memory and a failed read say nothing of them
+abbrev pub EndsBefore : ℕ → Place → BlockFault → Type 0
+EndsBefore count from (Damaged cause) = (cause ≡ causes.Cut) × IfSome from.ahead (λ bytes. length bytes < count)
+EndsBefore count from ReadFault = ⊤
+EndsBefore count from NoMemory = ⊤

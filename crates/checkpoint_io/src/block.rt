@@ -1,0 +1,12 @@
+use buffer_extent::Records;
+
+/// A block that was read.
+#[derive(Debug, Drop)]
+pub enum Block {
+    /// Messages, whose ids count from the first one.
+    Fragment { first: u32, count: u32 },
+    /// Records of a writer.
+    Extent { writer: u32, records: Records },
+    /// The mark that closes a writer.
+    Closed { writer: u32 },
+}

@@ -1,0 +1,212 @@
+//! Reading a block of a log.
+
+ghost use Rattle.std.specs.Prelude.{◌≡◌, ◌≤◌, ℕ, List, IfOk, IfErr, IsErrOf};
+ghost use Rattle.nl_io.specs.Count.{Rose};
+ghost use Rattle.checkpoint_io.specs.Blocks.{Block as LogBlock, Extent, messages_of};
+ghost use Rattle.checkpoint_io.specs.Places.{place_of, Takes, Refuses};
+ghost use Rattle.checkpoint_io.specs.Reading.{ReadsWriter, ReadsClose, ReadsBody, ReadsRecords, ReadsExtent, ReadsBlock};
+ghost use Rattle.checkpoint_io.specs.Writers.{AreStatesOf};
+ghost use Rattle.checkpoint_io.specs.NextBlocks.{TakesWriter, TakesClose, TakesExtent, TakesBlock};
+
+use crate::block::Block;
+use crate::cause::Cause;
+use crate::fault::BlockFault;
+use crate::fragment_reading::read_fragment;
+use crate::header::Header;
+use crate::heads::{CLOSE, EXTENT, FRAGMENT, MAX_BODY};
+use crate::pending::Pending;
+use crate::steps::{take_byte, take_u32};
+use crate::writers::Writers;
+use buffer_extent::{BodyFault, Records, read_body};
+use log_dictionary::Dictionary;
+use nl_io::Source;
+use std::alloc::Global;
+
+// A writer that may still write.
+fn take_writer<S: Source>(
+    pending: &mut Pending,
+    source: &mut S,
+    header: &Header,
+    writers: &Writers,
+) -> Result<u8, BlockFault>
+    ensures ok { (before : List LogBlock) → AreStatesOf writers.now header.now.clock.tick before
+        → IfOk result (λ writer. TakesWriter header.now before writer
+        (place_of pending.old (S.left source.old)) (place_of pending.new (S.left source.new))) }
+    ensures err { (before : List LogBlock) → AreStatesOf writers.now header.now.clock.tick before
+        → IfErr result (Refuses (ReadsWriter header.now before) (place_of pending.old (S.left source.old))) }
+    ensures read_fault { IsErrOf result BlockFault.ReadFault
+        → Rose (S.faults source.old) (S.faults source.new) }
+    ensures counted { ¬ (IsErrOf result BlockFault.ReadFault)
+        → S.faults source.new ≡ S.faults source.old }
+    ensures count { S.faults source.old ≤ S.faults source.new }
+    ensures others { S.rest source.old source.new }
+{
+    let writer = take_byte(pending, source)?;
+    if u32::from(writer) >= header.writers {
+        return Err(BlockFault::Damaged(Cause::UnknownWriter));
+    }
+    if writers.is_closed(writer) {
+        return Err(BlockFault::Damaged(Cause::AfterClose));
+    }
+    Ok(writer)
+}
+
+// The writer of the close mark behind its tag, which is closed.
+fn read_close<S: Source>(
+    pending: &mut Pending,
+    source: &mut S,
+    header: &Header,
+    writers: &mut Writers,
+) -> Result<u8, BlockFault>
+    ensures ok { (before : List LogBlock) → AreStatesOf writers.old header.now.clock.tick before
+        → IfOk result (λ writer. TakesClose header.now before writer writers.new
+        (place_of pending.old (S.left source.old)) (place_of pending.new (S.left source.new))) }
+    ensures err { (before : List LogBlock) → AreStatesOf writers.old header.now.clock.tick before
+        → IfErr result (Refuses (ReadsClose header.now before) (place_of pending.old (S.left source.old))) }
+    ensures read_fault { IsErrOf result BlockFault.ReadFault
+        → Rose (S.faults source.old) (S.faults source.new) }
+    ensures counted { ¬ (IsErrOf result BlockFault.ReadFault)
+        → S.faults source.new ≡ S.faults source.old }
+    ensures count { S.faults source.old ≤ S.faults source.new }
+    ensures others { S.rest source.old source.new }
+{
+    let writer = take_writer(pending, source, header, writers)?;
+    writers.close(writer);
+    Ok(writer)
+}
+
+// The records of a body of so many bytes.
+fn take_body<S: Source>(
+    alloc: Global,
+    pending: &mut Pending,
+    source: &mut S,
+    dictionary: &Dictionary,
+    tick: u64,
+    last: u64,
+    len: usize,
+) -> Result<Records, BlockFault>
+    ensures ok { (writer : ℕ) → IfOk result (λ records.
+        Takes (ReadsBody dictionary.now tick last writer len) (Extent writer records)
+        (place_of pending.old (S.left source.old)) (place_of pending.new (S.left source.new))) }
+    ensures err { (writer : ℕ) → IfErr result (Refuses (ReadsBody dictionary.now tick last writer len)
+        (place_of pending.old (S.left source.old))) }
+    ensures read_fault { IsErrOf result BlockFault.ReadFault
+        → Rose (S.faults source.old) (S.faults source.new) }
+    ensures counted { ¬ (IsErrOf result BlockFault.ReadFault)
+        → S.faults source.new ≡ S.faults source.old }
+    ensures count { S.faults source.old ≤ S.faults source.new }
+    ensures others { S.rest source.old source.new }
+{
+    if !pending.fill(source, len)? {
+        return Err(BlockFault::Damaged(Cause::Cut));
+    }
+    let records = match read_body(alloc, &pending.bytes()[..len], dictionary, tick, last) {
+        Ok(records) => records,
+        Err(BodyFault::Damaged(cause)) => return Err(BlockFault::Damaged(Cause::Body(cause))),
+        Err(BodyFault::NoMemory) => return Err(BlockFault::NoMemory),
+    };
+    pending.skip(len);
+    Ok(records)
+}
+
+// The records behind the writer of an extent: their length, and the body.
+fn read_records<S: Source>(
+    alloc: Global,
+    pending: &mut Pending,
+    source: &mut S,
+    dictionary: &Dictionary,
+    tick: u64,
+    last: u64,
+) -> Result<Records, BlockFault>
+    ensures ok { (writer : ℕ) → IfOk result (λ records.
+        Takes (ReadsRecords dictionary.now tick last writer) (Extent writer records)
+        (place_of pending.old (S.left source.old)) (place_of pending.new (S.left source.new))) }
+    ensures err { (writer : ℕ) → IfErr result (Refuses (ReadsRecords dictionary.now tick last writer)
+        (place_of pending.old (S.left source.old))) }
+    ensures read_fault { IsErrOf result BlockFault.ReadFault
+        → Rose (S.faults source.old) (S.faults source.new) }
+    ensures counted { ¬ (IsErrOf result BlockFault.ReadFault)
+        → S.faults source.new ≡ S.faults source.old }
+    ensures count { S.faults source.old ≤ S.faults source.new }
+    ensures others { S.rest source.old source.new }
+{
+    let len = take_u32(pending, source)?;
+    if len == 0 || len > MAX_BODY {
+        return Err(BlockFault::Damaged(Cause::BadLength));
+    }
+    take_body(alloc, pending, source, dictionary, tick, last, len as usize)
+}
+
+// The writer and the records of the extent behind its tag. The stamp of the last one is kept.
+fn read_extent<S: Source>(
+    alloc: Global,
+    pending: &mut Pending,
+    source: &mut S,
+    header: &Header,
+    dictionary: &Dictionary,
+    writers: &mut Writers,
+) -> Result<(u8, Records), BlockFault>
+    ensures ok { (before : List LogBlock) → dictionary.now ≡ messages_of before
+        → AreStatesOf writers.old header.now.clock.tick before
+        → IfOk result (λ extent. TakesExtent header.now before extent.0 extent.1 writers.new
+        (place_of pending.old (S.left source.old)) (place_of pending.new (S.left source.new))) }
+    ensures err { (before : List LogBlock) → dictionary.now ≡ messages_of before
+        → AreStatesOf writers.old header.now.clock.tick before
+        → IfErr result (Refuses (ReadsExtent header.now before) (place_of pending.old (S.left source.old))) }
+    ensures read_fault { IsErrOf result BlockFault.ReadFault
+        → Rose (S.faults source.old) (S.faults source.new) }
+    ensures counted { ¬ (IsErrOf result BlockFault.ReadFault)
+        → S.faults source.new ≡ S.faults source.old }
+    ensures count { S.faults source.old ≤ S.faults source.new }
+    ensures others { S.rest source.old source.new }
+{
+    let writer = take_writer(pending, source, header, writers)?;
+    let last = writers.last(writer);
+    let records = read_records(alloc, pending, source, dictionary, header.clock.tick, last)?;
+    writers.go_on(writer, &records);
+    Ok((writer, records))
+}
+
+// The block that stands ahead. What it defines, closes or says last is kept; in front of a fault
+// some of it may be.
+pub fn read_block<S: Source>(
+    alloc: Global,
+    pending: &mut Pending,
+    source: &mut S,
+    header: &Header,
+    dictionary: &mut Dictionary,
+    writers: &mut Writers,
+) -> Result<Block, BlockFault>
+    ensures ok { (before : List LogBlock) → dictionary.old ≡ messages_of before
+        → AreStatesOf writers.old header.now.clock.tick before
+        → IfOk result (λ block. TakesBlock header.now before block dictionary.new writers.new
+        (place_of pending.old (S.left source.old)) (place_of pending.new (S.left source.new))) }
+    ensures err { (before : List LogBlock) → dictionary.old ≡ messages_of before
+        → AreStatesOf writers.old header.now.clock.tick before
+        → IfErr result (Refuses (ReadsBlock header.now before) (place_of pending.old (S.left source.old))) }
+    ensures read_fault { IsErrOf result BlockFault.ReadFault
+        → Rose (S.faults source.old) (S.faults source.new) }
+    ensures counted { ¬ (IsErrOf result BlockFault.ReadFault)
+        → S.faults source.new ≡ S.faults source.old }
+    ensures count { S.faults source.old ≤ S.faults source.new }
+    ensures others { S.rest source.old source.new }
+{
+    let tag = take_byte(pending, source)?;
+    if tag == FRAGMENT {
+        return read_fragment(alloc, pending, source, dictionary);
+    }
+    if tag == EXTENT {
+        let (writer, records) = read_extent(alloc, pending, source, header, dictionary, writers)?;
+        return Ok(Block::Extent {
+            writer: u32::from(writer),
+            records,
+        });
+    }
+    if tag == CLOSE {
+        let writer = read_close(pending, source, header, writers)?;
+        return Ok(Block::Closed {
+            writer: u32::from(writer),
+        });
+    }
+    Err(BlockFault::Damaged(Cause::BadBlock))
+}

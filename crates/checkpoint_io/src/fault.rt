@@ -1,0 +1,11 @@
+use crate::cause::Cause;
+
+/// Why no block was read.
+#[derive(Clone, Copy, Debug, PartialEq, Eq)]
+pub enum BlockFault {
+    /// The file is broken there.
+    Damaged(Cause),
+    /// A read failed, and the bytes that came before are whole blocks or end inside one.
+    ReadFault,
+    NoMemory,
+}

@@ -1,0 +1,144 @@
+//! Reading a fragment of a log: the messages that it defines.
+
+ghost use Rattle.std.specs.Prelude.{◌≡◌, ◌+◌, ◌^◌, ◌<◌, ◌≤◌, ℕ, List, ◌++◌, length, take, IfOk, IfErr, OnOk, IsErrOf};
+ghost use Rattle.nl_io.specs.Count.{Rose};
+ghost use Rattle.log_dictionary.specs.declared.message.Message.{Message};
+ghost use Rattle.log_dictionary.specs.declared.dictionary.TheConstants.{MAX_MESSAGES};
+ghost use Rattle.log_dictionary.specs.BinaryEntries.{SpellsEntry};
+ghost use Rattle.checkpoint_io.specs.Places.{place_of, with_front, Refuses};
+ghost use Rattle.checkpoint_io.specs.Reading.{ReadsEntries, ReadsFragment};
+ghost use Rattle.checkpoint_io.specs.Entries.{TakesEntry, BreaksNoEntry, BreaksEntry, TakesEntries, TakesFragment};
+
+use crate::block::Block;
+use crate::cause::Cause;
+use crate::fault::BlockFault;
+use crate::heads::MAX_FRAGMENT_MESSAGES;
+use crate::pending::Pending;
+use crate::steps::{take_u16, take_u32};
+use log_dictionary::{Added, Dictionary, EntryFault, MAX_MESSAGES, Message, read_entry};
+use nl_io::Source;
+use std::alloc::Global;
+
+// The message whose entry is ahead, and the entry's length; the entry still waits.
+fn next_entry<S: Source>(
+    alloc: Global,
+    pending: &mut Pending,
+    source: &mut S,
+) -> Result<(Message, usize), BlockFault>
+    ensures same { OnOk result (with_front pending.new.bytes (S.left source.new)
+        ≡ with_front pending.old.bytes (S.left source.old)) }
+    ensures offset { pending.new.offset ≡ pending.old.offset }
+    ensures within { IfOk result (λ entry. entry.1 ≤ length pending.new.bytes) }
+    ensures spelled { IfOk result (λ entry. SpellsEntry (take entry.1 pending.new.bytes) entry.0) }
+    ensures err { IfErr result (BreaksNoEntry (place_of pending.old (S.left source.old))) }
+    ensures read_fault { IsErrOf result BlockFault.ReadFault
+        → Rose (S.faults source.old) (S.faults source.new) }
+    ensures counted { ¬ (IsErrOf result BlockFault.ReadFault)
+        → S.faults source.new ≡ S.faults source.old }
+    ensures count { S.faults source.old ≤ S.faults source.new }
+    ensures others { S.rest source.old source.new }
+{
+    loop {
+        match read_entry(alloc, pending.bytes()) {
+            Ok(entry) => return Ok(entry),
+            Err(EntryFault::BadEntry) => return Err(BlockFault::Damaged(Cause::BadEntry)),
+            Err(EntryFault::NoMemory) => return Err(BlockFault::NoMemory),
+            Err(EntryFault::Cut) => {
+                if pending.more(source)? == 0 {
+                    return Err(BlockFault::Damaged(Cause::Cut));
+                }
+            }
+        }
+    }
+}
+
+// Adds the message whose entry is ahead, which is a new one.
+fn take_entry<S: Source>(
+    alloc: Global,
+    pending: &mut Pending,
+    source: &mut S,
+    dictionary: &mut Dictionary,
+) -> Result<(), BlockFault>
+    requires { length dictionary.old < MAX_MESSAGES }
+    ensures ok { OnOk result (TakesEntry dictionary.old dictionary.new
+        (place_of pending.old (S.left source.old)) (place_of pending.new (S.left source.new))) }
+    ensures err { IfErr result (BreaksEntry dictionary.old (place_of pending.old (S.left source.old))) }
+    ensures read_fault { IsErrOf result BlockFault.ReadFault
+        → Rose (S.faults source.old) (S.faults source.new) }
+    ensures counted { ¬ (IsErrOf result BlockFault.ReadFault)
+        → S.faults source.new ≡ S.faults source.old }
+    ensures count { S.faults source.old ≤ S.faults source.new }
+    ensures others { S.rest source.old source.new }
+{
+    let (message, len) = next_entry(alloc, pending, source)?;
+    pending.skip(len);
+    match dictionary.add(message) {
+        Ok(Added::New(_)) => Ok(()),
+        Ok(Added::Old(_)) => Err(BlockFault::Damaged(Cause::BadEntry)),
+        Err(_) => Err(BlockFault::NoMemory),
+    }
+}
+
+// Adds the messages of so many entries, which are new ones.
+fn read_entries<S: Source>(
+    alloc: Global,
+    pending: &mut Pending,
+    source: &mut S,
+    dictionary: &mut Dictionary,
+    count: u16,
+) -> Result<(), BlockFault>
+    requires room { length dictionary.old + count ≤ MAX_MESSAGES }
+    requires fits { pending.old.offset < 2 ^ 64 }
+    ensures ok { (before read : List Message) (first : ℕ) → dictionary.old ≡ before ++ read
+        → OnOk result (TakesEntries before first read count dictionary.new
+        (place_of pending.old (S.left source.old)) (place_of pending.new (S.left source.new))) }
+    ensures err { (before read : List Message) (first : ℕ) → dictionary.old ≡ before ++ read
+        → IfErr result (Refuses (ReadsEntries before first read count)
+        (place_of pending.old (S.left source.old))) }
+    ensures read_fault { IsErrOf result BlockFault.ReadFault
+        → Rose (S.faults source.old) (S.faults source.new) }
+    ensures counted { ¬ (IsErrOf result BlockFault.ReadFault)
+        → S.faults source.new ≡ S.faults source.old }
+    ensures count { S.faults source.old ≤ S.faults source.new }
+    ensures others { S.rest source.old source.new }
+{
+    if count == 0 {
+        return Ok(());
+    }
+    take_entry(alloc, pending, source, dictionary)?;
+    read_entries(alloc, pending, source, dictionary, count - 1)
+}
+
+// The fragment behind its tag. Its messages are added, and in front of a fault some of them may be.
+pub fn read_fragment<S: Source>(
+    alloc: Global,
+    pending: &mut Pending,
+    source: &mut S,
+    dictionary: &mut Dictionary,
+) -> Result<Block, BlockFault>
+    ensures ok { IfOk result (λ block. TakesFragment dictionary.old block dictionary.new
+        (place_of pending.old (S.left source.old)) (place_of pending.new (S.left source.new))) }
+    ensures err { IfErr result (Refuses (ReadsFragment dictionary.old)
+        (place_of pending.old (S.left source.old))) }
+    ensures read_fault { IsErrOf result BlockFault.ReadFault
+        → Rose (S.faults source.old) (S.faults source.new) }
+    ensures counted { ¬ (IsErrOf result BlockFault.ReadFault)
+        → S.faults source.new ≡ S.faults source.old }
+    ensures count { S.faults source.old ≤ S.faults source.new }
+    ensures others { S.rest source.old source.new }
+{
+    let first = take_u32(pending, source)?;
+    if first != dictionary.len() {
+        return Err(BlockFault::Damaged(Cause::FragmentOrder));
+    }
+    let count = take_u16(pending, source)?;
+    let all = dictionary.len() as usize + usize::from(count);
+    if count == 0 || count > MAX_FRAGMENT_MESSAGES || all > MAX_MESSAGES {
+        return Err(BlockFault::Damaged(Cause::BadLength));
+    }
+    read_entries(alloc, pending, source, dictionary, count)?;
+    Ok(Block::Fragment {
+        first,
+        count: u32::from(count),
+    })
+}

@@ -1,0 +1,198 @@
+//! The reader of a log.
+
+ghost use Rattle.std.specs.Prelude.{◌≡◌, ◌≤◌, List, ◌++◌, true, false, ◌<◌, get_or, IfOk, IfErr, IfSome, OnOk, OnErr, IsErrOf, Err, ℕ};
+ghost use Rattle.std.specs.List.{list_any};
+ghost use Rattle.nl_io.specs.Count.{Rose};
+ghost use Rattle.checkpoint_io.specs.declared.cause.Cause.{Cause as LogCause};
+ghost use Rattle.checkpoint_io.specs.Places.{with_front};
+ghost use Rattle.checkpoint_io.specs.Readers.{StandsFor};
+ghost use Rattle.checkpoint_io.specs.Fronts.{Break};
+ghost use Rattle.checkpoint_io.specs.Validity.{closes};
+ghost use Rattle.checkpoint_io.specs.NextBlocks.{AnswersNext, StopsAt};
+
+use crate::block::Block;
+use crate::block_reading::read_block;
+use crate::cause::Cause;
+use crate::fault::BlockFault;
+use crate::header::Header;
+use crate::header_reading::read_header;
+use crate::heads::MAX_LOG;
+use crate::pending::Pending;
+use crate::writers::Writers;
+use log_dictionary::Dictionary;
+use nl_io::Source;
+use std::alloc::Global;
+use std::marker::Model;
+
+/// What was read of a log so far. It keeps no source; the bytes that a source gave and that weren't
+/// read yet are kept here.
+#[derive(Debug, Drop)]
+pub struct Reader {
+    alloc: Global,
+    header: Header,
+    dictionary: Dictionary,
+    writers: Writers,
+    pending: Pending,
+    offset: u64,
+    failed: bool,
+}
+
+impl Model for Reader {
+    ghost use Rattle.checkpoint_io.specs.Readers.{ReaderState};
+
+    ghost Value = { ReaderState };
+
+    ghost view = { λ r. record {
+      header = r.header;
+      messages = r.dictionary;
+      writers = r.writers;
+      waiting = r.pending;
+      offset = r.offset;
+      failed = r.failed;
+    } };
+}
+
+impl Reader {
+    /// Reads the header that a source begins with.
+    ///
+    /// # Errors
+    ///
+    /// The source begins with no header, a read failed before its end, or there is no memory.
+    pub fn start<S: Source>(alloc: Global, source: &mut S) -> Result<Reader, BlockFault>
+        // The reader stands for the header, behind which stands what waits and what the source has left.
+        ensures ok { IfOk result (λ reader. (taken : List ℕ) × StandsFor reader taken
+            × (S.left source.old ≡ with_front (taken ++ reader.waiting.bytes) (S.left source.new))) }
+        ensures right { IfOk result (λ reader. reader.failed ≡ false) }
+        ensures damaged { (cause : LogCause) → result ≡ Err (BlockFault.Damaged cause)
+            → IfSome (S.left source.old) (λ bytes. Break bytes 0 cause) }
+        ensures read_fault { IsErrOf result BlockFault.ReadFault
+            → Rose (S.faults source.old) (S.faults source.new) }
+        ensures counted { ¬ (IsErrOf result BlockFault.ReadFault)
+            → S.faults source.new ≡ S.faults source.old }
+        ensures count { S.faults source.old ≤ S.faults source.new }
+        ensures others { S.rest source.old source.new }
+    {
+        let mut pending = Pending::none(alloc);
+        let header = read_header(&mut pending, source)?;
+        let offset = pending.offset();
+        Ok(Reader {
+            alloc,
+            header,
+            dictionary: Dictionary::make(alloc),
+            writers: Writers::make(header.clock.tick),
+            pending,
+            offset,
+            failed: false,
+        })
+    }
+
+    // The next block, if there is one. What it says is kept; in front of a fault some of it may be.
+    fn take_block<S: Source>(&mut self, source: &mut S) -> Result<Option<Block>, BlockFault>
+        ensures ok { (taken : List ℕ) (before : StandsFor self.old taken) → IfOk result (λ answer.
+            AnswersNext self.old self.new taken before answer (S.left source.old) (S.left source.new)) }
+        ensures damaged { (taken : List ℕ) (cause : LogCause) → StandsFor self.old taken
+            → result ≡ Err (BlockFault.Damaged cause)
+            → IfSome (with_front (taken ++ self.old.waiting.bytes) (S.left source.old))
+            (λ bytes. StopsAt bytes self.old.offset cause) }
+        ensures offset { OnErr result (self.new.offset ≡ self.old.offset) }
+        ensures failed { self.new.failed ≡ self.old.failed }
+        ensures header { self.new.header ≡ self.old.header }
+        ensures read_fault { IsErrOf result BlockFault.ReadFault
+            → Rose (S.faults source.old) (S.faults source.new) }
+        ensures counted { ¬ (IsErrOf result BlockFault.ReadFault)
+            → S.faults source.new ≡ S.faults source.old }
+        ensures count { S.faults source.old ≤ S.faults source.new }
+        ensures others { S.rest source.old source.new }
+    {
+        if !self.pending.fill(source, 1)? {
+            return Ok(None);
+        }
+        let block = read_block(
+            self.alloc,
+            &mut self.pending,
+            source,
+            &self.header,
+            &mut self.dictionary,
+            &mut self.writers,
+        )?;
+        if self.pending.offset() > MAX_LOG {
+            return Err(BlockFault::Damaged(Cause::TooLarge));
+        }
+        self.offset = self.pending.offset();
+        Ok(Some(block))
+    }
+
+    /// Reads the next block. There is none where the source ends behind the header or a whole block.
+    ///
+    /// # Errors
+    ///
+    /// The file is broken there, the block ends past `MAX_LOG`, a read failed, or there is no memory.
+    /// The reader has failed then.
+    pub fn next_block<S: Source>(&mut self, source: &mut S) -> Result<Option<Block>, BlockFault>
+        requires { self.old.failed ≡ false }
+        ensures ok { (taken : List ℕ) (before : StandsFor self.old taken) → IfOk result (λ answer.
+            AnswersNext self.old self.new taken before answer (S.left source.old) (S.left source.new)) }
+        ensures damaged { (taken : List ℕ) (cause : LogCause) → StandsFor self.old taken
+            → result ≡ Err (BlockFault.Damaged cause)
+            → IfSome (with_front (taken ++ self.old.waiting.bytes) (S.left source.old))
+            (λ bytes. StopsAt bytes self.old.offset cause) }
+        ensures offset { OnErr result (self.new.offset ≡ self.old.offset) }
+        ensures right { OnOk result (self.new.failed ≡ false) }
+        ensures failed { OnErr result (self.new.failed ≡ true) }
+        ensures header { self.new.header ≡ self.old.header }
+        ensures read_fault { IsErrOf result BlockFault.ReadFault
+            → Rose (S.faults source.old) (S.faults source.new) }
+        ensures counted { ¬ (IsErrOf result BlockFault.ReadFault)
+            → S.faults source.new ≡ S.faults source.old }
+        ensures count { S.faults source.old ≤ S.faults source.new }
+        ensures others { S.rest source.old source.new }
+    {
+        match self.take_block(source) {
+            Ok(block) => Ok(block),
+            Err(fault) => {
+                self.failed = true;
+                Err(fault)
+            }
+        }
+    }
+
+    /// What the front of the log says of all that follows.
+    pub fn header(&self) -> &Header
+        ensures { result.now ≡ self.now.header }
+    {
+        &self.header
+    }
+
+    /// The messages that were defined so far.
+    pub fn dictionary(&self) -> &Dictionary
+        ensures { result.now ≡ self.now.messages }
+    {
+        &self.dictionary
+    }
+
+    /// The offset at which the next block begins, or the one that failed.
+    pub fn offset(&self) -> u64
+        ensures { result ≡ self.now.offset }
+    {
+        self.offset
+    }
+
+    /// Whether a block failed, so that no more are read.
+    pub fn failed(&self) -> bool
+        ensures { result ≡ self.now.failed }
+    {
+        self.failed
+    }
+
+    /// Whether a close mark of the writer was read.
+    pub fn is_closed(&self, writer: u32) -> bool
+        ensures closed { (taken : List ℕ) (before : StandsFor self.now taken)
+            → result ≡ list_any (closes writer) before.blocks }
+        ensures kept { writer < 256 → result ≡ get_or self.now.writers.closed writer false }
+    {
+        match u8::try_from(writer) {
+            Ok(name) => self.writers.is_closed(name),
+            Err(_) => false,
+        }
+    }
+}

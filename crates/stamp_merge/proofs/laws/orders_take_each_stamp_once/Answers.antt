@@ -1,0 +1,5 @@
+use Rattle.stamp_merge.proofs.Heads.{merge_order-counts}
+use Rattle.stamp_merge.proofs.laws.orders_take_each_stamp_once.Goals as goal
+
+pub returns : goal.returns
+returns c lists n = merge_order-counts lists n

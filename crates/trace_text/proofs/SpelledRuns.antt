@@ -1,0 +1,79 @@
+-- A run that a text spells is one that a text can spell.
+use Rattle.std.proofs.Common.{ℕ, ◌+◌, ◌<◌, Bool, true, false, cond, eqb, List, [], ◌∷◌, map, sym, subst, inl, inr, arith}
+use Rattle.std.specs.Prelude.{filter}
+use Rattle.std.proofs.lemmas.Bool.Decides.{nat_tests}
+use Rattle.std.specs.Char.{digit_value, IsAsciiHexdigit}
+use Rattle.std.specs.List.{AllByRecursion}
+use Rattle.printf_grammar.specs.declared.argument.Value.{Value}
+use Rattle.printf_grammar.specs.declared.argument.Value.TheVariants as values
+use Rattle.log_dictionary.specs.declared.message.Message.{Message}
+use Rattle.log_dictionary.specs.Texts.{SpellsByte, SpellsText}
+use Rattle.log_dictionary.specs.Texts.SpellsByte.{itself, quotation_mark, backslash, line_feed, tab, hexadecimal}
+use Rattle.log_dictionary.specs.Canonical.{AreBytes, HasLine}
+use Rattle.trace_text.specs.Recordings.{Recording}
+use Rattle.trace_text.specs.Lines.{WriterCall, SpellsArguments, SpellsMessages, SpellsCalls}
+use Rattle.trace_text.specs.Traces.{TraceText, calls_by}
+use Rattle.trace_text.specs.Canonical.{HasBytes, HasCallLine, HasText}
+
+digit_small : (b : ℕ) → IsAsciiHexdigit b → digit_value b < 16
+digit_small b is = grind (arith, nat_tests)
+
+spelled_byte : (unit : List ℕ) (b : ℕ) → SpellsByte unit b → b < 256
+spelled_byte unit b (itself (inl plain) is) = omega (arith, plain.1)
+spelled_byte unit b (itself (inr plain) is) = omega (arith, plain.1)
+spelled_byte unit b (quotation_mark is e) = omega (arith, e)
+spelled_byte unit b (backslash is e) = omega (arith, e)
+spelled_byte unit b (line_feed is e) = omega (arith, e)
+spelled_byte unit b (tab is e) = omega (arith, e)
+spelled_byte unit b (hexadecimal high low first second is e) = omega (arith, e, digit_small high first, digit_small low second)
+
+spelled_bytes : (spelled bytes : List ℕ) → SpellsText spelled bytes → AreBytes bytes
+spelled_bytes spelled [] spells = tt
+spelled_bytes spelled (b ∷ bytes) (unit, rest, joined, byte, others) = (spelled_byte unit b byte, spelled_bytes rest bytes others)
+
+spelled_messages : (n : ℕ) (lines : List (List ℕ)) (messages : List Message) → SpellsMessages n lines messages → AllByRecursion HasLine messages
+spelled_messages n [] [] spells = tt
+spelled_messages n (line ∷ lines) (message ∷ messages) spells = (
+  record { file = spelled_bytes _ _ spells.0.file; bytes = spelled_bytes _ _ spells.0.bytes; formed = spells.0.formed; line_fits = spells.0.line_fits },
+  spelled_messages (n + 1) lines messages spells.1,
+)
+spelled_messages n [] (message ∷ messages) spells = absurd spells
+spelled_messages n (line ∷ lines) [] spells = absurd spells
+
+spelled_arguments : (fields : List ℕ) (args : List Value) → SpellsArguments fields args → AllByRecursion HasBytes args
+spelled_arguments fields [] spells = tt
+spelled_arguments fields (values.Signed z ∷ args) (field, others, joined, argument, rest) = (tt, spelled_arguments others args rest)
+spelled_arguments fields (values.Unsigned n ∷ args) (field, others, joined, argument, rest) = (tt, spelled_arguments others args rest)
+spelled_arguments fields (values.Text bytes ∷ args) (field, others, joined, argument, rest) = (spelled_bytes argument.0 bytes argument.2, spelled_arguments others args rest)
+
+abbrev HasLineOf : WriterCall → Type 0
+HasLineOf made = HasCallLine made.call
+
+spelled_calls : (lines : List (List ℕ)) (calls : List WriterCall) → SpellsCalls lines calls → AllByRecursion HasLineOf calls
+spelled_calls [] [] spells = tt
+spelled_calls (line ∷ lines) (made ∷ calls) spells = (record { stamp = spells.0.stamp_fits; texts = spelled_arguments spells.0.fields made.call.args spells.0.arguments }, spelled_calls lines calls spells.1)
+spelled_calls [] (made ∷ calls) spells = absurd spells
+spelled_calls (line ∷ lines) [] spells = absurd spells
+
+of_one_writer : (writer : ℕ) (calls : List WriterCall) → AllByRecursion HasLineOf calls → AllByRecursion HasCallLine (calls_by calls writer)
+of_one_writer writer [] all = tt
+of_one_writer writer (made ∷ calls) all = at_test (eqb made.writer writer) (of_one_writer writer calls all.1)
+  where
+    at_test : (own : Bool) → AllByRecursion HasCallLine (calls_by calls writer) → AllByRecursion HasCallLine (map (λ (m : WriterCall). m.call) (cond own (made ∷ filter (λ (m : WriterCall). eqb m.writer writer) calls) (filter (λ (m : WriterCall). eqb m.writer writer) calls)))
+    at_test true others = (all.0, others)
+    at_test false others = others
+
+of_all_writers : (calls : List WriterCall) (writers : List ℕ) → AllByRecursion HasLineOf calls → AllByRecursion (AllByRecursion HasCallLine) (map (calls_by calls) writers)
+of_all_writers calls [] all = tt
+of_all_writers calls (writer ∷ writers) all = (of_one_writer writer calls all, of_all_writers calls writers all)
+
+-- what is read can be written, and read again where that is within the limit
+pub read_has_text : (bytes : List ℕ) (run : Recording) → TraceText bytes run → HasText run
+read_has_text bytes run text = record {
+  recorded = text.recorded;
+  distinct = text.distinct;
+  few_messages = text.few_messages;
+  messages = spelled_messages 0 text.message_lines run.dictionary text.messages_spelled;
+  clock_fits = text.clock_fits;
+  calls = subst (AllByRecursion (AllByRecursion HasCallLine)) (sym text.by_writer) (of_all_writers text.calls _ (spelled_calls text.call_lines text.calls text.calls_spelled));
+}

@@ -1,0 +1,189 @@
+//! Writing the text of a trace.
+
+ghost use Rattle.std.specs.Prelude.{◌≡◌, ◌++◌, ◌∷◌, [], OnOk};
+ghost use Rattle.std.specs.Option.{option_map};
+ghost use Rattle.std.specs.List.{flat_map, filter_map};
+ghost use Rattle.printf_grammar.specs.Types.{value_of, values_of};
+ghost use Rattle.trace_text.specs.Lines.{clock_line};
+ghost use Rattle.trace_text.specs.Canonical.{argument_text, call_front, call_text, made_by, made_at, front_text, Canonical};
+ghost use Rattle.trace_text.specs.Writing.{Gathers, Writes};
+
+use crate::order::{Place, places_in_order};
+use crate::trace::Trace;
+use arg_records::Call;
+use itoa::Buffer;
+use log_dictionary::{Clock, push_text};
+use nl_io::{Sink, write_all};
+use printf_grammar::Arg;
+use std::alloc::{AllocError, Global};
+
+/// Why a trace wasn't written whole.
+#[derive(Clone, Copy, Debug, PartialEq, Eq)]
+pub enum WriteTraceFault {
+    /// The sink failed.
+    Failed,
+    NoMemory,
+}
+
+/// How many bytes of a text are gathered before they are written.
+const PIECE: usize = 65_536;
+
+// An argument behind its space. After an error a part of it may stand behind what was there, here
+// and below.
+fn push_argument(text: &mut Vec<u8>, arg: Arg<'_>) -> Result<(), AllocError>
+    ensures { OnOk result (text.new.items ≡ text.old.items ++ argument_text (value_of arg.entry)) }
+{
+    let mut buffer = Buffer::new();
+    text.push(b' ')?;
+    match arg {
+        Arg::Signed(number) => text.extend_from_slice(buffer.format(number).as_bytes()),
+        Arg::Unsigned(number) => text.extend_from_slice(buffer.format(number).as_bytes()),
+        Arg::Text(bytes) => push_text(text, bytes),
+    }
+}
+
+fn push_arguments(text: &mut Vec<u8>, args: &[Arg]) -> Result<(), AllocError>
+    ensures { OnOk result (text.new.items ≡ text.old.items ++ flat_map argument_text (values_of args.now)) }
+{
+    for arg in args {
+        push_argument(text, *arg)?;
+    }
+    Ok(())
+}
+
+// The line of a call up to its arguments.
+fn push_call_front(text: &mut Vec<u8>, writer: u32, call: &Call) -> Result<(), AllocError>
+    ensures { OnOk result (text.new.items ≡ text.old.items
+        ++ call_front (made_by writer call.now)) }
+{
+    let mut buffer = Buffer::new();
+    text.extend_from_slice(b"call ")?;
+    text.extend_from_slice(buffer.format(writer).as_bytes())?;
+    text.push(b' ')?;
+    text.extend_from_slice(buffer.format(call.stamp).as_bytes())?;
+    text.push(b' ')?;
+    text.extend_from_slice(buffer.format(call.id).as_bytes())?;
+    Ok(())
+}
+
+fn push_call(text: &mut Vec<u8>, writer: u32, call: &Call) -> Result<(), AllocError>
+    ensures { OnOk result (text.new.items ≡ text.old.items
+        ++ call_text (made_by writer call.now)) }
+{
+    push_call_front(text, writer, call)?;
+    push_arguments(text, &call.args.args())?;
+    text.push(b'\n')?;
+    Ok(())
+}
+
+fn push_clock(text: &mut Vec<u8>, clock: &Clock) -> Result<(), AllocError>
+    ensures { OnOk result (text.new.items ≡ text.old.items ++ clock_line clock.now ++ 10 ∷ []) }
+{
+    let mut buffer = Buffer::new();
+    text.extend_from_slice(b"clock ")?;
+    text.extend_from_slice(buffer.format(clock.tick).as_bytes())?;
+    text.push(b' ')?;
+    text.extend_from_slice(buffer.format(clock.nanos).as_bytes())?;
+    text.push(b' ')?;
+    text.extend_from_slice(buffer.format(clock.rate).as_bytes())?;
+    text.push(b'\n')?;
+    Ok(())
+}
+
+// The text up to the calls.
+fn push_front(text: &mut Vec<u8>, trace: &Trace) -> Result<(), AllocError>
+    ensures { OnOk result (text.new.items ≡ text.old.items ++ front_text trace.now) }
+{
+    let mut buffer = Buffer::new();
+    trace.dictionary.write_text(text)?;
+    push_clock(text, &trace.clock)?;
+    text.extend_from_slice(b"writers ")?;
+    text.extend_from_slice(buffer.format(trace.writers.len()).as_bytes())?;
+    text.push(b'\n')?;
+    Ok(())
+}
+
+// Writes what is gathered and takes it out of the buffer, where it is long enough.
+fn write_long<K: Sink>(text: &mut Vec<u8>, sink: &mut K) -> Result<(), WriteTraceFault>
+    ensures written { Gathers text.old.items text.new.items (K.put sink.old) (K.put sink.new)
+        (K.faults sink.old) (K.faults sink.new) result }
+    ensures others { K.rest sink.old sink.new }
+{
+    if text.len() < PIECE {
+        return Ok(());
+    }
+    let Ok(()) = write_all(sink, text) else {
+        return Err(WriteTraceFault::Failed);
+    };
+    text.clear();
+    Ok(())
+}
+
+// The call of a run that stands at a place, if one stands there.
+fn call_at(trace: &Trace, place: Place) -> Option<&Call>
+    ensures { option_map (λ call. made_by place.writer call.now) result ≡ made_at trace.now place }
+{
+    let calls = trace.writers.get(place.writer as usize)?;
+    calls.get(place.ordinal as usize)
+}
+
+// Writes the calls at the places behind the text that is gathered. The last of them stay gathered.
+fn write_calls<K: Sink>(
+    trace: &Trace,
+    places: &[Place],
+    text: &mut Vec<u8>,
+    sink: &mut K,
+) -> Result<(), WriteTraceFault>
+    ensures written { Gathers (text.old.items ++ flat_map call_text (filter_map (made_at trace.now) places.now))
+        text.new.items (K.put sink.old) (K.put sink.new) (K.faults sink.old) (K.faults sink.new) result }
+    ensures others { K.rest sink.old sink.new }
+{
+    for place in places {
+        // At each place of the run a call stands.
+        let Some(call) = call_at(trace, *place) else {
+            continue;
+        };
+        let Ok(()) = push_call(text, place.writer, call) else {
+            return Err(WriteTraceFault::NoMemory);
+        };
+        write_long(text, sink)?;
+    }
+    Ok(())
+}
+
+/// Writes the canonical text of a run: each call once, by stamp, those of one stamp by writer, and
+/// those of one writer in the order in which it made them. The text goes out in pieces. Memory is
+/// taken for the messages, for a piece, and once for the order of the calls.
+///
+/// # Errors
+///
+/// The sink failed, or there is no memory. A front of the text went out then.
+pub fn write_trace<K: Sink>(
+    alloc: Global,
+    trace: &Trace,
+    sink: &mut K,
+) -> Result<(), WriteTraceFault>
+    // All of the text goes out, or a front of it, and the fault says whether the count of faults rose.
+    ensures written { Writes (Canonical trace.now) (K.put sink.old) (K.put sink.new)
+        (K.faults sink.old) (K.faults sink.new) result }
+    ensures others { K.rest sink.old sink.new }
+{
+    let mut text = Vec::new(alloc);
+    let Ok(places) = places_in_order(alloc, trace) else {
+        return Err(WriteTraceFault::NoMemory);
+    };
+    let Ok(()) = push_front(&mut text, trace) else {
+        return Err(WriteTraceFault::NoMemory);
+    };
+    write_calls(trace, &places, &mut text, sink)?;
+    let Ok(()) = text.extend_from_slice(b"end\n") else {
+        return Err(WriteTraceFault::NoMemory);
+    };
+    let Ok(()) = write_all(sink, &text) else {
+        return Err(WriteTraceFault::Failed);
+    };
+    Ok(())
+}
+
+#[cfg(test)]
+mod tests;
