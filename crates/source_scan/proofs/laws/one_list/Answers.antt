@@ -1,9 +1,0 @@
-use Rattle.source_scan.proofs.Unique.{tokens_once}
-use Rattle.source_scan.proofs.UniqueParts.{parts_once}
-use Rattle.source_scan.proofs.laws.one_list.Goals as goal
-
-pub returns-clause-tokens : goal.returns-clause-tokens
-returns-clause-tokens c = tokens_once
-
-pub returns-clause-parts : goal.returns-clause-parts
-returns-clause-parts c = parts_once

@@ -1,5 +1,0 @@
-use Rattle.source_scan.proofs.LineLists.{lines-front}
-use Rattle.source_scan.proofs.line_parts.LineParts.make.Goals as goal
-
-pub returns : goal.returns
-returns c = rw c.in_ok-parts.ensures (lines-front c.args.front)

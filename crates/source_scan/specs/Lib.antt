@@ -1,7 +1,0 @@
-pub mod Bytes
-pub mod Directives
-pub mod Forms
-pub mod RawStrings
-pub mod Reading
-pub mod Splices
-pub mod Tokens

@@ -1,0 +1,86 @@
+//! What stands at the front of bytes.
+
+ghost use Rattle.std.specs.Prelude.{◌≡◌, ◌≤◌, ◌<◌, List, ℕ, [], length, MatchOption};
+ghost use Rattle.source_tokens.specs.Forms.{opening_of};
+ghost use Rattle.source_tokens.specs.Tokens.{GoesOn, Stands};
+
+use crate::class::Class;
+use crate::comment::past_comment;
+use crate::kind::Kind;
+use crate::literal::literal_end;
+use crate::number::past_number;
+use crate::opening::{Opening, opening_of};
+use crate::raw_string::raw_string;
+use crate::run::past_run;
+use crate::splice::past_splices;
+
+/// What stands at the front of bytes, and the bytes behind it and its splices.
+#[derive(Clone, Copy, Debug)]
+pub(crate) struct Standing<'a> {
+    pub(crate) kind: Kind,
+    pub(crate) rest: &'a [u8],
+}
+
+/// A string literal, whose first mark stands before the bytes.
+fn string_literal(behind: &[u8]) -> Standing<'_>
+    ensures goes_on { GoesOn Opening.StringLiteral 34 behind.now result.kind result.rest.now }
+    ensures within { length result.rest.now ≤ length behind.now }
+{
+    let end = literal_end(b'"', behind);
+    let rest = end.rest;
+    let kind = if end.whole {
+        Kind::StringLiteral
+    } else {
+        Kind::BrokenString
+    };
+    Standing { kind, rest }
+}
+
+/// A character constant, whose first mark stands before the bytes.
+fn character_constant(behind: &[u8]) -> Standing<'_>
+    ensures goes_on { GoesOn Opening.CharacterConstant 39 behind.now result.kind result.rest.now }
+    ensures within { length result.rest.now ≤ length behind.now }
+{
+    let end = literal_end(b'\'', behind);
+    let rest = end.rest;
+    let kind = if end.whole {
+        Kind::CharacterConstant
+    } else {
+        Kind::BrokenConstant
+    };
+    Standing { kind, rest }
+}
+
+/// What the byte `first` opens, where the bytes stand behind it and its splices.
+fn plain(first: u8, behind: &[u8]) -> Standing<'_>
+    ensures goes_on { GoesOn (opening_of first behind.now) first behind.now result.kind result.rest.now }
+    ensures within { length result.rest.now ≤ length behind.now }
+{
+    let (kind, rest) = match opening_of(first, behind) {
+        Opening::Space => (Kind::Space, past_run(Class::Space, behind)),
+        Opening::NewLine => (Kind::NewLine, behind),
+        Opening::LineComment => (Kind::LineComment, past_run(Class::Line, behind)),
+        Opening::BlockComment => (Kind::BlockComment, past_comment(behind)),
+        Opening::Identifier => (Kind::Identifier, past_run(Class::Word, behind)),
+        Opening::Number => (Kind::Number, past_number(first, behind)),
+        Opening::StringLiteral => return string_literal(behind),
+        Opening::CharacterConstant => return character_constant(behind),
+        Opening::Punctuator => (Kind::Punctuator(first), behind),
+    };
+    Standing { kind, rest }
+}
+
+/// What stands at the front of the bytes, if there are any.
+pub(crate) fn first_standing(bytes: &[u8]) -> Option<Standing<'_>>
+    ensures { MatchOption result
+        (bytes.now ≡ [])
+        (λ found. Stands bytes.now found.kind found.rest.now × (length found.rest.now < length bytes.now)) }
+{
+    let [first, behind @ ..] = bytes else {
+        return None;
+    };
+    if let Some(found) = raw_string(bytes) {
+        return Some(found);
+    }
+    Some(plain(*first, past_splices(behind)))
+}
