@@ -1,0 +1,16 @@
+pub mod Answered
+pub mod ChangeLists
+pub mod Commas
+pub mod CursorLemmas
+pub mod Digits
+pub mod FoundLists
+pub mod Fronts
+pub mod ItemLists
+pub mod Moving
+pub mod Parts
+pub mod SomeChanges
+pub mod SomeStatements
+pub mod SomeTokens
+pub mod Texts
+pub mod Unique
+pub mod Unsplicing

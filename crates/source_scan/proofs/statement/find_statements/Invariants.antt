@@ -1,0 +1,14 @@
+use Rattle.std.proofs.Common.{length}
+use Rattle.source_scan.specs.Cursors.{Follows}
+use Rattle.source_scan.specs.Statements.{text_of}
+use Rattle.source_scan.proofs.FoundLists.{FindsTo}
+use Rattle.source_scan.proofs.statement.find_statements.Given as goal
+
+abbrev pub invariant-loop-rest : goal.invariant-loop-rest
+invariant-loop-rest l = record {
+  finds : FindsTo (text_of l.source) l.tokens l.found.items l.rest;
+  follows : Follows l.source.file.now l.source.bytes.now l.source.changes.now l.cursor;
+}
+
+abbrev pub decreases-loop-rest : goal.decreases-loop-rest
+decreases-loop-rest l = length l.rest

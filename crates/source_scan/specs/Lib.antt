@@ -1,0 +1,13 @@
+pub mod Arguments
+pub mod Cursors
+pub mod Escapes
+pub mod Items
+pub mod LineChanges
+pub mod LineNumbers
+pub mod Positions
+pub mod PriWords
+pub mod Readings
+pub mod Rows
+pub mod Severities
+pub mod Statements
+pub mod Texts

@@ -1,0 +1,65 @@
+//! Cursors, which tell the line and the name that are in force as they move on in a source.
+
+ghost use Rattle.std.specs.Prelude.{◌≡◌, ◌≤◌, ℕ, IfSome};
+ghost use Rattle.source_scan.specs.Positions.{in_force_of, changed_to, at_front};
+ghost use Rattle.source_scan.specs.Cursors.{IsMoved};
+
+use crate::position::{PlacedChange, Position, changed, line_at};
+
+/// What is in force from a place on, with the changes behind it.
+#[derive(Clone, Copy, Debug)]
+pub struct Cursor<'a> {
+    pub position: Position<'a>,
+    pub changes: &'a [PlacedChange],
+}
+
+/// The cursor at the front of a source.
+pub(crate) fn front_cursor<'a>(file: &'a [u8], changes: &'a [PlacedChange]) -> Cursor<'a>
+    ensures position { in_force_of result.position ≡ at_front file.now }
+    ensures changes { result.changes.now ≡ changes.now }
+{
+    let position = Position {
+        from: 0,
+        number: 1,
+        name: file,
+    };
+    Cursor { position, changes }
+}
+
+/// The cursor behind the changes up to a place.
+fn past_changes<'a>(cursor: Cursor<'a>, place: usize) -> Cursor<'a>
+    requires { cursor.position.from ≤ place }
+    ensures from { result.position.from ≤ place }
+    ensures same { (k : ℕ) → place ≤ k → changed_to k (in_force_of cursor.entry.position) cursor.entry.changes.now
+        ≡ changed_to k (in_force_of result.position) result.changes.now }
+    ensures none { changed_to place (in_force_of result.position) result.changes.now ≡ in_force_of result.position }
+{
+    let mut position = cursor.position;
+    let mut changes = cursor.changes;
+    while let [placed, behind @ ..] = changes {
+        if placed.from > place {
+            return Cursor { position, changes };
+        }
+        position = changed(position, placed);
+        changes = behind;
+    }
+    Cursor { position, changes }
+}
+
+/// The cursor moved on to a place, if the number of its line fits.
+pub(crate) fn moved_to<'a>(source: &[u8], cursor: Cursor<'a>, place: usize) -> Option<Cursor<'a>>
+    requires { cursor.position.from ≤ place }
+    ensures { IfSome result (IsMoved source.now cursor.entry place) }
+{
+    let behind = past_changes(cursor, place);
+    let number = line_at(source, behind.position, place)?;
+    let position = Position {
+        from: place,
+        number,
+        name: behind.position.name,
+    };
+    Some(Cursor {
+        position,
+        changes: behind.changes,
+    })
+}

@@ -1,0 +1,42 @@
+//! What literals stand for.
+
+ghost use Rattle.std.specs.Prelude.{◌≡◌, ◌++◌, ℕ, List, IfOk, OnOk};
+ghost use Rattle.source_scan.specs.Escapes.{meaning_bytes, unescaped};
+
+use crate::escape::{Meaning, part_of};
+use printf_grammar::Bytes;
+use std::alloc::{AllocError, Global};
+
+/// Appends what a part of a literal stands for.
+fn push_meaning(bytes: &mut Vec<u8>, meaning: Meaning) -> Result<(), AllocError>
+    ensures { OnOk result (bytes.new.items ≡ bytes.old.items ++ meaning_bytes meaning) }
+{
+    match meaning {
+        Meaning::Byte(byte) => {
+            bytes.push(byte)?;
+        }
+        Meaning::Character(character) => {
+            let mut encoded = [0; 4];
+            let text = character.encode_utf8(&mut encoded);
+            bytes.extend_from_slice(text.as_bytes())?;
+        }
+    }
+    Ok(())
+}
+
+/// What stands for itself or is an escape between the marks of a literal: the bytes that it stands for, if each escape is
+/// one. The bytes have no splices.
+pub fn literal_bytes(alloc: Global, body: &[u8]) -> Result<Option<Bytes>, AllocError>
+    ensures { IfOk result (λ bytes. bytes ≡ unescaped body.now) }
+{
+    let mut bytes = Vec::new(alloc);
+    let mut rest = body;
+    while let [first, behind @ ..] = rest {
+        let Some((meaning, len)) = part_of(*first, behind) else {
+            return Ok(None);
+        };
+        push_meaning(&mut bytes, meaning)?;
+        rest = behind.split_at(len).1;
+    }
+    Ok(Some(Bytes::from_vec(bytes)))
+}
