@@ -1,0 +1,7 @@
+pub mod Behind
+pub mod Counting
+pub mod Finding
+pub mod Firsts
+pub mod Holding
+pub mod Once
+pub mod Told

@@ -1,0 +1,53 @@
+-- What a numbering tells of the sources that it stands for.
+use Rattle.std.proofs.Common.{◌≡◌, ℕ, zero, suc, ◌<◌, Bool, true, false, List, [], ◌∷◌, ◌++◌, length, get_or, refl, sym, ap, subst, ◌∙◌, ◌||◌, length-append, arith}
+use Rattle.std.specs.List.{list_any, Contains}
+use Rattle.log_dictionary.specs.declared.message.Message.{Message}
+use Rattle.log_dictionary.specs.Messages.{is_same, HasMessage}
+use Rattle.log_dictionary.proofs.Distinct.{test_from_same, there_from_test}
+use Rattle.preprocessor.specs.declared.numbering.Numbering.{Numbering}
+use Rattle.preprocessor.specs.declared.refusal.Refusal.{Refusal}
+use Rattle.preprocessor.specs.Findings.{SourceFile, Finding, AllHave}
+use Rattle.preprocessor.specs.Numbering.{messages_of, numbered, firsts, refusals_of, excess_refusal, Numbered, Refusals, Numbers}
+use Rattle.preprocessor.proofs.Firsts.{among_others, others}
+use Rattle.preprocessor.proofs.Once.{all_have_once}
+
+-- its refusals are those of the sources
+pub numbering_refuses : (files : List SourceFile) (numbering : Numbering) → Numbers files numbering → Refusals files numbering.refusals.items
+numbering_refuses files numbering (Numbers.all_read findings have holds) = Refusals.all_read findings have holds.few holds.refusals
+numbering_refuses files numbering (Numbers.stopped read unread findings joined have holds) = Refusals.stopped read unread findings joined have holds.front holds.message holds.stops holds.refusals
+
+not_empty : (list : List Refusal) (last : Refusal) → list ++ last ∷ [] ≡ [] → ⊥
+not_empty list last e = let longer = length-append list (last ∷ []) in let none = ap length e in absurd (omega (arith, longer, none))
+
+-- where it refuses nothing, its messages are those of the sources
+pub numbering_numbers : (files : List SourceFile) (numbering : Numbering) → Numbers files numbering → numbering.refusals.items ≡ [] → Numbered files numbering.dictionary numbering.statements
+numbering_numbers files numbering (Numbers.all_read findings have holds) none = record { findings = findings; have = have; messages_are = holds.messages; statements_are = holds.statements }
+numbering_numbers files numbering (Numbers.stopped read unread findings joined have holds) none = absurd (not_empty (refusals_of holds.front) (excess_refusal holds.message) (sym holds.refusals ∙ none))
+
+-- sources have one list of messages and one number of statements
+pub numbered_once : (files : List SourceFile) (messages others : List Message) (n m : ℕ) → Numbered files messages n → Numbered files others m → (messages ≡ others) × (n ≡ m)
+numbered_once files messages others n m a b =
+    let same = all_have_once files a.findings b.findings a.have b.have in
+    (a.messages_are ∙ ap numbered same ∙ sym b.messages_are, a.statements_are ∙ ap (λ (l : List Finding). length (messages_of l)) same ∙ sym b.statements_are)
+
+-- ---- each message has a number
+
+itself : (message : Message) → is_same message message ≡ true
+itself message = test_from_same message message (record { file = refl; line = refl; severity = refl; format = refl })
+
+-- one of these messages passes the test for it among those that stand first
+passes : (messages : List Message) (k : ℕ) (message : Message) → k < length messages → get_or messages k message ≡ message → list_any (is_same message) (firsts messages) ≡ true
+unfolding firsts
+passes [] k message within is = absurd (omega (arith, within))
+passes (first ∷ messages) zero message within is = ap (λ (b : Bool). b || list_any (is_same message) (others first (firsts messages))) (ap (is_same message) is ∙ itself message)
+passes (first ∷ messages) (suc k) message within is = by_test (is_same message first) refl (passes messages k message (omega (arith, within)) is)
+  where
+    by_test : (t : Bool) → is_same message first ≡ t → list_any (is_same message) (firsts messages) ≡ true → (is_same message first || list_any (is_same message) (others first (firsts messages))) ≡ true
+    by_test true e later = ap (λ (b : Bool). b || list_any (is_same message) (others first (firsts messages))) e
+    by_test false e later = ap (λ (b : Bool). b || list_any (is_same message) (others first (firsts messages))) e ∙ among_others first message (firsts messages) e ∙ later
+
+-- the message of each statement is among those of the sources
+pub numbered_has : (files : List SourceFile) (messages : List Message) (n : ℕ) (findings : List Finding) (message : Message) → Numbered files messages n → AllHave files findings → Contains (messages_of findings) message → HasMessage messages message
+numbered_has files messages n findings message told have (k, within, is) =
+    subst (λ (l : List Message). HasMessage l message) (ap numbered (all_have_once files findings told.findings have told.have) ∙ sym told.messages_are)
+    (there_from_test (firsts (messages_of findings)) message (passes (messages_of findings) k message within is))

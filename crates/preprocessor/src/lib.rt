@@ -1,0 +1,15 @@
+//! What the statements of a program's C++ sources come to: their messages, each once and with a
+//! number, and what of the sources is refused.
+#![tactic(auto)]
+
+pub mod laws;
+mod numbering;
+mod refusal;
+mod words;
+
+pub use numbering::{MAX_SOURCE, Numbering};
+pub use refusal::{Refusal, RefusalCause};
+pub use words::push_refusal;
+
+#[cfg(test)]
+mod tests;

@@ -1,0 +1,82 @@
+//! The words on what is refused.
+
+ghost use Rattle.std.specs.Prelude.{◌≡◌, ◌++◌, OnOk, OnErr, take, vec_len};
+ghost use Rattle.preprocessor.specs.Causes.{format_cause_name, cause_place, refusal_fields, refusal_line};
+
+use crate::refusal::{Refusal, RefusalCause};
+use itoa::Buffer;
+use printf_grammar::FormatCause;
+use source_scan::StatementCause;
+use std::alloc::AllocError;
+
+fn format_cause_name(cause: FormatCause) -> &'static str
+    ensures { result.now ≡ format_cause_name cause }
+{
+    match cause {
+        FormatCause::Float => "Float",
+        FormatCause::Wide => "Wide",
+        FormatCause::Store => "Store",
+        FormatCause::BadPercent => "BadPercent",
+        FormatCause::BadLength => "BadLength",
+        FormatCause::Unknown => "Unknown",
+        FormatCause::TooWide => "TooWide",
+        FormatCause::Ends => "Ends",
+        FormatCause::Nul => "Nul",
+        FormatCause::TooManyArgs => "TooManyArgs",
+        FormatCause::Long => "Long",
+    }
+}
+
+// Where and why a format is broken. After an error a part may stand behind what was there, here
+// and below.
+fn push_place(out: &mut Vec<u8>, cause: RefusalCause) -> Result<(), AllocError>
+    ensures ok { OnOk result (out.new.items ≡ out.old.items ++ cause_place cause) }
+    ensures err { OnErr result (take (vec_len out.old) out.new.items ≡ out.old.items) }
+{
+    let RefusalCause::Statement(StatementCause::Format(cause, place)) = cause else {
+        return Ok(());
+    };
+    let mut buffer = Buffer::new();
+    out.push(b' ')?;
+    out.extend_from_slice(format_cause_name(cause).as_bytes())?;
+    out.extend_from_slice(b" at ")?;
+    out.extend_from_slice(buffer.format(place).as_bytes())
+}
+
+fn push_fields(out: &mut Vec<u8>, refusal: &Refusal) -> Result<(), AllocError>
+    ensures ok { OnOk result (out.new.items ≡ out.old.items ++ refusal_fields refusal.now) }
+    ensures err { OnErr result (take (vec_len out.old) out.new.items ≡ out.old.items) }
+{
+    let mut buffer = Buffer::new();
+    out.extend_from_slice(b"nanolog: ")?;
+    out.extend_from_slice(refusal.file.as_slice())?;
+    out.push(b':')?;
+    out.extend_from_slice(buffer.format(refusal.line).as_bytes())?;
+    out.extend_from_slice(b": refused: ")?;
+    out.extend_from_slice(buffer.format(refusal.cause.number()).as_bytes())?;
+    out.push(b' ')?;
+    out.extend_from_slice(refusal.cause.name().as_bytes())
+}
+
+fn push_line(out: &mut Vec<u8>, refusal: &Refusal) -> Result<(), AllocError>
+    ensures ok { OnOk result (out.new.items ≡ out.old.items ++ refusal_line refusal.now) }
+    ensures err { OnErr result (take (vec_len out.old) out.new.items ≡ out.old.items) }
+{
+    push_fields(out, refusal)?;
+    push_place(out, refusal.cause)?;
+    out.push(b'\n')?;
+    Ok(())
+}
+
+/// Appends the line that says what is refused. After an error `out` is as before.
+pub fn push_refusal(out: &mut Vec<u8>, refusal: &Refusal) -> Result<(), AllocError>
+    ensures ok { OnOk result (out.new.items ≡ out.old.items ++ refusal_line refusal.now) }
+    ensures err { OnErr result (out.new.items ≡ out.old.items) }
+{
+    let before = out.len();
+    let pushed = push_line(out, refusal);
+    if pushed.is_err() {
+        out.truncate(before);
+    }
+    pushed
+}
