@@ -20,6 +20,11 @@ abbrev pub NeverFalls : ℕ → List Call → Type 0
 NeverFalls least [] = Unit {0}
 NeverFalls least (call ∷ calls) = (least ≤ call.stamp) × NeverFalls call.stamp calls
 
+-- the stamp of the last of the calls, or this number where there is none
+abbrev pub last_stamp : ℕ → List Call → ℕ
+last_stamp least [] = least
+last_stamp least (call ∷ calls) = last_stamp call.stamp calls
+
 -- a writer's call at a place, with the message that its id names
 abbrev pub log_call : List Message → ℕ → ℕ × Call → Option LogCall
 log_call messages writer (ordinal, call) =

@@ -16,7 +16,8 @@ number_of_bytes (b ∷ bytes) = b + 256 * number_of_bytes bytes
 -- bytes as words, eight to a word, the lowest first; the last word is filled up with zeros
 abbrev pub words_of_bytes : List ℕ → List ℕ
 words_of_bytes [] = []
-words_of_bytes (a ∷ b ∷ c ∷ d ∷ e ∷ f ∷ g ∷ h ∷ bytes) = number_of_bytes (a ∷ b ∷ c ∷ d ∷ e ∷ f ∷ g ∷ h ∷ []) ∷ words_of_bytes bytes
+words_of_bytes (a ∷ b ∷ c ∷ d ∷ e ∷ f ∷ g ∷ h ∷ bytes) =
+    number_of_bytes (a ∷ b ∷ c ∷ d ∷ e ∷ f ∷ g ∷ h ∷ []) ∷ words_of_bytes bytes
 words_of_bytes bytes = number_of_bytes bytes ∷ []
 
 -- An integer is one word, a signed one in two's complement. A text is its length, and then its bytes.

@@ -1,11 +1,10 @@
 -- The numbers of a record's arguments, one behind another.
 use Rattle.std.proofs.Common.{◌≡◌, ℕ, zero, suc, List, [], ◌∷◌, ◌++◌, length, take, refl, sym, ap, subst, ◌∙◌, append_assoc, rules}
 use Rattle.std.proofs.lemmas.List.{length-take-le}
-use Rattle.std.specs.Prelude.{ℤ, pos}
 use Rattle.printf_grammar.specs.declared.arg_type.ArgType.{ArgType}
 use Rattle.printf_grammar.specs.declared.arg_type.ArgType.TheVariants as argument_types
-use Rattle.nibble_pack.specs.Packing.{Kind, unsigned, Packed}
-use Rattle.nibble_pack.specs.PackingLaws.{Packed-code, IsCode-lt, same_front}
+use Rattle.nibble_pack.specs.Packing.{Packed}
+use Rattle.nibble_pack.specs.PackingLaws.{Packed-code, IsCode-lt}
 use Rattle.buffer_extent.specs.declared.numbers.Number.{Number}
 use Rattle.buffer_extent.specs.declared.numbers.Number.TheVariants.{Signed, Unsigned}
 use Rattle.buffer_extent.specs.Records.{PackedNumber, kind_of, code_bytes}

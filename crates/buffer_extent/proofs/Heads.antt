@@ -1,11 +1,10 @@
 -- The head of a record, number by number.
-use Rattle.std.proofs.Common.{◌≡◌, ℕ, ◌+◌, ◌-◌, ◌*◌, ◌/◌, ◌%◌, ◌<◌, ◌≤◌, ◌^◌, List, ◌∷◌, ◌++◌, refl, sym, ap, subst, ◌∙◌, arith}
+use Rattle.std.proofs.Common.{◌≡◌, ℕ, ◌+◌, ◌-◌, ◌*◌, ◌≤◌, List, ◌∷◌, ◌++◌, refl, sym, ap, subst, ◌∙◌, arith}
 use Rattle.std.specs.Prelude.{pos}
-use Rattle.nibble_pack.specs.Packing.{unsigned, IsCode, Packed}
+use Rattle.nibble_pack.specs.Packing.{unsigned}
 use Rattle.nibble_pack.specs.PackingLaws.{Packed-code}
 use Rattle.buffer_extent.specs.declared.take.HeadCodes.{HeadCodes}
 use Rattle.buffer_extent.specs.declared.take.Head.{Head}
-use Rattle.buffer_extent.specs.Parts.{BeginsWithNumber, BeginsWithHead}
 use Rattle.buffer_extent.specs.Steps.{BeginsWithHeadCodes, BeginsWithId, BeginsWithStep, BeginsWithRightHead}
 use Rattle.buffer_extent.specs.RecordLaws.{BeginsWithNumber-unique}
 

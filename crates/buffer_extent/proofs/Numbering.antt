@@ -1,5 +1,5 @@
 -- Numbers that fit types, and the arguments that they stand for.
-use Rattle.std.proofs.Common.{◌≡◌, ℕ, zero, suc, ◌+◌, ◌<◌, ◌≤◌, List, [], ◌∷◌, ◌++◌, length, map, get_or, drop, refl, sym, ap, subst, ◌∙◌, append_assoc, arith, rules}
+use Rattle.std.proofs.Common.{◌≡◌, ℕ, zero, suc, ◌+◌, ◌<◌, ◌≤◌, List, [], ◌∷◌, ◌++◌, length, map, get_or, drop, refl, sym, ap, ◌∙◌, append_assoc, arith, rules}
 use Rattle.std.proofs.lemmas.List.{drop_more, drop_all}
 use Rattle.std.proofs.lemmas.List.Sums.{sum_by-cons}
 use Rattle.std.specs.Prelude.{sum_by}
@@ -9,13 +9,12 @@ use Rattle.printf_grammar.specs.declared.arg_type.ArgType.TheVariants as argumen
 use Rattle.printf_grammar.specs.declared.argument.Value.{Value}
 use Rattle.printf_grammar.specs.declared.argument.Value.TheVariants as values
 use Rattle.printf_grammar.specs.Types.{FitsType, Fits, text_of}
-use Rattle.arg_records.specs.Frames.{argument_words, FrameLen}
-use Rattle.nibble_pack.specs.Packing.{Kind, Packed}
+use Rattle.arg_records.specs.Frames.{argument_words}
 use Rattle.buffer_extent.specs.declared.numbers.Number.{Number}
 use Rattle.buffer_extent.specs.declared.numbers.Number.TheVariants.{Signed, Unsigned}
-use Rattle.buffer_extent.specs.Records.{PackedNumber, kind_of, number_of, PacksArguments}
-use Rattle.buffer_extent.specs.Steps.{OneBehindAnother, integer_of, number_for, FitsNumber, FitNumbers, PacksNumbers, number_words, words_taken, BeginsWithText, BeginsWithValue, BeginsWithTexts}
-use Rattle.buffer_extent.specs.RecordLaws.{same_length_front, variant_of, variant_fits}
+use Rattle.buffer_extent.specs.Records.{PackedNumber, number_of, PacksArguments}
+use Rattle.buffer_extent.specs.Steps.{OneBehindAnother, integer_of, number_for, FitsNumber, FitNumbers, PacksNumbers, number_words, words_taken, BeginsWithValue, BeginsWithTexts}
+use Rattle.buffer_extent.specs.RecordLaws.{same_length_front, variant_fits}
 
 -- ---- at a place
 
@@ -41,7 +40,7 @@ no_words_left types numbers place past = ap (λ (ts : List ArgType). words_taken
 -- ---- the numbers of arguments
 
 -- an argument that fits a type has a number that fits it
-value_number : (type : ArgType) (value : Value) → FitsType value type → FitsNumber (number_for value) type
+pub value_number : (type : ArgType) (value : Value) → FitsType value type → FitsNumber (number_for value) type
 value_number type (values.Signed z) fits = fits
 value_number argument_types.Text (values.Text bytes) fits = fits.short
 value_number argument_types.Int (values.Text bytes) fits = absurd fits

@@ -34,7 +34,7 @@ at_place : {M V : Type 0} (One : Step M V) (types : List ArgType) (marks : List 
     → OneBehindAnother One (drop place types) (drop place marks) bytes found back ≡ OneBehindAnother One (type ∷ drop (place + 1) types) (mark ∷ drop (place + 1) marks) bytes found back
 at_place One types marks bytes found back place type mark here = λ t. OneBehindAnother One (here.first t) (here.second t) bytes found back
 
-first_and_more : {M V : Type 0} (One : Step M V) (type : ArgType) (types : List ArgType) (mark : M) (marks : List M) (bytes : List ℕ) (all : List V) (back : List ℕ) → OneBehindAnother One (type ∷ types) (mark ∷ marks) bytes all back
+pub first_and_more : {M V : Type 0} (One : Step M V) (type : ArgType) (types : List ArgType) (mark : M) (marks : List M) (bytes : List ℕ) (all : List V) (back : List ℕ) → OneBehindAnother One (type ∷ types) (mark ∷ marks) bytes all back
     → (first : V) × (others : List V) × (rest : List ℕ) × (all ≡ first ∷ others) × One type mark bytes first rest × OneBehindAnother One types marks rest others back
 first_and_more One type types mark marks bytes [] back begins = absurd begins
 first_and_more One type types mark marks bytes (first ∷ others) back (rest, here, more) = (first, others, rest, refl, here, more)

@@ -1,5 +1,5 @@
 -- The frame of a call, and the record that is written of it.
-use Rattle.std.proofs.Common.{◌≡◌, ℕ, suc, ◌+◌, ◌-◌, ◌*◌, ◌/◌, ◌<◌, ◌≤◌, ◌^◌, List, [], ◌∷◌, ◌++◌, length, take, drop, get_or, refl, sym, ap, subst, ◌∙◌, append_assoc, arith, rules}
+use Rattle.std.proofs.Common.{◌≡◌, ℕ, ◌+◌, ◌-◌, ◌*◌, ◌/◌, ◌<◌, ◌≤◌, ◌^◌, List, [], ◌∷◌, ◌++◌, length, take, drop, get_or, refl, sym, ap, subst, ◌∙◌, append_assoc, arith, rules}
 use Rattle.std.proofs.lemmas.List.{length-append, take_rest}
 use Rattle.std.proofs.lemmas.List.Sums.{sum_by-cons}
 use Rattle.std.proofs.lemmas.Int.{ints}
@@ -11,7 +11,7 @@ use Rattle.printf_grammar.specs.declared.arg_type.ArgType.TheVariants as argumen
 use Rattle.printf_grammar.specs.declared.argument.Value.{Value}
 use Rattle.printf_grammar.specs.declared.argument.Value.TheVariants as values
 use Rattle.printf_grammar.specs.Types.{FitsType, Fits, text_of}
-use Rattle.arg_records.specs.Frames.{IsStaged, IsFrame, words_of_argument, argument_words, FrameLen, Frame}
+use Rattle.arg_records.specs.Frames.{IsStaged, IsFrame, argument_words, FrameLen, Frame}
 use Rattle.arg_records.specs.Kinds.{HoldsBytes}
 use Rattle.arg_records.specs.Places.{with_words}
 use Rattle.arg_records.proofs.Fitted.{AreArguments-from_Fits}

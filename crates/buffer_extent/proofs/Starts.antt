@@ -1,29 +1,25 @@
 -- What a record has in front of its texts.
-use Rattle.std.proofs.Common.{◌≡◌, ℕ, zero, suc, ◌+◌, ◌<◌, ◌≤◌, List, [], ◌∷◌, ◌++◌, length, take, map, refl, sym, ap, subst, ◌∙◌, append_assoc, arith, rules, Some}
+use Rattle.std.proofs.Common.{◌≡◌, ℕ, ◌+◌, ◌≤◌, List, [], ◌∷◌, ◌++◌, length, take, map, refl, sym, ap, subst, ◌∙◌, append_assoc, arith, rules, Some}
 use Rattle.std.proofs.lemmas.List.{length-map}
 use Rattle.std.proofs.Math.Seq.{take-length}
 use Rattle.std.proofs.lemmas.Option.{same_Some, slice_get_within}
-use Rattle.std.specs.Prelude.{ℤ, slice_get}
+use Rattle.std.specs.Prelude.{slice_get}
 use Rattle.std.specs.List.{flat_map}
 use Rattle.printf_grammar.specs.declared.arg_type.ArgType.{ArgType}
 use Rattle.printf_grammar.specs.declared.argument.Value.{Value}
 use Rattle.printf_grammar.specs.Types.{Types, Fits, text_of}
 use Rattle.printf_grammar.proofs.Fitting.{Fits-length}
 use Rattle.nibble_pack.specs.Packing.{Packed}
-use Rattle.nibble_pack.specs.PackingLaws.{same_front}
 use Rattle.log_dictionary.specs.declared.message.Message.{Message}
 use Rattle.arg_records.specs.declared.call.Call.{Call}
-use Rattle.arg_records.specs.Frames.{argument_words, FrameLen}
-use Rattle.arg_records.specs.Calls.{IsCall}
 use Rattle.buffer_extent.specs.declared.numbers.Number.{Number}
 use Rattle.buffer_extent.specs.declared.take.Head.{Head}
 use Rattle.buffer_extent.specs.Records.{PackedNumber, kind_of, code_bytes}
-use Rattle.buffer_extent.specs.Bodies.{SpellsRecord}
-use Rattle.buffer_extent.specs.Parts.{BeginsWithNumber, BeginsWithHead, BeginsWithArguments, BeginsWithRecord, BeginsWithRightRecord}
-use Rattle.buffer_extent.specs.Steps.{integer_of, number_for, FitsNumber, FitNumbers, PacksNumbers, BeginsWithKind, BeginsWithRightHead, BeginsWithCodedNumbers, words_taken, BeginsWithTexts, BeginsWithStart, StartsRecord}
-use Rattle.buffer_extent.specs.RecordLaws.{codes_of, bytes_of, same_code_bytes, same_back, BeginsWithHead-unique, record_parts, record_joined}
+use Rattle.buffer_extent.specs.Parts.{BeginsWithHead, BeginsWithArguments, BeginsWithRightRecord}
+use Rattle.buffer_extent.specs.Steps.{integer_of, number_for, FitNumbers, PacksNumbers, BeginsWithRightHead, BeginsWithCodedNumbers, words_taken, BeginsWithTexts, BeginsWithStart, StartsRecord}
+use Rattle.buffer_extent.specs.RecordLaws.{codes_of, bytes_of, same_code_bytes, BeginsWithHead-unique, record_parts, record_joined}
 use Rattle.buffer_extent.proofs.Arguments.{numbers_are_codes, numbers_are_as_many, BeginsWithArgument-unique}
-use Rattle.buffer_extent.proofs.Numbering.{FitNumbers-length, numbers_fit, packs_numbers, packs_arguments, numbers_words}
+use Rattle.buffer_extent.proofs.Numbering.{numbers_fit, packs_numbers, packs_arguments, numbers_words}
 
 -- ---- numbers
 

@@ -15,11 +15,13 @@ pub record SpellsRecord (messages : List Message) (before : ℕ) (entry : Call) 
   pub known : slice_get messages entry.id ≡ Some message
   pub spelled : RecordBytes (Types message.format.pieces) entry.id entry.stamp before entry.args bytes
 
--- the bytes are the records' spellings, joined; the first step counts from this stamp, and each other from the record in front
+-- the bytes are the records' spellings, joined; the first step counts from this stamp, and each other from the record
+-- in front
 abbrev pub SpellsRecords : List Message → ℕ → List Call → List ℕ → Type 0
 SpellsRecords messages before [] bytes = bytes ≡ []
 SpellsRecords messages before (entry ∷ entries) bytes =
-    (front : List ℕ) × (back : List ℕ) × (bytes ≡ front ++ back) × SpellsRecord messages before entry front × SpellsRecords messages entry.stamp entries back
+    (front : List ℕ) × (back : List ℕ) × (bytes ≡ front ++ back)
+    × SpellsRecord messages before entry front × SpellsRecords messages entry.stamp entries back
 
 -- The body is whole records that keep the rules: the first step counts from the clock's tick, and no stamp is below the
 -- writer's last one.

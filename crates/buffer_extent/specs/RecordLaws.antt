@@ -41,7 +41,8 @@ same_two : (a b c d : ℕ) → a < 16 → c < 16 → a + 16 * b ≡ c + 16 * d �
 same_two a b c d below below_too same = (omega arith, omega arith)
 
 -- as many codes are in bytes in one way
-pub same_code_bytes : (xs ys r s : List ℕ) → length xs ≡ length ys → AreCodes xs → AreCodes ys → code_bytes xs ++ r ≡ code_bytes ys ++ s → (xs ≡ ys) × (r ≡ s)
+pub same_code_bytes : (xs ys r s : List ℕ) → length xs ≡ length ys → AreCodes xs → AreCodes ys
+    → code_bytes xs ++ r ≡ code_bytes ys ++ s → (xs ≡ ys) × (r ≡ s)
 same_code_bytes [] [] r s len p q same = (refl, same)
 same_code_bytes (a ∷ []) (c ∷ []) r s len p q same =
     let first : a ≡ c = cc in
@@ -63,19 +64,23 @@ codes_of numbers = map (λ number. number.code) numbers
 abbrev pub bytes_of : List PackedNumber → List ℕ
 bytes_of numbers = flat_map (λ number. number.bytes) numbers
 
-pub numbers_are_codes : (types : List ArgType) (args : List Value) (numbers : List PackedNumber) → PacksArguments types args numbers → AreCodes (codes_of numbers)
+pub numbers_are_codes : (types : List ArgType) (args : List Value) (numbers : List PackedNumber)
+    → PacksArguments types args numbers → AreCodes (codes_of numbers)
 numbers_are_codes [] [] [] packed = tt
 numbers_are_codes (type ∷ types) (arg ∷ args) (number ∷ numbers) packed =
     (IsCode-lt (kind_of type) number.code (Packed-code (kind_of type) (number_of arg) number.code number.bytes packed.0), numbers_are_codes types args numbers packed.1)
 numbers_are_codes _ _ _ packed = absurd packed
 
-pub numbers_are_as_many : (types : List ArgType) (args : List Value) (numbers : List PackedNumber) → PacksArguments types args numbers → length (codes_of numbers) ≡ length types
+pub numbers_are_as_many : (types : List ArgType) (args : List Value) (numbers : List PackedNumber)
+    → PacksArguments types args numbers → length (codes_of numbers) ≡ length types
 numbers_are_as_many [] [] [] packed = refl
-numbers_are_as_many (type ∷ types) (arg ∷ args) (number ∷ numbers) packed = ap suc (numbers_are_as_many types args numbers packed.1)
+numbers_are_as_many (type ∷ types) (arg ∷ args) (number ∷ numbers) packed =
+    ap suc (numbers_are_as_many types args numbers packed.1)
 numbers_are_as_many _ _ _ packed = absurd packed
 
 -- bytes begin with the numbers of one list of arguments
-same_numbers : (types : List ArgType) (xs ys : List Value) (ns ms : List PackedNumber) (r s : List ℕ) → PacksArguments types xs ns → PacksArguments types ys ms → codes_of ns ≡ codes_of ms
+same_numbers : (types : List ArgType) (xs ys : List Value) (ns ms : List PackedNumber) (r s : List ℕ)
+    → PacksArguments types xs ns → PacksArguments types ys ms → codes_of ns ≡ codes_of ms
     → bytes_of ns ++ r ≡ bytes_of ms ++ s → (map number_of xs ≡ map number_of ys) × (r ≡ s)
 same_numbers [] [] [] [] [] r s p q codes same = (refl, same)
 same_numbers (type ∷ types) (x ∷ xs) (y ∷ ys) (n ∷ ns) (m ∷ ms) r s p q codes same =
@@ -114,21 +119,24 @@ variant_fits types.Precision (values.Signed z) fits = refl
 variant_fits types.Text (values.Text bytes) fits = refl
 variant_fits _ _ fits = absurd fits
 
-same_text_length : (x y : Value) → variant_of x ≡ variant_of y → number_of x ≡ number_of y → length (text_of x) ≡ length (text_of y)
+same_text_length : (x y : Value) → variant_of x ≡ variant_of y → number_of x ≡ number_of y
+    → length (text_of x) ≡ length (text_of y)
 same_text_length (values.Text xs) (values.Text ys) variant same = cc
 same_text_length (values.Signed a) (values.Signed b) variant same = refl
 same_text_length (values.Unsigned a) (values.Unsigned b) variant same = refl
 same_text_length _ _ variant same = absurd (omega arith)
 
 -- a number and a text are of one argument
-pub same_argument : (x y : Value) → variant_of x ≡ variant_of y → number_of x ≡ number_of y → text_of x ≡ text_of y → x ≡ y
+pub same_argument : (x y : Value) → variant_of x ≡ variant_of y → number_of x ≡ number_of y → text_of x ≡ text_of y
+    → x ≡ y
 same_argument (values.Text xs) (values.Text ys) variant number text = ap values.Text text
 same_argument (values.Signed a) (values.Signed b) variant number text = ap values.Signed number
 same_argument (values.Unsigned a) (values.Unsigned b) variant number text = let n : a ≡ b = cc in ap values.Unsigned n
 same_argument _ _ variant number text = absurd (omega arith)
 
 -- bytes begin with the texts of one list of arguments that fit and have these numbers
-same_texts : (types : List ArgType) (xs ys : List Value) (r s : List ℕ) → Fits xs types → Fits ys types → map number_of xs ≡ map number_of ys → flat_map text_of xs ++ r ≡ flat_map text_of ys ++ s
+same_texts : (types : List ArgType) (xs ys : List Value) (r s : List ℕ) → Fits xs types → Fits ys types
+    → map number_of xs ≡ map number_of ys → flat_map text_of xs ++ r ≡ flat_map text_of ys ++ s
     → (xs ≡ ys) × (r ≡ s)
 same_texts [] [] [] r s p q numbers same = (refl, same)
 same_texts (type ∷ types) (x ∷ xs) (y ∷ ys) r s p q numbers same =
@@ -146,14 +154,16 @@ same_texts _ _ _ r s p q numbers same = absurd (search rules)
 -- ---- the parts of a record
 
 -- bytes begin with one number of a code
-pub BeginsWithNumber-unique : (kind : Kind) (code : ℕ) (bytes : List ℕ) (a b : ℤ) (r s : List ℕ) → BeginsWithNumber kind code bytes a r → BeginsWithNumber kind code bytes b s → (a ≡ b) × (r ≡ s)
+pub BeginsWithNumber-unique : (kind : Kind) (code : ℕ) (bytes : List ℕ) (a b : ℤ) (r s : List ℕ)
+    → BeginsWithNumber kind code bytes a r → BeginsWithNumber kind code bytes b s → (a ≡ b) × (r ≡ s)
 BeginsWithNumber-unique kind code bytes a b r s p q =
     let parts : p.front ++ r ≡ q.front ++ s = sym p.parts ∙ q.parts in
     let one = same_front kind a b code p.front q.front r s p.packed q.packed parts in
     (one.1, same_back p.front q.front r s one.0 parts)
 
 -- bytes begin with one head
-pub BeginsWithHead-unique : (before : ℕ) (bytes : List ℕ) (i j s t : ℕ) (r q : List ℕ) → BeginsWithHead before bytes i s r → BeginsWithHead before bytes j t q → (i ≡ j) × (s ≡ t) × (r ≡ q)
+pub BeginsWithHead-unique : (before : ℕ) (bytes : List ℕ) (i j s t : ℕ) (r q : List ℕ)
+    → BeginsWithHead before bytes i s r → BeginsWithHead before bytes j t q → (i ≡ j) × (s ≡ t) × (r ≡ q)
 BeginsWithHead-unique before bytes i j s t r q a b =
     let joined : (a.id_number.code + 16 * a.step_number.code) ∷ (a.id_number.bytes ++ (a.step_number.bytes ++ r)) ≡ (b.id_number.code + 16 * b.step_number.code) ∷ (b.id_number.bytes ++ (b.step_number.bytes ++ q)) =
     sym a.parts ∙ b.parts in
@@ -176,7 +186,8 @@ BeginsWithHead-unique before bytes i j s t r q a b =
     (ids, omega arith, same_back a.step_number.bytes b.step_number.bytes r q step.0 step_behind)
 
 -- bytes begin with one list of arguments of these types
-pub BeginsWithArguments-unique : (types : List ArgType) (bytes : List ℕ) (xs ys : List Value) (r s : List ℕ) → BeginsWithArguments types bytes xs r → BeginsWithArguments types bytes ys s → (xs ≡ ys) × (r ≡ s)
+pub BeginsWithArguments-unique : (types : List ArgType) (bytes : List ℕ) (xs ys : List Value) (r s : List ℕ)
+    → BeginsWithArguments types bytes xs r → BeginsWithArguments types bytes ys s → (xs ≡ ys) × (r ≡ s)
 BeginsWithArguments-unique types bytes xs ys r s a b =
     let behind : List ℕ = bytes_of a.numbers ++ (flat_map text_of xs ++ r) in
     let behind_too : List ℕ = bytes_of b.numbers ++ (flat_map text_of ys ++ s) in
@@ -187,11 +198,13 @@ BeginsWithArguments-unique types bytes xs ys r s a b =
 
 -- ---- records
 
-five_parts : (head : ℕ) (a b c d e back : List ℕ) → (head ∷ a ++ b ++ c ++ d ++ e) ++ back ≡ head ∷ (a ++ (b ++ (c ++ (d ++ (e ++ back)))))
+five_parts : (head : ℕ) (a b c d e back : List ℕ)
+    → (head ∷ a ++ b ++ c ++ d ++ e) ++ back ≡ head ∷ (a ++ (b ++ (c ++ (d ++ (e ++ back)))))
 five_parts head a b c d e back = simp append_assoc refl
 
 -- a record in front of other bytes is a head and arguments
-pub record_begins : (types : List ArgType) (id stamp before : ℕ) (args : List Value) (bytes front back : List ℕ) → RecordBytes types id stamp before args front → Fits args types → bytes ≡ front ++ back
+pub record_begins : (types : List ArgType) (id stamp before : ℕ) (args : List Value) (bytes front back : List ℕ)
+    → RecordBytes types id stamp before args front → Fits args types → bytes ≡ front ++ back
     → (rest : List ℕ) × BeginsWithHead before bytes id stamp rest × BeginsWithArguments types rest args back
 record_begins types id stamp before args bytes front back spelled fits parts =
     let texts : List ℕ = flat_map text_of args ++ back in
@@ -212,7 +225,8 @@ record_begins types id stamp before args bytes front back spelled fits parts =
     )
 
 -- a head and arguments are a record in front of other bytes
-pub record_joined : (types : List ArgType) (id stamp before : ℕ) (args : List Value) (bytes rest back : List ℕ) → BeginsWithHead before bytes id stamp rest → BeginsWithArguments types rest args back
+pub record_joined : (types : List ArgType) (id stamp before : ℕ) (args : List Value) (bytes rest back : List ℕ)
+    → BeginsWithHead before bytes id stamp rest → BeginsWithArguments types rest args back
     → (front : List ℕ) × (bytes ≡ front ++ back) × RecordBytes types id stamp before args front
 record_joined types id stamp before args bytes rest back head arguments =
     let codes : ℕ = head.id_number.code + 16 * head.step_number.code in
@@ -234,8 +248,11 @@ record_joined types id stamp before args bytes rest back head arguments =
     )
 
 -- a record that bytes begin with is a head, and arguments of its message
-pub record_parts : (messages : List Message) (before : ℕ) (bytes : List ℕ) (entry : Call) (back : List ℕ) → BeginsWithRecord messages before bytes entry back
-    → (message : Message) × (rest : List ℕ) × (slice_get messages entry.id ≡ Some message) × BeginsWithHead before bytes entry.id entry.stamp rest × BeginsWithArguments (Types message.format.pieces) rest entry.args back
+pub record_parts : (messages : List Message) (before : ℕ) (bytes : List ℕ) (entry : Call) (back : List ℕ)
+    → BeginsWithRecord messages before bytes entry back
+    → (message : Message) × (rest : List ℕ) × (slice_get messages entry.id ≡ Some message)
+    × BeginsWithHead before bytes entry.id entry.stamp rest
+    × BeginsWithArguments (Types message.format.pieces) rest entry.args back
 record_parts messages before bytes entry back begins =
     let message : Message = begins.spelled.message in
     let same = same_Some begins.right.message message (sym begins.right.known ∙ begins.spelled.known) in
@@ -245,7 +262,8 @@ record_parts messages before bytes entry back begins =
 
 -- where the head and its message are known, the arguments are what is left
 pub arguments_left : (messages : List Message) (before : ℕ) (bytes : List ℕ) (id stamp : ℕ) (message : Message) (rest : List ℕ) (entry : Call) (back : List ℕ)
-    → BeginsWithHead before bytes id stamp rest → slice_get messages id ≡ Some message → BeginsWithRecord messages before bytes entry back
+    → BeginsWithHead before bytes id stamp rest → slice_get messages id ≡ Some message
+    → BeginsWithRecord messages before bytes entry back
     → (entry.id ≡ id) × (entry.stamp ≡ stamp) × BeginsWithArguments (Types message.format.pieces) rest entry.args back
 arguments_left messages before bytes id stamp message rest entry back head known begins =
     let parts = record_parts messages before bytes entry back begins in
@@ -255,7 +273,8 @@ arguments_left messages before bytes id stamp message rest entry back head known
     (same.0, same.1, subst (λ (r : List ℕ). BeginsWithArguments (Types message.format.pieces) r entry.args back) same.2 of_message)
 
 -- bytes begin with one record
-pub BeginsWithRecord-unique : (messages : List Message) (before : ℕ) (bytes : List ℕ) (a b : Call) (r s : List ℕ) → BeginsWithRecord messages before bytes a r → BeginsWithRecord messages before bytes b s
+pub BeginsWithRecord-unique : (messages : List Message) (before : ℕ) (bytes : List ℕ) (a b : Call) (r s : List ℕ)
+    → BeginsWithRecord messages before bytes a r → BeginsWithRecord messages before bytes b s
     → (a ≡ b) × (r ≡ s)
 BeginsWithRecord-unique messages before bytes a b r s p q =
     let parts = record_parts messages before bytes b s q in
@@ -264,7 +283,8 @@ BeginsWithRecord-unique messages before bytes a b r s p q =
     ((λ t. record { stamp = left.1 t; id = left.0 t; args = arguments.0 t }), arguments.1)
 
 -- no record's spelling is a proper prefix of another's
-pub SpellsRecord-unique : (messages : List Message) (before : ℕ) (a b : Call) (x y r s : List ℕ) → IsCall messages a → IsCall messages b → SpellsRecord messages before a x → SpellsRecord messages before b y → x ++ r ≡ y ++ s
+pub SpellsRecord-unique : (messages : List Message) (before : ℕ) (a b : Call) (x y r s : List ℕ) → IsCall messages a
+    → IsCall messages b → SpellsRecord messages before a x → SpellsRecord messages before b y → x ++ r ≡ y ++ s
     → (a ≡ b) × (x ≡ y) × (r ≡ s)
 SpellsRecord-unique messages before a b x y r s right right_too p q same =
     let one = BeginsWithRecord-unique messages before (x ++ r) a b r s (record { front = x; parts = refl; spelled = p; right = right }) (record { front = y; parts = same; spelled = q; right = right_too }) in
@@ -273,12 +293,14 @@ SpellsRecord-unique messages before a b x y r s right right_too p q same =
 -- ---- bodies
 
 -- a record has a byte
-pub some_byte : (types : List ArgType) (id stamp before : ℕ) (args : List Value) (front back : List ℕ) → RecordBytes types id stamp before args front → [] ≡ front ++ back → ⊥
+pub some_byte : (types : List ArgType) (id stamp before : ℕ) (args : List Value) (front back : List ℕ)
+    → RecordBytes types id stamp before args front → [] ≡ front ++ back → ⊥
 some_byte types id stamp before args front back spelled none =
     let is = none ∙ ap (λ (f : List ℕ). f ++ back) spelled.joined in cc
 
 -- bytes spell one list of records that keep the rules
-pub SpellsRecords-unique : (messages : List Message) (before : ℕ) (xs ys : List Call) (bytes : List ℕ) → AllByRecursion (IsCall messages) xs → AllByRecursion (IsCall messages) ys
+pub SpellsRecords-unique : (messages : List Message) (before : ℕ) (xs ys : List Call) (bytes : List ℕ)
+    → AllByRecursion (IsCall messages) xs → AllByRecursion (IsCall messages) ys
     → SpellsRecords messages before xs bytes → SpellsRecords messages before ys bytes → xs ≡ ys
 SpellsRecords-unique messages before [] [] bytes all all_too p q = refl
 SpellsRecords-unique messages before [] (y ∷ ys) bytes all all_too p (front, back, parts, spelled, rest) =
@@ -293,13 +315,17 @@ SpellsRecords-unique messages before (x ∷ xs) (y ∷ ys) bytes all all_too (fr
     λ t. one.0 t ∷ others t
 
 -- a body spells one list of records
-pub IsBody-unique : (messages : List Message) (tick last : ℕ) (xs ys : List Call) (body : List ℕ) → IsBody messages tick last xs body → IsBody messages tick last ys body → xs ≡ ys
-IsBody-unique messages tick last xs ys body p q = SpellsRecords-unique messages tick xs ys body p.right q.right p.spelled q.spelled
+pub IsBody-unique : (messages : List Message) (tick last : ℕ) (xs ys : List Call) (body : List ℕ)
+    → IsBody messages tick last xs body → IsBody messages tick last ys body → xs ≡ ys
+IsBody-unique messages tick last xs ys body p q =
+    SpellsRecords-unique messages tick xs ys body p.right q.right p.spelled q.spelled
 
 -- whole records that keep the rules break none
-pub IsBody-not_broken : (messages : List Message) (tick last : ℕ) (entries : List Call) (cause : Cause) (body : List ℕ) → IsBody messages tick last entries body → BodyBreak messages tick last body cause → ⊥
+pub IsBody-not_broken : (messages : List Message) (tick last : ℕ) (entries : List Call) (cause : Cause) (body : List ℕ)
+    → IsBody messages tick last entries body → BodyBreak messages tick last body cause → ⊥
 IsBody-not_broken messages tick last entries cause body is broken = broken.no_records entries is
 
 -- a body breaks by one cause
-pub BodyBreak-unique : (messages : List Message) (tick last : ℕ) (a b : Cause) (body : List ℕ) → BodyBreak messages tick last body a → BodyBreak messages tick last body b → a ≡ b
+pub BodyBreak-unique : (messages : List Message) (tick last : ℕ) (a b : Cause) (body : List ℕ)
+    → BodyBreak messages tick last body a → BodyBreak messages tick last body b → a ≡ b
 BodyBreak-unique messages tick last a b body p q = p.cause_is ∙ sym q.cause_is

@@ -42,8 +42,8 @@ code_bytes [] = []
 code_bytes (low ∷ []) = low ∷ []
 code_bytes (low ∷ high ∷ codes) = (low + 16 * high) ∷ code_bytes codes
 
--- A record's bytes: the codes of the id and of the step in one byte, the id, the step, the codes of the arguments, their
--- numbers, and the texts. The step is the stamp less the stamp before.
+-- A record's bytes: the codes of the id and of the step in one byte, the id, the step, the codes of the arguments,
+-- their numbers, and the texts. The step is the stamp less the stamp before.
 pub record RecordBytes (types : List ArgType) (id stamp before : ℕ) (args : List Value) (bytes : List ℕ) : Type 0 where
   pub id_number : PackedNumber
   pub step_number : PackedNumber

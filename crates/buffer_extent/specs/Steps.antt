@@ -1,5 +1,5 @@
--- A record as it is read, from left to right: the codes of its head, its id, its step, the codes of its arguments, their
--- numbers, and their texts.
+-- A record as it is read, from left to right: the codes of its head, its id, its step, the codes of its arguments,
+-- their numbers, and their texts.
 use Rattle.std.specs.Prelude.{◌≡◌, ℕ, ℤ, pos, ◌+◌, ◌-◌, ◌*◌, ◌<◌, ◌≤◌, ◌^◌, List, [], ◌∷◌, ◌++◌, length, take, map, ⊤, Some, slice_get}
 use Rattle.std.specs.List.{flat_map}
 use Rattle.printf_grammar.specs.declared.limits.TheConstants.{MAX_TEXT}
@@ -20,7 +20,8 @@ use Rattle.buffer_extent.specs.Records.{PackedNumber, kind_of, code_bytes}
 use Rattle.buffer_extent.specs.Parts.{BeginsWithNumber, BeginsWithHead}
 
 -- the bytes begin with things of these types, one behind another, each of which has its mark, and these bytes follow
-abbrev pub OneBehindAnother : {M V : Type 0} → (ArgType → M → List ℕ → V → List ℕ → Type 0) → List ArgType → List M → List ℕ → List V
+abbrev pub OneBehindAnother : {M V : Type 0} → (ArgType → M → List ℕ → V → List ℕ → Type 0) → List ArgType → List M
+    → List ℕ → List V
     → List ℕ → Type 0
 OneBehindAnother One [] marks bytes [] back = bytes ≡ back
 OneBehindAnother One (type ∷ types) (mark ∷ marks) bytes (thing ∷ things) back =
@@ -69,7 +70,8 @@ number_for (values.Signed z) = Signed z
 number_for (values.Unsigned n) = Unsigned n
 number_for (values.Text bytes) = Unsigned (length bytes)
 
--- an argument of the type may have this number: the integer is of the type, and the length isn't that of too long a text
+-- an argument of the type may have this number: the integer is of the type, and the length isn't that of too long a
+-- text
 abbrev pub FitsNumber : Number → ArgType → Type 0
 FitsNumber (Unsigned n) Text = n ≤ MAX_TEXT
 FitsNumber (Unsigned n) type = FitsType (values.Unsigned n) type
@@ -106,7 +108,8 @@ pub record BeginsWithCodedNumbers (types : List ArgType) (bytes : List ℕ) (num
   pub packed : List PackedNumber
   pub packs : PacksNumbers types numbers packed
   pub fits : FitNumbers types numbers
-  pub parts : bytes ≡ code_bytes (map (λ number. number.code) packed) ++ (flat_map (λ number. number.bytes) packed ++ back)
+  pub parts : bytes ≡ code_bytes (map (λ number. number.code) packed)
+      ++ (flat_map (λ number. number.bytes) packed ++ back)
 
 -- how many words of a frame the argument takes
 abbrev pub number_words : ArgType → Number → ℕ

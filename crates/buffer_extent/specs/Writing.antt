@@ -1,5 +1,5 @@
 -- What is asked of a frame whose record is to be written, and the room that the record takes.
-use Rattle.std.specs.Prelude.{◌≡◌, ℕ, ◌+◌, ◌*◌, ◌/◌, ◌<◌, ◌≤◌, List, [], ◌∷◌, ◌++◌, pos, length, take, map, sum_by, All}
+use Rattle.std.specs.Prelude.{◌≡◌, ℕ, ◌+◌, ◌*◌, ◌/◌, ◌<◌, ◌≤◌, List, ◌∷◌, ◌++◌, pos, length, take, map, sum_by, All}
 use Rattle.std.specs.List.{flat_map}
 use Rattle.std.specs.Int.{bytes_low_first}
 use Rattle.printf_grammar.specs.declared.arg_type.ArgType.{ArgType}
@@ -73,8 +73,8 @@ number_room types.Width = 2
 number_room types.Precision = 4
 number_room types.Text = 2
 
--- The most bytes that a record with such arguments has: a byte of codes, two of the id, eight of the step, the codes of the
--- arguments, their numbers, and the texts.
+-- The most bytes that a record with such arguments has: a byte of codes, two of the id, eight of the step, the codes of
+-- the arguments, their numbers, and the texts.
 abbrev pub record_room : List ArgType → List Value → ℕ
 record_room types args = 11 + (length types + 1) / 2 + sum_by number_room types + length (flat_map text_of args)
 

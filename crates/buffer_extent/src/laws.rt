@@ -1,7 +1,7 @@
 //! Laws over the definitions of records and bodies. The functions do nothing: what they ensure is proved of the
 //! definitions.
 
-ghost use Rattle.std.specs.Prelude.{◌≡◌, ℕ, List, [], ◌∷◌, ◌++◌, pos, negsuc};
+ghost use Rattle.std.specs.Prelude.{◌≡◌, ◌⊎◌, ℕ, ◌<◌, List, [], ◌∷◌, ◌++◌, All, pos, negsuc};
 ghost use Rattle.printf_grammar.specs.declared.arg_type.ArgType.TheVariants.{Int, Text as TextType};
 ghost use Rattle.printf_grammar.specs.declared.argument.Value.TheVariants.{Signed, Text};
 ghost use Rattle.log_dictionary.specs.declared.message.Message.{Message};
@@ -60,4 +60,14 @@ pub fn a_body_starts_with_a_record()
     ensures { (messages : List Message) (tick last : ℕ) (entry : Call) (entries : List Call) (body : List ℕ)
         → IsBody messages tick last (entry ∷ entries) body
         → StartsRecord messages tick last body }
+{}
+
+/// A body of bytes is records that keep the rules, from its first byte to its last, or it breaks,
+/// whatever messages, tick and last stamp are in front of it. That it is never both,
+/// [`bodies_are_told_apart`] says.
+pub fn body_or_break()
+    ensures { (messages : List Message) (tick last : ℕ) (body : List ℕ)
+        → All (λ byte. byte < 256) body
+        → ((entries : List Call) × IsBody messages tick last entries body)
+        ⊎ ((cause : BodyCause) × BodyBreak messages tick last body cause) }
 {}

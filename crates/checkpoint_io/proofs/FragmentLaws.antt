@@ -1,5 +1,5 @@
 -- Fragments that are read from a source.
-use Rattle.std.proofs.Common.{◌≡◌, ℕ, zero, suc, ◌+◌, ◌-◌, ◌<◌, ◌≤◌, ◌^◌, List, [], ◌∷◌, ◌++◌, length, Some, None, refl, sym, ap, subst, ◌∙◌, inl, inr, ◌⊎◌, append_assoc, arith}
+use Rattle.std.proofs.Common.{◌≡◌, ℕ, zero, suc, ◌-◌, ◌<◌, ◌^◌, List, [], ◌∷◌, ◌++◌, length, Some, None, refl, sym, ap, subst, ◌∙◌, inl, inr, ◌⊎◌, append_assoc, arith}
 use Rattle.std.specs.Prelude.{IfSome, IfErr, OnOk, Result, Ok, Err}
 use Rattle.std.specs.Hash.{le_bytes}
 use Rattle.std.proofs.lemmas.List.{append-nil}
@@ -81,22 +81,17 @@ entry_err (Err (Damaged cause)) before read first count defined from some breaks
 
 -- ---- fragments
 
-first_on : (before : List Message) (first : ℕ) → first < 2 ^ 32 → first ≡ length before → GoesOnBehind (ReadsFragment before) (le_bytes 4 first) (ReadsCount before first)
+first_on : (before : List Message) (first : ℕ) → first < 256 ^ 4 → first ≡ length before → GoesOnBehind (ReadsFragment before) (le_bytes 4 first) (ReadsCount before first)
 first_on before first fits is rest outcome goes = inr (first, rest, fits, refl, inr ((λ wrong. wrong is), goes))
 
-count_on : (before : List Message) (first count : ℕ) → count < 2 ^ 16 → ¬ (count ≡ 0) → count ≤ 16 → length before + count ≤ 65536 → GoesOnBehind (ReadsCount before first) (le_bytes 2 count) (ReadsEntries before first [] count)
-count_on before first count fits some few all rest outcome goes = inr (count, rest, fits, refl, inr (good, goes))
-  where
-    good : ¬ (IsBadCount before count)
-    good (inl none) = some none
-    good (inr (inl many)) = omega (arith, many, few)
-    good (inr (inr many)) = omega (arith, many, all)
+count_on : (before : List Message) (first count : ℕ) → count < 256 ^ 2 → ¬ (IsBadCount before count) → GoesOnBehind (ReadsCount before first) (le_bytes 2 count) (ReadsEntries before first [] count)
+count_on before first count fits good rest outcome goes = inr (count, rest, fits, refl, inr (good, goes))
 
 -- the fragment behind its tag
-pub fragment_taken : (before after : List Message) (first count : ℕ) (from mid start to : Place) → first < 2 ^ 32 → count < 2 ^ 16 → first ≡ length before → ¬ (count ≡ 0) → count ≤ 16 → length before + count ≤ 65536 → Passes (le_bytes 4 first) from mid → Passes (le_bytes 2 count) mid start → TakesEntries before first [] count after start to → TakesFragment before (read.Fragment first count) after from to
-fragment_taken before after first count from mid start to fits count_fits is some few all p q takes =
+pub fragment_taken : (before after : List Message) (first count : ℕ) (from mid start to : Place) → first < 256 ^ 4 → count < 256 ^ 2 → first ≡ length before → ¬ (IsBadCount before count) → Passes (le_bytes 4 first) from mid → Passes (le_bytes 2 count) mid start → TakesEntries before first [] count after start to → TakesFragment before (read.Fragment first count) after from to
+fragment_taken before after first count from mid start to fits count_fits is good p q takes =
     let fragment = Fragment first takes.messages in
-    let counts : Takes (ReadsCount before first) fragment mid to = taken_behind (ReadsCount before first) (ReadsEntries before first [] count) fragment (le_bytes 2 count) mid start to (count_on before first count count_fits some few all) q takes.takes in
+    let counts : Takes (ReadsCount before first) fragment mid to = taken_behind (ReadsCount before first) (ReadsEntries before first [] count) fragment (le_bytes 2 count) mid start to (count_on before first count count_fits good) q takes.takes in
     record {
       first = first;
       messages = takes.messages;
@@ -105,7 +100,7 @@ fragment_taken before after first count from mid start to fits count_fits is som
       takes = taken_behind (ReadsFragment before) (ReadsCount before first) fragment (le_bytes 4 first) from mid to (first_on before first fits is) p counts;
     }
 
-pub fragment_err : {T : Type 0} (r : Result T BlockFault) (before : List Message) (first count : ℕ) (from mid start : Place) → first < 2 ^ 32 → count < 2 ^ 16 → first ≡ length before → ¬ (count ≡ 0) → count ≤ 16 → length before + count ≤ 65536 → Passes (le_bytes 4 first) from mid → Passes (le_bytes 2 count) mid start → IfErr r (Refuses (ReadsEntries before first [] count) start) → IfErr r (Refuses (ReadsFragment before) from)
-fragment_err r before first count from mid start fits count_fits is some few all p q refused =
+pub fragment_err : {T : Type 0} (r : Result T BlockFault) (before : List Message) (first count : ℕ) (from mid start : Place) → first < 256 ^ 4 → count < 256 ^ 2 → first ≡ length before → ¬ (IsBadCount before count) → Passes (le_bytes 4 first) from mid → Passes (le_bytes 2 count) mid start → IfErr r (Refuses (ReadsEntries before first [] count) start) → IfErr r (Refuses (ReadsFragment before) from)
+fragment_err r before first count from mid start fits count_fits is good p q refused =
     err_behind r (ReadsFragment before) (ReadsCount before first) (le_bytes 4 first) from mid (first_on before first fits is) p
-    (err_behind r (ReadsCount before first) (ReadsEntries before first [] count) (le_bytes 2 count) mid start (count_on before first count count_fits some few all) q refused)
+    (err_behind r (ReadsCount before first) (ReadsEntries before first [] count) (le_bytes 2 count) mid start (count_on before first count count_fits good) q refused)

@@ -4,9 +4,10 @@ pub mod ValidityLaws
 pub mod LogLaws
 mod ReadingLaws
 mod ReadingForms
-mod BreakLaws
+pub mod BreakLaws
 mod StepLaws
 mod EntryLaws
+mod AppendLaws
 mod FragmentLaws
 mod WorkedBreaks
 mod StartLaws
@@ -15,3 +16,5 @@ mod NextLaws
 mod ReaderLaws
 pub mod Worked
 pub mod LimitLaws
+mod SomeOutcome
+pub mod Wholeness

@@ -144,6 +144,8 @@ too_large old taken before told mid left between to messages writers same start 
             blocks = before.blocks;
             block = takes.block;
             front = taken;
+            rest = front ++ rest;
+            joined = refl;
             file = before.file;
             ends = before.offset;
             count = length (taken ++ front);

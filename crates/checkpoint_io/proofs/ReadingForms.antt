@@ -3,10 +3,11 @@ use Rattle.std.proofs.lemmas.Bool.{cases_lt}
 use Rattle.std.proofs.Common.{⊎_elim, ◌≡◌, ◌≢◌, ℕ, zero, suc, ◌+◌, ◌<◌, ◌≤◌, ◌^◌, List, [], ◌∷◌, ◌++◌, length, get_or, refl, sym, ap, subst, ◌∙◌, inl, inr, ◌⊎◌, append_assoc, arith}
 use Rattle.std.specs.Prelude.{codes}
 use Rattle.std.specs.Hash.{le_bytes}
-use Rattle.std.proofs.lemmas.List.{length-append, append-nil, get_or_append_left, get_or_at}
+use Rattle.std.proofs.lemmas.List.{length-append, append-nil}
 use Rattle.log_dictionary.specs.declared.message.Message.{Message}
 use Rattle.log_dictionary.specs.declared.dictionary.TheConstants.{MAX_MESSAGES}
-use Rattle.log_dictionary.specs.Messages.{SameMessage, HasMessage, AreDistinct}
+use Rattle.log_dictionary.specs.Messages.{HasMessage, AreDistinct}
+use Rattle.log_dictionary.proofs.Distinct.{is_new}
 use Rattle.log_dictionary.proofs.Distinct.{still_distinct}
 use Rattle.arg_records.specs.declared.call.Call.{Call}
 use Rattle.buffer_extent.specs.Bodies.{IsBody}
@@ -58,15 +59,6 @@ header_read header rest right =
     (magic_read (codes "NLOG") ReadsVersion _ (found header rest) (inr (1, _, refl, inr ((λ wrong. wrong refl), inr (header.writers, _, refl, inr (few_writers header right, clock_read header rest right))))))
 
 -- ---- right fragments are read
-
--- of distinct messages none is among those before it
-is_new : (before others : List Message) (message : Message) → AreDistinct (before ++ message ∷ others) → ¬ (HasMessage before message)
-is_new before others message distinct (k, other, within, is, same) =
-    let all : List Message = before ++ message ∷ others in
-    let earlier : get_or all k other ≡ other = get_or_append_left before (message ∷ others) other k within ∙ is in
-    let here : get_or all (length before) other ≡ message = get_or_at before message others other (length before) refl in
-    let back : SameMessage other message = record { file = sym same.file; line = sym same.line; severity = sym same.severity; format = sym same.format } in
-    distinct k (length before) other within (omega (arith, length-append before (message ∷ others))) (subst (λ (m : Message). SameMessage m (get_or all (length before) other)) (sym earlier) (subst (SameMessage other) (sym here) back))
 
 entries_read : (before : List Message) (first : ℕ) (read messages : List Message) (bytes rest : List ℕ) → AreDistinct ((before ++ read) ++ messages) → SpellsEntries messages bytes → ReadsEntries before first read (length messages) (bytes ++ rest) (found (Fragment first (read ++ messages)) rest)
 entries_read before first read [] bytes rest distinct none =

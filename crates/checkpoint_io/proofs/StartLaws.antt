@@ -35,9 +35,9 @@ same_found : (a b : Header) (x y : List ℕ) → found a x ≡ found b y → (a 
 same_found a b x y e = (cc, cc)
 
 -- the header, and the bytes behind it
-record IsHeaderRead (bytes : List ℕ) (header : Header) (rest : List ℕ) : Type 0 where
-  right : IsHeader header
-  joined : bytes ≡ header_bytes header ++ rest
+pub record IsHeaderRead (bytes : List ℕ) (header : Header) (rest : List ℕ) : Type 0 where
+  pub right : IsHeader header
+  pub joined : bytes ≡ header_bytes header ++ rest
 
 some_number : (n : ℕ) → ¬ (n ≡ 0) → 1 ≤ n
 some_number zero some = absurd (some refl)
@@ -67,7 +67,7 @@ clock_passed writers bytes behind rest header few is reads =
     ticks.3 ∙ ap (λ (b : List ℕ). le_bytes 8 ticks.0 ++ b) (nanos.3 ∙ ap (λ (b : List ℕ). le_bytes 8 nanos.0 ++ b) (rates.3 ∙ ap (λ (b : List ℕ). le_bytes 8 rates.0 ++ b) (sym same.1))) in
     subst (λ (h : Header). IsHeaderRead bytes h rest) (sym same.0) (header_is writers ticks.0 nanos.0 rates.0 bytes rest few ticks.2 nanos.2 rates.2 ends.0 (is ∙ ap (λ (b : List ℕ). codes "NLOG" ++ (1 ∷ writers ∷ b)) parts))
 
-header_right : (bytes : List ℕ) (header : Header) (rest : List ℕ) → ReadsHeader bytes (found header rest) → IsHeaderRead bytes header rest
+pub header_right : (bytes : List ℕ) (header : Header) (rest : List ℕ) → ReadsHeader bytes (found header rest) → IsHeaderRead bytes header rest
 header_right bytes header rest reads =
     let magic = magic_passed (codes "NLOG") ReadsVersion bytes header rest reads in
     let versions = byte_passed (λ version rest outcome. Unless (version ≢ 1) causes.BadVersion (ReadsWriters rest) outcome) magic.0 header rest magic.2 in

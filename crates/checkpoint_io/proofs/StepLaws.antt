@@ -1,12 +1,14 @@
 -- How the steps of a reader join.
-use Rattle.std.proofs.Common.{◌≡◌, ℕ, zero, suc, ◌+◌, ◌-◌, ◌<◌, ◌≤◌, ◌^◌, List, [], ◌∷◌, ◌++◌, length, get_or, take, drop, Some, None, refl, sym, ap, subst, ◌∙◌, inl, inr, ◌⊎◌, append_assoc, arith}
-use Rattle.std.specs.Prelude.{IfSome, IfOk, IfErr, Result, Ok, Err}
-use Rattle.std.specs.Int.{w16, w32, w64, to_le_bytes, from_le_bytes}
+use Rattle.std.proofs.Common.{◌≡◌, ℕ, zero, suc, ◌+◌, ◌-◌, ◌*◌, ◌<◌, ◌≤◌, ◌^◌, List, [], ◌∷◌, ◌++◌, length, get_or, take, drop, Some, None, refl, sym, ap, subst, ◌∙◌, inl, inr, ◌⊎◌, append_assoc, arith}
+use Rattle.std.specs.Prelude.{All, IfSome, IfOk, IfErr, Result, Ok, Err}
+use Rattle.std.specs.Int.{bytes_low_first}
 use Rattle.std.specs.Hash.{le_bytes}
-use Rattle.std.proofs.lemmas.Nat.{le_bytes_2, le_bytes_4, le_bytes_8}
-use Rattle.std.proofs.lemmas.List.{length-append, length-take, take-append-drop, take_all}
-use Rattle.log_dictionary.proofs.BinaryNumbers.{two_bytes, four_bytes}
-use Rattle.nl_io.specs.Content.{Told}
+use Rattle.std.proofs.lemmas.List.{length-append, length-take-le, take-append-drop, take_all}
+use Rattle.std.proofs.lemmas.List.Elements.{All-take, All-from_get_or}
+use Rattle.byteorder.specs.Endian.{little_number}
+use Rattle.byteorder.specs.Numbers.{little_from-cons}
+use Rattle.nibble_pack.specs.Bytes.{number_of_bytes, low_first-number_of_bytes}
+use Rattle.nl_io.specs.Content.{Told, without_front, IsFront}
 use Rattle.checkpoint_io.specs.declared.cause.Cause.{Cause}
 use Rattle.checkpoint_io.specs.declared.cause.Cause.TheVariants as causes
 use Rattle.checkpoint_io.specs.declared.fault.BlockFault.{BlockFault}
@@ -19,26 +21,27 @@ use Rattle.checkpoint_io.proofs.BlockLaws.{le_length}
 
 -- ---- numbers at the front of bytes
 
-eight_bytes : (n : ℕ) → le_bytes 8 n ≡ to_le_bytes w64 n
+number_read : (size : ℕ) (bytes : List ℕ) → size ≤ length bytes → little_number size bytes ≡ number_of_bytes (take size bytes)
+number_read zero bytes long = refl
+number_read (suc size) [] long = absurd (omega (arith, long))
+number_read (suc size) (b ∷ bytes) long = ap (λ (n : ℕ). b + 256 * n) (little_from-cons 0 size b bytes ∙ number_read size bytes (omega (arith, long)))
+
+-- the bytes of the number that was read
+pub number_first : (size : ℕ) (bytes : List ℕ) → ((i : ℕ) → get_or bytes i 0 < 256) → size ≤ length bytes → take size bytes ≡ le_bytes size (little_number size bytes)
 unfolding le_bytes
-eight_bytes n = refl
-
-small_front : (k : ℕ) (bytes : List ℕ) → ((i : ℕ) → get_or bytes i 0 < 256) → (i : ℕ) → get_or (take k bytes) i 0 < 256
-small_front zero bytes small i = omega arith
-small_front (suc k) [] small i = omega arith
-small_front (suc k) (b ∷ bytes) small zero = small 0
-small_front (suc k) (b ∷ bytes) small (suc i) = small_front k bytes (λ j. small (suc j)) i
-
-pub two_first : (bytes : List ℕ) (n : ℕ) → ((i : ℕ) → get_or bytes i 0 < 256) → 2 ≤ length bytes → n ≡ from_le_bytes w16 (take 2 bytes) → take 2 bytes ≡ le_bytes 2 n
-two_first bytes n small long is = sym (two_bytes n ∙ le_bytes_2 (take 2 bytes) n (omega (arith, length-take 2 bytes)) (small_front 2 bytes small) is)
-
-pub four_first : (bytes : List ℕ) (n : ℕ) → ((i : ℕ) → get_or bytes i 0 < 256) → 4 ≤ length bytes → n ≡ from_le_bytes w32 (take 4 bytes) → take 4 bytes ≡ le_bytes 4 n
-four_first bytes n small long is = sym (four_bytes n ∙ le_bytes_4 (take 4 bytes) n (omega (arith, length-take 4 bytes)) (small_front 4 bytes small) is)
-
-pub eight_first : (bytes : List ℕ) (n : ℕ) → ((i : ℕ) → get_or bytes i 0 < 256) → 8 ≤ length bytes → n ≡ from_le_bytes w64 (take 8 bytes) → take 8 bytes ≡ le_bytes 8 n
-eight_first bytes n small long is = sym (eight_bytes n ∙ le_bytes_8 (take 8 bytes) n (omega (arith, length-take 8 bytes)) (small_front 8 bytes small) is)
+number_first size bytes small long =
+    let front = take size bytes in
+    let are : All (λ b. b < 256) front = All-take (λ (b : ℕ). b < 256) size bytes (All-from_get_or (λ (b : ℕ). b < 256) bytes 0 (λ i within. small i)) in
+    let len : length front ≡ size = length-take-le size bytes long in
+    sym (low_first-number_of_bytes front are) ∙ (λ i. bytes_low_first 0 (len i) (sym (number_read size bytes long) i))
 
 -- ---- places
+
+-- a piece that came from a source waits behind the bytes that did before
+pub piece_waits : (left : Told) (bytes now piece : List ℕ) (n : ℕ) → IsFront n piece left → now ≡ bytes ++ piece → with_front now (without_front n left) ≡ with_front bytes left
+piece_waits None bytes now piece n front is = refl
+piece_waits (Some content) bytes now piece n front is =
+    ap (λ (b : List ℕ). Some (b ++ drop n content)) (is ∙ ap (λ (p : List ℕ). bytes ++ p) front.1) ∙ ap Some (append_assoc bytes (take n content) (drop n content) ∙ ap (λ (b : List ℕ). bytes ++ b) (take-append-drop n content))
 
 front_parted : (front back : List ℕ) (told : Told) → with_front (front ++ back) told ≡ with_front front (with_front back told)
 front_parted front back None = refl

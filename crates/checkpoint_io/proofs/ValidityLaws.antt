@@ -97,7 +97,7 @@ slice_get-front [] more id message e = cc
 slice_get-front (m ∷ messages) more zero message e = e
 slice_get-front (m ∷ messages) more (suc id) message e = slice_get-front messages more id message e
 
-IsCall-front : (messages more : List Message) (entries : List Call) → AllByRecursion (IsCall messages) entries → AllByRecursion (IsCall (messages ++ more)) entries
+pub IsCall-front : (messages more : List Message) (entries : List Call) → AllByRecursion (IsCall messages) entries → AllByRecursion (IsCall (messages ++ more)) entries
 IsCall-front messages more [] all = tt
 IsCall-front messages more (entry ∷ entries) all =
     let is = all.0 in

@@ -36,7 +36,9 @@ messages_of blocks = flat_map block_messages blocks
 
 -- `NLOG`, the version, the number of writers, and the clock; numbers stand with the low byte first
 abbrev pub header_bytes : Header → List ℕ
-header_bytes header = codes "NLOG" ++ 1 ∷ header.writers ∷ le_bytes 8 header.clock.tick ++ le_bytes 8 header.clock.nanos ++ le_bytes 8 header.clock.rate
+header_bytes header =
+    codes "NLOG" ++ 1 ∷ header.writers ∷ le_bytes 8 header.clock.tick ++ le_bytes 8 header.clock.nanos
+    ++ le_bytes 8 header.clock.rate
 
 -- in front of the entries: the tag 1, the first id and the number of messages
 abbrev pub fragment_head_bytes : ℕ → ℕ → List ℕ
@@ -53,7 +55,9 @@ close_bytes writer = 4 ∷ writer ∷ []
 -- the bytes are the entries of the messages, joined
 abbrev pub SpellsEntries : List Message → List ℕ → Type 0
 SpellsEntries [] bytes = bytes ≡ []
-SpellsEntries (message ∷ messages) bytes = (front : List ℕ) × (back : List ℕ) × (bytes ≡ front ++ back) × SpellsEntry front message × SpellsEntries messages back
+SpellsEntries (message ∷ messages) bytes =
+    (front : List ℕ) × (back : List ℕ) × (bytes ≡ front ++ back) × SpellsEntry front message
+    × SpellsEntries messages back
 
 -- the head, and the entries of the messages, of which there are 1 to 16
 pub record SpellsFragment (first : ℕ) (messages : List Message) (bytes : List ℕ) : Type 0 where
@@ -64,7 +68,8 @@ pub record SpellsFragment (first : ℕ) (messages : List Message) (bytes : List 
   pub entries_spelled : SpellsEntries messages entries
   pub joined : bytes ≡ fragment_head_bytes first (length messages) ++ entries
 
--- the head, and a body of 1 to 65536 bytes, which is the records' spellings, joined; the first step counts from the tick
+-- the head, and a body of 1 to 65536 bytes, which is the records' spellings, joined; the first step counts from the
+-- tick
 pub record SpellsExtent (messages : List Message) (tick writer : ℕ) (entries : List Call) (bytes : List ℕ) : Type 0 where
   pub body : List ℕ
   pub some : 1 ≤ length body

@@ -1,17 +1,16 @@
 -- What is said of an entry that is read from a source.
-use Rattle.std.specs.Prelude.{◌≡◌, ◌⊎◌, ℕ, List, [], ◌∷◌, ◌++◌, length, IfSome, ⊤}
+use Rattle.std.specs.Prelude.{◌≡◌, ◌⊎◌, ℕ, List, [], ◌∷◌, ◌++◌, length, IfSome}
 use Rattle.log_dictionary.specs.declared.message.Message.{Message}
 use Rattle.log_dictionary.specs.Messages.{HasMessage}
 use Rattle.log_dictionary.specs.BinaryEntries.{SpellsEntry, IsCutEntry, IsBadEntry}
 use Rattle.checkpoint_io.specs.declared.cause.Cause.{Cause}
 use Rattle.checkpoint_io.specs.declared.cause.Cause.TheVariants as causes
 use Rattle.checkpoint_io.specs.declared.fault.BlockFault.{BlockFault}
-use Rattle.checkpoint_io.specs.declared.fault.BlockFault.TheVariants.{Damaged, ReadFault, NoMemory}
 use Rattle.checkpoint_io.specs.Blocks.{Fragment}
 use Rattle.checkpoint_io.specs.declared.block.Block.{Block as ReadBlock}
 use Rattle.checkpoint_io.specs.declared.block.Block.TheVariants as read
 use Rattle.checkpoint_io.specs.Reading.{ReadsEntries, ReadsFragment}
-use Rattle.checkpoint_io.specs.Places.{Place, Passes, Takes}
+use Rattle.checkpoint_io.specs.Places.{Place, Passes, Takes, IfDamaged}
 
 -- the bytes begin with no entry, for this cause
 abbrev pub BeginsWithNone : Cause → List ℕ → Type 0
@@ -26,17 +25,14 @@ pub record BeginsWithOld (defined : List Message) (bytes : List ℕ) : Type 0 wh
   pub joined : bytes ≡ front ++ rest
   pub there : HasMessage defined message
 
--- no entry is ahead; want of memory and a failed read say nothing of it
+-- no entry is ahead
 abbrev pub BreaksNoEntry : Place → BlockFault → Type 0
-BreaksNoEntry from (Damaged cause) = IfSome from.ahead (BeginsWithNone cause)
-BreaksNoEntry from ReadFault = ⊤
-BreaksNoEntry from NoMemory = ⊤
+BreaksNoEntry from fault = IfDamaged (λ cause. IfSome from.ahead (BeginsWithNone cause)) fault
 
 -- no entry of a new message is ahead
 abbrev pub BreaksEntry : List Message → Place → BlockFault → Type 0
-BreaksEntry defined from (Damaged cause) = IfSome from.ahead (λ bytes. BeginsWithNone cause bytes ⊎ (BeginsWithOld defined bytes × (cause ≡ causes.BadEntry)))
-BreaksEntry defined from ReadFault = ⊤
-BreaksEntry defined from NoMemory = ⊤
+BreaksEntry defined from fault =
+    IfDamaged (λ cause. IfSome from.ahead (λ bytes. BeginsWithNone cause bytes ⊎ (BeginsWithOld defined bytes × (cause ≡ causes.BadEntry)))) fault
 
 -- the entry of a new message stands between the two places, which was added
 pub record TakesEntry (before after : List Message) (from to : Place) : Type 0 where

@@ -24,8 +24,8 @@ pub record Front (bytes : List ℕ) (header : Header) (blocks : List Block) (cou
 abbrev pub HasNoHeader : List ℕ → Type 0
 HasNoHeader bytes = (header : Header) (blocks : List Block) (count : ℕ) → ¬ (BeginsWith bytes header blocks count)
 
--- The file is broken at this offset, from this cause: it has no right header, or bytes stand behind its header and its blocks, which
--- are right, and are no right block.
+-- The file is broken at this offset, from this cause: it has no right header, or bytes stand behind its header and its
+-- blocks, which are right, and are no right block.
 pub data Break (bytes : List ℕ) : ℕ → Cause → Type 0 where
   at_header : (cause : Cause) → ReadsHeader bytes (broken cause) → Break bytes 0 cause
   at_block : (header : Header) (blocks : List Block) (front rest : List ℕ) (cause : Cause)

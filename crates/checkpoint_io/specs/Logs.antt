@@ -32,8 +32,8 @@ HasAtMost batch (Fragment first messages) = Unit {0}
 HasAtMost batch (Extent writer entries) = length entries ≤ batch
 HasAtMost batch (Close writer) = Unit {0}
 
--- Behind the blocks before, the blocks are extents of at most so many records, each with the fragments that it wants right in front of it,
--- and close marks. There are no other fragments.
+-- Behind the blocks before, the blocks are extents of at most so many records, each with the fragments that it wants
+-- right in front of it, and close marks. There are no other fragments.
 pub data IsLaidOut (dictionary : List Message) (batch : ℕ) : List Block → List Block → Type 0 where
   ends : (before : List Block) → IsLaidOut dictionary batch before []
   extent : (before fragments : List Block) (writer : ℕ) (entries : List Call) (others : List Block)
@@ -45,8 +45,8 @@ pub data IsLaidOut (dictionary : List Message) (batch : ℕ) : List Block → Li
       → IsLaidOut dictionary batch (before ++ Close writer ∷ []) others
       → IsLaidOut dictionary batch before (Close writer ∷ others)
 
--- The bytes are the log of calls that were taken, per writer. The header has the clock and the number of writers, the messages are those of
--- the dictionary, from its front, and the records of each writer are its calls, in their order.
+-- The bytes are the log of calls that were taken, per writer. The header has the clock and the number of writers, the
+-- messages are those of the dictionary, from its front, and the records of each writer are its calls, in their order.
 pub record LogOf (bytes : List ℕ) (taken : List (List Call)) (dictionary : List Message) (clock : Clock) (batch : ℕ) : Type 0 where
   pub header : Header
   pub blocks : List Block

@@ -65,16 +65,20 @@ pub record EndsThere (old new : ReaderState) (taken : List ℕ) (before : Stands
   pub blocks : stands.blocks ≡ before.blocks
 
 -- the next block, or that there is none
-abbrev pub AnswersNext : (old new : ReaderState) (taken : List ℕ) → StandsFor old taken → Option ReadBlock → Told → Told → Type 0
+abbrev pub AnswersNext : (old new : ReaderState) (taken : List ℕ) → StandsFor old taken → Option ReadBlock → Told
+    → Told → Type 0
 AnswersNext old new taken before (Some told) left behind = TakesNext old new taken before told left behind
 AnswersNext old new taken before None left behind = EndsThere old new taken before left behind
 
--- the bytes in front of the offset are a log, and a right block begins there, which ends past the most bytes that are read
+-- the bytes in front of the offset are a log, and a right block begins there, which ends past the most bytes that are
+-- read
 pub record IsTooLarge (bytes : List ℕ) (offset : ℕ) : Type 0 where
   pub header : Header
   pub blocks : List Block
   pub block : Block
   pub front : List ℕ
+  pub rest : List ℕ
+  pub joined : bytes ≡ front ++ rest
   pub file : FileOf header blocks front
   pub ends : offset ≡ length front
   pub count : ℕ

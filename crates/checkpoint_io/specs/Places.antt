@@ -1,6 +1,7 @@
 -- Where a reader stands in a file, and what its calls say of the bytes ahead.
 use Rattle.std.specs.Prelude.{◌≡◌, ℕ, ◌+◌, ◌-◌, ◌^◌, ◌<◌, min, List, ◌++◌, length, option_map, IfSome, ⊤}
 use Rattle.nl_io.specs.Content.{Told}
+use Rattle.checkpoint_io.specs.declared.cause.Cause.{Cause}
 use Rattle.checkpoint_io.specs.declared.cause.Cause.TheVariants as causes
 use Rattle.checkpoint_io.specs.declared.fault.BlockFault.{BlockFault}
 use Rattle.checkpoint_io.specs.declared.fault.BlockFault.TheVariants.{Damaged, ReadFault, NoMemory}
@@ -39,20 +40,23 @@ pub record Takes {A : Type 0} (reads : Reads A) (thing : A) (from to : Place) : 
   pub passes : Passes front from to
   pub found : (rest : List ℕ) → reads (front ++ rest) (found thing rest)
 
--- the bytes ahead are broken so; want of memory and a failed read say nothing of them
+-- ---- faults
+
+-- where the fault is damage this is said of its cause; want of memory and a failed read say nothing of the file
+abbrev pub IfDamaged : (Cause → Type 0) → BlockFault → Type 0
+IfDamaged says (Damaged cause) = says cause
+IfDamaged says ReadFault = ⊤
+IfDamaged says NoMemory = ⊤
+
+-- the bytes ahead are broken so
 abbrev pub Refuses : {A : Type 0} → Reads A → Place → BlockFault → Type 0
-Refuses reads from (Damaged cause) = IfSome from.ahead (λ bytes. reads bytes (broken cause))
-Refuses reads from ReadFault = ⊤
-Refuses reads from NoMemory = ⊤
+Refuses reads from fault = IfDamaged (λ cause. IfSome from.ahead (λ bytes. reads bytes (broken cause))) fault
 
--- the fault says nothing of the file
+-- the fault is no damage
 abbrev pub IsNoDamage : BlockFault → Type 0
-IsNoDamage (Damaged cause) = ⊥
-IsNoDamage ReadFault = ⊤
-IsNoDamage NoMemory = ⊤
+IsNoDamage fault = IfDamaged (λ cause. ⊥) fault
 
--- fewer bytes than this are ahead, and that is told as cut off; want of memory and a failed read say nothing of them
+-- fewer bytes than this are ahead, and that is told as cut off
 abbrev pub EndsBefore : ℕ → Place → BlockFault → Type 0
-EndsBefore count from (Damaged cause) = (cause ≡ causes.Cut) × IfSome from.ahead (λ bytes. length bytes < count)
-EndsBefore count from ReadFault = ⊤
-EndsBefore count from NoMemory = ⊤
+EndsBefore count from fault =
+    IfDamaged (λ cause. (cause ≡ causes.Cut) × IfSome from.ahead (λ bytes. length bytes < count)) fault

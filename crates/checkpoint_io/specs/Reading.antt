@@ -34,7 +34,8 @@ Unless wrong cause next outcome = (wrong × (outcome ≡ broken cause)) ⊎ ((¬
 -- a byte, and what it gives with the bytes behind it; the bytes may end first
 abbrev pub ByteThen : {A : Type 0} → (ℕ → Reads A) → Reads A
 ByteThen next bytes outcome =
-    ((bytes ≡ []) × (outcome ≡ broken causes.Cut)) ⊎ ((byte : ℕ) × (rest : List ℕ) × (bytes ≡ byte ∷ rest) × next byte rest outcome)
+    ((bytes ≡ []) × (outcome ≡ broken causes.Cut))
+    ⊎ ((byte : ℕ) × (rest : List ℕ) × (bytes ≡ byte ∷ rest) × next byte rest outcome)
 
 -- a number of so many bytes, the low one first, and what it gives with the bytes behind it; the bytes may end first
 abbrev pub NumberThen : {A : Type 0} → ℕ → (ℕ → Reads A) → Reads A
@@ -55,7 +56,8 @@ MagicThen (letter ∷ letters) next bytes outcome =
     ByteThen (λ byte rest outcome. Unless (byte ≢ letter) causes.BadMagic (MagicThen letters next rest) outcome) bytes outcome
 
 abbrev pub header_of : ℕ → ℕ → ℕ → ℕ → Header
-header_of writers tick nanos rate = record { writers = writers; clock = record { tick = tick; nanos = nanos; rate = rate } }
+header_of writers tick nanos rate =
+    record { writers = writers; clock = record { tick = tick; nanos = nanos; rate = rate } }
 
 abbrev pub ReadsRate : ℕ → ℕ → ℕ → Reads Header
 ReadsRate writers tick nanos bytes outcome =
@@ -72,7 +74,8 @@ ReadsWriters bytes outcome =
     ByteThen (λ writers rest outcome. Unless ((writers ≡ 0) ⊎ (MAX_WRITERS < writers)) causes.BadHeader (ReadsClock writers rest) outcome) bytes outcome
 
 abbrev pub ReadsVersion : Reads Header
-ReadsVersion bytes outcome = ByteThen (λ version rest outcome. Unless (version ≢ 1) causes.BadVersion (ReadsWriters rest) outcome) bytes outcome
+ReadsVersion bytes outcome =
+    ByteThen (λ version rest outcome. Unless (version ≢ 1) causes.BadVersion (ReadsWriters rest) outcome) bytes outcome
 
 -- what the front of a file gives: the header
 abbrev pub ReadsHeader : Reads Header

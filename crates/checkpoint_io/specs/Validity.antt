@@ -5,6 +5,7 @@ use Rattle.log_dictionary.specs.declared.message.Message.{Message}
 use Rattle.log_dictionary.specs.Messages.{AreDistinct}
 use Rattle.arg_records.specs.declared.call.Call.{Call}
 use Rattle.arg_records.specs.Calls.{IsCall, NeverFalls}
+pub use Rattle.arg_records.specs.Calls.{last_stamp}
 use Rattle.log_dictionary.specs.declared.dictionary.TheConstants.{MAX_MESSAGES}
 use Rattle.arg_records.specs.declared.call.TheConstants.{MAX_WRITERS}
 use Rattle.checkpoint_io.specs.declared.header.Header.{Header}
@@ -19,11 +20,6 @@ block_records writer (Close w) = []
 -- the records of a writer's extents, joined
 abbrev pub records_of : ℕ → List Block → List Call
 records_of writer blocks = flat_map (block_records writer) blocks
-
--- the stamp of the last of the records, or the least stamp where there is none
-abbrev pub last_stamp : ℕ → List Call → ℕ
-last_stamp least [] = least
-last_stamp least (entry ∷ entries) = last_stamp entry.stamp entries
 
 -- the block is the close mark of the writer
 abbrev pub closes : ℕ → Block → Bool
@@ -52,7 +48,8 @@ pub record DefinesNext (before : List Block) (first : ℕ) (messages : List Mess
   pub distinct : AreDistinct (messages_of before ++ messages)
   pub few : length (messages_of before ++ messages) ≤ MAX_MESSAGES
 
--- The records are those of a writer that may still write. Each names a message that was defined before, and no stamp falls.
+-- The records are those of a writer that may still write. Each names a message that was defined before, and no stamp
+-- falls.
 pub record GoesOn (header : Header) (before : List Block) (writer : ℕ) (entries : List Call) : Type 0 where
   pub writer_open : IsOpen header before writer
   pub right : AllByRecursion (IsCall (messages_of before)) entries
@@ -67,7 +64,8 @@ IsRightAfter header before (Close writer) = IsOpen header before writer
 -- each of the blocks keeps the rules behind those before it
 abbrev pub AreRightAfter : Header → List Block → List Block → Type 0
 AreRightAfter header before [] = Unit {0}
-AreRightAfter header before (block ∷ blocks) = IsRightAfter header before block × AreRightAfter header (before ++ block ∷ []) blocks
+AreRightAfter header before (block ∷ blocks) =
+    IsRightAfter header before block × AreRightAfter header (before ++ block ∷ []) blocks
 
 -- there are 1 to 64 writers, the clock's numbers are below 2^64, and it ticks
 pub record IsHeader (header : Header) : Type 0 where
@@ -78,8 +76,9 @@ pub record IsHeader (header : Header) : Type 0 where
   pub rate_fits : header.clock.rate < 2 ^ 64
   pub rate : 1 ≤ header.clock.rate
 
--- Fragments define ids from 0 without gaps and without equal messages. Each record names a message that is defined before it, and
--- its arguments fit. Nothing of a writer follows its close mark, its stamps never fall, and none is below the clock's tick.
+-- Fragments define ids from 0 without gaps and without equal messages. Each record names a message that is defined
+-- before it, and its arguments fit. Nothing of a writer follows its close mark, its stamps never fall, and none is
+-- below the clock's tick.
 pub record Valid (header : Header) (blocks : List Block) : Type 0 where
   pub header_right : IsHeader header
   pub blocks_right : AreRightAfter header [] blocks

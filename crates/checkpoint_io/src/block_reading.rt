@@ -1,6 +1,6 @@
 //! Reading a block of a log.
 
-ghost use Rattle.std.specs.Prelude.{◌≡◌, ◌≤◌, ℕ, List, IfOk, IfErr, IsErrOf};
+ghost use Rattle.std.specs.Prelude.{◌≡◌, ◌≤◌, ℕ, List, length, take, IfOk, IfErr, IsErrOf};
 ghost use Rattle.nl_io.specs.Count.{Rose};
 ghost use Rattle.checkpoint_io.specs.Blocks.{Block as LogBlock, Extent, messages_of};
 ghost use Rattle.checkpoint_io.specs.Places.{place_of, Takes, Refuses};
@@ -15,7 +15,7 @@ use crate::fragment_reading::read_fragment;
 use crate::header::Header;
 use crate::heads::{CLOSE, EXTENT, FRAGMENT, MAX_BODY};
 use crate::pending::Pending;
-use crate::steps::{take_byte, take_u32};
+use crate::steps::{take_byte, take_number};
 use crate::writers::Writers;
 use buffer_extent::{BodyFault, Records, read_body};
 use log_dictionary::Dictionary;
@@ -130,8 +130,8 @@ fn read_records<S: Source>(
     ensures count { S.faults source.old ≤ S.faults source.new }
     ensures others { S.rest source.old source.new }
 {
-    let len = take_u32(pending, source)?;
-    if len == 0 || len > MAX_BODY {
+    let len = take_number(pending, source, 4)?;
+    if len == 0 || len > u64::from(MAX_BODY) {
         return Err(BlockFault::Damaged(Cause::BadLength));
     }
     take_body(alloc, pending, source, dictionary, tick, last, len as usize)
@@ -184,6 +184,7 @@ pub fn read_block<S: Source>(
     ensures err { (before : List LogBlock) → dictionary.old ≡ messages_of before
         → AreStatesOf writers.old header.now.clock.tick before
         → IfErr result (Refuses (ReadsBlock header.now before) (place_of pending.old (S.left source.old))) }
+    ensures defined { take (length dictionary.old) dictionary.new ≡ dictionary.old }
     ensures read_fault { IsErrOf result BlockFault.ReadFault
         → Rose (S.faults source.old) (S.faults source.new) }
     ensures counted { ¬ (IsErrOf result BlockFault.ReadFault)

@@ -1,12 +1,12 @@
 //! Reading a fragment of a log: the messages that it defines.
 
-ghost use Rattle.std.specs.Prelude.{◌≡◌, ◌+◌, ◌^◌, ◌<◌, ◌≤◌, ℕ, List, ◌++◌, length, take, IfOk, IfErr, OnOk, IsErrOf};
+ghost use Rattle.std.specs.Prelude.{◌≡◌, ◌+◌, ◌^◌, ◌<◌, ◌≤◌, ℕ, List, ◌++◌, length, take, IfOk, IfErr, OnOk, IsErrOf, IsTrue, ◌↔◌};
 ghost use Rattle.nl_io.specs.Count.{Rose};
 ghost use Rattle.log_dictionary.specs.declared.message.Message.{Message};
 ghost use Rattle.log_dictionary.specs.declared.dictionary.TheConstants.{MAX_MESSAGES};
 ghost use Rattle.log_dictionary.specs.BinaryEntries.{SpellsEntry};
 ghost use Rattle.checkpoint_io.specs.Places.{place_of, with_front, Refuses};
-ghost use Rattle.checkpoint_io.specs.Reading.{ReadsEntries, ReadsFragment};
+ghost use Rattle.checkpoint_io.specs.Reading.{ReadsEntries, IsBadCount, ReadsFragment};
 ghost use Rattle.checkpoint_io.specs.Entries.{TakesEntry, BreaksNoEntry, BreaksEntry, TakesEntries, TakesFragment};
 
 use crate::block::Block;
@@ -14,7 +14,7 @@ use crate::cause::Cause;
 use crate::fault::BlockFault;
 use crate::heads::MAX_FRAGMENT_MESSAGES;
 use crate::pending::Pending;
-use crate::steps::{take_u16, take_u32};
+use crate::steps::take_number;
 use log_dictionary::{Added, Dictionary, EntryFault, MAX_MESSAGES, Message, read_entry};
 use nl_io::Source;
 use std::alloc::Global;
@@ -63,6 +63,7 @@ fn take_entry<S: Source>(
     ensures ok { OnOk result (TakesEntry dictionary.old dictionary.new
         (place_of pending.old (S.left source.old)) (place_of pending.new (S.left source.new))) }
     ensures err { IfErr result (BreaksEntry dictionary.old (place_of pending.old (S.left source.old))) }
+    ensures defined { take (length dictionary.old) dictionary.new ≡ dictionary.old }
     ensures read_fault { IsErrOf result BlockFault.ReadFault
         → Rose (S.faults source.old) (S.faults source.new) }
     ensures counted { ¬ (IsErrOf result BlockFault.ReadFault)
@@ -85,7 +86,7 @@ fn read_entries<S: Source>(
     pending: &mut Pending,
     source: &mut S,
     dictionary: &mut Dictionary,
-    count: u16,
+    count: u64,
 ) -> Result<(), BlockFault>
     requires room { length dictionary.old + count ≤ MAX_MESSAGES }
     requires fits { pending.old.offset < 2 ^ 64 }
@@ -95,6 +96,7 @@ fn read_entries<S: Source>(
     ensures err { (before read : List Message) (first : ℕ) → dictionary.old ≡ before ++ read
         → IfErr result (Refuses (ReadsEntries before first read count)
         (place_of pending.old (S.left source.old))) }
+    ensures defined { take (length dictionary.old) dictionary.new ≡ dictionary.old }
     ensures read_fault { IsErrOf result BlockFault.ReadFault
         → Rose (S.faults source.old) (S.faults source.new) }
     ensures counted { ¬ (IsErrOf result BlockFault.ReadFault)
@@ -109,6 +111,14 @@ fn read_entries<S: Source>(
     read_entries(alloc, pending, source, dictionary, count - 1)
 }
 
+// Whether a fragment behind these messages can't have so many.
+fn is_bad_count(dictionary: &Dictionary, count: u64) -> bool
+    ensures { IsTrue result ↔ IsBadCount dictionary.now count }
+{
+    !(1..=u64::from(MAX_FRAGMENT_MESSAGES)).contains(&count)
+        || u64::from(dictionary.len()) + count > MAX_MESSAGES as u64
+}
+
 // The fragment behind its tag. Its messages are added, and in front of a fault some of them may be.
 pub fn read_fragment<S: Source>(
     alloc: Global,
@@ -120,6 +130,7 @@ pub fn read_fragment<S: Source>(
         (place_of pending.old (S.left source.old)) (place_of pending.new (S.left source.new))) }
     ensures err { IfErr result (Refuses (ReadsFragment dictionary.old)
         (place_of pending.old (S.left source.old))) }
+    ensures defined { take (length dictionary.old) dictionary.new ≡ dictionary.old }
     ensures read_fault { IsErrOf result BlockFault.ReadFault
         → Rose (S.faults source.old) (S.faults source.new) }
     ensures counted { ¬ (IsErrOf result BlockFault.ReadFault)
@@ -127,18 +138,18 @@ pub fn read_fragment<S: Source>(
     ensures count { S.faults source.old ≤ S.faults source.new }
     ensures others { S.rest source.old source.new }
 {
-    let first = take_u32(pending, source)?;
-    if first != dictionary.len() {
+    let first = take_number(pending, source, 4)?;
+    let defined = dictionary.len();
+    if first != u64::from(defined) {
         return Err(BlockFault::Damaged(Cause::FragmentOrder));
     }
-    let count = take_u16(pending, source)?;
-    let all = dictionary.len() as usize + usize::from(count);
-    if count == 0 || count > MAX_FRAGMENT_MESSAGES || all > MAX_MESSAGES {
+    let count = take_number(pending, source, 2)?;
+    if is_bad_count(dictionary, count) {
         return Err(BlockFault::Damaged(Cause::BadLength));
     }
     read_entries(alloc, pending, source, dictionary, count)?;
     Ok(Block::Fragment {
-        first,
-        count: u32::from(count),
+        first: defined,
+        count: count as u32,
     })
 }

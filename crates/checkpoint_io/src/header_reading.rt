@@ -10,7 +10,7 @@ use crate::fault::BlockFault;
 use crate::header::Header;
 use crate::heads::{MAGIC, VERSION};
 use crate::pending::Pending;
-use crate::steps::{take_byte, take_u64};
+use crate::steps::{take_byte, take_number};
 use arg_records::MAX_WRITERS;
 use log_dictionary::Clock;
 use nl_io::Source;
@@ -30,9 +30,9 @@ fn read_clock<S: Source>(
     ensures count { S.faults source.old ≤ S.faults source.new }
     ensures others { S.rest source.old source.new }
 {
-    let tick = take_u64(pending, source)?;
-    let nanos = take_u64(pending, source)?;
-    let rate = take_u64(pending, source)?;
+    let tick = take_number(pending, source, 8)?;
+    let nanos = take_number(pending, source, 8)?;
+    let rate = take_number(pending, source, 8)?;
     if rate == 0 {
         return Err(BlockFault::Damaged(Cause::BadHeader));
     }

@@ -6,6 +6,7 @@ ghost use Rattle.arg_records.specs.declared.call.TheConstants.{MAX_WRITERS};
 ghost use Rattle.checkpoint_io.specs.Blocks.{header_bytes, fragment_head_bytes, extent_head_bytes, close_bytes};
 
 use crate::header::Header;
+use log_dictionary::put;
 
 /// The most messages of a fragment.
 pub const MAX_FRAGMENT_MESSAGES: u16 = 16;
@@ -16,6 +17,18 @@ pub const MAX_BODY: u32 = 65_536;
 /// The most bytes of a log that are read.
 pub const MAX_LOG: u64 = 134_217_728;
 
+/// The bytes of a header.
+pub(crate) const HEADER_LEN: usize = 30;
+
+/// The bytes in front of a fragment's entries.
+pub(crate) const FRAGMENT_HEAD_LEN: usize = 7;
+
+/// The bytes in front of an extent's body.
+pub(crate) const EXTENT_HEAD_LEN: usize = 6;
+
+/// The bytes of a close mark.
+pub(crate) const CLOSE_LEN: usize = 2;
+
 pub(crate) const MAGIC: &[u8] = b"NLOG";
 
 pub(crate) const VERSION: u8 = 1;
@@ -25,18 +38,6 @@ pub(crate) const FRAGMENT: u8 = 1;
 pub(crate) const EXTENT: u8 = 2;
 
 pub(crate) const CLOSE: u8 = 4;
-
-// Copies the bytes to this place, and gives the place after them.
-fn put(into: &mut [u8], at: usize, bytes: &[u8]) -> usize
-    requires room { at + length bytes.now ≤ length into.now }
-    ensures put { into.new ≡ take at into.old ++ bytes.now ++ drop result into.old }
-    ensures after { result ≡ at + length bytes.now }
-    ensures kept { length into.new ≡ length into.old }
-{
-    let end = at + bytes.len();
-    into[at..end].copy_from_slice(bytes);
-    end
-}
 
 /// Writes the header of a log to the front, and gives its length, which is 30. It takes no memory.
 pub fn put_header(header: &Header, into: &mut [u8]) -> usize

@@ -1,6 +1,6 @@
 //! Laws over the definitions of logs. The functions do nothing: what they ensure is proved of the definitions.
 
-ghost use Rattle.std.specs.Prelude.{◌≡◌, ◌≢◌, ◌⊎◌, ℕ, ◌+◌, ◌<◌, ◌≤◌, ◌^◌, List, [], ◌∷◌, ◌++◌, length, map, take, slice_set};
+ghost use Rattle.std.specs.Prelude.{◌≡◌, ◌≢◌, ◌⊎◌, ℕ, ◌+◌, ◌<◌, ◌≤◌, ◌^◌, List, [], ◌∷◌, ◌++◌, length, map, take, slice_set, All};
 ghost use Rattle.std.specs.List.{AllByRecursion, range_with_len};
 ghost use Rattle.log_dictionary.specs.declared.clock.Clock.{Clock};
 ghost use Rattle.log_dictionary.specs.declared.message.Message.{Message};
@@ -393,6 +393,24 @@ pub fn files_break_at_the_end_of_their_front()
         → Break bytes b other
         → (a ≡ b) × (cause ≡ other) }
     ensures whole { (header : Header) (blocks : List Block) (bytes : List ℕ) (offset : ℕ) (cause : Cause)
+        → FileOf header blocks bytes
+        → Valid header blocks
+        → ¬ (Break bytes offset cause) }
+{}
+
+/// A file of bytes begins with a header and has a front, or it has no header.
+pub fn front_or_none()
+    ensures { (bytes : List ℕ) → All (λ byte. byte < 256) bytes
+        → ((header : Header) × (blocks : List Block) × (count : ℕ) × Front bytes header blocks count)
+        ⊎ HasNoHeader bytes }
+{}
+
+/// A file of bytes is a log from its first byte to its last, or it breaks, and never both.
+pub fn whole_or_breaks()
+    ensures either { (bytes : List ℕ) → All (λ byte. byte < 256) bytes
+        → ((header : Header) × (blocks : List Block) × FileOf header blocks bytes × Valid header blocks)
+        ⊎ ((offset : ℕ) × (cause : Cause) × Break bytes offset cause) }
+    ensures not_both { (bytes : List ℕ) (header : Header) (blocks : List Block) (offset : ℕ) (cause : Cause)
         → FileOf header blocks bytes
         → Valid header blocks
         → ¬ (Break bytes offset cause) }

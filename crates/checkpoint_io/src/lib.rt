@@ -1,6 +1,7 @@
 //! Log files: a header, and blocks behind it.
 #![tactic(auto)]
 
+mod appending;
 mod block;
 mod block_reading;
 mod cause;
@@ -15,6 +16,7 @@ mod reader;
 mod steps;
 mod writers;
 
+pub use appending::{append_close, append_extent, append_fragment, append_header};
 pub use block::Block;
 pub use cause::Cause;
 pub use fault::BlockFault;

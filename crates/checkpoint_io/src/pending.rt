@@ -16,7 +16,6 @@ const PIECE: usize = 65_536;
 /// Bytes that came from a source and weren't read yet, and the offset of the first of them.
 #[derive(Debug, Drop)]
 pub struct Pending {
-    alloc: Global,
     bytes: Vec<u8>,
     start: usize,
     offset: u64,
@@ -33,6 +32,16 @@ impl Model for Pending {
     ghost invariant = { λ p. p.start ≤ length p.bytes.items };
 }
 
+// Leaves out the first bytes. Where that is none, the others aren't moved.
+fn drop_front(bytes: &mut Vec<u8>, count: usize)
+    requires { count ≤ length bytes.old.items }
+    ensures { bytes.new.items ≡ drop count bytes.old.items }
+{
+    if count > 0 {
+        bytes.drain(..count);
+    }
+}
+
 impl Pending {
     /// No bytes, at the front of a file. It takes no memory.
     pub fn none(alloc: Global) -> Pending
@@ -40,7 +49,6 @@ impl Pending {
         ensures offset { result.offset ≡ 0 }
     {
         Pending {
-            alloc,
             bytes: Vec::new(alloc),
             start: 0,
             offset: 0,
@@ -90,14 +98,13 @@ impl Pending {
         let Ok(count) = source.read(&mut piece) else {
             return Err(BlockFault::ReadFault);
         };
-        let Ok(mut bytes) = Vec::from_slice(self.alloc, self.bytes()) else {
-            return Err(BlockFault::NoMemory);
-        };
-        let Ok(()) = bytes.extend_from_slice(&piece[..count]) else {
-            return Err(BlockFault::NoMemory);
-        };
-        self.bytes = bytes;
+        // What a step has of its bytes is moved once, before more come, and is read with them: so all
+        // moves together are no more work than the reading, whatever the pieces.
+        drop_front(&mut self.bytes, self.start);
         self.start = 0;
+        let Ok(()) = self.bytes.extend_from_slice(&piece[..count]) else {
+            return Err(BlockFault::NoMemory);
+        };
         Ok(count)
     }
 

@@ -1,6 +1,6 @@
 //! The reader of a log.
 
-ghost use Rattle.std.specs.Prelude.{◌≡◌, ◌≤◌, List, ◌++◌, true, false, ◌<◌, get_or, IfOk, IfErr, IfSome, OnOk, OnErr, IsErrOf, Err, ℕ};
+ghost use Rattle.std.specs.Prelude.{◌≡◌, ◌≤◌, List, ◌++◌, length, take, true, false, ◌<◌, get_or, IfOk, IfErr, IfSome, OnOk, OnErr, IsErrOf, Err, ℕ};
 ghost use Rattle.std.specs.List.{list_any};
 ghost use Rattle.nl_io.specs.Count.{Rose};
 ghost use Rattle.checkpoint_io.specs.declared.cause.Cause.{Cause as LogCause};
@@ -97,6 +97,7 @@ impl Reader {
         ensures offset { OnErr result (self.new.offset ≡ self.old.offset) }
         ensures failed { self.new.failed ≡ self.old.failed }
         ensures header { self.new.header ≡ self.old.header }
+        ensures defined { take (length self.old.messages) self.new.messages ≡ self.old.messages }
         ensures read_fault { IsErrOf result BlockFault.ReadFault
             → Rose (S.faults source.old) (S.faults source.new) }
         ensures counted { ¬ (IsErrOf result BlockFault.ReadFault)
@@ -115,10 +116,11 @@ impl Reader {
             &mut self.dictionary,
             &mut self.writers,
         )?;
-        if self.pending.offset() > MAX_LOG {
+        let end = self.pending.offset();
+        if end > MAX_LOG {
             return Err(BlockFault::Damaged(Cause::TooLarge));
         }
-        self.offset = self.pending.offset();
+        self.offset = end;
         Ok(Some(block))
     }
 
@@ -140,6 +142,7 @@ impl Reader {
         ensures right { OnOk result (self.new.failed ≡ false) }
         ensures failed { OnErr result (self.new.failed ≡ true) }
         ensures header { self.new.header ≡ self.old.header }
+        ensures defined { take (length self.old.messages) self.new.messages ≡ self.old.messages }
         ensures read_fault { IsErrOf result BlockFault.ReadFault
             → Rose (S.faults source.old) (S.faults source.new) }
         ensures counted { ¬ (IsErrOf result BlockFault.ReadFault)

@@ -8,6 +8,7 @@ ghost use Rattle.checkpoint_io.specs.Places.{place_of, Passes, EndsBefore};
 use crate::cause::Cause;
 use crate::fault::BlockFault;
 use crate::pending::Pending;
+use byteorder::{ByteOrder, LittleEndian};
 use nl_io::Source;
 
 /// A byte.
@@ -30,22 +31,29 @@ pub fn take_byte<S: Source>(pending: &mut Pending, source: &mut S) -> Result<u8,
     Ok(byte)
 }
 
-/// The number of 16 bits that the bytes begin with.
-fn first_u16(bytes: &[u8]) -> u16
-    requires { 2 ≤ length bytes.now }
-    ensures { take 2 bytes.now ≡ le_bytes 2 result }
+/// The number of so many bytes, from 1 to 8, that the bytes begin with.
+fn first_number(bytes: &[u8], size: usize) -> u64
+    requires some { 1 ≤ size }
+    requires few { size ≤ 8 }
+    requires within { size ≤ length bytes.now }
+    ensures fits { result < 256 ^ size }
+    ensures first { take size bytes.now ≡ le_bytes size result }
 {
-    let mut number = [0u8; 2];
-    number.copy_from_slice(&bytes[..2]);
-    u16::from_le_bytes(number)
+    LittleEndian::read_uint(bytes, size)
 }
 
-/// A number of 16 bits.
-pub fn take_u16<S: Source>(pending: &mut Pending, source: &mut S) -> Result<u16, BlockFault>
-    ensures fits { IfOk result (λ n. n < 2 ^ 16) }
-    ensures ok { IfOk result (λ n. Passes (le_bytes 2 n)
+/// A number of so many bytes, from 1 to 8.
+pub fn take_number<S: Source>(
+    pending: &mut Pending,
+    source: &mut S,
+    size: usize,
+) -> Result<u64, BlockFault>
+    requires some { 1 ≤ size }
+    requires few { size ≤ 8 }
+    ensures fits { IfOk result (λ n. n < 256 ^ size) }
+    ensures ok { IfOk result (λ n. Passes (le_bytes size n)
         (place_of pending.old (S.left source.old)) (place_of pending.new (S.left source.new))) }
-    ensures err { IfErr result (EndsBefore 2 (place_of pending.old (S.left source.old))) }
+    ensures err { IfErr result (EndsBefore size (place_of pending.old (S.left source.old))) }
     ensures read_fault { IsErrOf result BlockFault.ReadFault
         → Rose (S.faults source.old) (S.faults source.new) }
     ensures counted { ¬ (IsErrOf result BlockFault.ReadFault)
@@ -53,72 +61,10 @@ pub fn take_u16<S: Source>(pending: &mut Pending, source: &mut S) -> Result<u16,
     ensures count { S.faults source.old ≤ S.faults source.new }
     ensures others { S.rest source.old source.new }
 {
-    if !pending.fill(source, 2)? {
+    if !pending.fill(source, size)? {
         return Err(BlockFault::Damaged(Cause::Cut));
     }
-    let n = first_u16(pending.bytes());
-    pending.skip(2);
-    Ok(n)
-}
-
-/// The number of 32 bits that the bytes begin with.
-fn first_u32(bytes: &[u8]) -> u32
-    requires { 4 ≤ length bytes.now }
-    ensures { take 4 bytes.now ≡ le_bytes 4 result }
-{
-    let mut number = [0u8; 4];
-    number.copy_from_slice(&bytes[..4]);
-    u32::from_le_bytes(number)
-}
-
-/// A number of 32 bits.
-pub fn take_u32<S: Source>(pending: &mut Pending, source: &mut S) -> Result<u32, BlockFault>
-    ensures fits { IfOk result (λ n. n < 2 ^ 32) }
-    ensures ok { IfOk result (λ n. Passes (le_bytes 4 n)
-        (place_of pending.old (S.left source.old)) (place_of pending.new (S.left source.new))) }
-    ensures err { IfErr result (EndsBefore 4 (place_of pending.old (S.left source.old))) }
-    ensures read_fault { IsErrOf result BlockFault.ReadFault
-        → Rose (S.faults source.old) (S.faults source.new) }
-    ensures counted { ¬ (IsErrOf result BlockFault.ReadFault)
-        → S.faults source.new ≡ S.faults source.old }
-    ensures count { S.faults source.old ≤ S.faults source.new }
-    ensures others { S.rest source.old source.new }
-{
-    if !pending.fill(source, 4)? {
-        return Err(BlockFault::Damaged(Cause::Cut));
-    }
-    let n = first_u32(pending.bytes());
-    pending.skip(4);
-    Ok(n)
-}
-
-/// The number of 64 bits that the bytes begin with.
-fn first_u64(bytes: &[u8]) -> u64
-    requires { 8 ≤ length bytes.now }
-    ensures { take 8 bytes.now ≡ le_bytes 8 result }
-{
-    let mut number = [0u8; 8];
-    number.copy_from_slice(&bytes[..8]);
-    u64::from_le_bytes(number)
-}
-
-/// A number of 64 bits.
-pub fn take_u64<S: Source>(pending: &mut Pending, source: &mut S) -> Result<u64, BlockFault>
-    ensures fits { IfOk result (λ n. n < 2 ^ 64) }
-    ensures ok { IfOk result (λ n. Passes (le_bytes 8 n)
-        (place_of pending.old (S.left source.old)) (place_of pending.new (S.left source.new))) }
-    ensures err { IfErr result (EndsBefore 8 (place_of pending.old (S.left source.old))) }
-    ensures read_fault { IsErrOf result BlockFault.ReadFault
-        → Rose (S.faults source.old) (S.faults source.new) }
-    ensures counted { ¬ (IsErrOf result BlockFault.ReadFault)
-        → S.faults source.new ≡ S.faults source.old }
-    ensures count { S.faults source.old ≤ S.faults source.new }
-    ensures others { S.rest source.old source.new }
-{
-    if !pending.fill(source, 8)? {
-        return Err(BlockFault::Damaged(Cause::Cut));
-    }
-    let n = first_u64(pending.bytes());
-    pending.skip(8);
-    Ok(n)
+    let number = first_number(pending.bytes(), size);
+    pending.skip(size);
+    Ok(number)
 }

@@ -16,6 +16,7 @@ use Rattle.std.proofs.lemmas.Bool.{true≢false, eqb-true}
 use Rattle.std.proofs.lemmas.List.{append_assoc, append-nil}
 use Rattle.cli_words.specs.Commands.{Text, Given, Word, Name, End, Awaits, Sets, Unknown, word_of, with_name, with_option}
 use Rattle.cli_words.specs.Commands.{Command, Direct, Decompress, given_from, given_of, level_of, lone_name, only_name, replay_of, asked, command_of, severity_named, texts_of}
+use Rattle.cli_words.specs.Commands.{bare_names, preprocess_of}
 use Rattle.cli_words.specs.Uses.{Uses, no_uses, used_after, names_after, uses_read, read_from, is_known}
 use Rattle.cli_words.specs.Uses.{found_command, found_level, has_level, form_named}
 use Rattle.cli_words.specs.declared.reading.Form.{Form}
@@ -138,6 +139,7 @@ names_all before (name ∷ names) =
 
 -- the command of a form, by what is given
 abbrev asked_as : Form → Given → Option Command
+asked_as forms.Preprocess given = option_and_then preprocess_of (bare_names given)
 asked_as forms.Direct given = option_map Direct (lone_name given)
 asked_as forms.Replay given = option_and_then (replay_of given.names) (level_of given.options)
 asked_as forms.Decompress given = option_map Decompress (lone_name given)
@@ -148,6 +150,8 @@ parts options names = record { options = options; names = names }
 
 no_command : (form : Form) (options : List (Text × Text)) (names : List Text)
     → list_any (is_bad (has_level form)) options ≡ true → None ≡ asked_as form (parts options names)
+no_command forms.Preprocess [] names bad = absurd (true≢false (sym bad))
+no_command forms.Preprocess (option ∷ options) names bad = refl
 no_command forms.Direct [] names bad = absurd (true≢false (sym bad))
 no_command forms.Direct (option ∷ options) names bad = refl
 no_command forms.Decompress [] names bad = absurd (true≢false (sym bad))
@@ -165,6 +169,8 @@ no_command forms.Replay (option ∷ []) names bad = go (bytes_eq (codes "level")
 same_command : (form : Form) (options : List (Text × Text)) (names : List Text)
     → list_any (is_untaken (has_level form)) options ≡ false
     → option_and_then (found_command form) (used_after no_uses (parts options names)) ≡ asked_as form (parts options names)
+same_command forms.Preprocess [] names good = ap preprocess_of (names_all None names)
+same_command forms.Preprocess (option ∷ options) names good = absurd (true≢false good)
 same_command forms.Direct [] names good = ap (λ (all : List Text). option_map Direct (only_name all)) (names_all None names)
 same_command forms.Direct (option ∷ options) names good = absurd (true≢false good)
 same_command forms.Decompress [] names good = ap (λ (all : List Text). option_map Decompress (only_name all)) (names_all None names)
@@ -190,48 +196,59 @@ asked_is : (word : Text) (form : Form) (given : Option Given) → Some form ≡ 
     → option_and_then (asked_as form) given ≡ option_and_then (asked word) given
 asked_is word form None is = refl
 asked_is word form (Some given) is =
-    go (bytes_eq word (codes "direct")) refl (bytes_eq word (codes "replay")) refl (bytes_eq word (codes "decompress")) refl
+    go (bytes_eq word (codes "preprocess")) refl (bytes_eq word (codes "direct")) refl
+    (bytes_eq word (codes "replay")) refl (bytes_eq word (codes "decompress")) refl
   where
-    go : (a : Bool) → bytes_eq word (codes "direct") ≡ a → (b : Bool) → bytes_eq word (codes "replay") ≡ b
-        → (c : Bool) → bytes_eq word (codes "decompress") ≡ c → asked_as form given ≡ asked word given
-    go true e b f c g =
-        let named : Some form ≡ Some forms.Direct = rw e at is in
+    go : (p : Bool) → bytes_eq word (codes "preprocess") ≡ p → (a : Bool) → bytes_eq word (codes "direct") ≡ a
+        → (b : Bool) → bytes_eq word (codes "replay") ≡ b → (c : Bool) → bytes_eq word (codes "decompress") ≡ c
+        → asked_as form given ≡ asked word given
+    go true d a e b f c g =
+        let named : Some form ≡ Some forms.Preprocess = rw d at is in
+        let named_form : form ≡ forms.Preprocess = cc in
+        rw (named_form, d) refl
+    go false d true e b f c g =
+        let named : Some form ≡ Some forms.Direct = rw (d, e) at is in
         let named_form : form ≡ forms.Direct = cc in
-        rw (named_form, e) refl
-    go false e true f c g =
-        let named : Some form ≡ Some forms.Replay = rw (e, f) at is in
+        rw (named_form, d, e) refl
+    go false d false e true f c g =
+        let named : Some form ≡ Some forms.Replay = rw (d, e, f) at is in
         let named_form : form ≡ forms.Replay = cc in
-        rw (named_form, e, f) refl
-    go false e false f true g =
-        let named : Some form ≡ Some forms.Decompress = rw (e, f, g) at is in
+        rw (named_form, d, e, f) refl
+    go false d false e false f true g =
+        let named : Some form ≡ Some forms.Decompress = rw (d, e, f, g) at is in
         let named_form : form ≡ forms.Decompress = cc in
-        rw (named_form, e, f, g) refl
-    go false e false f false g =
-        let named : Some form ≡ None = rw (e, f, g) at is in
+        rw (named_form, d, e, f, g) refl
+    go false d false e false f false g =
+        let named : Some form ≡ None = rw (d, e, f, g) at is in
         cc
 
 -- a word of no form
 pub none_asked : (word : Text) (words : List Text) → None ≡ form_named word → None ≡ command_of (word ∷ words)
 none_asked word words is = nothing (given_of words)
   where
-    go : (given : Given) (a : Bool) → bytes_eq word (codes "direct") ≡ a → (b : Bool) → bytes_eq word (codes "replay") ≡ b
-        → (c : Bool) → bytes_eq word (codes "decompress") ≡ c → None ≡ asked word given
-    go given true e b f c g =
-        let named : None ≡ Some forms.Direct = rw e at is in
+    go : (given : Given) (p : Bool) → bytes_eq word (codes "preprocess") ≡ p
+        → (a : Bool) → bytes_eq word (codes "direct") ≡ a
+        → (b : Bool) → bytes_eq word (codes "replay") ≡ b → (c : Bool) → bytes_eq word (codes "decompress") ≡ c
+        → None ≡ asked word given
+    go given true d a e b f c g =
+        let named : None ≡ Some forms.Preprocess = rw d at is in
         cc
-    go given false e true f c g =
-        let named : None ≡ Some forms.Replay = rw (e, f) at is in
+    go given false d true e b f c g =
+        let named : None ≡ Some forms.Direct = rw (d, e) at is in
         cc
-    go given false e false f true g =
-        let named : None ≡ Some forms.Decompress = rw (e, f, g) at is in
+    go given false d false e true f c g =
+        let named : None ≡ Some forms.Replay = rw (d, e, f) at is in
         cc
-    go given false e false f false g = rw (e, f, g) refl
+    go given false d false e false f true g =
+        let named : None ≡ Some forms.Decompress = rw (d, e, f, g) at is in
+        cc
+    go given false d false e false f false g = rw (d, e, f, g) refl
 
     nothing : (given : Option Given) → None ≡ option_and_then (asked word) given
     nothing None = refl
     nothing (Some given) =
-        go given (bytes_eq word (codes "direct")) refl (bytes_eq word (codes "replay")) refl
-        (bytes_eq word (codes "decompress")) refl
+        go given (bytes_eq word (codes "preprocess")) refl (bytes_eq word (codes "direct")) refl
+        (bytes_eq word (codes "replay")) refl (bytes_eq word (codes "decompress")) refl
 
 -- the command that is found is the one that the words ask for
 pub command_from : (word : Text) (words : List Text) (form : Form) (uses : Option Uses) → Some form ≡ form_named word
@@ -254,6 +271,8 @@ first_level found = first_value-rows found (codes "level") ∙ go (find (λ r. b
     go (Some row) = refl
 
 pub no_names_command : (form : Form) (uses : Uses) → None ≡ uses.names → None ≡ found_command form uses
+no_names_command forms.Preprocess uses none =
+    ap (λ (names : Option (List Text)). preprocess_of (unwrap_or names [])) none
 no_names_command forms.Direct uses none = ap (λ (names : Option (List Text)). option_map Direct (only_name (unwrap_or names []))) none
 no_names_command forms.Decompress uses none =
     ap (λ (names : Option (List Text)). option_map Decompress (only_name (unwrap_or names []))) none
@@ -264,22 +283,11 @@ no_names_command forms.Replay uses none =
     go None = refl
     go (Some level) = refl
 
-pub direct_command : (form : Form) (uses : Uses) (texts : List Text) (name : Option Text) → form ≡ forms.Direct
-    → Some texts ≡ uses.names → name ≡ only_name texts → option_map Direct name ≡ found_command form uses
-direct_command form uses texts name is all one =
-    rw is (ap (option_map Direct) one ∙ ap (λ (names : Option (List Text)). option_map Direct (only_name (unwrap_or names []))) all)
-
-pub decompress_command : (form : Form) (uses : Uses) (texts : List Text) (name : Option Text) → form ≡ forms.Decompress
-    → Some texts ≡ uses.names → name ≡ only_name texts → option_map Decompress name ≡ found_command form uses
-decompress_command form uses texts name is all one =
-    rw is (ap (option_map Decompress) one
-    ∙ ap (λ (names : Option (List Text)). option_map Decompress (only_name (unwrap_or names []))) all)
-
-pub replay_command : (form : Form) (uses : Uses) (texts : List Text) (level : Option Severity) → form ≡ forms.Replay
-    → Some texts ≡ uses.names → level ≡ found_level uses → option_and_then (replay_of texts) level ≡ found_command form uses
-replay_command form uses texts level is all one =
-    rw is (ap (option_and_then (replay_of texts)) one
-    ∙ ap (λ (names : Option (List Text)). option_and_then (replay_of (unwrap_or names [])) (found_level uses)) all)
+-- the command of these names is the form's, where they are found
+pub names_command : (form named : Form) (uses : Uses) (texts : List Text) → form ≡ named → Some texts ≡ uses.names
+    → found_command named (record uses { names = Some texts }) ≡ found_command form uses
+names_command form named uses texts is all =
+    rw is (ap (λ (names : Option (List Text)). found_command named (record uses { names = names })) all)
 
 -- the texts of the first word and of those after it
 pub whole_line : {A : Type 0} (words rest : List (String A)) (word : String A) (text : Text) → words ≡ word ∷ rest

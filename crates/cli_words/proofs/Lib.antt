@@ -1,4 +1,5 @@
 pub mod Words
+pub mod SeverityNames
 pub mod Shapes
 pub mod Rows
 pub mod Walks

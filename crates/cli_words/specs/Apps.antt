@@ -14,9 +14,12 @@ level_argument = record (new_rule (codes "level")) { long = Some (codes "level")
 
 -- all words are arguments, and none asks for help
 abbrev pub plain_app : App
-plain_app = on_top (λ shape. record shape { no_binary_name = true; disable_help_flag = true }) (new_app (codes "nanolog"))
+plain_app =
+    on_top (λ shape. record shape { no_binary_name = true; disable_help_flag = true }) (new_app (codes "nanolog"))
 
 -- the names, and the level where there is one
 abbrev pub app : Bool → App
 app has_level =
-    if has_level then with_rule (with_rule plain_app names_argument) level_argument else with_rule plain_app names_argument
+    if has_level
+    then with_rule (with_rule plain_app names_argument) level_argument
+    else with_rule plain_app names_argument

@@ -1,10 +1,12 @@
 -- Commands as the program has them.
+use Rattle.std.specs.Prelude.{map}
 use Rattle.cli_words.specs.declared.command.Command.{Command as Asked}
 use Rattle.cli_words.specs.declared.command.Command.TheVariants as asked
-use Rattle.cli_words.specs.Commands.{Command, Direct, Replay, Decompress}
+use Rattle.cli_words.specs.Commands.{Command, Preprocess, Direct, Replay, Decompress}
 
 -- what is asked for
 abbrev pub command_is : Asked → Command
+command_is (asked.Preprocess dictionary sources) = Preprocess dictionary.now (map (λ name. name.now) sources.items)
 command_is (asked.Direct trace) = Direct trace.now
 command_is (asked.Replay trace log level) = Replay trace.now log.now level
 command_is (asked.Decompress log) = Decompress log.now

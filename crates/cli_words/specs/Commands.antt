@@ -1,12 +1,13 @@
 -- What the words of a command line ask for.
-use Rattle.std.specs.Prelude.{ℕ, Bool, true, false, not, ◌&&◌, ◌==◌, List, [], ◌∷◌, map, find, Option, Some, None, codes, if◌then◌else◌}
-use Rattle.std.specs.Prelude.{String, option_map, option_and_then}
-use Rattle.std.specs.List.{list_any, before_first, after_first}
+use Rattle.std.specs.Prelude.{ℕ, Bool, true, false, not, ◌&&◌, ◌==◌, List, [], ◌∷◌, map, find, Option, Some, None}
+use Rattle.std.specs.Prelude.{codes, if◌then◌else◌, String, length, nat_le, nat_lt, option_map, option_and_then}
+use Rattle.std.specs.List.{list_all, list_any, before_first, after_first}
 use Rattle.std.specs.String.{string_bytes}
 use Rattle.std.specs.Str.{bytes_eq}
 use Rattle.log_dictionary.specs.Severities.{severity_name}
 use Rattle.log_dictionary.specs.declared.severity.Severity.{Severity}
 use Rattle.log_dictionary.specs.declared.severity.Severity.TheVariants.{Error, Warning, Notice, Debug}
+use Rattle.cli_words.specs.declared.command.TheConstants.{MAX_SOURCES}
 
 -- a word, a name or a value: the bytes of its text
 abbrev pub Text : Type 0
@@ -18,6 +19,7 @@ texts_of words = map string_bytes words
 
 -- what the program is asked to do
 pub data Command : Type 0 where
+  Preprocess : (dictionary : Text) (sources : List Text) → Command
   Direct : (trace : Text) → Command
   Replay : (trace log : Text) (level : Severity) → Command
   Decompress : (log : Text) → Command
@@ -111,9 +113,28 @@ abbrev pub only_name : List Text → Option Text
 only_name (name ∷ []) = if is_name name then Some name else None
 only_name _ = None
 
+-- the names, where there is no option
+abbrev pub bare_names : Given → Option (List Text)
+bare_names given = elim given.options [ [] ↦ Some given.names | option ∷ options ↦ None ]
+
 -- the name, where there is one and no more, and no option
 abbrev pub lone_name : Given → Option Text
-lone_name given = elim given.options [ [] ↦ only_name given.names | option ∷ options ↦ None ]
+lone_name given = option_and_then only_name (bare_names given)
+
+-- a dictionary may have a source of this name: it isn't its own
+abbrev pub is_source : Text → Text → Bool
+is_source dictionary source = is_name source && not (bytes_eq source dictionary)
+
+-- a dictionary may have these sources: there is one at least, and there are not too many
+abbrev pub are_sources : Text → List Text → Bool
+are_sources dictionary sources =
+    nat_lt 0 (length sources) && nat_le (length sources) MAX_SOURCES && list_all (is_source dictionary) sources
+
+-- the command `preprocess` with these names: the first is the dictionary's, and it may have the others as its sources
+abbrev pub preprocess_of : List Text → Option Command
+preprocess_of [] = None
+preprocess_of (dictionary ∷ sources) =
+    if is_name dictionary && are_sources dictionary sources then Some (Preprocess dictionary sources) else None
 
 -- the command `replay` with these names: there are two, which differ
 abbrev pub replay_of : List Text → Severity → Option Command
@@ -124,7 +145,8 @@ replay_of _ level = None
 -- the command that this word and what is given after it ask for
 abbrev pub asked : Text → Given → Option Command
 asked word given =
-    if bytes_eq word (codes "direct") then option_map Direct (lone_name given)
+    if bytes_eq word (codes "preprocess") then option_and_then preprocess_of (bare_names given)
+    else if bytes_eq word (codes "direct") then option_map Direct (lone_name given)
     else if bytes_eq word (codes "replay") then option_and_then (replay_of given.names) (level_of given.options)
     else if bytes_eq word (codes "decompress") then option_map Decompress (lone_name given)
     else None

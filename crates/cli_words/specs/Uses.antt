@@ -1,13 +1,13 @@
 -- What is found of the words by the arguments `level` and `names` of the reader of words.
-use Rattle.std.specs.Prelude.{Bool, true, false, ◌&&◌, List, [], ◌∷◌, ◌++◌, Option, Some, None, codes, if◌then◌else◌, slice_get}
-use Rattle.std.specs.Prelude.{option_map, option_and_then, unwrap_or}
+use Rattle.std.specs.Prelude.{Bool, true, false, ◌&&◌, List, [], ◌∷◌, ◌++◌, Option, Some, None, codes}
+use Rattle.std.specs.Prelude.{if◌then◌else◌, slice_get, option_map, option_and_then, unwrap_or}
 use Rattle.std.specs.Option.{option_map_or}
 use Rattle.std.specs.Str.{bytes_eq}
 use Rattle.clap.specs.Matches.{found_of}
 use Rattle.clap.specs.Walk.{Row, rows_of, all_of}
 use Rattle.clap.specs.declared.parser.matches.ArgMatches.{ArgMatches}
 use Rattle.cli_words.specs.Commands.{Text, Command, Direct, Decompress, Word, Name, End, Awaits, Sets, Unknown, word_of}
-use Rattle.cli_words.specs.Commands.{Given, with_name, with_option, severity_named, replay_of, only_name}
+use Rattle.cli_words.specs.Commands.{Given, with_name, with_option, severity_named, preprocess_of, replay_of, only_name}
 use Rattle.log_dictionary.specs.declared.severity.Severity.{Severity}
 use Rattle.log_dictionary.specs.declared.severity.Severity.TheVariants.{Debug}
 use Rattle.cli_words.specs.declared.reading.Form.{Form}
@@ -39,11 +39,12 @@ abbrev pub read_value : Word → Text → Text → Option Given → Option Given
 read_value Name option value given = with_option option value given
 read_value _ option value given = None
 
--- what is read, after an option that waits for its value or after none: what is given, but nothing where an option isn't
--- taken, or where a word that could be an option stands in place of a value. No command takes such a value
+-- what is read, after an option that waits for its value or after none: what is given, but nothing where an option
+-- isn't taken, or where a word that could be an option stands in place of a value. No command takes such a value
 abbrev pub read_from : Bool → Option Text → List Text → Option Given
 read_from has_level (Some option) [] = None
-read_from has_level (Some option) (value ∷ words) = read_value (word_of value) option value (read_from has_level None words)
+read_from has_level (Some option) (value ∷ words) =
+    read_value (word_of value) option value (read_from has_level None words)
 read_from has_level None [] = Some (record { options = []; names = [] })
 read_from has_level None (word ∷ words) = elim (word_of word) [
   | Name ↦ with_name word (read_from has_level None words)
@@ -86,12 +87,14 @@ found_level uses = option_map_or severity_named (option_and_then (λ values. sli
 
 -- only `replay` has a level
 abbrev pub has_level : Form → Bool
+has_level form.Preprocess = false
 has_level form.Direct = false
 has_level form.Replay = true
 has_level form.Decompress = false
 
 -- the command of this form with what was found
 abbrev pub found_command : Form → Uses → Option Command
+found_command form.Preprocess uses = preprocess_of (found_names uses)
 found_command form.Direct uses = option_map Direct (only_name (found_names uses))
 found_command form.Replay uses = option_and_then (replay_of (found_names uses)) (found_level uses)
 found_command form.Decompress uses = option_map Decompress (only_name (found_names uses))
@@ -99,7 +102,8 @@ found_command form.Decompress uses = option_map Decompress (only_name (found_nam
 -- the form of the command that a word names
 abbrev pub form_named : Text → Option Form
 form_named word =
-    if bytes_eq word (codes "direct") then Some form.Direct
+    if bytes_eq word (codes "preprocess") then Some form.Preprocess
+    else if bytes_eq word (codes "direct") then Some form.Direct
     else if bytes_eq word (codes "replay") then Some form.Replay
     else if bytes_eq word (codes "decompress") then Some form.Decompress
     else None

@@ -2,7 +2,9 @@
 //! ensure is proved of the definitions.
 
 ghost use Rattle.std.specs.Prelude.{◌≡◌, Some, None, List, [], ◌∷◌, ◌++◌, codes};
-ghost use Rattle.cli_words.specs.Commands.{Text, Name, word_of, given_of, Command, Direct, Replay, Decompress, command_of};
+ghost use Rattle.cli_words.specs.Commands.{Text, Name, word_of, given_of, command_of};
+ghost use Rattle.cli_words.specs.Commands.{Command, Preprocess, Direct, Replay, Decompress};
+ghost use Rattle.cli_words.specs.declared.command.TheConstants.{MAX_SOURCES};
 ghost use Rattle.cli_words.specs.Rows.{meaning, IsLawful, line_of};
 ghost use Rattle.log_dictionary.specs.declared.severity.Severity.TheVariants.{Error, Warning, Notice, Debug};
 
@@ -60,6 +62,23 @@ pub fn names_are_counted()
     ensures level_is_name { meaning (codes "replay t l -- --level ERROR") ≡ None }
 {}
 
+/// `preprocess` has a dictionary and, behind it, one source or more. None of them is the dictionary, and one may stand
+/// there twice.
+pub fn dictionaries_have_sources()
+    ensures one { meaning (codes "preprocess d m.cc") ≡ Some (Preprocess (codes "d") (codes "m.cc" ∷ [])) }
+    ensures two { meaning (codes "preprocess d m n") ≡ Some (Preprocess (codes "d") (codes "m" ∷ codes "n" ∷ [])) }
+    ensures same { meaning (codes "preprocess d m m") ≡ Some (Preprocess (codes "d") (codes "m" ∷ codes "m" ∷ [])) }
+    ensures dash { meaning (codes "preprocess -- -d -m") ≡ Some (Preprocess (codes "-d") (codes "-m" ∷ [])) }
+    ensures limit { MAX_SOURCES ≡ 1024 }
+    ensures no_name { meaning (codes "preprocess") ≡ None }
+    ensures no_source { meaning (codes "preprocess d") ≡ None }
+    ensures itself { meaning (codes "preprocess d m d") ≡ None }
+    ensures no_dictionary { meaning (codes "preprocess  m") ≡ None }
+    ensures empty { meaning (codes "preprocess d m ") ≡ None }
+    ensures letter { meaning (codes "preprocess d -m") ≡ None }
+    ensures option { meaning (codes "preprocess d m --level ERROR") ≡ None }
+{}
+
 /// An option is one of the command's own, spelled whole, and is given once, with its value.
 pub fn options_are_known()
     ensures help { meaning (codes "direct --help") ≡ None }
@@ -102,7 +121,8 @@ pub fn commands_have_lines()
     ensures { (command : Command) → IsLawful command → command_of (line_of command) ≡ Some command }
 {}
 
-/// The names of a command aren't empty, and the log of `replay` isn't its trace.
+/// The names of a command aren't empty, the log of `replay` isn't its trace, and the dictionary of `preprocess` is none
+/// of its sources, of which there are enough and not too many.
 pub fn commands_are_lawful()
     ensures { (words : List Text) (command : Command) → command_of words ≡ Some command → IsLawful command }
 {}

@@ -7,4 +7,4 @@ mod reading;
 #[cfg(test)]
 mod tests;
 
-pub use command::{Command, command_of};
+pub use command::{Command, MAX_SOURCES, command_of};

@@ -18,6 +18,7 @@ pub(crate) const LEVEL: &str = "level";
 /// The command that the first word names.
 #[derive(Clone, Copy, Debug, PartialEq, Eq)]
 pub(crate) enum Form {
+    Preprocess,
     Direct,
     Replay,
     Decompress,
@@ -30,7 +31,7 @@ impl Form {
     {
         match self {
             Form::Replay => true,
-            Form::Direct | Form::Decompress => false,
+            Form::Preprocess | Form::Direct | Form::Decompress => false,
         }
     }
 

@@ -1,5 +1,4 @@
 use super::*;
-use log_dictionary::Severity;
 use std::alloc::{AllocError, Global};
 use std::test::Fail;
 
@@ -12,40 +11,82 @@ fn words_of(alloc: Global, line: &str) -> Result<Vec<String>, AllocError> {
     Ok(words)
 }
 
-/// The command `replay` with the names `t` and `l`.
-fn replay(level: Severity) -> Option<Command<'static>> {
-    Some(Command::Replay {
-        trace: "t",
-        log: "l",
-        level,
-    })
+/// What a command is asked to do, in words; the level of `replay` stands last.
+fn told(alloc: Global, command: &Command<'_>) -> Result<String, AllocError> {
+    match command {
+        Command::Preprocess {
+            dictionary,
+            sources,
+        } => {
+            let mut text = format!(in alloc; "preprocess {dictionary}")?;
+            for source in sources {
+                text.push(' ')?;
+                text.push_str(source)?;
+            }
+            Ok(text)
+        }
+        Command::Direct { trace } => format!(in alloc; "direct {trace}"),
+        Command::Replay { trace, log, level } => {
+            let level = level.name();
+            format!(in alloc; "replay {trace} {log} {level}")
+        }
+        Command::Decompress { log } => format!(in alloc; "decompress {log}"),
+    }
 }
+
+/// Lines, and what each asks for.
+const RIGHT: &str = "\
+direct t|direct t
+direct -|direct -
+direct a=b|direct a=b
+direct t --|direct t
+direct -- --level|direct --level
+decompress l|decompress l
+decompress -- -l|decompress -l
+decompress -- --|decompress --
+replay t l|replay t l DEBUG
+replay t l --level ERROR|replay t l ERROR
+replay --level WARNING t l|replay t l WARNING
+replay t --level NOTICE l|replay t l NOTICE
+replay t l --level DEBUG|replay t l DEBUG
+replay t --level=ERROR l|replay t l ERROR
+replay --level=NOTICE -- t l|replay t l NOTICE
+preprocess d m.cc|preprocess d m.cc
+preprocess d m.cc n.cc|preprocess d m.cc n.cc
+preprocess d m.cc m.cc|preprocess d m.cc m.cc
+preprocess d -- -m.cc|preprocess d -m.cc
+preprocess -- -d --|preprocess -d --";
 
 #[test]
 fn lines_that_are_right(rt: HostRuntime) -> Result<(), Fail> {
-    for (line, want) in [
-        ("direct t", Some(Command::Direct { trace: "t" })),
-        ("direct -", Some(Command::Direct { trace: "-" })),
-        ("direct a=b", Some(Command::Direct { trace: "a=b" })),
-        ("direct t --", Some(Command::Direct { trace: "t" })),
-        (
-            "direct -- --level",
-            Some(Command::Direct { trace: "--level" }),
-        ),
-        ("decompress l", Some(Command::Decompress { log: "l" })),
-        ("decompress -- -l", Some(Command::Decompress { log: "-l" })),
-        ("decompress -- --", Some(Command::Decompress { log: "--" })),
-        ("replay t l", replay(Severity::Debug)),
-        ("replay t l --level ERROR", replay(Severity::Error)),
-        ("replay --level WARNING t l", replay(Severity::Warning)),
-        ("replay t --level NOTICE l", replay(Severity::Notice)),
-        ("replay t l --level DEBUG", replay(Severity::Debug)),
-        ("replay t --level=ERROR l", replay(Severity::Error)),
-        ("replay --level=NOTICE -- t l", replay(Severity::Notice)),
-    ] {
+    for row in RIGHT.lines() {
+        let (line, want) = row.split_once('|').ok_or("a row without a command")?;
         let words = words_of(rt.alloc(), line)?;
-        assert!(rt; command_of(rt.alloc(), words.as_slice())? == want, "{line}");
+        let Some(command) = command_of(rt.alloc(), words.as_slice())? else {
+            return Err(Fail::from("a line that is right gives no command"));
+        };
+        let text = told(rt.alloc(), &command)?;
+        assert!(rt; text.as_str() == want, "{line}");
     }
+    Ok(())
+}
+
+/// The number of the sources of a dictionary, where the line names so many and is right.
+fn sources_read(alloc: Global, count: usize) -> Result<Option<usize>, AllocError> {
+    let mut words = words_of(alloc, "preprocess d")?;
+    for _ in 0..count {
+        words.push(String::from_str(alloc, "m.cc")?)?;
+    }
+    match command_of(alloc, words.as_slice())? {
+        Some(Command::Preprocess { sources, .. }) => Ok(Some(sources.len())),
+        _ => Ok(None),
+    }
+}
+
+#[test]
+fn sources_up_to_the_limit(rt: HostRuntime) -> Result<(), Fail> {
+    assert!(rt; sources_read(rt.alloc(), 1_024)? == Some(1_024));
+    assert!(rt; sources_read(rt.alloc(), 1_025)? == None);
     Ok(())
 }
 
@@ -61,6 +102,18 @@ fn lines_that_are_faulty(rt: HostRuntime) -> Result<(), Fail> {
         "--version",
         "--level ERROR replay t l",
         "-- direct t",
+        "preprocess",
+        "preprocess d",
+        "preprocess d --",
+        "preprocess d d",
+        "preprocess d m.cc d",
+        "preprocess  m.cc",
+        "preprocess d ",
+        "preprocess d m.cc ",
+        "preprocess d -m.cc",
+        "preprocess d m.cc --help",
+        "preprocess d m.cc --level ERROR",
+        "preprocess d m.cc --level=ERROR",
         "direct",
         "direct t u",
         "direct ",

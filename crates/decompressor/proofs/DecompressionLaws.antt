@@ -10,10 +10,10 @@ use Rattle.decompressor.specs.Decompression.{all_calls, Decompressed, of_front, 
 -- bytes stand for one text
 pub one_text : (bytes text other : List ℕ) → Decompressed bytes text → Decompressed bytes other → text ≡ other
 one_text bytes text other (of_front header blocks count front is) (of_front header2 blocks2 count2 front2 is_too) =
-    let same = one_front bytes header header2 blocks blocks2 count count2 front front2 in
+    let same = one_front bytes header header2 blocks blocks2 _ _ front front2 in
     is ∙ (λ i. let h = same.0 i in Direct h.clock (all_calls h (same.1 i))) ∙ sym is_too
-one_text bytes text other (of_front header blocks count front is) (of_nothing none is_too) = absurd (none header blocks count front.begins)
-one_text bytes text other (of_nothing none is) (of_front header blocks count front is_too) = absurd (none header blocks count front.begins)
+one_text bytes text other (of_front header blocks count front is) (of_nothing none is_too) = absurd (none header blocks _ front.begins)
+one_text bytes text other (of_nothing none is) (of_front header blocks count front is_too) = absurd (none header blocks _ front.begins)
 one_text bytes text other (of_nothing none is) (of_nothing none_too is_too) = is ∙ sym is_too
 
 -- a log that is whole and right stands for the lines of all its calls

@@ -1,3 +1,4 @@
 pub mod DecompressionLaws
 pub mod TextLaws
 pub mod Worked
+pub mod SomeText

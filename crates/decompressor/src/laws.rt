@@ -1,6 +1,6 @@
 //! Laws over what logs stand for. The functions do nothing: what they ensure is proved of the definitions.
 
-ghost use Rattle.std.specs.Prelude.{◌≡◌, ℕ, List};
+ghost use Rattle.std.specs.Prelude.{◌≡◌, ℕ, ◌<◌, List, All};
 ghost use Rattle.log_dictionary.specs.declared.clock.Clock.{Clock};
 ghost use Rattle.log_dictionary.specs.declared.message.Message.{Message};
 ghost use Rattle.arg_records.specs.declared.call.Call.{Call};
@@ -27,6 +27,12 @@ pub fn texts_are_one()
     ensures { (bytes text other : List ℕ) → Decompressed bytes text
         → Decompressed bytes other
         → text ≡ other }
+{}
+
+/// A file of bytes stands for a text, whatever bytes they are.
+pub fn decompressed_is_some()
+    ensures { (bytes : List ℕ) → All (λ byte. byte < 256) bytes
+        → (text : List ℕ) × Decompressed bytes text }
 {}
 
 /// A file that is a log from its first byte to its last stands for the lines of all its calls.

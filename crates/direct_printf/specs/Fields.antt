@@ -18,7 +18,8 @@ use Rattle.printf_grammar.specs.declared.piece.Conversion.TheVariants.{D, I, O, 
 use Rattle.printf_grammar.specs.declared.argument.Value.{Value}
 use Rattle.printf_grammar.specs.declared.argument.Value.TheVariants as value
 
--- the least spelling of v in a base, with zeros in front up to the precision; 0 at precision 0 has no digits (paragraph 8)
+-- the least spelling of v in a base, with zeros in front up to the precision; 0 at precision 0 has no digits (paragraph
+-- 8)
 unfoldable pub Digits : ℕ → ℕ → Bool → ℕ → List ℕ
 Digits v base upper precision =
     let spelled = digits base upper v in
@@ -89,11 +90,13 @@ pub record Converted : Type 0 where
 
 -- the sign of d and i: `-` for a negative value, else `+` or a space by the flags (paragraph 6)
 abbrev pub sign_of : Spec → ℤ → List ℕ
-sign_of spec z = if is_negative z then 45 ∷ [] else (if spec.plus then 43 ∷ [] else (if spec.space then 32 ∷ [] else []))
+sign_of spec z =
+    if is_negative z then 45 ∷ [] else (if spec.plus then 43 ∷ [] else (if spec.space then 32 ∷ [] else []))
 
 -- d and i: the sign, and the decimal digits, which are at least as many as the precision, 1 if omitted (paragraph 8)
 abbrev pub signed_number : Spec → Option ℕ → ℤ → Converted
-signed_number spec precision z = record { front = sign_of spec z; body = Digits (unsigned_abs z) 10 false (unwrap_or precision 1) }
+signed_number spec precision z =
+    record { front = sign_of spec z; body = Digits (unsigned_abs z) 10 false (unwrap_or precision 1) }
 
 -- u: the decimal digits alone
 abbrev pub unsigned_number : Option ℕ → ℕ → Converted
@@ -116,11 +119,13 @@ octal_number sharp precision n =
 
 -- with `#` the prefix of hexadecimal digits where the value is not 0 (paragraph 6)
 abbrev pub hexadecimal_front : Bool → Bool → ℕ → List ℕ
-hexadecimal_front sharp upper n = if sharp then (if n == 0 then [] else (if upper then codes "0X" else codes "0x")) else []
+hexadecimal_front sharp upper n =
+    if sharp then (if n == 0 then [] else (if upper then codes "0X" else codes "0x")) else []
 
 -- x and X: the hexadecimal digits, in lower case or in capitals
 abbrev pub hexadecimal_number : Bool → Bool → Option ℕ → ℕ → Converted
-hexadecimal_number sharp upper precision n = record { front = hexadecimal_front sharp upper n; body = Digits n 16 upper (unwrap_or precision 1) }
+hexadecimal_number sharp upper precision n =
+    record { front = hexadecimal_front sharp upper n; body = Digits n 16 upper (unwrap_or precision 1) }
 
 -- p: the hexadecimal digits after `0x`, and `(nil)` for 0
 abbrev pub pointer : ℕ → Converted
@@ -136,10 +141,14 @@ abbrev pub converted : Conversion → Spec → Option ℕ → Value → Converte
 converted D spec precision argument = signed_number spec precision (wrap_signed spec.length (signed_of argument))
 converted I spec precision argument = signed_number spec precision (wrap_signed spec.length (signed_of argument))
 converted U spec precision argument = unsigned_number precision (wrap_unsigned spec.length (unsigned_of argument))
-converted O spec precision argument = octal_number spec.sharp precision (wrap_unsigned spec.length (unsigned_of argument))
-converted X spec precision argument = hexadecimal_number spec.sharp false precision (wrap_unsigned spec.length (unsigned_of argument))
-converted UpperX spec precision argument = hexadecimal_number spec.sharp true precision (wrap_unsigned spec.length (unsigned_of argument))
-converted C spec precision argument = record { front = []; body = unsigned_abs (int_rem_euclid (signed_of argument) (pos 256)) ∷ [] }
+converted O spec precision argument =
+    octal_number spec.sharp precision (wrap_unsigned spec.length (unsigned_of argument))
+converted X spec precision argument =
+    hexadecimal_number spec.sharp false precision (wrap_unsigned spec.length (unsigned_of argument))
+converted UpperX spec precision argument =
+    hexadecimal_number spec.sharp true precision (wrap_unsigned spec.length (unsigned_of argument))
+converted C spec precision argument =
+    record { front = []; body = unsigned_abs (int_rem_euclid (signed_of argument) (pos 256)) ∷ [] }
 converted S spec precision argument = record { front = []; body = cut precision (text_of argument) }
 converted P spec precision argument = pointer (unsigned_of argument)
 
@@ -155,7 +164,8 @@ is_integer C = false
 is_integer S = false
 is_integer P = false
 
--- the text at least as long as the width: spaces behind it, or zeros after its sign or prefix, or spaces before it (paragraphs 4 and 6)
+-- the text at least as long as the width: spaces behind it, or zeros after its sign or prefix, or spaces before it
+-- (paragraphs 4 and 6)
 abbrev pub padded : Bool → Bool → ℕ → Converted → List ℕ
 padded left zeros width text =
     let missing = width - length (text.front ++ text.body) in
@@ -182,13 +192,16 @@ Field spec arguments =
 abbrev pub argument_count : Spec → ℕ
 argument_count spec = stars spec.width + stars spec.precision + 1
 
--- the pieces' texts, joined: a literal's bytes of the format, `%` for `%%`, and each field with its own arguments in order (paragraph 3)
+-- the pieces' texts, joined: a literal's bytes of the format, `%` for `%%`, and each field with its own arguments in
+-- order (paragraph 3)
 unfoldable pub pieces_text : List ℕ → List Piece → List Value → List ℕ
 pieces_text format [] arguments = []
-pieces_text format (piece.Literal start end ∷ pieces) arguments = slice_range format start end ++ pieces_text format pieces arguments
+pieces_text format (piece.Literal start end ∷ pieces) arguments =
+    slice_range format start end ++ pieces_text format pieces arguments
 pieces_text format (piece.Percent ∷ pieces) arguments = 37 ∷ pieces_text format pieces arguments
 pieces_text format (piece.Field spec ∷ pieces) arguments =
-    Field spec (take (argument_count spec) arguments) ++ pieces_text format pieces (drop (argument_count spec) arguments)
+    Field spec (take (argument_count spec) arguments)
+    ++ pieces_text format pieces (drop (argument_count spec) arguments)
 
 -- what printf writes for the format and the arguments
 unfoldable pub Text : Parsed → List Value → List ℕ

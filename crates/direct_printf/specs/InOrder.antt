@@ -18,7 +18,8 @@ IsInOrder [] = Unit {0}
 IsInOrder (call ∷ calls) = IsNotAfter call calls × IsInOrder calls
 
 -- a call that nothing in front comes before is put in front
-insert_call-front : (call : LogCall) (calls : List LogCall) → IsNotAfter call calls → insert_call call calls ≡ call ∷ calls
+insert_call-front : (call : LogCall) (calls : List LogCall) → IsNotAfter call calls
+    → insert_call call calls ≡ call ∷ calls
 unfolding insert_call
 insert_call-front call [] h = refl
 insert_call-front call (next ∷ others) h = rw h
@@ -30,11 +31,13 @@ in_order-sorted [] h = refl
 in_order-sorted (call ∷ calls) h = ap (insert_call call) (in_order-sorted calls h.1) ∙ insert_call-front call calls h.0
 
 -- and their lines stand one after the other
-pub Direct-sorted : (clock : Clock) (calls : List LogCall) → IsInOrder calls → Direct clock calls ≡ flat_map (Line clock) calls
+pub Direct-sorted : (clock : Clock) (calls : List LogCall) → IsInOrder calls
+    → Direct clock calls ≡ flat_map (Line clock) calls
 unfolding Direct
 Direct-sorted clock calls h = ap (flat_map (Line clock)) (in_order-sorted calls h)
 
 -- a later call of the same writer, whose stamp is no smaller, does not come before this one
-pub comes_before-later : (call next : LogCall) → call.stamp ≤ next.stamp → call.writer ≡ next.writer → call.ordinal ≤ next.ordinal
+pub comes_before-later : (call next : LogCall) → call.stamp ≤ next.stamp → call.writer ≡ next.writer
+    → call.ordinal ≤ next.ordinal
     → comes_before next call ≡ false
 comes_before-later call next stamps writers ordinals = grind (arith, nat_tests)

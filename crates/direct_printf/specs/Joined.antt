@@ -12,4 +12,8 @@ moved n (Field spec) = Field spec
 
 -- the first format and behind it the second
 abbrev pub joined : Parsed → Parsed → Parsed
-joined first second = record { bytes = first.bytes ++ second.bytes; pieces = first.pieces ++ map (moved (length first.bytes)) second.pieces }
+joined first second =
+    record {
+      bytes = first.bytes ++ second.bytes;
+      pieces = first.pieces ++ map (moved (length first.bytes)) second.pieces;
+    }

@@ -32,7 +32,8 @@ comes_before a b =
 -- a call put at its place in a list that is in order: behind the calls that come before it
 unfoldable pub insert_call : LogCall → List LogCall → List LogCall
 insert_call call [] = call ∷ []
-insert_call call (first ∷ others) = if comes_before first call then first ∷ insert_call call others else call ∷ first ∷ others
+insert_call call (first ∷ others) =
+    if comes_before first call then first ∷ insert_call call others else call ∷ first ∷ others
 
 -- the calls in order: each is inserted into one list at its place
 unfoldable pub in_order : List LogCall → List LogCall

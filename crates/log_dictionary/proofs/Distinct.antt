@@ -5,7 +5,7 @@ use Rattle.std.specs.Cmp.Lexicographic.{pointwise, bytes_decides}
 use Rattle.std.specs.List.{list_any, position, position_or_len, IsDistinct}
 use Rattle.std.proofs.lemmas.Bool.{false≢true, and_parts, eqb-true, ltb-false, not-true, not-false}
 use Rattle.std.proofs.lemmas.Option.{slice_get-get_or, slice_get_within, get_or_from_slice_get}
-use Rattle.std.proofs.lemmas.List.{get_or_default}
+use Rattle.std.proofs.lemmas.List.{get_or_default, length-append, get_or_append_left, get_or_at}
 use Rattle.std.proofs.lemmas.List.Folds.{list_any_at, Any-from_list_any}
 use Rattle.std.proofs.lemmas.List.Sums.{position_or_len_is, fails_before_first}
 use Rattle.std.proofs.lemmas.List.Quantifiers.{position-Some, all_pairs_push}
@@ -128,3 +128,13 @@ pub still_distinct : (messages : List Message) (message : Message) → AreDistin
 still_distinct messages message distinct new = all_pairs_push (λ a b. ¬ (SameMessage a b)) messages message distinct (λ k d within same.
     let back : SameMessage message (get_or messages k d) = record { file = sym same.file; line = sym same.line; severity = sym same.severity; format = sym same.format } in
     new (k, get_or messages k d, within, get_or_default messages k (get_or messages k d) d within, back))
+
+-- of distinct messages none is among those before it
+pub is_new : (before others : List Message) (message : Message) → AreDistinct (before ++ message ∷ others)
+    → ¬ (HasMessage before message)
+is_new before others message distinct (k, other, within, is, same) =
+    let all : List Message = before ++ message ∷ others in
+    let earlier : get_or all k other ≡ other = get_or_append_left before (message ∷ others) other k within ∙ is in
+    let here : get_or all (length before) other ≡ message = get_or_at before message others other (length before) refl in
+    let back : SameMessage other message = record { file = sym same.file; line = sym same.line; severity = sym same.severity; format = sym same.format } in
+    distinct k (length before) other within (omega (arith, length-append before (message ∷ others))) (subst (λ (m : Message). SameMessage m (get_or all (length before) other)) (sym earlier) (subst (SameMessage other) (sym here) back))

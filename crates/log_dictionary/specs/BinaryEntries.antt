@@ -37,7 +37,8 @@ pub record IsInRange (raw : RawEntry) : Type 0 where
   pub short_format : length raw.format ≤ MAX_FORMAT
 
 abbrev pub raw_of : Message → RawEntry
-raw_of message = record { severity = message.severity; line = message.line; file = message.file; format = message.format.bytes }
+raw_of message =
+    record { severity = message.severity; line = message.line; file = message.file; format = message.format.bytes }
 
 -- the entry of the message
 abbrev pub entry_bytes : Message → List ℕ
@@ -62,16 +63,19 @@ pub record BeginsWithEntry (bytes : List ℕ) : Type 0 where
 -- the bytes end inside a text with its length, or inside that length; a length that is there as a whole is in range
 pub data IsCutText (least most : ℕ) (bytes : List ℕ) : Type 0 where
   in_length : length bytes < 2 → IsCutText least most bytes
-  in_text : (n : ℕ) (part : List ℕ) → least ≤ n → n ≤ most → length part < n → bytes ≡ le_bytes 2 n ++ part → IsCutText least most bytes
+  in_text : (n : ℕ) (part : List ℕ) → least ≤ n → n ≤ most → length part < n → bytes ≡ le_bytes 2 n ++ part
+      → IsCutText least most bytes
 
--- the bytes end inside an entry that is right so far: a field that is there as a whole is in range, and one of which a part is there
--- isn't judged
+-- the bytes end inside an entry that is right so far: a field that is there as a whole is in range, and one of which a
+-- part is there isn't judged
 pub data IsCutEntry (bytes : List ℕ) : Type 0 where
   in_severity : bytes ≡ [] → IsCutEntry bytes
-  in_line : (severity : Severity) (part : List ℕ) → length part < 4 → bytes ≡ severity_number severity ∷ part → IsCutEntry bytes
+  in_line : (severity : Severity) (part : List ℕ) → length part < 4 → bytes ≡ severity_number severity ∷ part
+      → IsCutEntry bytes
   in_file : (severity : Severity) (line : ℕ) (part : List ℕ) → line < 2 ^ 32 → IsCutText 1 MAX_FILE_NAME part
       → bytes ≡ head_bytes severity line ++ part → IsCutEntry bytes
-  in_format : (severity : Severity) (line : ℕ) (file part : List ℕ) → line < 2 ^ 32 → 1 ≤ length file → length file ≤ MAX_FILE_NAME
+  in_format : (severity : Severity) (line : ℕ) (file part : List ℕ) → line < 2 ^ 32 → 1 ≤ length file
+      → length file ≤ MAX_FILE_NAME
       → IsCutText 0 MAX_FORMAT part → bytes ≡ head_bytes severity line ++ text_bytes file ++ part → IsCutEntry bytes
 
 -- ---- where bytes begin with no entry
@@ -84,17 +88,21 @@ pub record IsBadLength (least most : ℕ) (bytes : List ℕ) : Type 0 where
   pub outside : (n < least) ⊎ (most < n)
   pub joined : bytes ≡ le_bytes 2 n ++ rest
 
--- the first field that isn't right is there as a whole and out of range: the severity, or the length of the file or of the format
+-- the first field that isn't right is there as a whole and out of range: the severity, or the length of the file or of
+-- the format
 pub data IsOutOfRange (bytes : List ℕ) : Type 0 where
-  at_severity : (number : ℕ) (rest : List ℕ) → ((severity : Severity) → number ≢ severity_number severity) → bytes ≡ number ∷ rest
+  at_severity : (number : ℕ) (rest : List ℕ) → ((severity : Severity) → number ≢ severity_number severity)
+      → bytes ≡ number ∷ rest
       → IsOutOfRange bytes
   at_file : (severity : Severity) (line : ℕ) (rest : List ℕ) → line < 2 ^ 32 → IsBadLength 1 MAX_FILE_NAME rest
       → bytes ≡ head_bytes severity line ++ rest → IsOutOfRange bytes
-  at_format : (severity : Severity) (line : ℕ) (file rest : List ℕ) → line < 2 ^ 32 → 1 ≤ length file → length file ≤ MAX_FILE_NAME
+  at_format : (severity : Severity) (line : ℕ) (file rest : List ℕ) → line < 2 ^ 32 → 1 ≤ length file
+      → length file ≤ MAX_FILE_NAME
       → IsBadLength 0 MAX_FORMAT rest → bytes ≡ head_bytes severity line ++ text_bytes file ++ rest → IsOutOfRange bytes
 
 -- a field is out of range, or all fields are in range and the format is refused
 pub data IsBadEntry (bytes : List ℕ) : Type 0 where
   out_of_range : IsOutOfRange bytes → IsBadEntry bytes
-  refused : (raw : RawEntry) (rest : List ℕ) → IsInRange raw → ((message : Message) → ¬ (SpellsEntry (raw_bytes raw) message))
+  refused : (raw : RawEntry) (rest : List ℕ) → IsInRange raw
+      → ((message : Message) → ¬ (SpellsEntry (raw_bytes raw) message))
       → bytes ≡ raw_bytes raw ++ rest → IsBadEntry bytes

@@ -6,10 +6,16 @@ use Rattle.printf_grammar.specs.Spelling.{Spells}
 use Rattle.log_dictionary.specs.declared.message.Message.{Message}
 use Rattle.log_dictionary.specs.Severities.{severity_name}
 
--- how a byte of a text is written: as an escape, as itself where it is printable, and else as `\x` and two digits, in lower case
+-- how a byte of a text is written: as an escape, as itself where it is printable, and else as `\x` and two digits, in
+-- lower case
 abbrev pub canonical_byte : ℕ → List ℕ
 canonical_byte b =
-    if b == 34 then codes "\\\"" else (if b == 92 then codes "\\\\" else (if b == 10 then codes "\\n" else (if b == 9 then codes "\\t" else (if nat_le 32 b && nat_le b 126 then b ∷ [] else codes "\\x" ++ digit_char (b / 16) ∷ digit_char (b % 16) ∷ []))))
+    if b == 34 then codes "\\\""
+    else (if b == 92 then codes "\\\\"
+    else (if b == 10 then codes "\\n"
+    else (if b == 9 then codes "\\t"
+    else (if nat_le 32 b && nat_le b 126 then b ∷ []
+    else codes "\\x" ++ digit_char (b / 16) ∷ digit_char (b % 16) ∷ []))))
 
 -- how a text is written, without its quotation marks
 abbrev pub canonical_text : List ℕ → List ℕ
@@ -21,7 +27,8 @@ quoted_text bytes = 34 ∷ canonical_text bytes ++ 34 ∷ []
 
 -- the line of a message with its id, up to its texts
 abbrev pub message_fields : ℕ → Message → List ℕ
-message_fields id message = codes "message " ++ decimal id ++ 32 ∷ severity_name message.severity ++ 32 ∷ decimal message.line ++ 32 ∷ []
+message_fields id message =
+    codes "message " ++ decimal id ++ 32 ∷ severity_name message.severity ++ 32 ∷ decimal message.line ++ 32 ∷ []
 
 -- the line of a message with its id
 abbrev pub message_line : ℕ → Message → List ℕ

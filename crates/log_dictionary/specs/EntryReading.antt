@@ -13,7 +13,8 @@ Stops NoMemory cut wrong = ⊥
 
 -- the fields without where they lie in memory
 abbrev pub raw_fields : EntryFields → RawEntry
-raw_fields fields = record { severity = fields.severity; line = fields.line; file = fields.file.now; format = fields.format.now }
+raw_fields fields =
+    record { severity = fields.severity; line = fields.line; file = fields.file.now; format = fields.format.now }
 
 -- the bytes begin with these fields, and each is in range
 pub record IsRead (bytes : List ℕ) (raw : RawEntry) : Type 0 where

@@ -15,7 +15,8 @@ pub record IsFirstSplit (separator : ℕ) (bytes front back : List ℕ) : Type 0
 
 -- what stands before the first separator, and what stands after it, if one stands there
 unfoldable pub split_at_first : ℕ → List ℕ → Option (List ℕ × List ℕ)
-split_at_first separator bytes = option_map (λ at. (take at bytes, drop (at + 1) bytes)) (position (λ byte. byte == separator) bytes)
+split_at_first separator bytes =
+    option_map (λ at. (take at bytes, drop (at + 1) bytes)) (position (λ byte. byte == separator) bytes)
 
 -- what stands after a front that is given
 abbrev pub after : List ℕ → List ℕ → Option (List ℕ)

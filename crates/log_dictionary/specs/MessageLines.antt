@@ -21,7 +21,14 @@ pub record SpelledParts : Type 0 where
 
 -- the fields without where they lie in memory
 abbrev pub spelled_parts : Fields → SpelledParts
-spelled_parts fields = record { id = fields.id.now; severity = fields.severity.now; number = fields.number.now; file = fields.file; format = fields.format }
+spelled_parts fields =
+    record {
+      id = fields.id.now;
+      severity = fields.severity.now;
+      number = fields.number.now;
+      file = fields.file;
+      format = fields.format;
+    }
 
 -- the parts of a line that is `message`, three fields and two texts
 unfoldable pub parts_at : List ℕ → Option SpelledParts
@@ -33,7 +40,9 @@ parts_at line = do
   file ← text_at number.1
   second ← after (codes " ") file.1
   format ← text_at second
-  if length format.1 == 0 then Some (record { id = id.0; severity = severity.0; number = number.0; file = file.0; format = format.0 }) else None
+  if length format.1 == 0
+      then Some (record { id = id.0; severity = severity.0; number = number.0; file = file.0; format = format.0 })
+      else None
 
 -- ---- parts
 
@@ -47,13 +56,15 @@ pub record LineParts : Type 0 where
 
 -- the same without what its texts lie in
 abbrev pub line_parts : MessageLine → LineParts
-line_parts line = record { id = line.id; severity = line.severity; number = line.line; file = line.file; format = line.format }
+line_parts line =
+    record { id = line.id; severity = line.severity; number = line.line; file = line.file; format = line.format }
 
 -- the line spells these parts, and each is within its limits; what the format spells isn't judged
 pub record SpellsParts (line : List ℕ) (parts : LineParts) : Type 0 where
   pub name : List ℕ
   pub text : List ℕ
-  pub spelled : line ≡ codes "message " ++ decimal parts.id ++ 32 ∷ severity_name parts.severity ++ 32 ∷ decimal parts.number ++ codes " \"" ++ name ++ codes "\" \"" ++ text ++ 34 ∷ []
+  pub spelled : line ≡ codes "message " ++ decimal parts.id ++ 32 ∷ severity_name parts.severity
+      ++ 32 ∷ decimal parts.number ++ codes " \"" ++ name ++ codes "\" \"" ++ text ++ 34 ∷ []
   pub file_spelled : SpellsText name parts.file
   pub format_spelled : SpellsText text parts.format
   pub id_fits : parts.id < 2 ^ 64

@@ -17,7 +17,10 @@ pub record SameMessage (a b : Message) : Type 0 where
 
 -- the test for it
 abbrev pub is_same : Message → Message → Bool
-is_same = eq_of_both (on (λ m. m.line) nat_eq) (eq_of_both (on (λ m. severity_number m.severity) nat_eq) (eq_of_both (on (λ m. m.file) (pointwise nat_eq)) (on (λ m. m.format.bytes) (pointwise nat_eq))))
+is_same =
+    eq_of_both (on (λ m. m.line) nat_eq)
+    (eq_of_both (on (λ m. severity_number m.severity) nat_eq)
+    (eq_of_both (on (λ m. m.file) (pointwise nat_eq)) (on (λ m. m.format.bytes) (pointwise nat_eq))))
 
 -- what of a message is hashed: what the test compares
 abbrev pub message_writes : Message → List (List ℕ)
@@ -35,11 +38,13 @@ HasId messages message id = (other : Message) × (slice_get messages id ≡ Some
 abbrev pub AreDistinct : List Message → Type 0
 AreDistinct messages = AllPairs (λ a b. ¬ (SameMessage a b)) messages
 
--- the line is `message`, a number, a severity, a number and two texts in quotation marks, and these are the id and the parts of the message
+-- the line is `message`, a number, a severity, a number and two texts in quotation marks, and these are the id and the
+-- parts of the message
 pub record SpellsMessage (line : List ℕ) (id : ℕ) (message : Message) : Type 0 where
   pub name : List ℕ
   pub format : List ℕ
-  pub spelled : line ≡ codes "message " ++ decimal id ++ 32 ∷ severity_name message.severity ++ 32 ∷ decimal message.line ++ codes " \"" ++ name ++ codes "\" \"" ++ format ++ 34 ∷ []
+  pub spelled : line ≡ codes "message " ++ decimal id ++ 32 ∷ severity_name message.severity
+      ++ 32 ∷ decimal message.line ++ codes " \"" ++ name ++ codes "\" \"" ++ format ++ 34 ∷ []
   pub file : SpellsText name message.file
   pub bytes : SpellsText format message.format.bytes
   pub formed : Spells message.format.bytes message.format.pieces

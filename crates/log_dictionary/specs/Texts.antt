@@ -5,11 +5,13 @@ use Rattle.std.specs.List.{list_any}
 use Rattle.std.specs.Option.{option_map_or}
 use Rattle.std.specs.Char.{digit_value, IsAsciiHexdigit}
 
--- a byte that stands for itself: printable ASCII other than the quotation mark and the backslash, or a byte from 80 to ff
+-- a byte that stands for itself: printable ASCII other than the quotation mark and the backslash, or a byte from 80 to
+-- ff
 abbrev pub IsPlain : ℕ → Type 0
 IsPlain b = ((32 ≤ b) × (b ≤ 126) × (b ≢ 34) × (b ≢ 92)) ⊎ ((128 ≤ b) × (b ≤ 255))
 
--- a byte of a text as it is spelled: itself, one of the escapes `\"`, `\\`, `\n` and `\t`, or `\x` and two hexadecimal digits
+-- a byte of a text as it is spelled: itself, one of the escapes `\"`, `\\`, `\n` and `\t`, or `\x` and two hexadecimal
+-- digits
 pub data SpellsByte (unit : List ℕ) (b : ℕ) : Type 0 where
   itself : IsPlain b → unit ≡ b ∷ [] → SpellsByte unit b
   quotation_mark : unit ≡ codes "\\\"" → b ≡ 34 → SpellsByte unit b
@@ -22,7 +24,8 @@ pub data SpellsByte (unit : List ℕ) (b : ℕ) : Type 0 where
 -- a text's spelling is the spellings of its bytes, joined
 abbrev pub SpellsText : List ℕ → List ℕ → Type 0
 SpellsText spelled [] = spelled ≡ []
-SpellsText spelled (b ∷ bytes) = (unit : List ℕ) × (rest : List ℕ) × (spelled ≡ unit ++ rest) × SpellsByte unit b × SpellsText rest bytes
+SpellsText spelled (b ∷ bytes) =
+    (unit : List ℕ) × (rest : List ℕ) × (spelled ≡ unit ++ rest) × SpellsByte unit b × SpellsText rest bytes
 
 -- the bytes begin with a text in quotation marks that stands for `value`, and the rest follows its closing mark
 pub record OpensText (bytes value rest : List ℕ) : Type 0 where
@@ -56,8 +59,14 @@ is_hexadecimal b = nat_lt (digit_value b) 16
 
 -- what each byte does at each place
 abbrev pub text_step : TextPlace → ℕ → TextStep
-text_step outside b = if b == 34 then ends else (if b == 92 then goes_on behind_backslash else (if is_plain b then gives b else breaks))
-text_step behind_backslash b = if b == 34 then gives 34 else (if b == 92 then gives 92 else (if b == 110 then gives 10 else (if b == 116 then gives 9 else (if b == 120 then goes_on behind_x else breaks))))
+text_step outside b =
+    if b == 34 then ends else (if b == 92 then goes_on behind_backslash else (if is_plain b then gives b else breaks))
+text_step behind_backslash b =
+    if b == 34 then gives 34
+    else (if b == 92 then gives 92
+    else (if b == 110 then gives 10
+    else (if b == 116 then gives 9
+    else (if b == 120 then goes_on behind_x else breaks))))
 text_step behind_x b = if is_hexadecimal b then goes_on (behind_digit (digit_value b)) else breaks
 text_step (behind_digit high) b = if is_hexadecimal b then gives (16 * high + digit_value b) else breaks
 

@@ -44,8 +44,8 @@ pub fn entry_len(message: &Message) -> usize
     FIXED_LEN + message.file.as_slice().len() + message.format.bytes().len()
 }
 
-// Copies the bytes to this place, and gives the place after them.
-fn put(into: &mut [u8], at: usize, bytes: &[u8]) -> usize
+/// Copies the bytes to this place, and gives the place after them. It takes no memory.
+pub fn put(into: &mut [u8], at: usize, bytes: &[u8]) -> usize
     requires room { at + length bytes.now ≤ length into.now }
     ensures put { into.new ≡ take at into.old ++ bytes.now ++ drop result into.old }
     ensures after { result ≡ at + length bytes.now }

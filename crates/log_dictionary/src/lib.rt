@@ -14,13 +14,13 @@ mod severity;
 mod text;
 mod writing;
 
-pub use binary_entry::{EntryFault, entry_len, put_entry, read_entry};
+pub use binary_entry::{EntryFault, entry_len, put, put_entry, read_entry};
 pub use clock::Clock;
 pub use dictionary::{AddFault, Added, Dictionary, LineFault, MAX_MESSAGES};
 pub use fields::{first_field, split_at_byte};
 pub use message::{MAX_FILE_NAME, Message};
 pub use numbers::{Integer, read_integer, read_number, read_signed};
-pub use severity::Severity;
+pub use severity::{Severity, severity_named};
 pub use text::{SpelledText, split_text};
 pub use writing::push_text;
 

@@ -4,15 +4,13 @@ ghost use Rattle.std.specs.Prelude.{◌≡◌, ◌<◌, ◌≤◌, ◌^◌, ℕ,
 ghost use Rattle.std.specs.Option.{option_copied, option_map};
 ghost use Rattle.printf_grammar.specs.declared.limits.TheConstants.{MAX_FORMAT};
 ghost use Rattle.log_dictionary.specs.declared.message.TheConstants.{MAX_FILE_NAME};
-ghost use Rattle.log_dictionary.specs.declared.severity.Severity.{Severity};
-ghost use Rattle.log_dictionary.specs.Severities.{severity_name};
 ghost use Rattle.log_dictionary.specs.Fields.{split_at_first, after};
 ghost use Rattle.log_dictionary.specs.MessageLines.{spelled_parts, parts_at, line_parts, SpellsParts, IsMessageLine};
 
 use crate::fields::split_at_byte;
 use crate::message::MAX_FILE_NAME;
 use crate::numbers::read_number;
-use crate::severity::Severity;
+use crate::severity::{Severity, severity_named};
 use crate::text::{SpelledText, split_text};
 use printf_grammar::MAX_FORMAT;
 
@@ -87,19 +85,6 @@ fn read_line_number(field: &[u8]) -> Option<u32>
     Some(number as u32)
 }
 
-fn severity_of(name: &[u8]) -> Option<Severity>
-    ensures some { IfSome result (λ severity. name.now ≡ severity_name severity) }
-    ensures none { IfNone result ((severity : Severity) → name.now ≡ severity_name severity → ⊥) }
-{
-    match name {
-        b"ERROR" => Some(Severity::Error),
-        b"WARNING" => Some(Severity::Warning),
-        b"NOTICE" => Some(Severity::Notice),
-        b"DEBUG" => Some(Severity::Debug),
-        _ => None,
-    }
-}
-
 fn are_within_limits(file_len: usize, format_len: usize) -> bool
     ensures { IsTrue result
         ↔ ((1 ≤ file_len) × (file_len ≤ MAX_FILE_NAME) × (format_len ≤ MAX_FORMAT)) }
@@ -114,7 +99,7 @@ pub(crate) fn message_line_of(line: &[u8]) -> Option<MessageLine<'_>>
 {
     let fields = fields_of(line)?;
     let id = read_number(fields.id)?;
-    let severity = severity_of(fields.severity)?;
+    let severity = severity_named(fields.severity)?;
     let line = read_line_number(fields.number)?;
     if !are_within_limits(fields.file.len(), fields.format.len()) {
         return None;

@@ -1,6 +1,7 @@
 //! How grave a message is.
 
-ghost use Rattle.std.specs.Prelude.{◌≡◌};
+ghost use Rattle.std.specs.Prelude.{◌≡◌, IfSome, IfNone};
+ghost use Rattle.log_dictionary.specs.declared.severity.Severity.{Severity};
 ghost use Rattle.log_dictionary.specs.Severities.{severity_name, severity_number};
 
 /// How grave a message is. The gravest comes first.
@@ -35,5 +36,19 @@ impl Severity {
             Severity::Notice => "NOTICE",
             Severity::Debug => "DEBUG",
         }
+    }
+}
+
+/// The severity of this name.
+pub fn severity_named(name: &[u8]) -> Option<Severity>
+    ensures some { IfSome result (λ severity. name.now ≡ severity_name severity) }
+    ensures none { IfNone result ((severity : Severity) → name.now ≡ severity_name severity → ⊥) }
+{
+    match name {
+        b"ERROR" => Some(Severity::Error),
+        b"WARNING" => Some(Severity::Warning),
+        b"NOTICE" => Some(Severity::Notice),
+        b"DEBUG" => Some(Severity::Debug),
+        _ => None,
     }
 }

@@ -7,8 +7,8 @@ use Rattle.nl_io.specs.Desk.{Desk, Held, OnlyReadFaults, IsReading, Opens, Creat
 use Rattle.nl_io.specs.DeskLaws.{Opens-content, written, written-holds}
 use Rattle.nanolog_cli.specs.declared.refusal.Cause.{Cause}
 use Rattle.nanolog_cli.specs.declared.refusal.Refusal.{Refusal}
-use Rattle.nanolog_cli.specs.Endings.{Ending, Done, Usage, Absent, ReadFault, Refused, WriteFault, NoMemory, refusal_ending, fault_ending}
-use Rattle.nanolog_cli.specs.Inputs.{Never, WrongTrace, UntakenTrace, GivesNothing}
+use Rattle.nanolog_cli.specs.Endings.{Ending, Done, Usage, Absent, ReadFault, Refused, RefusedSources, WriteFault, NoMemory, refusal_ending, fault_ending}
+use Rattle.nanolog_cli.specs.Inputs.{WrongTrace, UntakenTrace, GivesNothing}
 use Rattle.nanolog_cli.specs.declared.refusal.Cause.TheVariants.{NotYet}
 use Rattle.trace_text.specs.declared.reading.TraceFault.{TraceFault}
 use Rattle.trace_text.specs.declared.reading.TraceFault.TheVariants as faults
@@ -18,7 +18,7 @@ use Rattle.trace_text.specs.TraceReading.{IsAnswer}
 use Rattle.nanolog_cli.specs.NarrowTraces.{IsNarrowRun}
 use Rattle.trace_text.proofs.ToldApart.{one_run}
 use Rattle.nl_io.specs.Count.{Rose}
-use Rattle.nanolog_cli.specs.Outcomes.{IsHeld, HoldsFront, HoldsSuch, IsThere, IsUnread}
+use Rattle.nanolog_cli.specs.Outcomes.{IsHeld, HoldsFront, HoldsSuch, IsThere, GivesNoBytes, IsUnread}
 use Rattle.nanolog_cli.proofs.Choices.{some_same}
 
 -- what is known of a content that the name holds holds of what it holds
@@ -64,19 +64,16 @@ such_there (Some h) name bytes such is so = (bytes, is, so)
 pub held_such : (desk : Desk) (name bytes : List ℕ) (such : List ℕ → Type 0) → IsHeld desk name bytes → such bytes → HoldsSuch desk name such
 held_such desk name bytes such is so = such_there desk.held name bytes such is so
 
-never_such : (held : Option Held) (name : List ℕ) (such : List ℕ → Type 0) → IfSome held (λ h. (found : List ℕ) × (map.get h name ≡ Some found) × ⊥) → IfSome held (λ h. (found : List ℕ) × (map.get h name ≡ Some found) × such found)
-never_such None name such other = tt
-never_such (Some h) name such (found, is, never) = absurd never
-
--- a file that gave nothing whatever it holds gave nothing
-pub unread_never : (refused : List ℕ → ℕ → Cause → Type 0) (input : List ℕ) (old new : Desk) (ending : Ending) → IsUnread Never input old new ending → IsUnread refused input old new ending
-unread_never refused input old new Done unread = unread
-unread_never refused input old new Usage unread = unread
-unread_never refused input old new (Absent name) unread = unread
-unread_never refused input old new (ReadFault name) unread = unread
-unread_never refused input old new (Refused name line cause) unread = (unread.0, unread.1, never_such old.held input (λ bytes. refused bytes line cause) unread.2)
-unread_never refused input old new (WriteFault name) unread = unread
-unread_never refused input old new NoMemory unread = unread
+-- a file that gave no bytes gave nothing
+pub unread_never : (refused : List ℕ → ℕ → Cause → Type 0) (input : List ℕ) (old new : Desk) (ending : Ending) → GivesNoBytes input old new ending → IsUnread refused input old new ending
+unread_never refused input old new Done gives = gives
+unread_never refused input old new Usage gives = gives
+unread_never refused input old new (Absent name) gives = gives
+unread_never refused input old new (ReadFault name) gives = gives
+unread_never refused input old new (Refused name line cause) gives = absurd gives
+unread_never refused input old new (RefusedSources lines) gives = gives
+unread_never refused input old new (WriteFault name) gives = gives
+unread_never refused input old new NoMemory gives = gives
 
 -- a file of which the bytes gave nothing
 pub unread_bytes : (refused : List ℕ → ℕ → Cause → Type 0) (input bytes : List ℕ) (old new : Desk) (ending : Ending) → IsHeld old input bytes → new ≡ old → GivesNothing refused input bytes ending → IsUnread refused input old new ending
@@ -85,6 +82,7 @@ unread_bytes refused input bytes old new Usage held same nothing = nothing
 unread_bytes refused input bytes old new (Absent name) held same nothing = absurd nothing
 unread_bytes refused input bytes old new (ReadFault name) held same nothing = absurd nothing
 unread_bytes refused input bytes old new (Refused name line cause) held same nothing = (nothing.0, same, held_such old input bytes (λ found. refused found line cause) held nothing.1)
+unread_bytes refused input bytes old new (RefusedSources lines) held same nothing = absurd nothing
 unread_bytes refused input bytes old new (WriteFault name) held same nothing = nothing
 unread_bytes refused input bytes old new NoMemory held same nothing = (same, held_there old input bytes held)
 

@@ -14,5 +14,7 @@ pub mod Pieces
 pub mod Endings
 pub mod PrintLemmas
 pub mod EndLaws
+pub mod SourceLemmas
+pub mod SourceLaws
 pub mod Levels
 pub mod Sayings

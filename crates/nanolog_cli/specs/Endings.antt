@@ -10,13 +10,15 @@ use Rattle.nanolog_cli.specs.declared.refusal.Cause.TheVariants.{Trace, NotYet}
 use Rattle.nanolog_cli.specs.declared.refusal.Refusal.{Refusal}
 use Rattle.nanolog_cli.specs.declared.refusal.Refusal.TheVariants as refusals
 
--- an end, with the name that it tells of; a refused file is told with a line, which is 0 where that is none, and a cause
+-- An end, with the name that it tells of. A refused file is told with a line, which is 0 where that is none, and a cause,
+-- and refused sources with the lines on all that is refused.
 pub data Ending : Type 0 where
   Done : Ending
   Usage : Ending
   Absent : (name : List ℕ) → Ending
   ReadFault : (name : List ℕ) → Ending
   Refused : (name : List ℕ) (line : ℕ) (cause : Cause) → Ending
+  RefusedSources : (lines : List ℕ) → Ending
   WriteFault : (name : List ℕ) → Ending
   NoMemory : Ending
 
@@ -27,6 +29,7 @@ status_of Usage = statuses.Usage
 status_of (Absent name) = statuses.Absent
 status_of (ReadFault name) = statuses.ReadFault
 status_of (Refused name line cause) = statuses.Refused
+status_of (RefusedSources lines) = statuses.Refused
 status_of (WriteFault name) = statuses.WriteFault
 status_of NoMemory = statuses.NoMemory
 
@@ -46,6 +49,7 @@ refusal_ending refusals.Usage = Usage
 refusal_ending (refusals.Absent name) = Absent name.now
 refusal_ending (refusals.ReadFault name) = ReadFault name.now
 refusal_ending (refusals.Refused name line cause) = Refused name.now line cause
+refusal_ending (refusals.RefusedSources lines) = RefusedSources lines.items
 refusal_ending (refusals.WriteFault name) = WriteFault name.now
 refusal_ending refusals.NoMemory = NoMemory
 

@@ -4,6 +4,8 @@ pub mod Levels
 pub mod Statuses
 pub mod Endings
 pub mod Words
+pub mod HeldFiles
+pub mod Scenes
 pub mod NarrowTraces
 pub mod NarrowLogs
 pub mod LogParts
@@ -11,4 +13,5 @@ pub mod Inputs
 pub mod Texts
 pub mod Replays
 pub mod Appending
+pub mod Preprocessing
 pub mod Outcomes

@@ -11,42 +11,19 @@ use Rattle.trace_text.specs.Recordings.{Recording}
 use Rattle.trace_text.specs.Traces.{TraceText}
 use Rattle.decompressor.specs.Decompression.{Decompressed}
 use Rattle.nanolog_cli.specs.declared.refusal.Cause.{Cause}
-use Rattle.cli_words.specs.Commands.{Command, Direct, Replay, Decompress}
-use Rattle.nanolog_cli.specs.CommandFiles.{input_name}
+use Rattle.cli_words.specs.Commands.{Command, Preprocess, Direct, Replay, Decompress}
 use Rattle.nanolog_cli.specs.Levels.{kept_run}
 use Rattle.nanolog_cli.specs.Endings.{Ending, Done, Usage, Absent, ReadFault, Refused, WriteFault, NoMemory}
-use Rattle.nanolog_cli.specs.Inputs.{input_refused}
+use Rattle.nanolog_cli.specs.Inputs.{IsTrace, IsNarrowTrace, WrongTrace, UntakenTrace, UntakenLog}
 use Rattle.nanolog_cli.specs.NarrowTraces.{NarrowTrace}
 use Rattle.nanolog_cli.specs.NarrowLogs.{NarrowLog, IsLog}
 use Rattle.nanolog_cli.specs.Texts.{direct_text}
 use Rattle.nanolog_cli.specs.Replays.{LogOfRun, accepted_text}
-use Rattle.nanolog_cli.specs.Words.{standard_output}
+use Rattle.nanolog_cli.specs.Preprocessing.{GiveNothing, AreRefused, AreRight, WritesDictionary, LosesDictionary}
+pub use Rattle.nanolog_cli.specs.HeldFiles.{IsHeld, HoldsFront, IsThere, HoldsSuch, Holds}
+pub use Rattle.nanolog_cli.specs.Scenes.{Scene, scene, Prints}
 
--- ---- what names hold
-
--- the name holds these bytes, where that is told
-abbrev pub IsHeld : Desk → List ℕ → List ℕ → Type 0
-IsHeld desk name bytes = IfSome desk.held (λ held. map.get held name ≡ Some bytes)
-
--- the name holds a front of these bytes, from none to all of them, where that is told
-abbrev pub HoldsFront : Desk → List ℕ → List ℕ → Type 0
-HoldsFront desk name bytes = (n : ℕ) × (n ≤ length bytes) × IsHeld desk name (take n bytes)
-
--- the name is there, where that is told
-abbrev pub IsThere : Desk → List ℕ → Type 0
-IsThere desk name = IfSome desk.held (λ held. map.get held name ≢ None)
-
--- the name holds bytes of which this is so, where that is told
-abbrev pub HoldsSuch : Desk → List ℕ → (List ℕ → Type 0) → Type 0
-HoldsSuch desk name such = IfSome desk.held (λ held. (bytes : List ℕ) × (map.get held name ≡ Some bytes) × such bytes)
-
--- it is told that the name holds bytes of a form
-pub record Holds (desk : Desk) (name : List ℕ) (form : List ℕ → Type 0) : Type 0 where
-  pub held : Held
-  pub bytes : List ℕ
-  pub told : desk.held ≡ Some held
-  pub there : map.get held name ≡ Some bytes
-  pub formed : form bytes
+-- ---- what names held
 
 -- what the name held, where that is told, is such a text of the run
 abbrev pub HeldRun : (List ℕ → Recording → Type 0) → Desk → List ℕ → Recording → Type 0
@@ -85,54 +62,64 @@ pub record LogCutOff (old new : Desk) (log : List ℕ) (run : Recording) : Type 
 
 -- ---- what was done
 
--- what a command reads and writes: the files, what went to the standard output, and how many of its calls failed
-pub record Scene : Type 0 where
-  pub desk : Desk
-  pub put : Told
-  pub faults : ℕ
-
-abbrev pub scene : Desk → Told → ℕ → Scene
-scene desk put faults = record { desk = desk; put = put; faults = faults }
-
--- The text that a command prints, when all else is done: its file was read to the last byte, and its log is written, where it has one.
+-- The text that a command prints, when all else is done: what it reads was read to the last byte, and what it writes to
+-- a file is written.
 abbrev pub HasText : Command → Desk → Desk → List ℕ → Type 0
+HasText (Preprocess dictionary sources) old new text = WritesDictionary dictionary sources old new text
 HasText (Direct trace) old new text = (run : Recording) × HeldRun TraceText old trace run × (text ≡ direct_text run) × (new ≡ old)
 HasText (Replay trace log level) old new text =
     (run : Recording) × HeldRun NarrowTrace old trace run × LogWritten old new log (kept_run run level) × (text ≡ accepted_text run level)
 HasText (Decompress log) old new text = HeldLog old log text × (new ≡ old)
-
--- how the printing of a text ends: all of it is printed, or a front of it where a call failed or memory was wanting
-abbrev pub Prints : List ℕ → Told → Told → ℕ → ℕ → Ending → Type 0
-Prints text was is before after Done = (is ≡ with_end text was) × (after ≡ before)
-Prints text was is before after (WriteFault name) = (name ≡ standard_output) × PutsFront text was is × Rose before after
-Prints text was is before after NoMemory = PutsFront text was is × (after ≡ before)
-Prints text was is before after ending = ⊥
 
 -- all was done that comes before the text is printed, and the printing of it ended so
 abbrev pub PrintsText : Command → Scene → Scene → Ending → Type 0
 PrintsText command old new ending =
     (text : List ℕ) × HasText command old.desk new.desk text × Prints text old.put new.put old.faults new.faults ending
 
--- the log of the run that was read couldn't be written whole, and nothing was printed; only `replay` writes one
-abbrev pub LosesLog : Command → Scene → Scene → List ℕ → Type 0
-LosesLog (Replay trace log level) old new name =
+-- what a command writes to a file couldn't be written whole, and nothing was printed
+abbrev pub LosesFile : Command → Scene → Scene → List ℕ → Type 0
+LosesFile (Preprocess dictionary sources) old new name =
+    (name ≡ dictionary) × LosesDictionary dictionary sources old.desk new.desk × (new.put ≡ old.put) × (new.faults ≡ old.faults)
+LosesFile (Replay trace log level) old new name =
     (name ≡ log) × ((run : Recording) × HeldRun NarrowTrace old.desk trace run × LogCutOff old.desk new.desk log (kept_run run level))
     × (new.put ≡ old.put) × (new.faults ≡ old.faults)
-LosesLog _ old new name = ⊥
+LosesFile _ old new name = ⊥
 
--- Why a file gave nothing: it isn't there, a call failed, it is refused for a cause that its bytes have, or memory was wanting.
+-- why a file gave no bytes: it isn't there, a call failed, or memory was wanting
+abbrev pub GivesNoBytes : List ℕ → Desk → Desk → Ending → Type 0
+GivesNoBytes input old new (Absent name) = (name ≡ input) × (new ≡ old) × IsAbsent old input
+GivesNoBytes input old new (ReadFault name) = (name ≡ input) × OnlyReadFaults old new × Rose old.read_faults new.read_faults
+GivesNoBytes input old new NoMemory = (new ≡ old) × IsThere old input
+GivesNoBytes input old new ending = ⊥
+
+-- why a file gave nothing: it gave no bytes, or it is refused for a cause that they have
 abbrev pub IsUnread : (List ℕ → ℕ → Cause → Type 0) → List ℕ → Desk → Desk → Ending → Type 0
-IsUnread refused input old new (Absent name) = (name ≡ input) × (new ≡ old) × IsAbsent old input
-IsUnread refused input old new (ReadFault name) = (name ≡ input) × OnlyReadFaults old new × Rose old.read_faults new.read_faults
 IsUnread refused input old new (Refused name line cause) =
     (name ≡ input) × (new ≡ old) × HoldsSuch old input (λ bytes. refused bytes line cause)
-IsUnread refused input old new NoMemory = (new ≡ old) × IsThere old input
-IsUnread refused input old new ending = ⊥
+IsUnread refused input old new ending = GivesNoBytes input old new ending
 
--- the file that the command reads gave nothing, and nothing was printed
+-- why what a command reads gave nothing
+abbrev pub Unread : Command → Desk → Desk → Ending → Type 0
+Unread (Preprocess dictionary sources) = GiveNothing sources
+Unread (Direct trace) = IsUnread WrongTrace trace
+Unread (Replay trace log level) = IsUnread UntakenTrace trace
+Unread (Decompress log) = IsUnread UntakenLog log
+
+-- what the command reads gave nothing, and nothing was printed
 abbrev pub ReadsNothing : Command → Scene → Scene → Ending → Type 0
-ReadsNothing command old new ending =
-    IsUnread (input_refused command) (input_name command) old.desk new.desk ending × (new.put ≡ old.put) × (new.faults ≡ old.faults)
+ReadsNothing command old new ending = Unread command old.desk new.desk ending × (new.put ≡ old.put) × (new.faults ≡ old.faults)
+
+-- it is told that what a command reads is there, and is right
+abbrev pub IsRight : Command → Desk → Type 0
+IsRight (Preprocess dictionary sources) desk = AreRight desk sources
+IsRight (Direct trace) desk = Holds desk trace IsTrace
+IsRight (Replay trace log level) desk = Holds desk trace IsNarrowTrace
+IsRight (Decompress log) desk = Holds desk log IsLog
+
+-- of what a command read something is refused, on which it goes on to read; only `preprocess` does so
+abbrev pub ReadsOn : Command → Desk → Desk → Type 0
+ReadsOn (Preprocess dictionary sources) old new = (lines : List ℕ) × AreRefused sources old new lines
+ReadsOn _ old new = ⊥
 
 -- memory was wanting: nothing was printed or, of the lines of `direct`, a front
 abbrev pub LacksMemory : Command → Scene → Scene → Type 0
@@ -142,7 +129,7 @@ LacksMemory command old new = ReadsNothing command old new NoMemory
 -- What the answer of a command says.
 abbrev pub Ends : Command → Scene → Scene → Ending → Type 0
 Ends command old new Done = PrintsText command old new Done
-Ends command old new (WriteFault name) = PrintsText command old new (WriteFault name) ⊎ LosesLog command old new name
+Ends command old new (WriteFault name) = PrintsText command old new (WriteFault name) ⊎ LosesFile command old new name
 Ends command old new NoMemory = LacksMemory command old new
 Ends command old new ending = ReadsNothing command old new ending
 

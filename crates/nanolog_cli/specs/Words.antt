@@ -2,7 +2,7 @@
 use Rattle.std.specs.Prelude.{ℕ, List, [], ◌++◌, map, codes}
 use Rattle.std.specs.Fmt.{decimal}
 use Rattle.std.specs.Borrow.{Bor}
-use Rattle.nanolog_cli.specs.Endings.{Ending, Done, Usage, Absent, ReadFault, Refused, WriteFault, NoMemory, number_of, name_of}
+use Rattle.nanolog_cli.specs.Endings.{Ending, Done, Usage, Absent, ReadFault, Refused, RefusedSources, WriteFault, NoMemory, number_of, name_of}
 
 -- the forms of the command line
 abbrev pub usage_text : List ℕ
@@ -26,6 +26,7 @@ words_of (ReadFault name) = codes "nanolog: " ++ name ++ codes ": read fault\n"
 words_of (Refused name line cause) =
     codes "nanolog: " ++ name ++ codes ":" ++ decimal line
     ++ codes ": refused: " ++ decimal (number_of cause) ++ codes " " ++ name_of cause ++ codes "\n"
+words_of (RefusedSources lines) = lines
 words_of (WriteFault name) = codes "nanolog: " ++ name ++ codes ": write fault\n"
 words_of NoMemory = codes "nanolog: want of memory\n"
 

@@ -9,6 +9,7 @@ ghost use Rattle.nanolog_cli.specs.Outcomes.{scene, Ends, Answers, Says};
 
 use crate::decompress::decompress;
 use crate::direct::direct;
+use crate::preprocess::preprocess;
 use crate::refusal::Refusal;
 use crate::replay::replay;
 use crate::report::say;
@@ -30,6 +31,10 @@ fn run<'a, F: Files, O: Sink>(
     ensures out_others { O.rest out.old out.new }
 {
     match command {
+        Command::Preprocess {
+            dictionary,
+            sources,
+        } => preprocess(alloc, files, dictionary, &sources, out),
         Command::Direct { trace } => direct(alloc, files, trace, out),
         Command::Replay { trace, log, level } => replay(alloc, files, trace, log, level, out),
         Command::Decompress { log } => decompress(alloc, files, log, out),
@@ -57,10 +62,11 @@ fn run_words<'a, F: Files, O: Sink>(
 
 /// Does what the words after the program's name ask for, and answers how that ended. It waits for nobody.
 ///
-/// So far there are three commands. `direct TRACE` prints the lines of all calls of the trace. `replay TRACE LOG
-/// [--level S]` writes the log of the calls that the level keeps, and prints how many it keeps and how many it doesn't.
-/// `decompress LOG` prints the lines of the log. A file that is no trace is refused, and so is a trace, or a log, that
-/// isn't narrow, with the last two.
+/// So far there are four commands. `preprocess DICT FILE..` writes the messages of the sources to DICT, and prints how
+/// many they are, and how many statements; where something of the sources is refused, it tells all of that instead.
+/// `direct TRACE` prints the lines of all calls of the trace. `replay TRACE LOG [--level S]` writes the log of the calls
+/// that the level keeps, and prints how many it keeps and how many it doesn't. `decompress LOG` prints the lines of the
+/// log. A file that is no trace is refused, and so is a trace, or a log, that isn't narrow, with the last two.
 pub fn quick<F: Files, O: Sink, E: Sink>(
     alloc: Global,
     words: &[String],
@@ -87,7 +93,7 @@ pub fn quick<F: Files, O: Sink, E: Sink>(
     match run_words(alloc, words, files, out) {
         Ok(()) => Status::Done,
         Err(refusal) => {
-            say(err, refusal);
+            say(err, &refusal);
             refusal.status()
         }
     }

@@ -7,10 +7,10 @@ ghost use Rattle.nl_io.specs.Content.{Told};
 ghost use Rattle.nl_io.specs.Desk.{IsReading, Opens, SameButLeft};
 ghost use Rattle.trace_text.specs.Traces.{TraceText};
 ghost use Rattle.trace_text.specs.TraceReading.{IsAnswer};
-ghost use Rattle.nanolog_cli.specs.Outcomes.{IsHeld, HoldsSuch, HeldRun, HeldNarrowLog, IsUnread};
+ghost use Rattle.nanolog_cli.specs.Outcomes.{IsHeld, HoldsSuch, HeldRun, HeldNarrowLog, GivesNoBytes, IsUnread};
 ghost use Rattle.nanolog_cli.specs.NarrowTraces.{NarrowTrace};
 ghost use Rattle.nanolog_cli.specs.NarrowLogs.{NarrowLog};
-ghost use Rattle.nanolog_cli.specs.Inputs.{Never, WrongTrace, UntakenTrace, UntakenLog, GivesNothing};
+ghost use Rattle.nanolog_cli.specs.Inputs.{WrongTrace, UntakenTrace, UntakenLog, GivesNothing};
 ghost use Rattle.nanolog_cli.specs.Endings.{refusal_ending, fault_ending, Refused as RefusedFile};
 ghost use Rattle.nanolog_cli.specs.declared.refusal.Cause.TheVariants.{NotYet as NotTakenYet};
 
@@ -65,7 +65,7 @@ fn trace_of_open<F: Files>(alloc: Global, files: &mut F, id: u32) -> Result<Trac
 /// The id under which the name is opened.
 fn open<'a, F: Files>(files: &mut F, name: &'a str) -> Result<u32, Refusal<'a>>
     ensures opened { IfOk result (λ id. Opens (F.desk files.old) name.now id (F.desk files.new)) }
-    ensures unread { IfErr result (λ refusal. IsUnread Never name.now (F.desk files.old) (F.desk files.new)
+    ensures unread { IfErr result (λ refusal. GivesNoBytes name.now (F.desk files.old) (F.desk files.new)
         (refusal_ending refusal)) }
     ensures others { F.rest files.old files.new }
 {
@@ -77,7 +77,7 @@ fn open<'a, F: Files>(files: &mut F, name: &'a str) -> Result<u32, Refusal<'a>>
 }
 
 /// What the name holds, or nothing where that is more than `limit` bytes.
-fn read_file<'a, F: Files>(
+pub(crate) fn read_file<'a, F: Files>(
     alloc: Global,
     files: &mut F,
     name: &'a str,
@@ -88,7 +88,7 @@ fn read_file<'a, F: Files>(
     ensures longer { IfOk result (λ read. IfNone read
         (HoldsSuch (F.desk files.old) name.now (λ bytes. limit < length bytes))) }
     ensures same { OnOk result (F.desk files.new ≡ F.desk files.old) }
-    ensures unread { IfErr result (λ refusal. IsUnread Never name.now (F.desk files.old) (F.desk files.new)
+    ensures unread { IfErr result (λ refusal. GivesNoBytes name.now (F.desk files.old) (F.desk files.new)
         (refusal_ending refusal)) }
     ensures others { F.rest files.old files.new }
 {

@@ -1,16 +1,15 @@
 //! Laws over the definitions, and a worked example. The functions do nothing: what they ensure is proved of the
 //! definitions.
 
-ghost use Rattle.std.specs.Prelude.{◌≡◌, ◌≢◌, ◌⊎◌, ◌++◌, ℕ, List, Some, None, codes};
+ghost use Rattle.std.specs.Prelude.{◌≡◌, ◌≢◌, ◌⊎◌, ◌∷◌, ◌++◌, ℕ, List, Some, None, Contains, codes};
 ghost use Rattle.std.specs.FinMap as map;
 ghost use Rattle.nl_io.specs.Count.{Rose};
 ghost use Rattle.nl_io.specs.Desk.{Held, found_in};
 ghost use Rattle.trace_text.specs.Rows.{three_writers};
 ghost use Rattle.cli_words.specs.Commands.{Command};
-ghost use Rattle.nanolog_cli.specs.CommandFiles.{input_name, output_name};
+ghost use Rattle.nanolog_cli.specs.CommandFiles.{input_names, output_name};
 ghost use Rattle.nanolog_cli.specs.Endings.{Ending, Done, Absent, ReadFault, WriteFault, NoMemory};
-ghost use Rattle.nanolog_cli.specs.Inputs.{input_form};
-ghost use Rattle.nanolog_cli.specs.Outcomes.{Scene, Holds, Ends};
+ghost use Rattle.nanolog_cli.specs.Outcomes.{Scene, IsRight, ReadsOn, Ends};
 ghost use Rattle.nanolog_cli.specs.Texts.{direct_text};
 
 /// Calls of one stamp are printed by writer, and those of one writer in their order.
@@ -21,22 +20,25 @@ pub fn equal_stamps_go_by_writer()
         ++ codes "1514764800.000000001 srv.cc:12 NOTICE[1]: x=3\n" }
 {}
 
-/// A command whose file is held and of its form is done, where no call fails and memory suffices. Where it is told that
-/// there is no such file, that is the answer, unless a call failed.
+/// A command whose files are held and right is done, where no call fails and memory suffices. Where it is told that the
+/// first of them isn't there, that is the answer, unless a call failed.
 pub fn commands_are_done_where_they_can_be()
     ensures taken { (command : Command) (old new : Scene) (ending : Ending) → Ends command old new ending →
-        Holds old.desk (input_name command) (input_form command) →
+        IsRight command old.desk →
         ¬ (Rose old.desk.read_faults new.desk.read_faults) → ¬ (Rose old.desk.write_faults new.desk.write_faults) →
         ¬ (Rose old.faults new.faults) → (ending ≡ Done) ⊎ (ending ≡ NoMemory) }
     ensures absent { (command : Command) (old new : Scene) (ending : Ending) → Ends command old new ending →
-        (held : Held) → old.desk.held ≡ Some held → map.get held (input_name command) ≡ None →
-        ¬ (Rose old.desk.read_faults new.desk.read_faults) → ending ≡ Absent (input_name command) }
+        (name : List ℕ) (others : List (List ℕ)) (held : Held) → input_names command ≡ name ∷ others →
+        old.desk.held ≡ Some held → map.get held name ≡ None →
+        ¬ (Rose old.desk.read_faults new.desk.read_faults) → ending ≡ Absent name }
 {}
 
-/// A count of failed calls rises only where the answer says so.
+/// A count of failed calls rises only where the answer says so, but that `preprocess` tells what is refused of sources
+/// also where it can't read one behind them.
 pub fn failures_are_told()
     ensures reading { (command : Command) (old new : Scene) (ending : Ending) → Ends command old new ending →
-        (ending ≡ ReadFault (input_name command)) ⊎ (new.desk.read_faults ≡ old.desk.read_faults) }
+        ((name : List ℕ) × Contains (input_names command) name × (ending ≡ ReadFault name))
+        ⊎ (new.desk.read_faults ≡ old.desk.read_faults) ⊎ ReadsOn command old.desk new.desk }
     ensures writing { (command : Command) (old new : Scene) (ending : Ending) → Ends command old new ending →
         ((name : List ℕ) × (ending ≡ WriteFault name))
         ⊎ ((new.desk.write_faults ≡ old.desk.write_faults) × (new.faults ≡ old.faults)) }
@@ -44,7 +46,7 @@ pub fn failures_are_told()
         Rose old.faults new.faults ⊎ Rose old.desk.write_faults new.desk.write_faults }
 {}
 
-/// Whatever the answer, all names but that of the log hold what they held, and no file is left open.
+/// Whatever the answer, all names but that of the output hold what they held, and no file is left open.
 pub fn other_files_stay()
     ensures held { (command : Command) (old new : Scene) (ending : Ending) → Ends command old new ending →
         (other : List ℕ) → output_name command ≢ Some other → found_in new.desk other ≡ found_in old.desk other }

@@ -14,9 +14,14 @@ mod log_tests;
 mod narrow;
 mod narrow_log;
 mod output;
+mod preprocess;
+#[cfg(test)]
+mod preprocess_tests;
 mod refusal;
 mod replay;
 mod report;
+mod saving;
+mod sources;
 mod status;
 #[cfg(test)]
 mod tests;

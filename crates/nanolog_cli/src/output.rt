@@ -7,10 +7,7 @@ ghost use Rattle.nanolog_cli.specs.Endings.{ending_of, NoMemory as WantsMemory};
 ghost use Rattle.nanolog_cli.specs.Outcomes.{Prints};
 
 use crate::refusal::Refusal;
-use nl_io::{Sink, write_all};
-
-/// How many bytes of a long text are gathered before they are printed.
-const PIECE: usize = 65_536;
+use nl_io::{Sink, write_all, write_long};
 
 /// Prints a text. It takes no memory.
 pub(crate) fn print<O: Sink>(out: &mut O, text: &[u8]) -> Result<(), Refusal<'static>>
@@ -33,10 +30,8 @@ pub(crate) fn print_long<O: Sink>(out: &mut O, text: &mut Vec<u8>) -> Result<(),
         (O.faults out.old) (O.faults out.new) (ending_of result)) }
     ensures others { O.rest out.old out.new }
 {
-    if text.len() < PIECE {
-        return Ok(());
+    match write_long(out, text) {
+        Ok(()) => Ok(()),
+        Err(_) => Err(Refusal::WriteFault("standard output")),
     }
-    print(out, text)?;
-    text.clear();
-    Ok(())
 }

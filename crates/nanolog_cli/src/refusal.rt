@@ -40,7 +40,7 @@ impl Cause {
 }
 
 /// Why a command wasn't done. A name is the one that the words on it speak of.
-#[derive(Clone, Copy)]
+#[derive(Drop)]
 pub(crate) enum Refusal<'a> {
     Usage,
     Absent(&'a str),
@@ -50,6 +50,11 @@ pub(crate) enum Refusal<'a> {
         /// The line that is wrong, from 1, or 0 where none is.
         line: u64,
         cause: Cause,
+    },
+    /// Sources are refused.
+    RefusedSources {
+        /// What is said of all that is refused, a line for each.
+        lines: Vec<u8>,
     },
     WriteFault(&'a str),
     NoMemory,
@@ -65,14 +70,14 @@ impl From<AllocError> for Refusal<'_> {
 
 impl Refusal<'_> {
     /// How the command ends.
-    pub(crate) fn status(self) -> Status
-        ensures { result ≡ status_of (refusal_ending self.entry) }
+    pub(crate) fn status(&self) -> Status
+        ensures { result ≡ status_of (refusal_ending self.now) }
     {
         match self {
             Refusal::Usage => Status::Usage,
             Refusal::Absent(_) => Status::Absent,
             Refusal::ReadFault(_) => Status::ReadFault,
-            Refusal::Refused { .. } => Status::Refused,
+            Refusal::Refused { .. } | Refusal::RefusedSources { .. } => Status::Refused,
             Refusal::WriteFault(_) => Status::WriteFault,
             Refusal::NoMemory => Status::NoMemory,
         }

@@ -76,9 +76,18 @@ fn say_refused<E: Sink>(err: &mut E, name: &str, line: u64, cause: Cause)
     say_cause(err, name, line, number, cause.name())
 }
 
+/// Writes lines that were made before.
+fn say_lines<E: Sink>(err: &mut E, lines: &[u8])
+    ensures said { Says lines.now (E.put err.old) (E.put err.new) (E.faults err.old) (E.faults err.new) }
+    ensures others { E.rest err.old err.new }
+{
+    // That they can't be written changes nothing else.
+    let _ = write_all(err, lines);
+}
+
 /// Writes the words that go with a refusal. That they can't be written changes nothing else.
-pub(crate) fn say<E: Sink>(err: &mut E, refusal: Refusal<'_>)
-    ensures said { Says (words_of (refusal_ending refusal.entry)) (E.put err.old) (E.put err.new)
+pub(crate) fn say<E: Sink>(err: &mut E, refusal: &Refusal<'_>)
+    ensures said { Says (words_of (refusal_ending refusal.now)) (E.put err.old) (E.put err.new)
         (E.faults err.old) (E.faults err.new) }
     ensures others { E.rest err.old err.new }
 {
@@ -86,7 +95,8 @@ pub(crate) fn say<E: Sink>(err: &mut E, refusal: Refusal<'_>)
         Refusal::Usage => say_pieces(err, &[USAGE]),
         Refusal::Absent(name) => say_pieces(err, &["nanolog: ", name, ": absent\n"]),
         Refusal::ReadFault(name) => say_pieces(err, &["nanolog: ", name, ": read fault\n"]),
-        Refusal::Refused { name, line, cause } => say_refused(err, name, line, cause),
+        Refusal::Refused { name, line, cause } => say_refused(err, name, *line, *cause),
+        Refusal::RefusedSources { lines } => say_lines(err, lines),
         Refusal::WriteFault(name) => say_pieces(err, &["nanolog: ", name, ": write fault\n"]),
         Refusal::NoMemory => say_pieces(err, &["nanolog: want of memory\n"]),
     }

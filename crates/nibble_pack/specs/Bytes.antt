@@ -17,7 +17,8 @@ length-bytes_low_first i (suc k) n = ap suc (length-bytes_low_first (suc i) k n)
 
 byte_at-suc : (i n : ℕ) → byte_at (suc i) n ≡ byte_at i (n / 256)
 byte_at-suc zero n = refl
-byte_at-suc (suc i) n = ap (λ (m : ℕ). m % 256) (ap (λ (p : ℕ). n / p) (pow-succ' 256 (suc i)) ∙ sym (div-div-eq-div-mul n 256 (256 ^ suc i)))
+byte_at-suc (suc i) n =
+    ap (λ (m : ℕ). m % 256) (ap (λ (p : ℕ). n / p) (pow-succ' 256 (suc i)) ∙ sym (div-div-eq-div-mul n 256 (256 ^ suc i)))
 
 byte_at-lt : (i n : ℕ) → byte_at i n < 256
 byte_at-lt zero n = omega arith
@@ -60,14 +61,16 @@ low_first-number_of_bytes (b ∷ bytes) h =
 
 pub bytes_low_first-below : (i k n : ℕ) → All (λ b. b < 256) (bytes_low_first i k n)
 bytes_low_first-below i zero n = All-nil (λ (b : ℕ). b < 256)
-bytes_low_first-below i (suc k) n = All-cons (λ (b : ℕ). b < 256) (byte_at i n) (bytes_low_first (suc i) k n) (byte_at-lt i n) (bytes_low_first-below (suc i) k n)
+bytes_low_first-below i (suc k) n =
+    All-cons (λ (b : ℕ). b < 256) (byte_at i n) (bytes_low_first (suc i) k n) (byte_at-lt i n) (bytes_low_first-below (suc i) k n)
 
 bytes_low_first-of_zero : (m : ℕ) → bytes_low_first 0 m 0 ≡ replicate m 0
 bytes_low_first-of_zero zero = refl
 bytes_low_first-of_zero (suc m) = bytes_low_first-suc m 0 ∙ ap (λ (r : List ℕ). 0 ∷ r) (bytes_low_first-of_zero m)
 
 -- where fewer bytes hold the number, the others are 0
-pub bytes_low_first-zeros : (k m t n : ℕ) → t ≡ k + m → n < 256 ^ k → bytes_low_first 0 t n ≡ bytes_low_first 0 k n ++ replicate m 0
+pub bytes_low_first-zeros : (k m t n : ℕ) → t ≡ k + m → n < 256 ^ k
+    → bytes_low_first 0 t n ≡ bytes_low_first 0 k n ++ replicate m 0
 bytes_low_first-zeros zero m t n e h =
     let none : n ≡ 0 = omega arith in
     let same : t ≡ m = omega arith in

@@ -34,8 +34,10 @@ IsWide (negsuc n) = (2 ^ 48 ≤ n) × (n < 2 ^ 63)
 
 -- A signed number from -2^63 to 2^63 - 1. One that is not wide is spelled by its least count, a negative one as -z - 1.
 pub data PacksSigned (z : ℤ) (code : ℕ) (bytes : List ℕ) : Type 0 where
-  small : (n : ℕ) → z ≡ pos n → n < 2 ^ 56 → IsLeastCount code n → bytes ≡ bytes_low_first 0 code n → PacksSigned z code bytes
-  negative : (n count : ℕ) → z ≡ negsuc n → n < 2 ^ 48 → IsLeastCount count n → code ≡ 9 + count → bytes ≡ bytes_low_first 0 count n
+  small : (n : ℕ) → z ≡ pos n → n < 2 ^ 56 → IsLeastCount code n → bytes ≡ bytes_low_first 0 code n
+      → PacksSigned z code bytes
+  negative : (n count : ℕ) → z ≡ negsuc n → n < 2 ^ 48 → IsLeastCount count n → code ≡ 9 + count
+      → bytes ≡ bytes_low_first 0 count n
       → PacksSigned z code bytes
   wide : IsWide z → code ≡ 8 → bytes ≡ bytes_low_first 0 8 (cast_unsigned w64 z) → PacksSigned z code bytes
 
@@ -51,4 +53,5 @@ IsCut kind code bytes = IsCode kind code × (length bytes < byte_count kind code
 -- the kind has this code, and the bytes that it takes are there, but no value has this code with these bytes
 abbrev pub IsNotShortest : Kind → ℕ → List ℕ → Type 0
 IsNotShortest kind code bytes =
-    IsCode kind code × (byte_count kind code ≤ length bytes) × ((z : ℤ) → ¬ Packed kind z code (take (byte_count kind code) bytes))
+    IsCode kind code × (byte_count kind code ≤ length bytes)
+    × ((z : ℤ) → ¬ Packed kind z code (take (byte_count kind code) bytes))

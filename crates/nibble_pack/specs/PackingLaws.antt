@@ -29,9 +29,11 @@ IsLeastCount-suc k n low high = record {
 
 -- bytes that hold a number determine it
 pub same_number : (k m n : ℕ) → m < 256 ^ k → n < 256 ^ k → bytes_low_first 0 k m ≡ bytes_low_first 0 k n → m ≡ n
-same_number k m n p q same = sym (number_of_bytes-low_first k m p) ∙ ap number_of_bytes same ∙ number_of_bytes-low_first k n q
+same_number k m n p q same =
+    sym (number_of_bytes-low_first k m p) ∙ ap number_of_bytes same ∙ number_of_bytes-low_first k n q
 
-same_least_number : (count m n : ℕ) (bytes : List ℕ) → IsLeastCount count m → IsLeastCount count n → bytes ≡ bytes_low_first 0 count m
+same_least_number : (count m n : ℕ) (bytes : List ℕ) → IsLeastCount count m → IsLeastCount count n
+    → bytes ≡ bytes_low_first 0 count m
     → bytes ≡ bytes_low_first 0 count n → m ≡ n
 same_least_number count m n bytes p q first second = same_number count m n p.holds q.holds (sym first ∙ second)
 
@@ -45,8 +47,10 @@ negative_count n count below least = least.least 6 (omega arith)
 
 pub Packed-code : (kind : Kind) (z : ℤ) (code : ℕ) (bytes : List ℕ) → Packed kind z code bytes → IsCode kind code
 Packed-code unsigned z code bytes (n, is, packs) = packs.count.least 8 (let fits = packs.fits in omega arith)
-Packed-code signed z code bytes (small n is below least spelled) = let code_below = small_code n code below least in omega arith
-Packed-code signed z code bytes (negative n count is below least of_code spelled) = let count_below = negative_count n count below least in omega arith
+Packed-code signed z code bytes (small n is below least spelled) =
+    let code_below = small_code n code below least in omega arith
+Packed-code signed z code bytes (negative n count is below least of_code spelled) =
+    let count_below = negative_count n count below least in omega arith
 Packed-code signed z code bytes (wide is of_code spelled) = omega arith
 
 pub signed_count-low : (code : ℕ) → code ≤ 8 → byte_count signed code ≡ code
@@ -55,7 +59,8 @@ signed_count-low code h = grind arith
 pub signed_count-high : (code count : ℕ) → code ≡ 9 + count → byte_count signed code ≡ count
 signed_count-high code count h = grind arith
 
-pub Packed-length : (kind : Kind) (z : ℤ) (code : ℕ) (bytes : List ℕ) → Packed kind z code bytes → length bytes ≡ byte_count kind code
+pub Packed-length : (kind : Kind) (z : ℤ) (code : ℕ) (bytes : List ℕ) → Packed kind z code bytes
+    → length bytes ≡ byte_count kind code
 Packed-length unsigned z code bytes (n, is, packs) = ap length packs.spelled ∙ length-bytes_low_first 0 code n
 Packed-length signed z code bytes (small n is below least spelled) =
     let code_below = small_code n code below least in
@@ -76,9 +81,11 @@ IsCode-lt unsigned code h = omega arith
 IsCode-lt signed code h = omega arith
 
 spelled_below : (bytes : List ℕ) (count n : ℕ) → bytes ≡ bytes_low_first 0 count n → All (λ b. b < 256) bytes
-spelled_below bytes count n spelled = subst (λ (bs : List ℕ). All (λ b. b < 256) bs) (sym spelled) (bytes_low_first-below 0 count n)
+spelled_below bytes count n spelled =
+    subst (λ (bs : List ℕ). All (λ b. b < 256) bs) (sym spelled) (bytes_low_first-below 0 count n)
 
-pub Packed-bytes : (kind : Kind) (z : ℤ) (code : ℕ) (bytes : List ℕ) → Packed kind z code bytes → All (λ b. b < 256) bytes
+pub Packed-bytes : (kind : Kind) (z : ℤ) (code : ℕ) (bytes : List ℕ) → Packed kind z code bytes
+    → All (λ b. b < 256) bytes
 Packed-bytes unsigned z code bytes (n, is, packs) = spelled_below bytes code n packs.spelled
 Packed-bytes signed z code bytes (small n is below least spelled) = spelled_below bytes code n spelled
 Packed-bytes signed z code bytes (negative n count is below least of_code spelled) = spelled_below bytes count n spelled
@@ -110,24 +117,28 @@ same_signed a b code bytes (negative m count a_is m_below m_least of_code m_spel
     let least : IsLeastCount count n = subst (λ (k : ℕ). IsLeastCount k n) same n_least in
     let spelled : bytes ≡ bytes_low_first 0 count n = n_spelled ∙ ap (λ (k : ℕ). bytes_low_first 0 k n) same in
     a_is ∙ ap negsuc (same_least_number count m n bytes m_least least m_spelled spelled) ∙ sym b_is
-same_signed a b code bytes (negative m count a_is m_below m_least of_code m_spelled) (wide b_is of_wide b_spelled) = absurd (omega arith)
+same_signed a b code bytes (negative m count a_is m_below m_least of_code m_spelled) (wide b_is of_wide b_spelled) =
+    absurd (omega arith)
 same_signed a b code bytes (wide a_is of_code a_spelled) (small n b_is n_below n_least n_spelled) =
     let low = small_code n code n_below n_least in absurd (omega arith)
-same_signed a b code bytes (wide a_is of_code a_spelled) (negative n count b_is n_below n_least of_other n_spelled) = absurd (omega arith)
+same_signed a b code bytes (wide a_is of_code a_spelled) (negative n count b_is n_below n_least of_other n_spelled) =
+    absurd (omega arith)
 same_signed a b code bytes (wide a_is of_code a_spelled) (wide b_is of_other b_spelled) =
     let below_a = wide_number a a_is in
     let below_b = wide_number b b_is in
     same_wide a b a_is b_is (same_number 8 (cast_unsigned w64 a) (cast_unsigned w64 b) (omega arith) (omega arith) (sym a_spelled ∙ b_spelled))
 
 -- a code with its bytes is of one value
-pub same_value : (kind : Kind) (a b : ℤ) (code : ℕ) (bytes : List ℕ) → Packed kind a code bytes → Packed kind b code bytes → a ≡ b
+pub same_value : (kind : Kind) (a b : ℤ) (code : ℕ) (bytes : List ℕ) → Packed kind a code bytes
+    → Packed kind b code bytes → a ≡ b
 same_value unsigned a b code bytes (m, a_is, p) (n, b_is, q) = a_is
     ∙ ap pos (same_least_number code m n bytes p.count q.count p.spelled q.spelled) ∙ sym b_is
 same_value signed a b code bytes p q = same_signed a b code bytes p q
 
 -- ---- one pair
 
-same_spelling : (a b m n : ℕ) (xs ys : List ℕ) → m ≡ n → IsLeastCount a m → IsLeastCount b n → xs ≡ bytes_low_first 0 a m
+same_spelling : (a b m n : ℕ) (xs ys : List ℕ) → m ≡ n → IsLeastCount a m → IsLeastCount b n
+    → xs ≡ bytes_low_first 0 a m
     → ys ≡ bytes_low_first 0 b n → (a ≡ b) × (xs ≡ ys)
 same_spelling a b m n xs ys same p q first second =
     let count : a ≡ b = IsLeastCount-unique n a b (subst (λ (k : ℕ). IsLeastCount a k) same p) q in
@@ -163,7 +174,8 @@ same_signed_pair z a b xs ys (wide is of_code spelled) (wide is_too of_other spe
     (of_code ∙ sym of_other, spelled ∙ sym spelled_too)
 
 -- a value has one code with its bytes
-pub same_pair : (kind : Kind) (z : ℤ) (a b : ℕ) (xs ys : List ℕ) → Packed kind z a xs → Packed kind z b ys → (a ≡ b) × (xs ≡ ys)
+pub same_pair : (kind : Kind) (z : ℤ) (a b : ℕ) (xs ys : List ℕ) → Packed kind z a xs → Packed kind z b ys
+    → (a ≡ b) × (xs ≡ ys)
 same_pair unsigned z a b xs ys (m, z_is, p) (n, z_too, q) =
     let same : pos m ≡ pos n = sym z_is ∙ z_too in
     same_spelling a b m n xs ys (cc) p.count q.count p.spelled q.spelled

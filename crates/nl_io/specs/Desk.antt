@@ -56,7 +56,8 @@ IsAbsent desk name = IfSome desk.held (λ held. map.get held name ≡ None)
 
 -- n bytes of the file were taken
 pub record Takes (old : Desk) (id n : ℕ) (new : Desk) : Type 0 where
-  pub taken : (content : Told) → IsReading old id content → new ≡ record old { left = map.insert old.left id (without_front n content) }
+  pub taken : (content : Told) → IsReading old id content
+      → new ≡ record old { left = map.insert old.left id (without_front n content) }
 
 -- the file is no longer being read
 abbrev pub Leaves : Desk → ℕ → Desk → Type 0
@@ -111,8 +112,10 @@ pub record SameButHeld (id : ℕ) (old new : Desk) : Type 0 where
   -- whether it is told what names hold
   pub told : is_some new.held ≡ is_some old.held
   -- its name is still there, and each other name holds what it held
-  pub there : (name : List ℕ) → map.get old.made id ≡ Some (Some name) → found_in old name ≢ Some None → found_in new name ≢ Some None
-  pub held : (name other : List ℕ) → map.get old.made id ≡ Some (Some name) → other ≢ name → found_in new other ≡ found_in old other
+  pub there : (name : List ℕ) → map.get old.made id ≡ Some (Some name) → found_in old name ≢ Some None
+      → found_in new name ≢ Some None
+  pub held : (name other : List ℕ) → map.get old.made id ≡ Some (Some name) → other ≢ name
+      → found_in new other ≡ found_in old other
   pub left : new.left ≡ old.left
   pub made : new.made ≡ old.made
   pub read_faults : new.read_faults ≡ old.read_faults

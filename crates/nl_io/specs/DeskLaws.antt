@@ -1,4 +1,5 @@
--- What stays the same over one call stays the same over several, which files are open after a call, and what a written name holds.
+-- What stays the same over one call stays the same over several, which files are open after a call, and what a written
+-- name holds.
 use Rattle.std.proofs.Common.{◌≡◌, ◌≢◌, ℕ, ◌≤◌, Bool, true, false, cond, List, [], Option, Some, None, refl, sym, ap, subst, ◌∙◌, arith}
 use Rattle.std.proofs.lemmas.Bool.{false_from_ne_true}
 use Rattle.std.specs.Prelude.{IfSome, is_some, option_map, unwrap_or}
@@ -34,13 +35,15 @@ SameButHeld-same id a = record {
 
 still_named : (i j : ℕ) (a b : Desk) (name : List ℕ) → i ≡ j → b.made ≡ a.made → map.get a.made i ≡ Some (Some name)
     → map.get b.made j ≡ Some (Some name)
-still_named i j a b name same made is = ap (λ (table : ById). map.get table j) made ∙ sym (ap (map.get a.made) same) ∙ is
+still_named i j a b name same made is =
+    ap (λ (table : ById). map.get table j) made ∙ sym (ap (map.get a.made) same) ∙ is
 
 pub SameButHeld-then : (i j : ℕ) (a b c : Desk) → i ≡ j → SameButHeld i a b → SameButHeld j b c → SameButHeld i a c
 SameButHeld-then i j a b c same first second = record {
   told = second.told ∙ first.told;
   there = λ name is there. second.there name (still_named i j a b name same first.made is) (first.there name is there);
-  held = λ name other is ne. second.held name other (still_named i j a b name same first.made is) ne ∙ first.held name other is ne;
+  held =
+      λ name other is ne. second.held name other (still_named i j a b name same first.made is) ne ∙ first.held name other is ne;
   left = second.left ∙ first.left;
   made = second.made ∙ first.made;
   read_faults = second.read_faults ∙ first.read_faults;
@@ -62,7 +65,8 @@ apart : {K : Type 0} {R : K → K → Ordering} → map.IsAntisymmetric R → (a
 apart {R = R} same a b ne = false_from_ne_true (eq_by_cmp R a b) (λ e. ne (same_key same a b e))
 
 -- what every other id has
-pub get-other : (m : ById) (id : ℕ) (content : Told) (other : ℕ) → other ≢ id → map.get (map.insert m id content) other ≡ map.get m other
+pub get-other : (m : ById) (id : ℕ) (content : Told) (other : ℕ) → other ≢ id
+    → map.get (map.insert m id content) other ≡ map.get m other
 get-other m id content other ne = map.get-insert nat_cmp_total m id content other
     ∙ ap (λ b. cond b (Some content) (map.get m other)) (apart map.nat_cmp-IsAntisymmetric other id ne)
 
@@ -71,7 +75,8 @@ pub held-given : (m : Held) (name bytes : List ℕ) → map.get (map.insert m na
 held-given m name bytes = map.get-insert nat_list_cmp_total m name bytes name
     ∙ ap (λ b. cond b (Some bytes) (map.get m name)) ((eq_by_cmp_equiv nat_list_cmp_total).refl name)
 
-pub held-other : (m : Held) (name bytes other : List ℕ) → other ≢ name → map.get (map.insert m name bytes) other ≡ map.get m other
+pub held-other : (m : Held) (name bytes other : List ℕ) → other ≢ name
+    → map.get (map.insert m name bytes) other ≡ map.get m other
 held-other m name bytes other ne =
     map.get-insert nat_list_cmp_total m name bytes other
     ∙ ap (λ b. cond b (Some bytes) (map.get m other)) (apart (map.slice_cmp-IsAntisymmetric map.nat_cmp-IsAntisymmetric) other name ne)
@@ -96,18 +101,23 @@ some_told None has = absurd (has refl)
 some_told (Some content) has = (content, refl)
 
 -- a name that was opened is being read
-pub Opens-reading : (old : Desk) (name : List ℕ) (id : ℕ) (new : Desk) → Opens old name id new → map.get new.left id ≢ None
-Opens-reading old name id new opens = subst (λ (desk : Desk). map.get desk.left id ≢ None) (sym opens.opened) (is_given old.left id opens.content)
+pub Opens-reading : (old : Desk) (name : List ℕ) (id : ℕ) (new : Desk) → Opens old name id new
+    → map.get new.left id ≢ None
+Opens-reading old name id new opens =
+    subst (λ (desk : Desk). map.get desk.left id ≢ None) (sym opens.opened) (is_given old.left id opens.content)
 
 -- a file is still being read after bytes were taken
-pub Takes-reading : (old : Desk) (id n : ℕ) (new : Desk) → map.get old.left id ≢ None → Takes old id n new → map.get new.left id ≢ None
+pub Takes-reading : (old : Desk) (id n : ℕ) (new : Desk) → map.get old.left id ≢ None → Takes old id n new
+    → map.get new.left id ≢ None
 Takes-reading old id n new reading takes =
     let told = some_told (map.get old.left id) reading in
     subst (λ (desk : Desk). map.get desk.left id ≢ None) (sym (takes.taken told.0 told.1)) (is_given old.left id _)
 
 -- a name that was created isn't finished
-pub Creates-made : (old : Desk) (name : List ℕ) (id : ℕ) (new : Desk) → Creates old name id new → map.get new.made id ≢ None
-Creates-made old name id new creates = subst (λ (desk : Desk). map.get desk.made id ≢ None) (sym creates.created) (is_given old.made id creates.title)
+pub Creates-made : (old : Desk) (name : List ℕ) (id : ℕ) (new : Desk) → Creates old name id new
+    → map.get new.made id ≢ None
+Creates-made old name id new creates =
+    subst (λ (desk : Desk). map.get desk.made id ≢ None) (sym creates.created) (is_given old.made id creates.title)
 
 -- a file still isn't finished after bytes were put
 pub Puts-made : (old : Desk) (id : ℕ) (bytes : List ℕ) (new : Desk) → map.get old.made id ≢ None → Puts old id bytes new
@@ -115,15 +125,19 @@ pub Puts-made : (old : Desk) (id : ℕ) (bytes : List ℕ) (new : Desk) → map.
 Puts-made old id bytes new made puts = subst (λ (desk : Desk). map.get desk.made id ≢ None) (sym puts.rest) made
 
 -- nor after it was written to by a sink
-pub SameButHeld-made : (old new : Desk) (id : ℕ) → map.get old.made id ≢ None → SameButHeld id old new → map.get new.made id ≢ None
+pub SameButHeld-made : (old new : Desk) (id : ℕ) → map.get old.made id ≢ None → SameButHeld id old new
+    → map.get new.made id ≢ None
 SameButHeld-made old new id made same = subst (λ (table : ById). map.get table id ≢ None) (sym same.made) made
 
 -- what it has left is what was opened
-pub Opens-content : (old : Desk) (name : List ℕ) (id : ℕ) (new : Desk) → (opened : Opens old name id new) → IsReading new id opened.content
-Opens-content old name id new opened = ap (λ (d : Desk). map.get d.left id) opened.opened ∙ get-given old.left id opened.content
+pub Opens-content : (old : Desk) (name : List ℕ) (id : ℕ) (new : Desk) → (opened : Opens old name id new)
+    → IsReading new id opened.content
+Opens-content old name id new opened =
+    ap (λ (d : Desk). map.get d.left id) opened.opened ∙ get-given old.left id opened.content
 
 -- A file was opened, some of it was read, and it was given up: all is as it was but for the count of read faults.
-pub visited : (old : Desk) (name : List ℕ) (id : ℕ) (opened read new : Desk) → Opens old name id opened → SameButLeft id opened read
+pub visited : (old : Desk) (name : List ℕ) (id : ℕ) (opened read new : Desk) → Opens old name id opened
+    → SameButLeft id opened read
     → opened.read_faults ≤ read.read_faults → Leaves read id new
     → OnlyReadFaults old new
 visited old name id opened read new opens same count leaves =
@@ -137,12 +151,14 @@ visited old name id opened read new opens same count leaves =
     ∙ map.same_map nat_cmp_total map.nat_cmp-IsAntisymmetric (map.remove read.left id) old.left (λ other. get-removed old.left id other opens.unused.unread (eq_by_cmp nat_cmp other id) refl read.left (other_left other)) in
     let faults : new.read_faults ≡ read.read_faults = ap (λ (d : Desk). d.read_faults) leaves in
     record {
-      same = λ i. record { held = held i; left = left i; made = made i; read_faults = new.read_faults; write_faults = write_faults i };
+      same =
+          λ i. record { held = held i; left = left i; made = made i; read_faults = new.read_faults; write_faults = write_faults i };
       count = omega (arith, ap (λ (d : Desk). d.read_faults) opens.opened, count, faults);
     }
 
 -- where no call failed in between, all is as it was
-pub visited-whole : (old : Desk) (name : List ℕ) (id : ℕ) (opened read new : Desk) → Opens old name id opened → SameButLeft id opened read
+pub visited-whole : (old : Desk) (name : List ℕ) (id : ℕ) (opened read new : Desk) → Opens old name id opened
+    → SameButLeft id opened read
     → read.read_faults ≡ opened.read_faults → Leaves read id new
     → new ≡ old
 visited-whole old name id opened read new opens same faults leaves =
@@ -162,7 +178,8 @@ option_map-none f (Some x) e = absurd cc
 -- what every other name holds after one was created and written to
 other_held : (held : Option Held) (title : Option (List ℕ)) (name other : List ℕ) (created put : Desk) (id : ℕ)
     → IfSome held (λ _. title ≡ Some name) → other ≢ name
-    → created.held ≡ option_map (λ names. map.insert names name []) held → map.get created.made id ≡ Some title → SameButHeld id created put
+    → created.held ≡ option_map (λ names. map.insert names name []) held → map.get created.made id ≡ Some title
+    → SameButHeld id created put
     → found_in put other ≡ option_map (λ names. map.get names other) held
 other_held None title name other created put id named ne is made same =
     option_map-none (λ names. map.get names other) put.held (same.told ∙ ap is_some is)
@@ -170,8 +187,10 @@ other_held (Some names) title name other created put id named ne is made same =
     same.held name other (made ∙ ap Some named) ne ∙ ap (option_map (λ (names : Held). map.get names other)) is
     ∙ ap Some (held-other names name [] other ne)
 
--- A name was created, it was written to, and it was finished: all is as it was but for what it holds and the count of write faults.
-pub written : (old : Desk) (name : List ℕ) (id : ℕ) (created put new : Desk) → Creates old name id created → SameButHeld id created put
+-- A name was created, it was written to, and it was finished: all is as it was but for what it holds and the count of
+-- write faults.
+pub written : (old : Desk) (name : List ℕ) (id : ℕ) (created put new : Desk) → Creates old name id created
+    → SameButHeld id created put
     → created.write_faults ≤ put.write_faults → Finishes put id new
     → OnlyName name old new
 written old name id created put new creates same count finishes =
@@ -183,7 +202,8 @@ written old name id created put new creates same count finishes =
     λ other ne. ap (λ (made : ById). map.get made other) same.made ∙ ap (λ (d : Desk). map.get d.made other) creates.created
     ∙ get-other old.made id creates.title other ne in
     record {
-      told = ap is_some held ∙ same.told ∙ ap is_some named ∙ is_some-option_map (λ names. map.insert names name []) old.held;
+      told =
+          ap is_some held ∙ same.told ∙ ap is_some named ∙ is_some-option_map (λ names. map.insert names name []) old.held;
       held = λ other ne. ap (option_map (λ (names : Held). map.get names other)) held
           ∙ other_held old.held creates.title name other created put id creates.named ne named given same;
       left = ap (λ (d : Desk). d.left) finishes.finished ∙ same.left ∙ ap (λ (d : Desk). d.left) creates.created;
@@ -194,7 +214,8 @@ written old name id created put new creates same count finishes =
       count = omega (arith, ap (λ (d : Desk). d.write_faults) creates.created, count, finishes.count);
     }
 
-holds_found : (o : Option (List ℕ)) (bytes : List ℕ) → Some o ≢ Some None → Some (unwrap_or o []) ≡ Some bytes → Some o ≡ Some (Some bytes)
+holds_found : (o : Option (List ℕ)) (bytes : List ℕ) → Some o ≢ Some None → Some (unwrap_or o []) ≡ Some bytes
+    → Some o ≡ Some (Some bytes)
 holds_found None bytes there is = absurd (there refl)
 holds_found (Some found) bytes there is = ap Some is
 

@@ -7,7 +7,8 @@ use Rattle.std.specs.FinMap as map
 use Rattle.nl_io.specs.Content.{Told}
 use Rattle.nl_io.specs.Desk.{ById}
 
--- The map of some entries, of which one function gives the keys and another the values. At a key that stands twice it has the first value.
+-- The map of some entries, of which one function gives the keys and another the values. At a key that stands twice it
+-- has the first value.
 abbrev pub as_map : {K L V X : Type 0} {R : L → L → Ordering} → (K → L) → (V → X) → List (K × V) → map.FinMap R X
 as_map key value [] = map.empty
 as_map key value (e ∷ es) = map.insert (as_map key value es) (key e.0) (value e.1)

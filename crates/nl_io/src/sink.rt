@@ -1,8 +1,11 @@
-ghost use Rattle.std.specs.Prelude.{◌≡◌, ◌<◌, ◌≤◌, ℕ, length, take, IfOk, OnOk, OnErr};
+ghost use Rattle.std.specs.Prelude.{◌≡◌, ◌<◌, ◌≤◌, ◌++◌, ℕ, List, length, take, IfOk, OnOk, OnErr};
 ghost use Rattle.nl_io.specs.Count.{Rose};
 ghost use Rattle.nl_io.specs.Content.{Told, with_end, PutsFront};
 
 use crate::failed::Failed;
+
+/// How many bytes of a long text are gathered before they are written.
+pub const PIECE: usize = 65_536;
 
 /// Bytes that go somewhere, in pieces.
 pub trait Sink {
@@ -46,5 +49,25 @@ pub fn write_all<K: Sink>(sink: &mut K, bytes: &[u8]) -> Result<(), Failed>
     while done < bytes.len() {
         done += sink.write(&bytes[done..])?;
     }
+    Ok(())
+}
+
+/// Writes the text that is gathered and takes it out of the buffer, where it is long enough. What is
+/// left in the buffer is less than a piece. After a refusal some of the text, from the front, went out.
+pub fn write_long<K: Sink>(sink: &mut K, text: &mut Vec<u8>) -> Result<(), Failed>
+    ensures ok { OnOk result ((front : List ℕ) × (text.old.items ≡ front ++ text.new.items)
+        × (K.put sink.new ≡ with_end front (K.put sink.old))) }
+    ensures short { OnOk result (length text.new.items < PIECE) }
+    ensures counted { OnOk result (K.faults sink.new ≡ K.faults sink.old) }
+    ensures cause { OnErr result (Rose (K.faults sink.old) (K.faults sink.new)) }
+    ensures err { OnErr result (PutsFront text.old.items (K.put sink.old) (K.put sink.new)) }
+    ensures count { K.faults sink.old ≤ K.faults sink.new }
+    ensures others { K.rest sink.old sink.new }
+{
+    if text.len() < PIECE {
+        return Ok(());
+    }
+    write_all(sink, text)?;
+    text.clear();
     Ok(())
 }

@@ -4,7 +4,7 @@ use Rattle.std.proofs.lemmas.Bool.{false≢true}
 use Rattle.preprocessor.specs.declared.numbering.Numbering.{Numbering}
 use Rattle.source_scan.specs.declared.found.Found.{Found}
 use Rattle.source_scan.specs.Statements.{Statements}
-use Rattle.preprocessor.specs.declared.numbering.TheConstants.{MAX_SOURCE}
+use Rattle.source_scan.specs.declared.statement.TheConstants.{MAX_SOURCE}
 use Rattle.preprocessor.specs.Findings.{SourceFile, Finding, large_refusal, AreFindings, HasFindings, AllHave}
 use Rattle.preprocessor.specs.Findings.HasFindings.{too_large, scanned}
 use Rattle.preprocessor.specs.Numbering.{firsts, Holds, Numbers}

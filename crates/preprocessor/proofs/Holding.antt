@@ -16,7 +16,7 @@ use Rattle.preprocessor.specs.Findings.{Finding}
 use Rattle.preprocessor.specs.Numbering.{finding_messages, messages_of, finding_refusals, refusals_of, firsts, numbered, excess_refusal, StopsAt, HoldsAll, Holds}
 use Rattle.preprocessor.proofs.Firsts.{added_is_first}
 
-messages-push : (findings : List Finding) (finding : Finding) → messages_of (findings ++ finding ∷ []) ≡ messages_of findings ++ finding_messages finding
+pub messages-push : (findings : List Finding) (finding : Finding) → messages_of (findings ++ finding ∷ []) ≡ messages_of findings ++ finding_messages finding
 messages-push findings finding = flat_map-append finding_messages findings (finding ∷ []) ∙ ap (λ (l : List Message). messages_of findings ++ l) (append-nil (finding_messages finding))
 
 refusals-push : (findings : List Finding) (finding : Finding) → refusals_of (findings ++ finding ∷ []) ≡ refusals_of findings ++ finding_refusals finding

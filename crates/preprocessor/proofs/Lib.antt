@@ -1,5 +1,6 @@
 pub mod Behind
 pub mod Counting
+pub mod Existence
 pub mod Finding
 pub mod Firsts
 pub mod Holding

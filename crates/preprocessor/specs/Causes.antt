@@ -1,7 +1,6 @@
 -- The causes of refusals, and the words on what is refused.
 use Rattle.std.specs.Prelude.{ℕ, List, [], ◌∷◌, ◌++◌, codes, decimal}
-use Rattle.printf_grammar.specs.declared.fault.FormatCause.{FormatCause}
-use Rattle.printf_grammar.specs.declared.fault.FormatCause.TheVariants as formats
+use Rattle.printf_grammar.specs.Causes.{cause_name as format_cause_name}
 use Rattle.source_scan.specs.declared.found.StatementCause.{StatementCause}
 use Rattle.source_scan.specs.declared.found.StatementCause.TheVariants as statements
 use Rattle.preprocessor.specs.declared.refusal.RefusalCause.{RefusalCause}
@@ -37,20 +36,6 @@ abbrev pub cause_name : RefusalCause → List ℕ
 cause_name (causes.Statement cause) = statement_name cause
 cause_name causes.TooLarge = codes "TooLarge"
 cause_name causes.TooMany = codes "TooMany"
-
--- the name of what breaks a format
-abbrev pub format_cause_name : FormatCause → List ℕ
-format_cause_name formats.Float = codes "Float"
-format_cause_name formats.Wide = codes "Wide"
-format_cause_name formats.Store = codes "Store"
-format_cause_name formats.BadPercent = codes "BadPercent"
-format_cause_name formats.BadLength = codes "BadLength"
-format_cause_name formats.Unknown = codes "Unknown"
-format_cause_name formats.TooWide = codes "TooWide"
-format_cause_name formats.Ends = codes "Ends"
-format_cause_name formats.Nul = codes "Nul"
-format_cause_name formats.TooManyArgs = codes "TooManyArgs"
-format_cause_name formats.Long = codes "Long"
 
 -- ---- words
 

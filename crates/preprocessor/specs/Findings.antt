@@ -1,5 +1,5 @@
 -- What stands in the sources of a program.
-use Rattle.std.specs.Prelude.{◌≡◌, ℕ, ◌<◌, ◌≤◌, List, [], ◌∷◌, ◌++◌, length}
+use Rattle.std.specs.Prelude.{◌≡◌, ℕ, ◌<◌, ◌≤◌, List, [], ◌∷◌, ◌++◌, length, map}
 use Rattle.log_dictionary.specs.declared.message.Message.{Message}
 use Rattle.source_scan.specs.declared.found.Found.{Found}
 use Rattle.source_scan.specs.declared.found.Found.TheVariants as found
@@ -7,7 +7,7 @@ use Rattle.source_scan.specs.declared.found.Statement.{Statement}
 use Rattle.source_scan.specs.declared.found.BadStatement.{BadStatement}
 use Rattle.source_scan.specs.Readings.{IsFileName}
 use Rattle.source_scan.specs.Statements.{Statements}
-use Rattle.preprocessor.specs.declared.numbering.TheConstants.{MAX_SOURCE}
+use Rattle.source_scan.specs.declared.statement.TheConstants.{MAX_SOURCE}
 use Rattle.preprocessor.specs.declared.refusal.Refusal.{Refusal}
 use Rattle.preprocessor.specs.declared.refusal.RefusalCause.TheVariants as causes
 
@@ -15,6 +15,10 @@ use Rattle.preprocessor.specs.declared.refusal.RefusalCause.TheVariants as cause
 pub record SourceFile : Type 0 where
   pub name : List ℕ
   pub bytes : List ℕ
+
+-- the bytes of each of these sources
+abbrev pub sources_of : List SourceFile → List (List ℕ)
+sources_of files = map (λ (file : SourceFile). file.bytes) files
 
 -- what stands at one place of the sources: the message of a statement, or what is refused
 pub data Finding : Type 0 where

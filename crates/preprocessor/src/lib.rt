@@ -7,8 +7,9 @@ mod numbering;
 mod refusal;
 mod words;
 
-pub use numbering::{MAX_SOURCE, Numbering};
+pub use numbering::Numbering;
 pub use refusal::{Refusal, RefusalCause};
+pub use source_scan::MAX_SOURCE;
 pub use words::push_refusal;
 
 #[cfg(test)]

@@ -10,11 +10,8 @@ ghost use Rattle.preprocessor.specs.Numbering.{Holds, Numbers};
 use crate::refusal::{Refusal, RefusalCause};
 use log_dictionary::{AddFault, Dictionary, Message};
 use printf_grammar::Bytes;
-use source_scan::{Found, Statement, scan};
+use source_scan::{Found, MAX_SOURCE, Statement, scan};
 use std::alloc::{AllocError, Global};
-
-/// The most bytes of a source.
-pub const MAX_SOURCE: usize = 16_777_216;
 
 /// What was found in the sources so far.
 #[derive(Debug, Drop)]

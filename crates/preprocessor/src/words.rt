@@ -1,31 +1,12 @@
 //! The words on what is refused.
 
 ghost use Rattle.std.specs.Prelude.{◌≡◌, ◌++◌, OnOk, OnErr, take, vec_len};
-ghost use Rattle.preprocessor.specs.Causes.{format_cause_name, cause_place, refusal_fields, refusal_line};
+ghost use Rattle.preprocessor.specs.Causes.{cause_place, refusal_fields, refusal_line};
 
 use crate::refusal::{Refusal, RefusalCause};
 use itoa::Buffer;
-use printf_grammar::FormatCause;
 use source_scan::StatementCause;
 use std::alloc::AllocError;
-
-fn format_cause_name(cause: FormatCause) -> &'static str
-    ensures { result.now ≡ format_cause_name cause }
-{
-    match cause {
-        FormatCause::Float => "Float",
-        FormatCause::Wide => "Wide",
-        FormatCause::Store => "Store",
-        FormatCause::BadPercent => "BadPercent",
-        FormatCause::BadLength => "BadLength",
-        FormatCause::Unknown => "Unknown",
-        FormatCause::TooWide => "TooWide",
-        FormatCause::Ends => "Ends",
-        FormatCause::Nul => "Nul",
-        FormatCause::TooManyArgs => "TooManyArgs",
-        FormatCause::Long => "Long",
-    }
-}
 
 // Where and why a format is broken. After an error a part may stand behind what was there, here
 // and below.
@@ -38,7 +19,7 @@ fn push_place(out: &mut Vec<u8>, cause: RefusalCause) -> Result<(), AllocError>
     };
     let mut buffer = Buffer::new();
     out.push(b' ')?;
-    out.extend_from_slice(format_cause_name(cause).as_bytes())?;
+    out.extend_from_slice(cause.name().as_bytes())?;
     out.extend_from_slice(b" at ")?;
     out.extend_from_slice(buffer.format(place).as_bytes())
 }

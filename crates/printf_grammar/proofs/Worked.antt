@@ -4,8 +4,7 @@ use Rattle.std.proofs.lemmas.List.{append-nil, length-replicate}
 use Rattle.std.specs.Prelude.{slice_get, codes}
 use Rattle.std.specs.Fmt.{digits}
 use Rattle.std.specs.List.{AllByRecursion}
-use Rattle.printf_grammar.specs.declared.piece.Piece.TheVariants.{Literal, Field}
-use Rattle.printf_grammar.specs.declared.piece.Piece.{Piece}
+use Rattle.printf_grammar.specs.declared.piece.Piece.TheVariants.{Literal}
 use Rattle.printf_grammar.specs.declared.piece.Size.{Size}
 use Rattle.printf_grammar.specs.declared.piece.Size.TheVariants.{Absent, Star, Given}
 use Rattle.printf_grammar.specs.declared.piece.Length.TheVariants as lengths

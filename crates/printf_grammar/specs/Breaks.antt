@@ -57,13 +57,15 @@ abbrev pub is_bare : Head → Bool
 is_bare head = is_empty head.flags && is_empty head.width && is_empty head.precision && is_empty head.modifier
 
 abbrev pub takes_flag : Head → ℕ → Bool
-takes_flag head byte = stands byte (codes "-+ #0") && is_empty head.width && is_empty head.precision && is_empty head.modifier
+takes_flag head byte =
+    stands byte (codes "-+ #0") && is_empty head.width && is_empty head.precision && is_empty head.modifier
 
 abbrev pub takes_width_star : Head → ℕ → Bool
 takes_width_star head byte = byte == 42 && is_empty head.width && is_empty head.precision && is_empty head.modifier
 
 abbrev pub takes_width_digit : Head → ℕ → Bool
-takes_width_digit head byte = is_digit byte 10 && not (has_star head.width) && is_empty head.precision && is_empty head.modifier
+takes_width_digit head byte =
+    is_digit byte 10 && not (has_star head.width) && is_empty head.precision && is_empty head.modifier
 
 abbrev pub takes_period : Head → ℕ → Bool
 takes_period head byte = byte == 46 && is_empty head.precision && is_empty head.modifier
@@ -72,18 +74,24 @@ abbrev pub takes_precision_star : Head → ℕ → Bool
 takes_precision_star head byte = byte == 42 && is_only 46 head.precision && is_empty head.modifier
 
 abbrev pub takes_precision_digit : Head → ℕ → Bool
-takes_precision_digit head byte = is_digit byte 10 && not (is_empty head.precision) && not (has_star head.precision) && is_empty head.modifier
+takes_precision_digit head byte =
+    is_digit byte 10 && not (is_empty head.precision) && not (has_star head.precision) && is_empty head.modifier
 
 -- a first length byte or `L`, or a second `h` or `l`
 abbrev pub takes_modifier : Head → ℕ → Bool
-takes_modifier head byte = (stands byte (codes "hljztL") && is_empty head.modifier) || (byte == 104 && is_only 104 head.modifier) || (byte == 108 && is_only 108 head.modifier)
+takes_modifier head byte =
+    (stands byte (codes "hljztL") && is_empty head.modifier) || (byte == 104 && is_only 104 head.modifier)
+    || (byte == 108 && is_only 108 head.modifier)
 
 abbrev pub is_conversion : ℕ → Bool
 is_conversion byte = stands byte (codes "diouxXcsp")
 
 -- the byte goes on with the field or ends it; that it is within the limits is not said here
 abbrev pub goes_on : Head → ℕ → Bool
-goes_on head byte = takes_flag head byte || takes_width_star head byte || takes_width_digit head byte || takes_period head byte || takes_precision_star head byte || takes_precision_digit head byte || takes_modifier head byte || is_conversion byte || (byte == 37 && is_bare head)
+goes_on head byte =
+    takes_flag head byte || takes_width_star head byte || takes_width_digit head byte || takes_period head byte
+    || takes_precision_star head byte || takes_precision_digit head byte || takes_modifier head byte
+    || is_conversion byte || (byte == 37 && is_bare head)
 
 -- ---- the causes
 
@@ -97,18 +105,21 @@ is_wide head byte = stands byte (codes "cs") && is_only 108 head.modifier
 
 -- c, s or p after a length, or any conversion after `L`
 abbrev pub is_bad_length : Head → ℕ → Bool
-is_bad_length head byte = (stands byte (codes "csp") && not (is_empty head.modifier)) || (is_conversion byte && is_only 76 head.modifier)
+is_bad_length head byte =
+    (stands byte (codes "csp") && not (is_empty head.modifier)) || (is_conversion byte && is_only 76 head.modifier)
 
 -- the digit makes the width or the precision greater than its limit
 abbrev pub is_too_wide : Head → ℕ → Bool
 is_too_wide head byte =
-    (takes_width_digit head byte && nat_lt MAX_SIZE (digits_value 10 (head.width ++ byte ∷ []))) || (takes_precision_digit head byte && nat_lt MAX_SIZE (digits_value 10 (drop 1 head.precision ++ byte ∷ [])))
+    (takes_width_digit head byte && nat_lt MAX_SIZE (digits_value 10 (head.width ++ byte ∷ [])))
+    || (takes_precision_digit head byte && nat_lt MAX_SIZE (digits_value 10 (drop 1 head.precision ++ byte ∷ [])))
 
 -- a `*` or a conversion
 abbrev pub takes_argument : Head → ℕ → Bool
 takes_argument head byte = takes_width_star head byte || takes_precision_star head byte || is_conversion byte
 
--- why the byte can't stand behind this head, if it can't, where `count` arguments were taken; the first cause in the order of the list
+-- why the byte can't stand behind this head, if it can't, where `count` arguments were taken; the first cause in the
+-- order of the list
 abbrev pub cause_in : Head → ℕ → ℕ → Option FormatCause
 cause_in head count byte =
     if is_float byte then Some Float

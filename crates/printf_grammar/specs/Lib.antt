@@ -1,4 +1,5 @@
 pub mod Breaks
+pub mod Causes
 pub mod Narrow
 pub mod Parts
 pub mod Pieces

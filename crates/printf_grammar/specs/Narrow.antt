@@ -10,7 +10,18 @@ use Rattle.printf_grammar.specs.declared.piece.Conversion.TheVariants.{D}
 
 -- `%d` with nothing between
 abbrev pub plain_d : Spec
-plain_d = record { minus = false; plus = false; space = false; sharp = false; zero = false; width = Absent; precision = Absent; length = Plain; conversion = D }
+plain_d =
+    record {
+      minus = false;
+      plus = false;
+      space = false;
+      sharp = false;
+      zero = false;
+      width = Absent;
+      precision = Absent;
+      length = Plain;
+      conversion = D;
+    }
 
 -- a literal, `%%` or plain `%d`
 abbrev pub IsNarrowPiece : Piece → Type 0

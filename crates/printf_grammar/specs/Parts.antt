@@ -74,7 +74,9 @@ pub record BeginsWithWidth (bytes : List ℕ) (size : Size) (rest : List ℕ) : 
   pub ended : BeginsWithout (width_goes_on width) rest
 
 abbrev pub precision_goes_on : List ℕ → ℕ → Bool
-precision_goes_on precision byte = (byte == 46 && is_empty precision) || (byte == 42 && is_only 46 precision) || (is_digit byte 10 && not (is_empty precision) && not (has_star precision))
+precision_goes_on precision byte =
+    (byte == 46 && is_empty precision) || (byte == 42 && is_only 46 precision)
+    || (is_digit byte 10 && not (is_empty precision) && not (has_star precision))
 
 pub record BeginsWithPrecision (bytes : List ℕ) (size : Size) (rest : List ℕ) : Type 0 where
   pub precision : List ℕ
@@ -88,7 +90,9 @@ modifier_bytes (Known length) = length_bytes length
 modifier_bytes LongDouble = codes "L"
 
 abbrev pub modifier_goes_on : List ℕ → ℕ → Bool
-modifier_goes_on modifier byte = (stands byte (codes "hljztL") && is_empty modifier) || (byte == 104 && is_only 104 modifier) || (byte == 108 && is_only 108 modifier)
+modifier_goes_on modifier byte =
+    (stands byte (codes "hljztL") && is_empty modifier) || (byte == 104 && is_only 104 modifier)
+    || (byte == 108 && is_only 108 modifier)
 
 pub record BeginsWithModifier (bytes : List ℕ) (modifier : Modifier) (rest : List ℕ) : Type 0 where
   pub joined : bytes ≡ modifier_bytes modifier ++ rest
@@ -111,10 +115,13 @@ after_width flags width = record { flags = flags; width = width; precision = [];
 
 -- the byte goes on with a part of the head, or is the second of `%%`
 abbrev pub grows : Head → ℕ → Bool
-grows head byte = takes_flag head byte || takes_width_star head byte || takes_width_digit head byte || takes_period head byte || takes_precision_star head byte || takes_precision_digit head byte || takes_modifier head byte || (byte == 37 && is_bare head)
+grows head byte =
+    takes_flag head byte || takes_width_star head byte || takes_width_digit head byte || takes_period head byte
+    || takes_precision_star head byte || takes_precision_digit head byte || takes_modifier head byte
+    || (byte == 37 && is_bare head)
 
--- behind the start the bytes go on with a head up to the rest, which breaks there; no `*` stands between, and `taken` arguments were
--- taken before
+-- behind the start the bytes go on with a head up to the rest, which breaks there; no `*` stands between, and `taken`
+-- arguments were taken before
 pub record Stops (start : Head) (taken : ℕ) (bytes : List ℕ) (cause : FormatCause) (rest : List ℕ) : Type 0 where
   pub head : Head
   pub joined : head_bytes start ++ bytes ≡ head_bytes head ++ rest

@@ -69,7 +69,9 @@ conversion_type conversions.P length = types.ULong
 
 -- the width, the precision and the value, in this order (paragraph 5)
 abbrev pub field_types : Spec → List ArgType
-field_types spec = size_types types.Width spec.width ++ size_types types.Precision spec.precision ++ conversion_type spec.conversion spec.length ∷ []
+field_types spec =
+    size_types types.Width spec.width ++ size_types types.Precision spec.precision
+    ++ conversion_type spec.conversion spec.length ∷ []
 
 -- what one piece takes
 abbrev pub piece_types : Piece → List ArgType

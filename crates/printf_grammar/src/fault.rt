@@ -1,4 +1,5 @@
 ghost use Rattle.std.specs.Prelude.{◌≡◌};
+ghost use Rattle.printf_grammar.specs.Causes.{cause_name};
 ghost use Rattle.printf_grammar.specs.declared.fault.ParseFault.TheVariants.{NoMemory};
 
 use std::alloc::{AllocError, AllocFailed};
@@ -29,6 +30,27 @@ pub enum FormatCause {
     TooManyArgs,
     /// More than 4,095 bytes.
     Long,
+}
+
+impl FormatCause {
+    /// Its name, as it is printed.
+    pub fn name(self) -> &'static str
+        ensures { result.now ≡ cause_name self }
+    {
+        match self {
+            FormatCause::Float => "Float",
+            FormatCause::Wide => "Wide",
+            FormatCause::Store => "Store",
+            FormatCause::BadPercent => "BadPercent",
+            FormatCause::BadLength => "BadLength",
+            FormatCause::Unknown => "Unknown",
+            FormatCause::TooWide => "TooWide",
+            FormatCause::Ends => "Ends",
+            FormatCause::Nul => "Nul",
+            FormatCause::TooManyArgs => "TooManyArgs",
+            FormatCause::Long => "Long",
+        }
+    }
 }
 
 /// Why `parse` gave no format.

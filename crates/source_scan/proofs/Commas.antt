@@ -1,5 +1,5 @@
 -- Parentheses and commas, passed one by one.
-use Rattle.std.proofs.Common.{◌≡◌, ℕ, suc, ◌+◌, ◌<◌, ◌≤◌, true, false, List, [], ◌∷◌, ◌++◌, length, take, drop, get_or, Option, Some, None, refl, sym, ap, ◌∙◌, append_assoc, arith, ◌==◌}
+use Rattle.std.proofs.Common.{◌≡◌, ℕ, suc, ◌+◌, ◌<◌, ◌≤◌, Bool, true, false, if◌then◌else◌, List, [], ◌∷◌, ◌++◌, length, take, drop, get_or, Option, Some, None, refl, sym, ap, ◌∙◌, append_assoc, arith, ◌==◌}
 use Rattle.std.specs.Option.{option_map}
 use Rattle.std.proofs.lemmas.Bool.{and_parts, eqb-true}
 use Rattle.std.proofs.lemmas.List.{take_more, drop_more, drop_all, take_all, append-nil}
@@ -106,3 +106,14 @@ pub count-more : (tokens : List Token) (i depth : ℕ) (d : Token) → i < lengt
     → length (parted_from depth (drop i tokens)) ≡ length (parted_from (depth_behind depth (get_or tokens i d)) (drop (i + 1) tokens))
 count-more tokens i depth d within here =
     ap length (parted-more depth tokens i d within here) ∙ length-onto_first (get_or tokens i d) (parted_from (depth_behind depth (get_or tokens i d)) (drop (i + 1) tokens))
+
+-- there is at most one argument more than tokens
+pub parted-length : (depth : ℕ) (tokens : List Token) → length (parted_from depth tokens) ≤ length tokens + 1
+unfolding parted_from
+parted-length depth [] = omega arith
+parted-length depth (token ∷ tokens) =
+    let later : List (List Token) = parted_from (depth_behind depth token) tokens in
+    elim (is_bare 44 depth token) as (λ (b : Bool). length (if b then [] ∷ parted_from 0 tokens else onto_first token later) ≤ length (token ∷ tokens) + 1) [
+      | true ↦ omega (arith, parted-length 0 tokens)
+      | false ↦ omega (arith, length-onto_first token later, parted-length (depth_behind depth token) tokens)
+    ]

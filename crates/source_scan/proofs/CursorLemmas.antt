@@ -1,6 +1,6 @@
 -- Cursors that move on in a source.
-use Rattle.std.proofs.Common.{◌≡◌, ℕ, ◌+◌, ◌-◌, ◌≤◌, Bool, true, false, cond, nat_le, List, [], ◌∷◌, take, drop, Option, Some, None, refl, sym, subst, ap, ◌∙◌, arith, if◌then◌else◌}
-use Rattle.std.specs.Prelude.{count_by, IfSome}
+use Rattle.std.proofs.Common.{◌≡◌, ℕ, ◌+◌, ◌-◌, ◌≤◌, Bool, true, false, cond, nat_le, List, [], ◌∷◌, take, drop, refl, sym, subst, ap, ◌∙◌, arith, if◌then◌else◌}
+use Rattle.std.specs.Prelude.{count_by}
 use Rattle.std.proofs.lemmas.List.{take-append-drop, drop-take, drop-drop, take-take}
 use Rattle.std.proofs.lemmas.List.Sums.{sum_by-append}
 use Rattle.source_scan.specs.declared.position.PlacedChange.{PlacedChange}
@@ -69,17 +69,15 @@ moved-cursor source before after changes rest place number within same is =
       name = λ k far. ap (λ (one : InForce). one.name) (same k far) ∙ rebased.name k far;
     }
 
-here-moved : (file source : List ℕ) (changes : List PlacedChange) (before moved : Cursor) (place : ℕ) → before.position.from ≤ place → Follows file source changes before → IsMoved source before place moved → IsHere file source changes place moved
+-- the cursor goes on from where it said what is in force
+pub here-moved : (file source : List ℕ) (changes : List PlacedChange) (before moved : Cursor) (place : ℕ) → before.position.from ≤ place → Follows file source changes before → IsMoved source before place moved → IsHere file source changes place moved
 here-moved file source changes before moved place within follows is = record {
+  from = is.from;
   follows = subst (λ (n : ℕ). SameFrom source n (at_front file) changes (in_force_of moved.position) moved.changes.now) (sym is.from)
       (same-then source before.position.from place (at_front file) (in_force_of before.position) (in_force_of moved.position) changes before.changes.now moved.changes.now within follows is.same);
   line = follows.line place within ∙ is.line;
   name = follows.name place within ∙ is.name;
 }
-
-pub here-result : (file source : List ℕ) (changes : List PlacedChange) (before : Cursor) (place : ℕ) (result : Option Cursor) → before.position.from ≤ place → Follows file source changes before → IfSome result (IsMoved source before place) → IfSome result (IsHere file source changes place)
-here-result file source changes before place None within follows is = is
-here-result file source changes before place (Some moved) within follows is = here-moved file source changes before moved place within follows is
 
 -- the cursor at the front
 pub follows-front : (file source : List ℕ) (changes : List PlacedChange) (cursor : Cursor) → in_force_of cursor.position ≡ at_front file → cursor.changes.now ≡ changes → Follows file source changes cursor

@@ -6,8 +6,10 @@ pub mod Digits
 pub mod FoundLists
 pub mod Fronts
 pub mod ItemLists
+pub mod LineBounds
 pub mod Moving
 pub mod Parts
+pub mod Rises
 pub mod SomeChanges
 pub mod SomeStatements
 pub mod SomeTokens

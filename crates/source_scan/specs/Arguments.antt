@@ -42,7 +42,8 @@ onto_first token (first ∷ others) = (token ∷ first) ∷ others
 unfoldable pub parted_from : ℕ → List Token → List (List Token)
 parted_from depth [] = [] ∷ []
 parted_from depth (token ∷ tokens) =
-    if is_bare 44 depth token then [] ∷ parted_from 0 tokens else onto_first token (parted_from (depth_behind depth token) tokens)
+    if is_bare 44 depth token then [] ∷ parted_from 0 tokens
+    else onto_first token (parted_from (depth_behind depth token) tokens)
 
 -- the first of these lists, or no tokens
 abbrev pub first_argument : List (List Token) → List Token

@@ -4,7 +4,8 @@ use Rattle.std.specs.Prelude.{List, [], ◌∷◌, ◌++◌, length, take, take_
 use Rattle.std.specs.Option.{option_map}
 use Rattle.std.specs.Char.{is_digit}
 use Rattle.std.specs.Str.Parse.{digits_value}
-use Rattle.source_scan.specs.declared.escape.TheConstants.{MAX_OCTAL, SHORT_CHARACTER, LONG_CHARACTER, MAX_BYTE, MAX_CHARACTER}
+use Rattle.source_scan.specs.declared.escape.TheConstants.{MAX_OCTAL, SHORT_CHARACTER, LONG_CHARACTER}
+use Rattle.source_scan.specs.declared.escape.TheConstants.{MAX_BYTE, MAX_CHARACTER}
 use Rattle.source_scan.specs.declared.escape.Meaning.{Meaning}
 use Rattle.source_scan.specs.declared.escape.Meaning.TheVariants.{Byte, Character}
 
@@ -36,7 +37,8 @@ digits_of radix most bytes = take_while (λ byte. is_digit byte radix) (take mos
 -- the byte of these digits: there is one at least, and they are no more than 255
 abbrev pub byte_of : ℕ → List ℕ → Option Meaning
 byte_of radix digits =
-    if nat_le 1 (length digits) && nat_le (digits_value radix digits) MAX_BYTE then Some (Byte (digits_value radix digits)) else None
+    if nat_le 1 (length digits) && nat_le (digits_value radix digits) MAX_BYTE
+    then Some (Byte (digits_value radix digits)) else None
 
 -- a code of a character, and no surrogate
 abbrev pub is_scalar : ℕ → Bool
@@ -45,21 +47,34 @@ is_scalar code = nat_lt code 0xd800 || (nat_le 0xe000 code && nat_le code MAX_CH
 -- the character of exactly so many hexadecimal digits
 abbrev pub character_of : ℕ → List ℕ → Option Meaning
 character_of count digits =
-    if length digits == count && is_scalar (digits_value 16 digits) then Some (Character (digits_value 16 digits)) else None
+    if length digits == count && is_scalar (digits_value 16 digits)
+    then Some (Character (digits_value 16 digits)) else None
 
 -- a meaning, and how many bytes it is spelled by
 abbrev pub spelled_by : ℕ → Option Meaning → Option (Meaning × ℕ)
 spelled_by length meaning = option_map (λ (one : Meaning). (one, length)) meaning
 
+-- the escape of the octal digits that these bytes begin with
+abbrev pub octal_escape : List ℕ → Option (Meaning × ℕ)
+octal_escape bytes = spelled_by (length (digits_of 8 MAX_OCTAL bytes)) (byte_of 8 (digits_of 8 MAX_OCTAL bytes))
+
+-- the escape of `x` and the hexadecimal digits that these bytes begin with
+abbrev pub hexadecimal_escape : List ℕ → Option (Meaning × ℕ)
+hexadecimal_escape bytes =
+    spelled_by (1 + length (digits_of 16 (length bytes) bytes)) (byte_of 16 (digits_of 16 (length bytes) bytes))
+
+-- the escape of `u` or `U` and so many hexadecimal digits that these bytes begin with
+abbrev pub character_escape : ℕ → List ℕ → Option (Meaning × ℕ)
+character_escape count bytes = spelled_by (1 + count) (character_of count (digits_of 16 count bytes))
+
 -- what an escape stands for that goes on with these bytes behind its backslash, and how many of them are its own
 abbrev pub escape_of : List ℕ → Option (Meaning × ℕ)
 escape_of [] = None
 escape_of (letter ∷ bytes) =
-    if is_digit letter 8
-    then spelled_by (length (digits_of 8 MAX_OCTAL (letter ∷ bytes))) (byte_of 8 (digits_of 8 MAX_OCTAL (letter ∷ bytes)))
-    else (if letter == 120 then spelled_by (1 + length (digits_of 16 (length bytes) bytes)) (byte_of 16 (digits_of 16 (length bytes) bytes))
-    else (if letter == 117 then spelled_by (1 + SHORT_CHARACTER) (character_of SHORT_CHARACTER (digits_of 16 SHORT_CHARACTER bytes))
-    else (if letter == 85 then spelled_by (1 + LONG_CHARACTER) (character_of LONG_CHARACTER (digits_of 16 LONG_CHARACTER bytes))
+    if is_digit letter 8 then octal_escape (letter ∷ bytes)
+    else (if letter == 120 then hexadecimal_escape bytes
+    else (if letter == 117 then character_escape SHORT_CHARACTER bytes
+    else (if letter == 85 then character_escape LONG_CHARACTER bytes
     else spelled_by 1 (option_map Byte (letter_escape letter)))))
 
 -- ---- literals

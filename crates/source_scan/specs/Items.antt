@@ -29,7 +29,8 @@ is_quote byte = byte == 34
 -- the bytes before the first place where the others stand
 unfoldable pub before_text : List ℕ → List ℕ → List ℕ
 before_text others [] = []
-before_text others (byte ∷ bytes) = if starts_with nat_eq (byte ∷ bytes) others then [] else byte ∷ before_text others bytes
+before_text others (byte ∷ bytes) =
+    if starts_with nat_eq (byte ∷ bytes) others then [] else byte ∷ before_text others bytes
 
 -- a raw string's prefix is one of those of an item
 abbrev pub is_item_prefix : List ℕ → Bool
@@ -80,8 +81,10 @@ joined (Some bytes) others = option_map (λ (more : List ℕ). bytes ++ more) ot
 unfoldable pub items_bytes : List ℕ → List Token → Option (List ℕ)
 items_bytes source [] = Some []
 items_bytes source (token ∷ tokens) =
-    if is_prefix source token tokens then items_bytes source tokens else joined (item_bytes source token) (items_bytes source tokens)
+    if is_prefix source token tokens then items_bytes source tokens
+    else joined (item_bytes source token) (items_bytes source tokens)
 
 -- the format of an argument: items, of which one at least is a literal
 abbrev pub format_bytes : List ℕ → List Token → Option (List ℕ)
-format_bytes source tokens = if list_any (λ (token : Token). is_literal token.kind) tokens then items_bytes source tokens else None
+format_bytes source tokens =
+    if list_any (λ (token : Token). is_literal token.kind) tokens then items_bytes source tokens else None

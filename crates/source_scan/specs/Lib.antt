@@ -7,6 +7,7 @@ pub mod LineNumbers
 pub mod Positions
 pub mod PriWords
 pub mod Readings
+pub mod Rising
 pub mod Rows
 pub mod Severities
 pub mod Statements

@@ -48,12 +48,17 @@ in_force_of position = record { from = position.from; number = position.number; 
 
 -- what is in force behind a change
 abbrev pub changed : InForce → PlacedChange → InForce
-changed before placed = record { from = placed.from; number = placed.change.number; name = unwrap_or placed.change.name before.name }
+changed before placed = record {
+  from = placed.from;
+  number = placed.change.number;
+  name = unwrap_or placed.change.name before.name;
+}
 
 -- what is in force behind the changes up to a place, one after the other
 unfoldable pub changed_to : ℕ → InForce → List PlacedChange → InForce
 changed_to place before [] = before
-changed_to place before (placed ∷ changes) = if nat_le placed.from place then changed_to place (changed before placed) changes else before
+changed_to place before (placed ∷ changes) =
+    if nat_le placed.from place then changed_to place (changed before placed) changes else before
 
 -- what is in force at the front of a source: line 1, and the file's own name
 abbrev pub at_front : List ℕ → InForce
@@ -68,4 +73,5 @@ is_line_end byte = byte == 10
 
 -- the line at a place, where this is in force
 abbrev pub line_of : List ℕ → InForce → ℕ → ℕ
-line_of source in_force place = in_force.number + count_by is_line_end (take (place - in_force.from) (drop in_force.from source))
+line_of source in_force place =
+    in_force.number + count_by is_line_end (take (place - in_force.from) (drop in_force.from source))

@@ -4,7 +4,8 @@ use Rattle.source_scan.specs.declared.pri_word.Conversion.{Conversion}
 
 -- d, i, o, u, x or X
 abbrev pub is_pri_letter : ℕ → Bool
-is_pri_letter letter = letter == 100 || letter == 105 || letter == 111 || letter == 117 || letter == 120 || letter == 88
+is_pri_letter letter =
+    letter == 100 || letter == 105 || letter == 111 || letter == 117 || letter == 120 || letter == 88
 
 -- 8, 16 or 32
 abbrev pub is_int_width : List ℕ → Bool

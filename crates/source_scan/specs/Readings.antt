@@ -18,7 +18,8 @@ use Rattle.source_scan.specs.declared.reading.Reading.{Reading}
 use Rattle.source_scan.specs.Severities.{NamesSeverity}
 use Rattle.source_scan.specs.Items.{format_bytes}
 
--- where a statement stands, the tokens of its first two arguments, of which the second may be none, and how many others follow
+-- where a statement stands, the tokens of its first two arguments, of which the second may be none, and how many
+-- others follow
 pub record Parted : Type 0 where
   pub file : List ℕ
   pub line : ℕ

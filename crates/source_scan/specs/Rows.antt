@@ -29,8 +29,8 @@ in_parentheses = mark_at 40 0 ∷ number_at 1 2 ∷ mark_at 44 2 ∷ number_at 3
 -- `ERROR, "%d", f(1));` as it stands behind `a; NANO_LOG(`
 abbrev pub behind_word : List Token
 behind_word =
-    name_at 12 17 ∷ mark_at 44 17 ∷ literal_at 19 23 ∷ mark_at 44 23 ∷ name_at 25 26 ∷ mark_at 40 26 ∷ number_at 27 28 ∷ mark_at 41 28
-    ∷ mark_at 41 29 ∷ mark_at 59 30 ∷ []
+    name_at 12 17 ∷ mark_at 44 17 ∷ literal_at 19 23 ∷ mark_at 44 23
+    ∷ name_at 25 26 ∷ mark_at 40 26 ∷ number_at 27 28 ∷ mark_at 41 28 ∷ mark_at 41 29 ∷ mark_at 59 30 ∷ []
 
 -- the statement at place 3 that closes at the second parenthesis of these
 abbrev pub worked_statement : Parted

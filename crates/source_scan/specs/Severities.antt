@@ -21,7 +21,8 @@ unfoldable pub last_name : List Token → Option Token
 last_name [] = None
 last_name (name ∷ []) = if is_identifier name.kind then Some name else None
 last_name (name ∷ first ∷ []) = None
-last_name (name ∷ first ∷ second ∷ tokens) = if is_identifier name.kind && is_scope first second then last_name tokens else None
+last_name (name ∷ first ∷ second ∷ tokens) =
+    if is_identifier name.kind && is_scope first second then last_name tokens else None
 
 -- the argument names this severity
 abbrev pub NamesSeverity : List ℕ → List Token → Severity → Type 0

@@ -1,5 +1,5 @@
 -- The statements of a source.
-use Rattle.std.specs.Prelude.{◌≡◌, ℕ, zero, suc, Bool, false, ◌&&◌, List, [], ◌∷◌}
+use Rattle.std.specs.Prelude.{◌≡◌, ℕ, zero, suc, Bool, false, ◌&&◌, ◌<◌, ◌^◌, List, [], ◌∷◌}
 use Rattle.std.specs.Prelude.{length, take, drop, codes, slice_index_or, MatchBool, Option, Some, None}
 use Rattle.source_tokens.specs.declared.token.Token.{Token}
 use Rattle.source_tokens.specs.Directives.{Parts}
@@ -31,11 +31,16 @@ abbrev pub begins : List ℕ → Token → List Token → Bool
 begins source token [] = false
 begins source token (next ∷ tokens) = is_word (codes "NANO_LOG") source token && opens next
 
+-- the line at each place fits its type
+abbrev pub LinesFit : SourceText → Type 0
+LinesFit source = (place : ℕ) → line_of source.bytes (in_force_at source.file source.changes place) place < 2 ^ 32
+
 -- what is in force at a token
 abbrev pub in_force : SourceText → Token → InForce
 in_force source token = in_force_at source.file source.changes token.start
 
--- the statement that begins with the token, in this line of this file, where its parenthesis closes at this place of the tokens behind `(`
+-- the statement that begins with the token, in this line of this file, where its parenthesis closes at this place of
+-- the tokens behind `(`
 abbrev pub reading_of : List ℕ → ℕ → Token → List Token → ℕ → Parted
 reading_of name line token inside place =
     let arguments : List (List Token) = parted_from 0 (take place inside) in

@@ -12,7 +12,8 @@ unspliced (first ∷ []) = first ∷ []
 unspliced (first ∷ second ∷ []) = if first == 92 && second == 10 then [] else first ∷ unspliced (second ∷ [])
 unspliced (first ∷ second ∷ third ∷ rest) =
     if first == 92 && second == 10 then unspliced (third ∷ rest)
-    else (if first == 92 && second == 13 && third == 10 then unspliced rest else first ∷ unspliced (second ∷ third ∷ rest))
+    else (if first == 92 && second == 13 && third == 10 then unspliced rest
+    else first ∷ unspliced (second ∷ third ∷ rest))
 
 -- ---- tokens
 

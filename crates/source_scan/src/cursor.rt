@@ -1,7 +1,7 @@
 //! Cursors, which tell the line and the name that are in force as they move on in a source.
 
-ghost use Rattle.std.specs.Prelude.{◌≡◌, ◌≤◌, ℕ, IfSome};
-ghost use Rattle.source_scan.specs.Positions.{in_force_of, changed_to, at_front};
+ghost use Rattle.std.specs.Prelude.{◌≡◌, ◌≤◌, ◌<◌, ◌^◌, ℕ};
+ghost use Rattle.source_scan.specs.Positions.{in_force_of, changed_to, at_front, line_of};
 ghost use Rattle.source_scan.specs.Cursors.{IsMoved};
 
 use crate::position::{PlacedChange, Position, changed, line_at};
@@ -46,20 +46,21 @@ fn past_changes<'a>(cursor: Cursor<'a>, place: usize) -> Cursor<'a>
     Cursor { position, changes }
 }
 
-/// The cursor moved on to a place, if the number of its line fits.
-pub(crate) fn moved_to<'a>(source: &[u8], cursor: Cursor<'a>, place: usize) -> Option<Cursor<'a>>
-    requires { cursor.position.from ≤ place }
-    ensures { IfSome result (IsMoved source.now cursor.entry place) }
+/// The cursor moved on to a place.
+pub(crate) fn moved_to<'a>(source: &[u8], cursor: Cursor<'a>, place: usize) -> Cursor<'a>
+    requires from { cursor.position.from ≤ place }
+    requires line { line_of source.now
+        (changed_to place (in_force_of cursor.position) cursor.changes.now) place < 2 ^ 32 }
+    ensures { IsMoved source.now cursor.entry place result }
 {
     let behind = past_changes(cursor, place);
-    let number = line_at(source, behind.position, place)?;
     let position = Position {
         from: place,
-        number,
+        number: line_at(source, behind.position, place),
         name: behind.position.name,
     };
-    Some(Cursor {
+    Cursor {
         position,
         changes: behind.changes,
-    })
+    }
 }

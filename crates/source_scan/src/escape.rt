@@ -140,7 +140,7 @@ fn escape_of(bytes: &[u8]) -> Option<Part>
     }
 }
 
-/// What the part of a literal stands for that begins with this byte, and how many of the bytes behind it are part of it.
+/// What the part of a literal stands for that begins with this byte, and how many of the bytes behind it are its own.
 pub(crate) fn part_of(first: u8, bytes: &[u8]) -> Option<Part>
     ensures value { result ≡ part_of first bytes.now }
     ensures within { IfSome result (λ part. part.1 ≤ length bytes.now) }

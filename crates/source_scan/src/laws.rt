@@ -1,17 +1,22 @@
 //! Laws and worked examples of the definitions. The functions answer nothing: what they ensure is
 //! proved of the definitions.
 
-ghost use Rattle.std.specs.Prelude.{◌≡◌, ℕ, List, [], ◌∷◌, Some, None, take, drop, codes};
+ghost use Rattle.std.specs.Prelude.{◌≡◌, ℕ, ◌+◌, ◌≤◌, List, [], ◌∷◌, length, Some, None};
+ghost use Rattle.std.specs.Prelude.{take, drop, codes};
 ghost use Rattle.source_tokens.specs.declared.token.Token.{Token};
 ghost use Rattle.source_tokens.specs.Tokens.{Tokens};
+ghost use Rattle.source_tokens.specs.Directives.{Parts};
 ghost use Rattle.source_scan.specs.declared.found.Found.{Found};
-ghost use Rattle.source_scan.specs.Texts.{unspliced, bytes_of};
+ghost use Rattle.source_scan.specs.declared.line_change.TheConstants.{MAX_LINE};
+ghost use Rattle.source_scan.specs.declared.position.PlacedChange.{PlacedChange};
+ghost use Rattle.source_scan.specs.Texts.{unspliced, bytes_of, significant};
 ghost use Rattle.source_scan.specs.Escapes.{unescaped};
 ghost use Rattle.source_scan.specs.Items.{items_bytes};
 ghost use Rattle.source_scan.specs.Severities.{last_name};
 ghost use Rattle.source_scan.specs.Arguments.{closing_from, parted_from};
 ghost use Rattle.source_scan.specs.LineChanges.{directive_change};
-ghost use Rattle.source_scan.specs.Positions.{at_front, line_of};
+ghost use Rattle.source_scan.specs.Positions.{Changes, in_force_at, at_front, line_of};
+ghost use Rattle.source_scan.specs.Rising.{RiseFrom};
 ghost use Rattle.source_scan.specs.Rows.{mark_at, name_at, number_at, literal_at};
 ghost use Rattle.source_scan.specs.Rows.{in_braces, in_parentheses, behind_word, worked_statement, scoped};
 ghost use Rattle.source_scan.specs.Statements.{reading_of, Statements};
@@ -20,6 +25,16 @@ ghost use Rattle.source_scan.specs.Statements.{reading_of, Statements};
 pub fn one_list()
     ensures { (file source : List ℕ) (found others : List Found)
         → Statements file source found → Statements file source others → found ≡ others }
+{}
+
+/// How far the numbers of a source go: no line is further behind the greatest that a directive gives
+/// than the source has bytes, and the tokens among which statements are looked for rise in it.
+pub fn bounds()
+    ensures line { (file source : List ℕ) (parts : List Token) (changes : List PlacedChange)
+        → Changes source parts changes
+        → (place : ℕ) → line_of source (in_force_at file changes place) place ≤ MAX_LINE + length source }
+    ensures tokens { (source : List ℕ) (parts : List Token) → Parts source parts
+        → RiseFrom 0 (significant parts) (length source) }
 {}
 
 /// What stands at the front of a source is a source too, and has tokens.

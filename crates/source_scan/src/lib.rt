@@ -30,7 +30,7 @@ pub use position::{PlacedChange, Position, line_changes};
 pub use pri_word::{Conversion, pri_conversion};
 pub use reading::Reading;
 pub use severity::named_severity;
-pub use statement::{Source, scan};
+pub use statement::{MAX_SOURCE, Source, scan};
 pub use text::{bytes_of, is_text, is_word, unspliced};
 pub use unescape::literal_bytes;
 

@@ -1,6 +1,6 @@
 //! The line and the name of a file that are in force at a place of a source.
 
-ghost use Rattle.std.specs.Prelude.{◌≡◌, ◌≤◌, length, count_by, IfOk, IfSome};
+ghost use Rattle.std.specs.Prelude.{◌≡◌, ◌≤◌, ◌<◌, ◌^◌, length, count_by, IfOk};
 ghost use Rattle.source_scan.specs.Positions.{has_next_line, Changes, in_force_of, changed, is_line_end, line_of};
 
 use crate::line_change::{LineChange, read_directive};
@@ -81,14 +81,11 @@ fn count_line_ends(bytes: &[u8]) -> usize
     count
 }
 
-/// The line at a place where the position is in force, if its number fits.
-pub(crate) fn line_at(source: &[u8], position: Position<'_>, place: usize) -> Option<u32>
-    ensures { IfSome result (λ line. line ≡ line_of source.now (in_force_of position.entry) place) }
+/// The line at a place where the position is in force.
+pub(crate) fn line_at(source: &[u8], position: Position<'_>, place: usize) -> u32
+    requires { line_of source.now (in_force_of position) place < 2 ^ 32 }
+    ensures { result ≡ line_of source.now (in_force_of position.entry) place }
 {
     let lines = count_line_ends(between(source, position.from, place));
-    let line = position.number as u64 + lines as u64;
-    if line > u32::MAX as u64 {
-        return None;
-    }
-    Some(line as u32)
+    position.number + lines as u32
 }

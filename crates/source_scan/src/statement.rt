@@ -1,10 +1,12 @@
 //! The statements of a source.
 
-ghost use Rattle.std.specs.Prelude.{◌≡◌, ◌≤◌, ◌<◌, length, IfOk, IfSome};
+ghost use Rattle.std.specs.Prelude.{◌≡◌, ◌≤◌, ◌<◌, ◌^◌, length, IfOk};
 ghost use Rattle.std.specs.Option.{ForSome};
 ghost use Rattle.source_scan.specs.Readings.{parted_of};
+ghost use Rattle.source_scan.specs.Positions.{in_force_at, line_of};
 ghost use Rattle.source_scan.specs.Cursors.{Follows, IsHere};
-ghost use Rattle.source_scan.specs.Statements.{text_of, begins, reading_of, IsUnclosedFound};
+ghost use Rattle.source_scan.specs.Rising.{RiseFrom};
+ghost use Rattle.source_scan.specs.Statements.{text_of, LinesFit, begins, reading_of, IsUnclosedFound};
 ghost use Rattle.source_scan.specs.Statements.{IsFoundIn, own_tokens, Finds, Statements};
 
 use crate::arguments::{arguments_of, closing_place, is_mark};
@@ -16,6 +18,9 @@ use crate::text::{is_word, significant};
 use printf_grammar::Bytes;
 use source_tokens::{Token, parts};
 use std::alloc::{AllocError, Global};
+
+/// The most bytes of a source that is scanned.
+pub const MAX_SOURCE: usize = 16_777_216;
 
 /// A source with the name of its file and its line directives.
 #[derive(Clone, Copy, Debug)]
@@ -35,29 +40,27 @@ fn begins(source: &[u8], token: &Token, behind: &[Token]) -> bool
     }
 }
 
-/// The statement that begins with the token and whose parenthesis closes at the place, if its numbers fit.
+/// The statement that begins with the token and whose parenthesis closes at the place.
 fn reading_of<'a>(
     here: Position<'a>,
     token: &Token,
     inside: &'a [Token],
     place: usize,
-) -> Option<Reading<'a>>
-    requires { place < length inside.now }
-    ensures { IfSome result (λ reading.
-        parted_of reading ≡ reading_of here.entry.name.now here.entry.number token.now inside.now place) }
+) -> Reading<'a>
+    requires place { place < length inside.now }
+    requires rise { RiseFrom 0 inside.now MAX_SOURCE }
+    ensures { parted_of result ≡ reading_of here.entry.name.now here.entry.number token.now inside.now place }
 {
     let arguments = arguments_of(inside.split_at(place).0);
-    let args = u32::try_from(arguments.others).ok()?;
-    let end = inside[place].start.checked_add(1)?;
-    Some(Reading {
+    Reading {
         file: here.name,
         line: here.number,
         severity: arguments.first,
         format: arguments.second,
-        args,
+        args: arguments.others as u32,
         start: token.start,
-        end,
-    })
+        end: inside[place].start + 1,
+    }
 }
 
 /// A statement that nothing closes.
@@ -79,15 +82,13 @@ fn found_at(
     inside: &[Token],
     closing: Option<usize>,
 ) -> Result<Found, AllocError>
-    requires { ForSome closing (λ place. place < length inside.now) }
+    requires closing { ForSome closing (λ place. place < length inside.now) }
+    requires rise { RiseFrom 0 inside.now MAX_SOURCE }
     ensures { IfOk result (IsFoundIn source.now here.entry.name.now here.entry.number token.now inside.now closing) }
 {
     match closing {
         None => unclosed(alloc, here),
-        Some(place) => match reading_of(here, token, inside, place) {
-            Some(reading) => reading.found(alloc, source),
-            None => Err(AllocError),
-        },
+        Some(place) => reading_of(here, token, inside, place).found(alloc, source),
     }
 }
 
@@ -103,25 +104,14 @@ fn own_tokens(inside: &[Token], closing: Option<usize>) -> usize
     }
 }
 
-/// The cursor, or the one at the front where the place lies before it.
-fn cursor_before<'a>(source: Source<'a>, cursor: Cursor<'a>, place: usize) -> Cursor<'a>
-    requires { Follows source.file.now source.bytes.now source.changes.now cursor }
-    ensures from { result.position.from ≤ place }
-    ensures follows { Follows source.entry.file.now source.entry.bytes.now source.entry.changes.now result }
+/// The cursor, moved on to a place of its source.
+fn cursor_at<'a>(source: Source<'a>, cursor: Cursor<'a>, place: usize) -> Cursor<'a>
+    requires from { cursor.position.from ≤ place }
+    requires follows { Follows source.file.now source.bytes.now source.changes.now cursor }
+    requires line { line_of source.bytes.now (in_force_at source.file.now source.changes.now place) place < 2 ^ 32 }
+    ensures { IsHere source.entry.file.now source.entry.bytes.now source.entry.changes.now place result }
 {
-    if cursor.position.from <= place {
-        return cursor;
-    }
-    front_cursor(source.file, source.changes)
-}
-
-/// The cursor at a place, if the number of its line fits.
-fn cursor_at<'a>(source: Source<'a>, cursor: Cursor<'a>, place: usize) -> Option<Cursor<'a>>
-    requires { Follows source.file.now source.bytes.now source.changes.now cursor }
-    ensures { IfSome result (IsHere source.entry.file.now source.entry.bytes.now source.entry.changes.now place) }
-{
-    let before = cursor_before(source, cursor, place);
-    moved_to(source.bytes, before, place)
+    moved_to(source.bytes, cursor, place)
 }
 
 /// The statements among the tokens, in order.
@@ -130,6 +120,8 @@ fn find_statements(
     source: Source<'_>,
     tokens: &[Token],
 ) -> Result<Vec<Found>, AllocError>
+    requires rise { RiseFrom 0 tokens.now MAX_SOURCE }
+    requires lines { LinesFit (text_of source) }
     ensures { IfOk result (λ found. Finds (text_of source.entry) 0 tokens.now found.items) }
 {
     let mut found = Vec::new(alloc);
@@ -140,20 +132,22 @@ fn find_statements(
         if !begins(source.bytes, token, behind) {
             continue;
         }
-        let Some(here) = cursor_at(source, cursor, token.start) else {
-            return Err(AllocError);
-        };
-        cursor = here;
+        cursor = cursor_at(source, cursor, token.start);
         let inside = behind.split_at(1).1;
         let closing = closing_place(inside);
-        found.push(found_at(alloc, source.bytes, here.position, token, inside, closing)?)?;
+        found.push(found_at(alloc, source.bytes, cursor.position, token, inside, closing)?)?;
         rest = inside.split_at(own_tokens(inside, closing)).1;
     }
     Ok(found)
 }
 
 /// The statements of a source, good and bad ones, in order. At first the file has this name.
+///
+/// # Errors
+///
+/// There is no memory.
 pub fn scan(alloc: Global, file: &[u8], source: &[u8]) -> Result<Vec<Found>, AllocError>
+    requires { length source.now ≤ MAX_SOURCE }
     ensures { IfOk result (λ found. Statements file.now source.now found.items) }
 {
     let parts = parts(alloc, source)?;

@@ -24,8 +24,7 @@ fn push_meaning(bytes: &mut Vec<u8>, meaning: Meaning) -> Result<(), AllocError>
     Ok(())
 }
 
-/// What stands for itself or is an escape between the marks of a literal: the bytes that it stands for, if each escape is
-/// one. The bytes have no splices.
+/// What the text between the marks of a literal stands for, if each escape in it is one. The text has no splices.
 pub fn literal_bytes(alloc: Global, body: &[u8]) -> Result<Option<Bytes>, AllocError>
     ensures { IfOk result (λ bytes. bytes ≡ unescaped body.now) }
 {

@@ -2,7 +2,8 @@
 use Rattle.std.specs.Prelude.{◌≡◌, ℕ, Bool, true, false, not, ◌==◌, if◌then◌else◌, List, [], ◌∷◌, ◌++◌}
 use Rattle.std.specs.List.{list_all, flat_map, AllByRecursion}
 use Rattle.source_tokens.specs.declared.kind.Kind.{Kind}
-use Rattle.source_tokens.specs.declared.kind.Kind.TheVariants.{Space, NewLine, LineComment, BlockComment, Punctuator, Directive}
+use Rattle.source_tokens.specs.declared.kind.Kind.TheVariants.{Space, NewLine, LineComment, BlockComment}
+use Rattle.source_tokens.specs.declared.kind.Kind.TheVariants.{Punctuator, Directive}
 use Rattle.source_tokens.specs.declared.token.Token.{Token}
 use Rattle.source_tokens.specs.declared.line_parts.Place.{Place}
 use Rattle.source_tokens.specs.declared.line_parts.Place.TheVariants as places
@@ -35,10 +36,13 @@ last_end end (token ∷ tokens) = last_end token.end tokens
 abbrev pub directive_of : Token → List Token → Token
 directive_of first tokens = record { kind = Directive; start = first.start; end = last_end first.end tokens }
 
--- a line with its directive: where its first token that is no space and no comment is `#`, that and all behind it are one directive
+-- a line with its directive: where its first token that is no space and no comment is `#`, that and all behind it are
+-- one directive
 abbrev pub of_line : List Token → List Token
 of_line [] = []
-of_line (token ∷ tokens) = if is_blank token.kind then token ∷ of_line tokens else (if is_hash token.kind then directive_of token tokens ∷ [] else token ∷ tokens)
+of_line (token ∷ tokens) =
+    if is_blank token.kind then token ∷ of_line tokens
+    else (if is_hash token.kind then directive_of token tokens ∷ [] else token ∷ tokens)
 
 -- ---- all lines
 

@@ -2,11 +2,14 @@
 use Rattle.std.specs.Prelude.{ℕ, Bool, true, false, not, ◌&&◌, ◌||◌, ◌==◌, if◌then◌else◌, List, [], ◌∷◌, drop}
 use Rattle.std.specs.List.{list_all}
 use Rattle.std.specs.Char.{is_ascii_digit}
-use Rattle.source_tokens.specs.Bytes.{is_space, begins_word, is_word, is_number_byte, is_exponent, is_sign, is_within_line}
+use Rattle.source_tokens.specs.Bytes.{is_space, begins_word, is_word, is_number_byte, is_exponent, is_sign}
+use Rattle.source_tokens.specs.Bytes.{is_within_line}
 use Rattle.source_tokens.specs.declared.kind.Kind.{Kind}
 use Rattle.source_tokens.specs.declared.kind.Kind.TheVariants as kinds
 use Rattle.source_tokens.specs.declared.opening.Opening.{Opening}
-use Rattle.source_tokens.specs.declared.opening.Opening.TheVariants.{Space, NewLine, LineComment, BlockComment, Identifier, Number, StringLiteral, CharacterConstant, Punctuator}
+use Rattle.source_tokens.specs.declared.opening.Opening.TheVariants.{Space, NewLine, LineComment, BlockComment}
+use Rattle.source_tokens.specs.declared.opening.Opening.TheVariants.{Identifier, Number, StringLiteral}
+use Rattle.source_tokens.specs.declared.opening.Opening.TheVariants.{CharacterConstant, Punctuator}
 
 -- the bytes begin with one that passes the test
 abbrev pub begins_with : (ℕ → Bool) → List ℕ → Bool
@@ -39,7 +42,8 @@ unfoldable pub is_comment_body : List ℕ → Bool
 is_comment_body [] = true
 is_comment_body (byte ∷ []) = true
 is_comment_body (byte ∷ next ∷ []) = true
-is_comment_body (byte ∷ next ∷ third ∷ bytes) = not (byte == 42 && next == 47) && is_comment_body (next ∷ third ∷ bytes)
+is_comment_body (byte ∷ next ∷ third ∷ bytes) =
+    not (byte == 42 && next == 47) && is_comment_body (next ∷ third ∷ bytes)
 
 -- the same of the bytes behind a first one, which is the `*` of `/*`
 abbrev pub is_comment_tail : List ℕ → Bool
@@ -48,24 +52,28 @@ is_comment_tail (star ∷ body) = is_comment_body body
 
 -- ---- string literals and character constants
 
--- the mark stands in the bytes and isn't the second byte of a pair, where a backslash and the byte behind it are a pair
+-- the mark stands in the bytes and isn't the second byte of a pair: a backslash and the byte behind it
 unfoldable pub has_mark : ℕ → List ℕ → Bool
 has_mark mark [] = false
 has_mark mark (byte ∷ []) = byte == mark
-has_mark mark (byte ∷ next ∷ bytes) = if byte == mark then true else (if byte == 92 then has_mark mark bytes else has_mark mark (next ∷ bytes))
+has_mark mark (byte ∷ next ∷ bytes) =
+    if byte == mark then true else (if byte == 92 then has_mark mark bytes else has_mark mark (next ∷ bytes))
 
 -- a part of one line in which such a mark stands nowhere before the last byte
 unfoldable pub is_literal_body : ℕ → List ℕ → Bool
 is_literal_body mark [] = true
 is_literal_body mark (byte ∷ []) = not (byte == 10)
 is_literal_body mark (byte ∷ next ∷ bytes) =
-    if byte == 10 || byte == mark then false else (if byte == 92 then not (next == 10) && is_literal_body mark bytes else is_literal_body mark (next ∷ bytes))
+    if byte == 10 || byte == mark then false
+    else (if byte == 92 then not (next == 10) && is_literal_body mark bytes else is_literal_body mark (next ∷ bytes))
 
 -- ---- preprocessing numbers
 
 -- behind the byte `before` of a number the byte goes on with it, where these bytes follow
 abbrev pub number_goes_on : ℕ → ℕ → List ℕ → Bool
-number_goes_on before byte behind = is_number_byte byte || byte == 46 || (is_sign byte && is_exponent before) || (byte == 39 && begins_with is_number_byte behind)
+number_goes_on before byte behind =
+    is_number_byte byte || byte == 46 || (is_sign byte && is_exponent before)
+    || (byte == 39 && begins_with is_number_byte behind)
 
 -- each of the bytes goes on with a number behind the byte `before`
 unfoldable pub is_number_tail : ℕ → List ℕ → Bool

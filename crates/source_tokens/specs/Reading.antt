@@ -2,7 +2,8 @@
 use Rattle.std.specs.Prelude.{◌≡◌, ℕ, ◌≤◌, Bool, true, List, [], ◌∷◌, length}
 use Rattle.source_tokens.specs.Splices.{past_splices}
 
--- the bytes begin with this text and the rest follows, if each byte of the text is taken with the splices behind it; no splice stands at the front
+-- the bytes begin with this text and the rest follows, if each byte of the text is taken with the splices behind it;
+-- no splice stands at the front
 unfoldable pub Reads : List ℕ → List ℕ → List ℕ → Type 0
 Reads bytes [] rest = bytes ≡ rest
 Reads [] (first ∷ text) rest = ⊥

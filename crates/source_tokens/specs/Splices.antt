@@ -6,7 +6,8 @@ abbrev pub splice_length : List ℕ → ℕ
 splice_length [] = 0
 splice_length (first ∷ []) = 0
 splice_length (first ∷ second ∷ []) = if first == 92 && second == 10 then 2 else 0
-splice_length (first ∷ second ∷ third ∷ rest) = if first == 92 && second == 10 then 2 else (if first == 92 && second == 13 && third == 10 then 3 else 0)
+splice_length (first ∷ second ∷ third ∷ rest) =
+    if first == 92 && second == 10 then 2 else (if first == 92 && second == 13 && third == 10 then 3 else 0)
 
 -- the bytes behind all splices at the front
 unfoldable pub past_splices : List ℕ → List ℕ
@@ -14,4 +15,5 @@ past_splices [] = []
 past_splices (first ∷ []) = first ∷ []
 past_splices (first ∷ second ∷ []) = if first == 92 && second == 10 then [] else first ∷ second ∷ []
 past_splices (first ∷ second ∷ third ∷ rest) =
-    if first == 92 && second == 10 then past_splices (third ∷ rest) else (if first == 92 && second == 13 && third == 10 then past_splices rest else first ∷ second ∷ third ∷ rest)
+    if first == 92 && second == 10 then past_splices (third ∷ rest)
+    else (if first == 92 && second == 13 && third == 10 then past_splices rest else first ∷ second ∷ third ∷ rest)

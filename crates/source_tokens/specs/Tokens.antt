@@ -15,9 +15,11 @@ pub record StandsRaw (bytes : List ℕ) (kind : Kind) (rest : List ℕ) : Type 0
   pub begins : BeginsRaw bytes raw
   pub ends : EndsRaw raw kind rest
 
--- what the byte `first` opens goes on with the longest text that stands at the front of the bytes behind it, and `rest` stands behind that
+-- what the byte `first` opens goes on with the longest text that stands at the front of the bytes behind it, and
+-- `rest` stands behind that
 abbrev pub GoesOn : Opening → ℕ → List ℕ → Kind → List ℕ → Type 0
-GoesOn opening first behind kind rest = (tail : List ℕ) × IsLongest (is_tail opening first) behind tail rest × (kind ≡ kind_of opening (first ∷ tail))
+GoesOn opening first behind kind rest =
+    (tail : List ℕ) × IsLongest (is_tail opening first) behind tail rest × (kind ≡ kind_of opening (first ∷ tail))
 
 -- what the first byte opens stands at the front, as long as it can be, and `rest` stands behind it and its splices
 pub record StandsPlain (bytes : List ℕ) (kind : Kind) (rest : List ℕ) : Type 0 where
@@ -39,11 +41,13 @@ pub record IsToken (total : ℕ) (bytes : List ℕ) (token : Token) (rest : List
 -- the tokens stand one behind the other at the front of these bytes, and `rest` stands behind them
 unfoldable pub Follow : ℕ → List ℕ → List Token → List ℕ → Type 0
 Follow total bytes [] rest = bytes ≡ rest
-Follow total bytes (token ∷ tokens) rest = (behind : List ℕ) × IsToken total bytes token behind × Follow total behind tokens rest
+Follow total bytes (token ∷ tokens) rest =
+    (behind : List ℕ) × IsToken total bytes token behind × Follow total behind tokens rest
 
 -- the bytes without a byte order mark (ef bb bf) at the front
 abbrev pub past_mark : List ℕ → List ℕ
-past_mark (first ∷ second ∷ third ∷ rest) = if first == 239 && second == 187 && third == 191 then rest else first ∷ second ∷ third ∷ rest
+past_mark (first ∷ second ∷ third ∷ rest) =
+    if first == 239 && second == 187 && third == 191 then rest else first ∷ second ∷ third ∷ rest
 past_mark bytes = bytes
 
 -- what no token can begin with: a byte order mark, and the splices behind it
@@ -55,7 +59,8 @@ abbrev pub front_tokens : ℕ → List Token
 front_tokens zero = []
 front_tokens (suc length) = record { kind = kinds.Space; start = 0; end = suc length } ∷ []
 
--- the tokens, comments and spaces of a source, in order: the front, and then what stands one behind the other up to the end
+-- the tokens, comments and spaces of a source, in order: the front, and then what stands one behind the other up to
+-- the end
 pub record Tokens (source : List ℕ) (tokens : List Token) : Type 0 where
   pub front : ℕ
   pub others : List Token

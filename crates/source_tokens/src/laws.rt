@@ -3,7 +3,8 @@
 
 ghost use Rattle.std.specs.Prelude.{◌≡◌, ℕ, List, [], ◌∷◌, length, true, false, codes};
 ghost use Rattle.source_tokens.specs.declared.token.Token.{Token};
-ghost use Rattle.source_tokens.specs.declared.opening.Opening.TheVariants.{BlockComment, Identifier, Number, StringLiteral, Punctuator};
+ghost use Rattle.source_tokens.specs.declared.opening.Opening.TheVariants.{BlockComment, Identifier, Number};
+ghost use Rattle.source_tokens.specs.declared.opening.Opening.TheVariants.{StringLiteral, Punctuator};
 ghost use Rattle.source_tokens.specs.Splices.{past_splices};
 ghost use Rattle.source_tokens.specs.Reading.{Reads};
 ghost use Rattle.source_tokens.specs.Forms.{opening_of, is_tail, has_mark};
@@ -37,8 +38,10 @@ pub fn some_list(source: &[u8])
 
 /// A source is the join of its tokens, comments and spaces, and of these with its directives.
 pub fn one_join()
-    ensures tokens { (source : List ℕ) (tokens : List Token) → Tokens source tokens → JoinsFrom 0 tokens (length source) }
-    ensures parts { (source : List ℕ) (parts : List Token) → Parts source parts → JoinsFrom 0 parts (length source) }
+    ensures tokens { (source : List ℕ) (tokens : List Token)
+        → Tokens source tokens → JoinsFrom 0 tokens (length source) }
+    ensures parts { (source : List ℕ) (parts : List Token)
+        → Parts source parts → JoinsFrom 0 parts (length source) }
 {}
 
 /// Splices stand one behind the other, and what is left when one is removed is none.

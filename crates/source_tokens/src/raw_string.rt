@@ -2,7 +2,8 @@
 
 ghost use Rattle.std.specs.Prelude.{◌≡◌, ◌≤◌, ◌<◌, ℕ, List, ◌∷◌, true, false, length, MatchOption};
 ghost use Rattle.source_tokens.specs.Forms.{begins_with};
-ghost use Rattle.source_tokens.specs.RawStrings.{BeginsRaw, EndsRaw, IsRawPrefix, is_prefix_byte, is_delimiter_byte, opens_raw, delimiter_of};
+ghost use Rattle.source_tokens.specs.RawStrings.{BeginsRaw, EndsRaw, IsRawPrefix, is_prefix_byte};
+ghost use Rattle.source_tokens.specs.RawStrings.{is_delimiter_byte, opens_raw, delimiter_of};
 ghost use Rattle.source_tokens.specs.Reading.{Reads};
 ghost use Rattle.source_tokens.specs.Tokens.{StandsRaw};
 

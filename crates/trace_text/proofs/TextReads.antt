@@ -2,11 +2,12 @@
 use Rattle.std.proofs.Common.{◌≡◌, ◌≢◌, ℕ, ◌+◌, ◌<◌, ◌≤◌, true, List, [], ◌∷◌, ◌++◌, length, get_or, Result, Ok, Err, refl, ap, sym, ◌∙◌, subst, append_assoc, inl, inr, arith}
 use Rattle.std.specs.Prelude.{codes, Some, slice_get}
 use Rattle.std.specs.List.{AllByRecursion}
-use Rattle.std.proofs.lemmas.List.{append-nil, length-append, length-replicate, get_or_append_left, get_or_at}
+use Rattle.std.proofs.lemmas.List.{append-nil, length-append, length-replicate}
 use Rattle.std.proofs.lemmas.Option.{slice_get-get_or}
 use Rattle.log_dictionary.specs.declared.message.Message.{Message}
 use Rattle.log_dictionary.specs.declared.dictionary.TheConstants.{MAX_MESSAGES}
-use Rattle.log_dictionary.specs.Messages.{SpellsMessage, SameMessage, HasMessage, AreDistinct}
+use Rattle.log_dictionary.specs.Messages.{SpellsMessage, AreDistinct}
+use Rattle.log_dictionary.proofs.Distinct.{is_new}
 use Rattle.arg_records.specs.declared.call.Call.{Call}
 use Rattle.trace_text.specs.declared.cause.TraceCause.TheVariants.{CallForm}
 use Rattle.trace_text.specs.Recordings.{Recording, IsRecording}
@@ -43,15 +44,6 @@ calls_are_lines (line ∷ lines) [] spells = absurd spells
 
 message_begins : (line : List ℕ) (id : ℕ) (message : Message) → SpellsMessage line id message → begins_with (codes "message ") line ≡ true
 message_begins line id message spells = subst (λ text. begins_with (codes "message ") text ≡ true) (sym spells.spelled) refl
-
--- of distinct messages none is among those before it
-is_new : (before others : List Message) (message : Message) → AreDistinct (before ++ message ∷ others) → ¬ (HasMessage before message)
-is_new before others message distinct (k, other, within, is, same) =
-    let all : List Message = before ++ message ∷ others in
-    let earlier : get_or all k other ≡ other = get_or_append_left before (message ∷ others) other k within ∙ is in
-    let here : get_or all (length before) other ≡ message = get_or_at before message others other (length before) refl in
-    let back : SameMessage other message = record { file = sym same.file; line = sym same.line; severity = sym same.severity; format = sym same.format } in
-    distinct k (length before) other within (omega (arith, length-append before (message ∷ others))) (subst (λ (m : Message). SameMessage m (get_or all (length before) other)) (sym earlier) (subst (SameMessage other) (sym here) back))
 
 module _ (rest : List ℕ) (outcome : Result Recording Broken) where
   -- lines of messages lead from the messages before them to all messages

@@ -13,6 +13,7 @@ use Rattle.log_dictionary.specs.Texts.{text_at, has_nul}
 use Rattle.arg_records.specs.declared.call.Call.{Call}
 use Rattle.arg_records.specs.declared.frame.TheConstants.{MAX_FRAME_WORDS}
 use Rattle.arg_records.specs.Frames.{FrameLen}
+pub use Rattle.arg_records.specs.Calls.{last_stamp}
 use Rattle.trace_text.specs.declared.cause.TraceCause.{TraceCause}
 use Rattle.trace_text.specs.declared.cause.TraceCause.TheVariants.{TooMany, CallForm, Writer, BeforeClock, StampFalls, Id, ArgCount, ArgKind, ArgRange, NulInText, TooLong}
 use Rattle.trace_text.specs.declared.trace.TheConstants.{MAX_CALLS}
@@ -66,7 +67,8 @@ unsigned_below limit (negsuc n) = Err ArgRange
 
 -- a text without a byte 0 and of at most 4,000 bytes
 abbrev pub text_of : List ℕ → Result Value TraceCause
-text_of bytes = if has_nul bytes then Err NulInText else (if nat_lt MAX_TEXT (length bytes) then Err TooLong else Ok (values.Text bytes))
+text_of bytes =
+    if has_nul bytes then Err NulInText else (if nat_lt MAX_TEXT (length bytes) then Err TooLong else Ok (values.Text bytes))
 
 -- the value of the type that the item is
 abbrev pub argument_of : ArgType → Item → Result Value TraceCause
@@ -92,11 +94,6 @@ arguments_at (type ∷ types) (space ∷ bytes) = do
   Ok (value ∷ values)
 
 -- ---- a call
-
--- the stamp of the last of the calls, or this number where there is none
-abbrev pub last_stamp : ℕ → List Call → ℕ
-last_stamp least [] = least
-last_stamp least (call ∷ calls) = last_stamp call.stamp calls
 
 -- The call of the line, which goes on with the run, or the first cause why it is refused.
 abbrev pub call_at : Recording → List ℕ → Result WriterCall TraceCause

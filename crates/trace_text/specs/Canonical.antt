@@ -51,7 +51,8 @@ calls_in_order run = filter_map (made_at run) (places_in_order run)
 
 -- the text up to the calls: the messages, the clock, and the number of writers
 abbrev pub front_text : Recording → List ℕ
-front_text run = dictionary_text run.dictionary ++ clock_line run.clock ++ 10 ∷ writers_line (length run.writers) ++ 10 ∷ []
+front_text run =
+    dictionary_text run.dictionary ++ clock_line run.clock ++ 10 ∷ writers_line (length run.writers) ++ 10 ∷ []
 
 -- the canonical text of a run
 abbrev pub Canonical : Recording → List ℕ

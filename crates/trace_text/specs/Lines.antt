@@ -34,7 +34,8 @@ writers_line count = codes "writers " ++ decimal count
 abbrev pub SpellsArgument : List ℕ → Value → Type 0
 SpellsArgument field (values.Signed z) = field ≡ signed_decimal z
 SpellsArgument field (values.Unsigned n) = field ≡ decimal n
-SpellsArgument field (values.Text bytes) = (spelled : List ℕ) × (field ≡ 34 ∷ spelled ++ 34 ∷ []) × SpellsText spelled bytes
+SpellsArgument field (values.Text bytes) =
+    (spelled : List ℕ) × (field ≡ 34 ∷ spelled ++ 34 ∷ []) × SpellsText spelled bytes
 
 -- the arguments, each after a space
 abbrev pub SpellsArguments : List ℕ → List Value → Type 0
@@ -50,14 +51,16 @@ pub record WriterCall : Type 0 where
 -- the line is `call`, the writer, the stamp, the id and the arguments
 pub record SpellsCall (line : List ℕ) (made : WriterCall) : Type 0 where
   pub fields : List ℕ
-  pub spelled : line ≡ codes "call " ++ decimal made.writer ++ 32 ∷ decimal made.call.stamp ++ 32 ∷ decimal made.call.id ++ fields
+  pub spelled : line ≡ codes "call " ++ decimal made.writer ++ 32 ∷ decimal made.call.stamp
+      ++ 32 ∷ decimal made.call.id ++ fields
   pub arguments : SpellsArguments fields made.call.args
   pub stamp_fits : made.call.stamp < 2 ^ 64
 
 -- the lines spell the messages, with ids that count from this number
 abbrev pub SpellsMessages : ℕ → List (List ℕ) → List Message → Type 0
 SpellsMessages id [] [] = Unit {0}
-SpellsMessages id (line ∷ lines) (message ∷ messages) = SpellsMessage line id message × SpellsMessages (id + 1) lines messages
+SpellsMessages id (line ∷ lines) (message ∷ messages) =
+    SpellsMessage line id message × SpellsMessages (id + 1) lines messages
 SpellsMessages id [] (message ∷ messages) = ⊥
 SpellsMessages id (line ∷ lines) [] = ⊥
 

@@ -14,7 +14,8 @@ pub record Recording : Type 0 where
   pub clock : Clock
   pub writers : List (List Call)
 
--- a run that can be recorded: 1 to 64 writers, at most 4,194,304 calls, and each writer's stamps begin at the clock's tick and never fall
+-- a run that can be recorded: 1 to 64 writers, at most 4,194,304 calls, and each writer's stamps begin at the clock's
+-- tick and never fall
 pub record IsRecording (run : Recording) : Type 0 where
   pub some_writer : 1 ≤ length run.writers
   pub few_writers : length run.writers ≤ MAX_WRITERS

@@ -41,7 +41,8 @@ two_messages = record three_writers {
 abbrev pub text_call : WriterCall
 text_call = record {
   writer = 3;
-  call = record { stamp = 5; id = 2; args = Text (97 ∷ 34 ∷ 92 ∷ 10 ∷ 9 ∷ 254 ∷ []) ∷ Unsigned 18446744073709551615 ∷ [] };
+  call =
+      record { stamp = 5; id = 2; args = Text (97 ∷ 34 ∷ 92 ∷ 10 ∷ 9 ∷ 254 ∷ []) ∷ Unsigned 18446744073709551615 ∷ [] };
 }
 
 abbrev pub text_call_line : List ℕ
@@ -49,7 +50,8 @@ text_call_line = codes "call 3 5 2 \"a\\\"\\\\\\n\\t\\xFe\" 18446744073709551615
 
 -- a run of two writers, of which the first made one call; the second message takes two texts
 abbrev pub begun_run : Recording
-begun_run = record three_writers { dictionary = row_message ∷ texts_message ∷ []; writers = (row_call 1 ∷ []) ∷ [] ∷ [] }
+begun_run =
+    record three_writers { dictionary = row_message ∷ texts_message ∷ []; writers = (row_call 1 ∷ []) ∷ [] ∷ [] }
 
 -- the cause from which the line is refused in that run
 abbrev pub refused : List ℕ → TraceCause → Type 0
@@ -72,7 +74,8 @@ three_writers_canonical =
 -- a run of one writer before its first call, whose message takes one text
 abbrev pub one_text_run : Recording
 one_text_run = record three_writers {
-  dictionary = record row_message { format = record { bytes = codes "%s"; pieces = Field (record plain_d { conversion = S }) ∷ [] } } ∷ [];
+  dictionary =
+      record row_message { format = record { bytes = codes "%s"; pieces = Field (record plain_d { conversion = S }) ∷ [] } } ∷ [];
   writers = [] ∷ [];
 }
 

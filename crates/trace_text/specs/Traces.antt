@@ -12,8 +12,8 @@ use Rattle.trace_text.specs.Lines.{WriterCall, first_line, last_line, clock_line
 abbrev pub calls_by : List WriterCall → ℕ → List Call
 calls_by calls writer = map (λ made. made.call) (filter (λ made. made.writer == writer) calls)
 
--- The text is the first line, a line for each message, one for the clock, one for the number of writers, a line for each
--- call, and the last line. The calls of the writers may be mixed in any way.
+-- The text is the first line, a line for each message, one for the clock, one for the number of writers, a line for
+-- each call, and the last line. The calls of the writers may be mixed in any way.
 pub record TraceText (bytes : List ℕ) (run : Recording) : Type 0 where
   pub short : length bytes ≤ MAX_TRACE
   pub message_lines : List (List ℕ)

@@ -16,7 +16,8 @@ CutOff text was is before after fault = PutsFront text was is × Counts fault be
 
 -- the text went out but for what is left of it, or was cut off
 abbrev pub Gathers : List ℕ → List ℕ → Told → Told → ℕ → ℕ → Result (Unit {0}) WriteTraceFault → Type 0
-Gathers text left was is before after (Ok done) = (front : List ℕ) × (text ≡ front ++ left) × (is ≡ with_end front was) × (after ≡ before)
+Gathers text left was is before after (Ok done) =
+    (front : List ℕ) × (text ≡ front ++ left) × (is ≡ with_end front was) × (after ≡ before)
 Gathers text left was is before after (Err fault) = CutOff text was is before after fault
 
 -- the text went out, or was cut off

@@ -25,9 +25,6 @@ pub enum WriteTraceFault {
     NoMemory,
 }
 
-/// How many bytes of a text are gathered before they are written.
-const PIECE: usize = 65_536;
-
 // An argument behind its space. After an error a part of it may stand behind what was there, here
 // and below.
 fn push_argument(text: &mut Vec<u8>, arg: Arg<'_>) -> Result<(), AllocError>
@@ -109,14 +106,10 @@ fn write_long<K: Sink>(text: &mut Vec<u8>, sink: &mut K) -> Result<(), WriteTrac
         (K.faults sink.old) (K.faults sink.new) result }
     ensures others { K.rest sink.old sink.new }
 {
-    if text.len() < PIECE {
-        return Ok(());
+    match nl_io::write_long(sink, text) {
+        Ok(()) => Ok(()),
+        Err(_) => Err(WriteTraceFault::Failed),
     }
-    let Ok(()) = write_all(sink, text) else {
-        return Err(WriteTraceFault::Failed);
-    };
-    text.clear();
-    Ok(())
 }
 
 // The call of a run that stands at a place, if one stands there.

@@ -2,7 +2,7 @@
 
 use super::*;
 use crate::reading::read_text;
-use nl_io::MemSink;
+use nl_io::{MemSink, PIECE};
 use std::process::Abort;
 use std::test::Fail;
 

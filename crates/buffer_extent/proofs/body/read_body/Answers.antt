@@ -2,7 +2,6 @@ use Rattle.std.proofs.Common.{◌≡◌, ℕ, Bool, true, false, eqb, List, [], 
 use Rattle.std.proofs.lemmas.List.{nil_from_length}
 use Rattle.std.proofs.lemmas.Bool.{eqb-true}
 use Rattle.std.proofs.lemmas.Result.{err_from_is_err_and}
-use Rattle.buffer_extent.specs.declared.fault.BodyFault.{BodyFault}
 use Rattle.buffer_extent.specs.declared.fault.BodyFault.TheVariants.{Damaged}
 use Rattle.buffer_extent.specs.RecordLaws.{IsBody-unique}
 use Rattle.buffer_extent.proofs.Lacking.{handed_on, only_memory}

@@ -1,6 +1,4 @@
-use Rattle.std.proofs.Common.{ap}
 use Rattle.nibble_pack.specs.Packing.{unsigned, signed}
-use Rattle.buffer_extent.specs.Records.{kind_of}
 use Rattle.buffer_extent.specs.Steps.{integer_of}
 use Rattle.buffer_extent.proofs.Lacking.{handed_on, part_lacks}
 use Rattle.buffer_extent.proofs.TypeKinds.{kind_signed, kind_unsigned, number_of_kind}

@@ -1,4 +1,4 @@
-use Rattle.std.proofs.Common.{◌+◌, ◌-◌, ◌<◌, ◌≤◌, ◌^◌, Fits, w64, ℕ, List, length, take, get_or, sym, ap, subst, ◌∙◌, arith}
+use Rattle.std.proofs.Common.{◌+◌, ◌-◌, ◌<◌, ◌^◌, Fits, w64, ℕ, List, length, take, get_or, sym, ap, subst, ◌∙◌, arith}
 use Rattle.buffer_extent.specs.RecordLaws.{numbers_are_codes}
 use Rattle.buffer_extent.specs.Writing.{HeadBytes}
 use Rattle.buffer_extent.proofs.Packing.{codes_room, taken_few}

@@ -1,4 +1,4 @@
-use Rattle.std.proofs.Common.{◌≡◌, ◌∷◌, ◌∙◌, ◌+◌, ◌-◌, ℕ, List, length, take, drop, get_or, sym, ap, arith}
+use Rattle.std.proofs.Common.{◌≡◌, ◌∙◌, ◌+◌, ℕ, List, length, take, drop, get_or, sym, ap, arith}
 use Rattle.std.proofs.lemmas.List.{drop_more, length-take-le}
 use Rattle.std.specs.Int.{bytes_low_first}
 use Rattle.nibble_pack.specs.Bytes.{length-bytes_low_first}

@@ -1,5 +1,5 @@
-use Rattle.std.proofs.Common.{refl, sym, ◌∙◌, arith}
-use Rattle.buffer_extent.proofs.Staging.{one_word, front_split, front_room, text_first}
+use Rattle.std.proofs.Common.{sym, ◌∙◌, arith}
+use Rattle.buffer_extent.proofs.Staging.{front_split, front_room, text_first}
 use Rattle.buffer_extent.proofs.staged.split_argument.Goals as goal
 
 pub split_at-requires : goal.split_at-requires

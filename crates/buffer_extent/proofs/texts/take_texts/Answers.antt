@@ -1,11 +1,10 @@
-use Rattle.std.proofs.Common.{◌≡◌, ◌∷◌, ◌++◌, [], ◌+◌, List, length, refl, sym, subst, ◌∙◌, arith}
+use Rattle.std.proofs.Common.{refl, arith}
 use Rattle.std.specs.Prelude.{pos}
 use Rattle.std.proofs.lemmas.List.{length_push}
-use Rattle.printf_grammar.specs.declared.argument.Value.{Value}
 use Rattle.buffer_extent.specs.declared.numbers.Number.TheVariants.{Signed}
 use Rattle.buffer_extent.specs.Steps.{BeginsWithValue}
 use Rattle.buffer_extent.proofs.Lacking.{handed_on, part_damaged}
-use Rattle.buffer_extent.proofs.OneByOne.{AreReadSoFar, stands_at, next_left, one_read, all_read}
+use Rattle.buffer_extent.proofs.OneByOne.{stands_at, next_left, one_read, all_read}
 use Rattle.buffer_extent.proofs.Numbering.{FitNumbers-length, fits_at, BeginsWithValue-unique, texts_whole, texts_again}
 use Rattle.buffer_extent.proofs.texts.take_texts.Goals as goal
 

@@ -1,51 +1,41 @@
-use Rattle.std.proofs.Common.{◌∙◌, ap, Some, None, map, codes}
-use Rattle.std.specs.Prelude.{option_map}
+use Rattle.std.proofs.Common.{◌∙◌, map, ap, codes}
+use Rattle.std.specs.Prelude.{option_and_then}
+use Rattle.std.proofs.lemmas.Result.{IfOk-weaker}
 use Rattle.clap.specs.Words.{found_of}
 use Rattle.clap.proofs.WalkLemmas.{raw_values-rows}
-use Rattle.cli_words.specs.CommandViews.{command_is}
+use Rattle.cli_words.specs.Commands.{replay_of}
 use Rattle.cli_words.specs.Uses.{uses_of}
-use Rattle.cli_words.proofs.Commands.{no_names_command, direct_command, decompress_command, replay_command}
+use Rattle.cli_words.specs.declared.reading.Form.TheVariants as forms
+use Rattle.cli_words.proofs.Commands.{no_names_command, names_command}
 use Rattle.cli_words.proofs.command.found_command.Goals as goal
 
-pub returns-in_err-names : goal.returns-in_err-names
-returns-in_err-names c =
-    ap (option_map command_is) c.from_residual.ensures
-    ∙ no_names_command c.args.form (uses_of c.args.found.now)
-    (c.in_err-names.ensures ∙ raw_values-rows (found_of c.args.found.now) (codes "names"))
+pub returns-in_default : goal.returns-in_default
+returns-in_default c =
+    no_names_command c.args.form (uses_of c.args.found.now)
+    (c.in_default.ensures ∙ raw_values-rows (found_of c.args.found.now) (codes "names"))
 
-pub returns-in_err-only_name-in-Direct : goal.returns-in_err-only_name-in-Direct
-returns-in_err-only_name-in-Direct c =
-    ap (option_map command_is) c.from_residual-in_err-only_name-in-Direct.ensures
-    ∙ direct_command c.args.form (uses_of c.args.found.now) (map (λ name. name.now) c.in_ok-names.names.now) None c.in-Direct.is
-    (c.in_ok-names.ensures ∙ raw_values-rows (found_of c.args.found.now) (codes "names"))
-    c.in_err-only_name-in-Direct.ensures
+pub returns-in-Preprocess : goal.returns-in-Preprocess
+returns-in-Preprocess c =
+    IfOk-weaker c.preprocess_of.result _ _ (λ command is. is
+    ∙ names_command c.args.form forms.Preprocess (uses_of c.args.found.now) (map (λ name. name.now) c.in-Some.names.now)
+    c.in-Preprocess.is (c.in-Some.ensures ∙ raw_values-rows (found_of c.args.found.now) (codes "names")))
+    c.preprocess_of.ensures
 
-pub returns-in_ok-only_name-in-Direct : goal.returns-in_ok-only_name-in-Direct
-returns-in_ok-only_name-in-Direct c =
-    direct_command c.args.form (uses_of c.args.found.now) (map (λ name. name.now) c.in_ok-names.names.now)
-    (Some c.in_ok-only_name-in-Direct.field-0.now) c.in-Direct.is
-    (c.in_ok-names.ensures ∙ raw_values-rows (found_of c.args.found.now) (codes "names"))
-    c.in_ok-only_name-in-Direct.ensures
+pub returns-in-Direct : goal.returns-in-Direct
+returns-in-Direct c =
+    c.direct_of.ensures
+    ∙ names_command c.args.form forms.Direct (uses_of c.args.found.now) (map (λ name. name.now) c.in-Some.names.now)
+    c.in-Direct.is (c.in-Some.ensures ∙ raw_values-rows (found_of c.args.found.now) (codes "names"))
 
-pub returns-in_err-only_name-in-Decompress : goal.returns-in_err-only_name-in-Decompress
-returns-in_err-only_name-in-Decompress c =
-    ap (option_map command_is) c.from_residual-in_err-only_name-in-Decompress.ensures
-    ∙ decompress_command c.args.form (uses_of c.args.found.now) (map (λ name. name.now) c.in_ok-names.names.now) None
-    c.in-Decompress.is
-    (c.in_ok-names.ensures ∙ raw_values-rows (found_of c.args.found.now) (codes "names"))
-    c.in_err-only_name-in-Decompress.ensures
-
-pub returns-in_ok-only_name-in-Decompress : goal.returns-in_ok-only_name-in-Decompress
-returns-in_ok-only_name-in-Decompress c =
-    decompress_command c.args.form (uses_of c.args.found.now) (map (λ name. name.now) c.in_ok-names.names.now)
-    (Some c.in_ok-only_name-in-Decompress.field-0.now) c.in-Decompress.is
-    (c.in_ok-names.ensures ∙ raw_values-rows (found_of c.args.found.now) (codes "names"))
-    c.in_ok-only_name-in-Decompress.ensures
-
-pub returns-in_ok-found_level-in-Replay : goal.returns-in_ok-found_level-in-Replay
-returns-in_ok-found_level-in-Replay c =
+pub returns-in-Some-found_level : goal.returns-in-Some-found_level
+returns-in-Some-found_level c =
     c.replay_of.ensures
-    ∙ replay_command c.args.form (uses_of c.args.found.now) (map (λ name. name.now) c.in_ok-names.names.now)
-    (Some c.in_ok-found_level-in-Replay.field-0) c.in-Replay.is
-    (c.in_ok-names.ensures ∙ raw_values-rows (found_of c.args.found.now) (codes "names"))
-    c.in_ok-found_level-in-Replay.ensures
+    ∙ ap (option_and_then (replay_of (map (λ name. name.now) c.in-Some.names.now))) c.in-Some-found_level.ensures
+    ∙ names_command c.args.form forms.Replay (uses_of c.args.found.now) (map (λ name. name.now) c.in-Some.names.now)
+    c.in-Replay.is (c.in-Some.ensures ∙ raw_values-rows (found_of c.args.found.now) (codes "names"))
+
+pub returns-in-Decompress : goal.returns-in-Decompress
+returns-in-Decompress c =
+    c.decompress_of.ensures
+    ∙ names_command c.args.form forms.Decompress (uses_of c.args.found.now) (map (λ name. name.now) c.in-Some.names.now)
+    c.in-Decompress.is (c.in-Some.ensures ∙ raw_values-rows (found_of c.args.found.now) (codes "names"))

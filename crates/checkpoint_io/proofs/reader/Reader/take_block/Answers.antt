@@ -36,8 +36,8 @@ returns-in_err-block-clause-damaged g c =
     let refused : IfErr c.from_residual-in_err-block.result (Refuses (ReadsBlock inside.header before.blocks) from) = search rules in
     breaks_next old taken before c.fill.new.self left between cause c.in_ok-fill.ensures.same some (told_fault c.from_residual-in_err-block.result (Refuses (ReadsBlock inside.header before.blocks) from) cause is refused))
 
-pub returns-then-offset-gt-MAX_LOG-clause-damaged : goal.returns-then-offset-gt-MAX_LOG-clause-damaged
-returns-then-offset-gt-MAX_LOG-clause-damaged g c taken cause stands is =
+pub returns-then-end-gt-MAX_LOG-clause-damaged : goal.returns-then-end-gt-MAX_LOG-clause-damaged
+returns-then-end-gt-MAX_LOG-clause-damaged g c taken cause stands is =
     let inside = c.self.inside in
     let old : ReaderState = record { header = inside.header; messages = inside.dictionary; writers = inside.writers; waiting = inside.pending; offset = inside.offset; failed = inside.failed } in
     let left = g.S.Source.left c.args.source.now in
@@ -54,10 +54,10 @@ pub returns-clause-ok : goal.returns-clause-ok
 returns-clause-ok g c =
     let inside = c.self.inside in
     let old : ReaderState = record { header = inside.header; messages = inside.dictionary; writers = inside.writers; waiting = inside.pending; offset = inside.offset; failed = inside.failed } in
-    let new : ReaderState = record { header = inside.header; messages = c.read_block.new.dictionary; writers = c.read_block.new.writers; waiting = c.read_block.new.pending; offset = c.offset-self-inside.result; failed = inside.failed } in
+    let new : ReaderState = record { header = inside.header; messages = c.read_block.new.dictionary; writers = c.read_block.new.writers; waiting = c.read_block.new.pending; offset = c.offset-end.result; failed = inside.failed } in
     let left = g.S.Source.left c.args.source.now in
     let between = g.S.Source.left c.fill.new.source in
     let behind = g.S.Source.left c.read_block.new.source in
     let within : c.read_block.new.pending.offset ≤ 134217728 = search rules in
     subst (λ (s : ReaderState). (taken : List ℕ) (before : StandsFor s taken) → TakesNext s new taken before c.in_ok-block.block left behind) c.self.view_is
-    (λ taken before. takes_next old new taken before c.in_ok-block.block c.fill.new.self left between behind c.in_ok-fill.ensures.same c.fill.ensures.offset refl c.offset-self-inside.ensures within (c.in_ok-block.ensures.ok before.blocks before.messages before.states))
+    (λ taken before. takes_next old new taken before c.in_ok-block.block c.fill.new.self left between behind c.in_ok-fill.ensures.same c.fill.ensures.offset refl c.offset-end.ensures within (c.in_ok-block.ensures.ok before.blocks before.messages before.states))

@@ -1,0 +1,5 @@
+use Rattle.buffer_extent.proofs.BodyCases.{body_or_break}
+use Rattle.buffer_extent.proofs.laws.body_or_break.Goals as goal
+
+pub returns : goal.returns
+returns c = body_or_break

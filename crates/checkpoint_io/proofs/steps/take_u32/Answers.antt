@@ -1,6 +1,0 @@
-use Rattle.std.proofs.Common.{ap, sym, take, ◌∙◌}
-use Rattle.checkpoint_io.proofs.StepLaws.{number_taken}
-use Rattle.checkpoint_io.proofs.steps.take_u32.Goals as goal
-
-pub returns-clause-ok : goal.returns-clause-ok
-returns-clause-ok g c = number_taken 4 c.first_u32-n.result c.args.pending.now c.fill.new.self c.skip.new.self _ _ c.in_ok-fill.ensures.same c.fill.ensures.offset (ap (take 4) (sym c.bytes.ensures) ∙ c.first_u32-n.ensures) c.skip.ensures.bytes c.skip.ensures.offset

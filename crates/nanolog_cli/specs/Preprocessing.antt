@@ -1,0 +1,155 @@
+-- What `preprocess` reads, what of that is refused, and what it writes.
+use Rattle.std.specs.Prelude.{◌≡◌, ◌≢◌, ◌⊎◌, ℕ, ◌≤◌, List, [], ◌∷◌, ◌++◌, length, map, codes, Some, ⊤}
+use Rattle.std.specs.Fmt.{decimal}
+use Rattle.std.specs.List.{AllByRecursion, flat_map}
+use Rattle.nl_io.specs.Count.{Rose}
+use Rattle.nl_io.specs.Desk.{Desk, Held, OnlyReadFaults, OnlyName, IsAbsent, found_in}
+use Rattle.log_dictionary.specs.declared.message.Message.{Message}
+use Rattle.log_dictionary.specs.declared.dictionary.TheConstants.{MAX_MESSAGES}
+use Rattle.log_dictionary.specs.Canonical.{dictionary_text}
+use Rattle.preprocessor.specs.declared.refusal.Refusal.{Refusal}
+use Rattle.preprocessor.specs.Causes.{refusal_line}
+use Rattle.preprocessor.specs.Findings.{SourceFile, Finding, AllHave}
+use Rattle.preprocessor.specs.declared.numbering.Numbering.{Numbering}
+use Rattle.preprocessor.specs.Numbering.{numbered, StopsAt, Numbered, Refusals, Numbers}
+use Rattle.nanolog_cli.specs.Endings.{Ending, Absent, ReadFault, RefusedSources, NoMemory}
+use Rattle.nanolog_cli.specs.HeldFiles.{IsHeld, HoldsFront, IsThere}
+
+-- ---- the sources
+
+abbrev pub source_name : SourceFile → List ℕ
+source_name source = source.name
+
+-- These sources were read, and then come the names that weren't. Each name held the bytes of its source, where that is
+-- told.
+pub record AreRead (desk : Desk) (names : List (List ℕ)) (sources : List SourceFile) (unread : List (List ℕ))
+    : Type 0 where
+  pub named : names ≡ map source_name sources ++ unread
+  pub held : AllByRecursion (λ source. IsHeld desk source.name source.bytes) sources
+
+-- a message of the sources is one too many
+pub record HaveExcess (sources : List SourceFile) : Type 0 where
+  pub front : List SourceFile
+  pub others : List SourceFile
+  pub joined : sources ≡ front ++ others
+  pub findings : List Finding
+  pub have : AllHave front findings
+  pub before : List Finding
+  pub message : Message
+  pub stops : StopsAt findings before message
+
+-- no message of the sources is one too many
+pub record HaveNoExcess (sources : List SourceFile) : Type 0 where
+  pub findings : List Finding
+  pub have : AllHave sources findings
+  pub few : length (numbered findings) ≤ MAX_MESSAGES
+
+-- Why no more than these sources were read: they are all, or a message of them is one too many, or the next name isn't
+-- there or can't be read.
+pub data EndsReading (old new : Desk) (sources : List SourceFile) (unread : List (List ℕ)) : Type 0 where
+  all_read : unread ≡ [] → new ≡ old → EndsReading old new sources unread
+  too_many : HaveExcess sources → new ≡ old → EndsReading old new sources unread
+  absent : (name : List ℕ) (others : List (List ℕ)) → unread ≡ name ∷ others → HaveNoExcess sources
+      → IsAbsent old name → new ≡ old → EndsReading old new sources unread
+  failed : (name : List ℕ) (others : List (List ℕ)) → unread ≡ name ∷ others → HaveNoExcess sources
+      → OnlyReadFaults old new → Rose old.read_faults new.read_faults → EndsReading old new sources unread
+
+-- A numbering of the sources of these names, of which the first ones were read: all of them, or something of these is
+-- refused.
+pub record IsNumbered (names : List (List ℕ)) (old new : Desk) (numbering : Numbering) : Type 0 where
+  pub sources : List SourceFile
+  pub unread : List (List ℕ)
+  pub read : AreRead old names sources unread
+  pub numbers : Numbers sources numbering
+  pub ends : EndsReading old new sources unread
+  pub whole : numbering.refusals.items ≡ [] → (unread ≡ []) × (new ≡ old)
+
+-- it is told that the names are there, and nothing of what they hold is refused
+pub record AreRight (desk : Desk) (names : List (List ℕ)) : Type 0 where
+  pub held : Held
+  pub told : desk.held ≡ Some held
+  pub sources : List SourceFile
+  pub read : AreRead desk names sources []
+  pub right : Refusals sources []
+
+-- ---- what gives no dictionary
+
+-- a file isn't there, or can't be read
+abbrev pub IsMissing : Ending → Type 0
+IsMissing (Absent name) = ⊤
+IsMissing (ReadFault name) = ⊤
+IsMissing ending = ⊥
+
+-- Of the sources that were read something is refused, and these are the lines that tell of it.
+pub record AreRefused (names : List (List ℕ)) (old new : Desk) (lines : List ℕ) : Type 0 where
+  pub sources : List SourceFile
+  pub unread : List (List ℕ)
+  pub refusals : List Refusal
+  pub read : AreRead old names sources unread
+  pub ends : EndsReading old new sources unread
+  pub refused : Refusals sources refusals
+  pub some : refusals ≢ []
+  pub lines_are : lines ≡ flat_map refusal_line refusals
+
+-- the sources before this name were read, and nothing of them is refused
+pub record IsReached (desk : Desk) (names : List (List ℕ)) (name : List ℕ) : Type 0 where
+  pub sources : List SourceFile
+  pub others : List (List ℕ)
+  pub read : AreRead desk names sources (name ∷ others)
+  pub right : Refusals sources []
+
+-- memory was wanting for the next name, which is there, or after the last
+pub record LackMemory (names : List (List ℕ)) (old new : Desk) : Type 0 where
+  pub sources : List SourceFile
+  pub unread : List (List ℕ)
+  pub read : AreRead old names sources unread
+  pub there : (name : List ℕ) (others : List (List ℕ)) → unread ≡ name ∷ others → IsThere old name
+  pub same : new ≡ old
+
+-- Why the sources gave no dictionary: the first of them that isn't there, can't be read or is refused says why, or memory
+-- was wanting, also for the lines on what is refused.
+abbrev pub GiveNothing : List (List ℕ) → Desk → Desk → Ending → Type 0
+GiveNothing names old new (Absent name) = IsReached old names name × IsAbsent old name × (new ≡ old)
+GiveNothing names old new (ReadFault name) =
+    IsReached old names name × OnlyReadFaults old new × Rose old.read_faults new.read_faults
+GiveNothing names old new (RefusedSources lines) = AreRefused names old new lines
+GiveNothing names old new NoMemory = LackMemory names old new ⊎ ((lines : List ℕ) × AreRefused names old new lines)
+GiveNothing names old new ending = ⊥
+
+-- ---- the dictionary
+
+-- all sources were read, nothing of them is refused, and these are their messages and the number of their statements
+pub record AreNumbered (desk : Desk) (names : List (List ℕ)) (messages : List Message) (statements : ℕ) : Type 0 where
+  pub sources : List SourceFile
+  pub read : AreRead desk names sources []
+  pub right : Refusals sources []
+  pub numbers : Numbered sources messages statements
+
+-- The name holds the text of the messages. All else of the files is as it was, and no call failed.
+pub record DictionaryWritten (old new : Desk) (name : List ℕ) (messages : List Message) : Type 0 where
+  pub written : IsHeld new name (dictionary_text messages)
+  pub only : OnlyName name old new
+  pub counted : new.write_faults ≡ old.write_faults
+
+-- A write of the text failed. Its name holds what it held, or a front of the text. All else of the files is as it was.
+pub record DictionaryCutOff (old new : Desk) (name : List ℕ) (messages : List Message) : Type 0 where
+  pub holds : (found_in new name ≡ found_in old name) ⊎ HoldsFront new name (dictionary_text messages)
+  pub only : OnlyName name old new
+  pub failed : Rose old.write_faults new.write_faults
+
+-- what is printed where so many messages of so many statements were written
+abbrev pub numbers_text : ℕ → ℕ → List ℕ
+numbers_text messages statements =
+    codes "messages " ++ decimal messages ++ codes " statements " ++ decimal statements ++ codes "\n"
+
+-- the dictionary of the sources was written, and this text is to be printed
+abbrev pub WritesDictionary : List ℕ → List (List ℕ) → Desk → Desk → List ℕ → Type 0
+WritesDictionary dictionary names old new text =
+    (messages : List Message) × (statements : ℕ) × AreNumbered old names messages statements
+    × DictionaryWritten old new dictionary messages × (text ≡ numbers_text (length messages) statements)
+
+-- the dictionary of the sources couldn't be written whole
+abbrev pub LosesDictionary : List ℕ → List (List ℕ) → Desk → Desk → Type 0
+LosesDictionary dictionary names old new =
+    (messages : List Message) × (statements : ℕ) × AreNumbered old names messages statements
+    × DictionaryCutOff old new dictionary messages
