@@ -6,7 +6,7 @@ top=$(readlink -f -- "$(dirname -- "$(readlink -f -- "$0")")/..")
 room=$(mktemp -d) || exit 1
 trap 'rm -rf -- "$room"' EXIT
 cd -- "$room" || exit 1
-ln -s -- "$top/nanolog" nanolog
+ln -s -- "$top/nanolog" "$top/examples" .
 failures=0
 
 fail() {
@@ -30,8 +30,13 @@ expect() {
     cmp -s out <(printf '%s' "$out") || fail "nanolog $*: it printed: $(cat out)"
 }
 
+# holds FILE TEXT compares what a file holds.
+holds() {
+    cmp -s -- "$1" <(printf '%s' "$2") || fail "$1 holds: $(cat -- "$1")"
+}
+
 # The first run builds the program, where that is needed, and tells how far it is.
-./nanolog direct "$top/examples/first.trace" >out || fail "the program isn't built, or doesn't run"
+./nanolog direct examples/first.trace >out || fail "the program isn't built, or doesn't run"
 
 cat >t <<'END'
 nanolog-trace 1
@@ -57,6 +62,11 @@ usage='usage:
 # ---- words
 
 expect 1 '' "$usage"
+expect 1 '' "$usage" preprocess
+expect 1 '' "$usage" preprocess d
+expect 1 '' "$usage" preprocess d m.cc d
+expect 1 '' "$usage" preprocess d '' m.cc
+expect 1 '' "$usage" preprocess d $(seq 1025)
 expect 1 '' "$usage" direct
 expect 1 '' "$usage" direct --help
 expect 1 '' "$usage" direct t t
@@ -109,6 +119,8 @@ expect 0 $'accepted 128 dropped 0 filtered 0\n' '' replay many many.log
 ./nanolog direct many >many.lines
 [ "$(wc -l <many.lines)" = 128 ] || fail "of 128 calls it printed $(wc -l <many.lines)"
 cmp -s many.lines <(./nanolog decompress many.log) || fail "the log of 128 calls has other lines"
+expect 0 $'accepted 6 dropped 0 filtered 0\n' '' replay examples/first.trace first.log
+cmp -s <(./nanolog direct examples/first.trace) <(./nanolog decompress first.log) || fail "first.log has other lines"
 
 # ---- inputs that can't be taken
 
@@ -137,13 +149,16 @@ expect 2 '' $'nanolog: early:5: refused: 7 BeforeClock\n' replay early m
 expect 0 $'1514764800.000000001 srv.cc:12 NOTICE[0]: x=    7\n' '' direct wide
 expect 2 '' $'nanolog: wide:0: refused: 99 NotYet\n' replay wide m
 expect 2 '' $'nanolog: t:0: refused: 99 NotYet\n' decompress t
+expect 2 '' $'nanolog: empty:0: refused: 99 NotYet\n' decompress empty
 expect 2 '' $'nanolog: l:1: refused: 14 NoEnd\n' replay l m
 
-# So many zeros are no log. Where memory is too small for them, that can't be known.
+# So many zeros are no trace. Where memory is too small for them, that can't be known.
 truncate -s 100M zeros
+expect 2 '' $'nanolog: zeros:0: refused: 18 TooLarge\n' direct zeros
+(ulimit -v 65536 && ./nanolog direct zeros) >out 2>err
+judge "nanolog direct zeros, in little memory" $? 6 $'nanolog: want of memory\n'
+# They are no log either, and that is told in the same words as of a log that isn't taken yet.
 expect 2 '' $'nanolog: zeros:0: refused: 99 NotYet\n' decompress zeros
-(ulimit -v 65536 && ./nanolog decompress zeros) >out 2>err
-judge "nanolog decompress zeros, in little memory" $? 6 $'nanolog: want of memory\n'
 
 [ -e m ] && fail "a trace that isn't taken created a log"
 
@@ -186,27 +201,116 @@ ended=$?
 ended=$?
 [ "$ended" = 7 ] || fail "words to no standard error: status $ended, not 7"
 
-# ---- README.md
+# ---- log statements
 
-# Under "Try it" it shows commands, each behind `$ `, and below each what that prints.
-mkdir readme
-ln -s -- "$top/nanolog" "$top/examples" readme
-: >shown
-: >printed
-is_run=
-while IFS= read -r row; do
-    case $row in
-        '$ ./nanolog '*)
-            is_run=yes
-            echo "$row" | tee -a shown >>printed
-            (cd readme && bash -c "${row#'$ '}") >>printed 2>&1 </dev/null
-            ;;
-        '$ '*) is_run= ;;
-        *) [ -z "$is_run" ] || echo "$row" >>shown ;;
-    esac
-done < <(awk '/^## / { here = $0 == "## Try it" } /^```/ { inside = !inside; next } here && inside' "$top/README.md")
-[ -s shown ] || fail "README.md shows no command under \"Try it\""
-cmp -s shown printed || fail "README.md shows something else than its commands print: $(diff shown printed)"
+cat >m.cc <<'END'
+// NANO_LOG(NOTICE, "no");
+#define L NANO_LOG(NOTICE, "no")
+auto s = R"x(NANO_LOG(NOTICE, "no"))x";
+NANO_LOG(NOTICE, "a" "%" PRIu64, f(1, 2));
+END
+dictionary=$'nanolog-trace 1\nmessage 0 NOTICE 4 "m.cc" "a%lu"\n'
+expect 0 $'messages 1 statements 1\n' '' preprocess d m.cc
+holds d "$dictionary"
+expect 0 $'messages 1 statements 2\n' '' preprocess -- -d m.cc m.cc
+holds -d "$dictionary"
+
+# Where a statement is bad no dictionary is made, and one that is there stays. Each bad one of all files is told.
+echo 'NANO_LOG(FATAL, "x"); NANO_LOG(NOTICE, "%d");' >e.cc
+bad=$'nanolog: e.cc:1: refused: 1 Severity\nnanolog: e.cc:1: refused: 4 TooFew\n'
+expect 2 '' "$bad" preprocess undone e.cc m.cc
+expect 2 '' "$bad$bad" preprocess d e.cc m.cc e.cc
+expect 2 '' "$bad" preprocess d e.cc nofile
+expect 7 '' $'nanolog: nofile: absent\n' preprocess d m.cc nofile e.cc
+expect 4 '' $'nanolog: folder: read fault\n' preprocess d folder e.cc
+
+# As many messages as there may be, and as large a source.
+seq -f 'NANO_LOG(NOTICE, "%.0f");' 65536 >full.cc
+expect 0 $'messages 65536 statements 65536\n' '' preprocess full full.cc
+[ "$(tail -n 1 full)" = 'message 65535 NOTICE 65536 "full.cc" "65536"' ] || fail "full ends with $(tail -n 1 full)"
+expect 2 '' $'nanolog: m.cc:4: refused: 8 TooMany\n' preprocess d full.cc m.cc e.cc
+printf '%16777216s' '' >large.cc
+expect 0 $'messages 0 statements 0\n' '' preprocess none large.cc
+holds none $'nanolog-trace 1\n'
+echo >>large.cc
+expect 2 '' $'nanolog: large.cc:0: refused: 7 TooLarge\n' preprocess d large.cc
+
+expect 5 '' $'nanolog: no/d: write fault\n' preprocess no/d m.cc
+expect 5 '' $'nanolog: folder: write fault\n' preprocess folder m.cc
+expect 5 '' $'nanolog: /dev/full: write fault\n' preprocess /dev/full m.cc
+holds d "$dictionary"
+[ -e undone ] && fail "a dictionary was made although statements are bad"
+for output in full gone closed; do
+    rm -f -- new
+    unprinted "$output" preprocess new m.cc
+    holds new "$dictionary"
+done
+
+# ---- the example program
+
+sources=(examples/store/main.cc examples/store/store.cc examples/store/store.h)
+expect 0 $'messages 7 statements 7\n' '' preprocess store.dictionary "${sources[@]}"
+cmp -s store.dictionary examples/store.dictionary || fail "another dictionary: $(cat store.dictionary)"
+grep -v '^[cwe]' examples/store.trace | cmp -s - examples/store.dictionary || fail "store.trace has other messages"
+
+# messages DICTIONARY prints them without their numbers, in one order.
+messages() {
+    sed -n 's/^message [0-9]* //p' "$1" | sort
+}
+
+compiler=$(type -P c++ g++ clang++ | head -n 1)
+if [ -n "$compiler" ]; then
+    "$compiler" -std=c++17 -Wall -Wextra -Werror -o store "${sources[@]:0:2}" 2>err || fail "not compiled: $(cat err)"
+    # What the program prints are the severity and the text of each line of its trace.
+    ./store 2>err
+    ./nanolog direct examples/store.trace | sed 's/^[^ ]* [^ ]* \([A-Z]*\)\[0\]/\1/' | cmp -s - err ||
+        fail "the example program prints something else than the lines of its trace: $(cat err)"
+
+    # The compiler's preprocessor puts the header's statement into both files, and line directives tell where it stands.
+    for source in main store; do
+        "$compiler" -std=c++17 -E -DNANO_LOG_UNEXPANDED "examples/store/$source.cc" >"$source.ii"
+    done
+    expect 0 $'messages 7 statements 8\n' '' preprocess included.dictionary main.ii store.ii
+    cmp -s <(messages included.dictionary) <(messages store.dictionary) || fail "other messages of what is included"
+
+    # The headers of the C++ library have no statements.
+    mapfile -t folders < <("$compiler" -E -x c++ -v /dev/null 2>&1 | sed -n '/^#include </,/^End/s/^ //p' | grep 'c++')
+    mapfile -d '' headers < <(find "${folders[@]}" -type f -print0 | sort -zu)
+    [ "${#headers[@]}" != 0 ] || fail "$compiler names no headers of the C++ library"
+    for ((at = 0; at < ${#headers[@]}; at += 1024)); do
+        expect 0 $'messages 0 statements 0\n' '' preprocess none "${headers[@]:at:1024}"
+    done
+fi
+
+# ---- pages
+
+# A page shows commands, each behind `$ `, and below each what that prints. try_page PAGE HEADING runs those that stand
+# under the heading and begin with ./nanolog or cat.
+mkdir pages
+ln -s -- "$top/nanolog" "$top/examples" pages
+try_page() {
+    local row is_run=
+    : >shown
+    : >printed
+    while IFS= read -r row; do
+        case $row in
+            '$ ./nanolog '* | '$ cat '*)
+                is_run=yes
+                echo "$row" | tee -a shown >>printed
+                (cd pages && bash -c "${row#'$ '}") >>printed 2>&1 </dev/null
+                ;;
+            '$ '*) is_run= ;;
+            *) [ -z "$is_run" ] || echo "$row" >>shown ;;
+        esac
+    done < <(awk -v heading="## $2" \
+        '/^## / { here = $0 == heading } /^```/ { inside = !inside; next } here && inside' "$top/$1")
+    [ -s shown ] || fail "$1 shows no command under \"$2\""
+    cmp -s shown printed || fail "$1 shows something else than its commands print: $(diff shown printed)"
+}
+
+try_page README.md 'Try it'
+try_page docs/log-statements.md 'An example'
+try_page docs/log-statements.md 'What is refused'
 
 [ "$failures" = 0 ] && echo "program.sh: all is well"
 [ "$failures" = 0 ]

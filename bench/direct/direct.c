@@ -40,7 +40,8 @@ int main(int count, char **words) {
         now->ordinal = ordinals[now->writer]++;
         now->at = length;
         unsigned id = (unsigned)strtoull(at, &at, 10);
-        unsigned long long time = nanos + (unsigned long long)((unsigned __int128)(now->stamp - tick) * 1000000000 / rate);
+        unsigned __int128 since = (unsigned __int128)(now->stamp - tick) * 1000000000 / rate;
+        unsigned long long time = nanos + (unsigned long long)since;
         if (room - length < 256 && !(printed = realloc(printed, room *= 2))) return 1;
         char *out = printed + length;
         out += snprintf(out, 100, "%llu.%09llu %s[%u]: ", time / 1000000000, time % 1000000000, names[id], now->writer);
