@@ -28,7 +28,13 @@ last_stamp least (call ∷ calls) = last_stamp call.stamp calls
 -- a writer's call at a place, with the message that its id names
 abbrev pub log_call : List Message → ℕ → ℕ × Call → Option LogCall
 log_call messages writer (ordinal, call) =
-    option_map (λ message. record { writer = writer; ordinal = ordinal; stamp = call.stamp; message = message; args = call.args }) (slice_get messages call.id)
+    option_map (λ message. record {
+      writer = writer;
+      ordinal = ordinal;
+      stamp = call.stamp;
+      message = message;
+      args = call.args;
+    }) (slice_get messages call.id)
 
 -- the calls of one writer, numbered by their places
 abbrev pub writer_calls : List Message → ℕ × List Call → List LogCall

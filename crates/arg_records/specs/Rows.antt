@@ -45,7 +45,8 @@ mixed_log_calls =
 -- a message with two texts
 abbrev pub texts_message : Message
 texts_message =
-    record row_message { format = record { bytes = codes "%s%s"; pieces = Field (record plain_d { conversion = S }) ∷ Field (record plain_d { conversion = S }) ∷ [] } }
+    let text = Field (record plain_d { conversion = S }) in
+    record row_message { format = record { bytes = codes "%s%s"; pieces = text ∷ text ∷ [] } }
 
 -- a call of it with a text of 4,000 bytes, and one of so many
 abbrev pub texts_call : ℕ → Call

@@ -71,7 +71,8 @@ pub record BeginsWithCodes (count : ℕ) (bytes : List ℕ) (codes : List ℕ) (
 -- ---- arguments and records
 
 -- the bytes begin with arguments that fit the types: their codes, their numbers and their texts, and these bytes follow
-pub record BeginsWithArguments (types : List ArgType) (bytes : List ℕ) (args : List Value) (back : List ℕ) : Type 0 where
+pub record BeginsWithArguments (types : List ArgType) (bytes : List ℕ) (args : List Value)
+    (back : List ℕ) : Type 0 where
   pub numbers : List PackedNumber
   pub packed : PacksArguments types args numbers
   pub fits : Fits args types
@@ -79,13 +80,15 @@ pub record BeginsWithArguments (types : List ArgType) (bytes : List ℕ) (args :
       ++ (flat_map (λ number. number.bytes) numbers ++ (flat_map text_of args ++ back))
 
 -- the bytes begin with the spelling of a record that keeps the rules, and these bytes follow
-pub record BeginsWithRecord (messages : List Message) (before : ℕ) (bytes : List ℕ) (entry : Call) (back : List ℕ) : Type 0 where
+pub record BeginsWithRecord (messages : List Message) (before : ℕ) (bytes : List ℕ) (entry : Call)
+    (back : List ℕ) : Type 0 where
   pub front : List ℕ
   pub parts : bytes ≡ front ++ back
   pub spelled : SpellsRecord messages before entry front
   pub right : IsCall messages entry
 
 -- the bytes begin with such a record, whose stamp isn't below the least
-pub record BeginsWithRightRecord (messages : List Message) (before least : ℕ) (bytes : List ℕ) (entry : Call) (back : List ℕ) : Type 0 where
+pub record BeginsWithRightRecord (messages : List Message) (before least : ℕ) (bytes : List ℕ) (entry : Call)
+    (back : List ℕ) : Type 0 where
   pub record_first : BeginsWithRecord messages before bytes entry back
   pub rises : least ≤ entry.stamp

@@ -88,7 +88,8 @@ pub record BeginsWithKind (type : ArgType) (code : ℕ) (bytes : List ℕ) (numb
   pub kind : kind_of_number number ≡ kind_of type
 
 -- the bytes begin with a number that an argument of the type may have, and these bytes follow
-pub record BeginsWithArgument (type : ArgType) (code : ℕ) (bytes : List ℕ) (number : Number) (back : List ℕ) : Type 0 where
+pub record BeginsWithArgument (type : ArgType) (code : ℕ) (bytes : List ℕ) (number : Number)
+    (back : List ℕ) : Type 0 where
   pub packed : BeginsWithNumber (kind_of type) code bytes (integer_of number) back
   pub fits : FitsNumber number type
 
@@ -104,7 +105,8 @@ PacksNumbers (type ∷ types) (number ∷ numbers) (packed ∷ others) =
 PacksNumbers _ _ _ = ⊥
 
 -- the bytes begin with such numbers, all their codes in front of them, and these bytes follow
-pub record BeginsWithCodedNumbers (types : List ArgType) (bytes : List ℕ) (numbers : List Number) (back : List ℕ) : Type 0 where
+pub record BeginsWithCodedNumbers (types : List ArgType) (bytes : List ℕ) (numbers : List Number)
+    (back : List ℕ) : Type 0 where
   pub packed : List PackedNumber
   pub packs : PacksNumbers types numbers packed
   pub fits : FitNumbers types numbers
@@ -129,13 +131,15 @@ pub record BeginsWithText (len : ℕ) (bytes : List ℕ) (text : List ℕ) (back
   pub parts : bytes ≡ text ++ back
 
 -- the bytes begin with the text of an argument that has this number, and these bytes follow; an integer has no text
-pub record BeginsWithValue (type : ArgType) (number : Number) (bytes : List ℕ) (value : Value) (back : List ℕ) : Type 0 where
+pub record BeginsWithValue (type : ArgType) (number : Number) (bytes : List ℕ) (value : Value)
+    (back : List ℕ) : Type 0 where
   pub fits : FitsType value type
   pub numbered : number_for value ≡ number
   pub parts : bytes ≡ text_of value ++ back
 
 -- the bytes begin with the texts of arguments that have these numbers, and these bytes follow
-pub record BeginsWithTexts (types : List ArgType) (numbers : List Number) (bytes : List ℕ) (args : List Value) (back : List ℕ) : Type 0 where
+pub record BeginsWithTexts (types : List ArgType) (numbers : List Number) (bytes : List ℕ) (args : List Value)
+    (back : List ℕ) : Type 0 where
   pub fits : Fits args types
   pub numbered : map number_for args ≡ numbers
   pub parts : bytes ≡ flat_map text_of args ++ back
@@ -144,14 +148,17 @@ pub record BeginsWithTexts (types : List ArgType) (numbers : List Number) (bytes
 
 -- The bytes begin with all that a record has in front of its texts, and these bytes follow: a head, and the numbers of
 -- arguments that its message takes and that a frame has room for. There may be more numbers than the record has.
-pub record BeginsWithStart (messages : List Message) (before least : ℕ) (bytes : List ℕ) (start : Head × List Number) (back : List ℕ) : Type 0 where
+pub record BeginsWithStart (messages : List Message) (before least : ℕ) (bytes : List ℕ)
+    (start : Head × List Number) (back : List ℕ) : Type 0 where
   pub message : Message
   pub rest : List ℕ
   pub head : BeginsWithHead before bytes start.0.id start.0.stamp rest
   pub known : slice_get messages start.0.id ≡ Some message
   pub rises : least ≤ start.0.stamp
-  pub numbers : BeginsWithCodedNumbers (Types message.format.pieces) rest (take (length (Types message.format.pieces)) start.1) back
-  pub staged : 2 + words_taken (Types message.format.pieces) (take (length (Types message.format.pieces)) start.1) ≤ MAX_FRAME_WORDS
+  pub numbers : BeginsWithCodedNumbers (Types message.format.pieces) rest
+      (take (length (Types message.format.pieces)) start.1) back
+  pub staged : 2 + words_taken (Types message.format.pieces) (take (length (Types message.format.pieces)) start.1)
+      ≤ MAX_FRAME_WORDS
 
 -- the bytes begin with what a record has in front of its texts
 pub record StartsRecord (messages : List Message) (before least : ℕ) (bytes : List ℕ) : Type 0 where

@@ -19,6 +19,9 @@ use arg_records::{frame_id, frame_stamp};
 use nibble_pack::{Packed, pack_unsigned};
 use printf_grammar::{ArgType, MAX_ARGUMENTS};
 
+/// How many bytes are to be free where a record is written. No record has as many.
+pub const RECORD_ROOM: usize = 8_192;
+
 /// What stands where no number is yet.
 const NOTHING: Packed = Packed {
     code: 0,
@@ -134,7 +137,7 @@ pub fn put_record(
 ) -> usize
     requires frame { IsFrameSince types.now before frame.now }
     requires few { length types.now ≤ MAX_ARGUMENTS }
-    requires room { at + 8192 ≤ length body.old }
+    requires room { at + RECORD_ROOM ≤ length body.old }
 
     // All bytes but the record's stay.
     ensures written { (id stamp : ℕ) (args : List Value) → Fits args types.now → All HoldsBytes args

@@ -130,7 +130,7 @@ fn put_call(
     at: usize,
 ) -> usize
     requires few { length types.now ≤ 64 }
-    requires room { at + 8192 ≤ length body.old }
+    requires room { at + RECORD_ROOM ≤ length body.old }
     ensures { (at < result) × (result ≤ at + 4123) }
 {
     assert!(rt; fits(types, args));
@@ -319,7 +319,7 @@ fn put_calls(rt: &impl Abort, types: &[ArgType], calls: u16, body: &mut [u8]) ->
     let mut before = 0;
     for call in 0..calls {
         let args = [Arg::Signed(i64::from(number_of(call))); 64];
-        assert!(rt; end <= body.len() && body.len() - end >= 8192);
+        assert!(rt; end <= body.len() && body.len() - end >= RECORD_ROOM);
         let stamp = stamp_of(call);
         end = put_call(rt, types, before, stamp, &args[..types.len()], body, end);
         before = stamp;

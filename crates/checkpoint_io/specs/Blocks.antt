@@ -70,7 +70,8 @@ pub record SpellsFragment (first : ℕ) (messages : List Message) (bytes : List 
 
 -- the head, and a body of 1 to 65536 bytes, which is the records' spellings, joined; the first step counts from the
 -- tick
-pub record SpellsExtent (messages : List Message) (tick writer : ℕ) (entries : List Call) (bytes : List ℕ) : Type 0 where
+pub record SpellsExtent (messages : List Message) (tick writer : ℕ) (entries : List Call)
+    (bytes : List ℕ) : Type 0 where
   pub body : List ℕ
   pub some : 1 ≤ length body
   pub short : length body ≤ MAX_BODY
@@ -93,7 +94,8 @@ SpellsBlock messages tick (Close writer) bytes = SpellsClose writer bytes
 abbrev pub SpellsBlocks : ℕ → List Block → List Block → List ℕ → Type 0
 SpellsBlocks tick before [] bytes = bytes ≡ []
 SpellsBlocks tick before (block ∷ blocks) bytes =
-    (front : List ℕ) × (back : List ℕ) × (bytes ≡ front ++ back) × SpellsBlock (messages_of before) tick block front × SpellsBlocks tick (before ++ block ∷ []) blocks back
+    (front : List ℕ) × (back : List ℕ) × (bytes ≡ front ++ back)
+    × SpellsBlock (messages_of before) tick block front × SpellsBlocks tick (before ++ block ∷ []) blocks back
 
 -- the bytes are the spellings of the header and of the blocks, joined
 pub record FileOf (header : Header) (blocks : List Block) (bytes : List ℕ) : Type 0 where

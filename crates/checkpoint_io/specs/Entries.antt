@@ -32,7 +32,8 @@ BreaksNoEntry from fault = IfDamaged (λ cause. IfSome from.ahead (BeginsWithNon
 -- no entry of a new message is ahead
 abbrev pub BreaksEntry : List Message → Place → BlockFault → Type 0
 BreaksEntry defined from fault =
-    IfDamaged (λ cause. IfSome from.ahead (λ bytes. BeginsWithNone cause bytes ⊎ (BeginsWithOld defined bytes × (cause ≡ causes.BadEntry)))) fault
+    IfDamaged (λ cause. IfSome from.ahead (λ bytes.
+    BeginsWithNone cause bytes ⊎ (BeginsWithOld defined bytes × (cause ≡ causes.BadEntry)))) fault
 
 -- the entry of a new message stands between the two places, which was added
 pub record TakesEntry (before after : List Message) (from to : Place) : Type 0 where
@@ -44,14 +45,16 @@ pub record TakesEntry (before after : List Message) (from to : Place) : Type 0 w
   pub added : after ≡ before ++ message ∷ []
 
 -- so many new messages behind those that were read stand between the two places, and were added
-pub record TakesEntries (before : List Message) (first : ℕ) (read : List Message) (count : ℕ) (after : List Message) (from to : Place) : Type 0 where
+pub record TakesEntries (before : List Message) (first : ℕ) (read : List Message) (count : ℕ) (after : List Message)
+    (from to : Place) : Type 0 where
   pub messages : List Message
   pub many : length messages ≡ count
   pub added : after ≡ (before ++ read) ++ messages
   pub takes : Takes (ReadsEntries before first read count) (Fragment first (read ++ messages)) from to
 
 -- a fragment stands between the two places, whose messages were added
-pub record TakesFragment (before : List Message) (block : ReadBlock) (after : List Message) (from to : Place) : Type 0 where
+pub record TakesFragment (before : List Message) (block : ReadBlock) (after : List Message)
+    (from to : Place) : Type 0 where
   pub first : ℕ
   pub messages : List Message
   pub is : block ≡ read.Fragment first (length messages)

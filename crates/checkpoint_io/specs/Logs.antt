@@ -18,7 +18,8 @@ ids_used (entry ∷ entries) = max (entry.id + 1) (ids_used entries)
 abbrev pub AreFragments : ℕ → List Message → List Block → Type 0
 AreFragments first messages [] = messages ≡ []
 AreFragments first messages (Fragment id front ∷ blocks) =
-    (back : List Message) × (id ≡ first) × (messages ≡ front ++ back) × ((back ≡ []) ⊎ (length front ≡ MAX_FRAGMENT_MESSAGES)) × AreFragments (first + length front) back blocks
+    (back : List Message) × (id ≡ first) × (messages ≡ front ++ back)
+    × ((back ≡ []) ⊎ (length front ≡ MAX_FRAGMENT_MESSAGES)) × AreFragments (first + length front) back blocks
 AreFragments first messages (Extent writer entries ∷ blocks) = ⊥
 AreFragments first messages (Close writer ∷ blocks) = ⊥
 
@@ -37,7 +38,8 @@ HasAtMost batch (Close writer) = Unit {0}
 pub data IsLaidOut (dictionary : List Message) (batch : ℕ) : List Block → List Block → Type 0 where
   ends : (before : List Block) → IsLaidOut dictionary batch before []
   extent : (before fragments : List Block) (writer : ℕ) (entries : List Call) (others : List Block)
-      → AreFragments (length (messages_of before)) (new_messages dictionary (length (messages_of before)) entries) fragments
+      → AreFragments (length (messages_of before))
+      (new_messages dictionary (length (messages_of before)) entries) fragments
       → length entries ≤ batch
       → IsLaidOut dictionary batch (before ++ fragments ++ Extent writer entries ∷ []) others
       → IsLaidOut dictionary batch before (fragments ++ Extent writer entries ∷ others)
@@ -47,7 +49,8 @@ pub data IsLaidOut (dictionary : List Message) (batch : ℕ) : List Block → Li
 
 -- The bytes are the log of calls that were taken, per writer. The header has the clock and the number of writers, the
 -- messages are those of the dictionary, from its front, and the records of each writer are its calls, in their order.
-pub record LogOf (bytes : List ℕ) (taken : List (List Call)) (dictionary : List Message) (clock : Clock) (batch : ℕ) : Type 0 where
+pub record LogOf (bytes : List ℕ) (taken : List (List Call)) (dictionary : List Message) (clock : Clock)
+    (batch : ℕ) : Type 0 where
   pub header : Header
   pub blocks : List Block
   pub file : FileOf header blocks bytes

@@ -23,12 +23,14 @@ pub record TakesWriter (header : Header) (before : List Block) (writer : ℕ) (f
   pub right : IsOpen header before writer
 
 -- the rest of the writer's close mark stands between the two places, and what is kept is that behind it
-pub record TakesClose (header : Header) (before : List Block) (writer : ℕ) (after : WriterStates) (from to : Place) : Type 0 where
+pub record TakesClose (header : Header) (before : List Block) (writer : ℕ) (after : WriterStates)
+    (from to : Place) : Type 0 where
   pub takes : Takes (ReadsClose header before) (Close writer) from to
   pub states : AreStatesOf after header.clock.tick (before ++ Close writer ∷ [])
 
 -- the rest of the writer's extent stands between the two places, and what is kept is that behind it
-pub record TakesExtent (header : Header) (before : List Block) (writer : ℕ) (entries : List Call) (after : WriterStates) (from to : Place) : Type 0 where
+pub record TakesExtent (header : Header) (before : List Block) (writer : ℕ) (entries : List Call)
+    (after : WriterStates) (from to : Place) : Type 0 where
   pub takes : Takes (ReadsExtent header before) (Extent writer entries) from to
   pub states : AreStatesOf after header.clock.tick (before ++ Extent writer entries ∷ [])
 
@@ -39,7 +41,8 @@ Tells told (Extent writer entries) = told ≡ read.Extent writer entries
 Tells told (Close writer) = told ≡ read.Closed writer
 
 -- the block stands between the two places, and what is kept is that behind it
-pub record TakesBlock (header : Header) (before : List Block) (told : ReadBlock) (messages : List Message) (after : WriterStates) (from to : Place) : Type 0 where
+pub record TakesBlock (header : Header) (before : List Block) (told : ReadBlock) (messages : List Message)
+    (after : WriterStates) (from to : Place) : Type 0 where
   pub block : Block
   pub tells : Tells told block
   pub takes : Takes (ReadsBlock header before) block from to
@@ -49,7 +52,8 @@ pub record TakesBlock (header : Header) (before : List Block) (told : ReadBlock)
 -- ---- the reader
 
 -- Behind what the reader stood for stands this block, and now the reader stands for it too.
-pub record TakesNext (old new : ReaderState) (taken : List ℕ) (before : StandsFor old taken) (told : ReadBlock) (left behind : Told) : Type 0 where
+pub record TakesNext (old new : ReaderState) (taken : List ℕ) (before : StandsFor old taken) (told : ReadBlock)
+    (left behind : Told) : Type 0 where
   pub block : Block
   pub tells : Tells told block
   pub front : List ℕ
@@ -58,7 +62,8 @@ pub record TakesNext (old new : ReaderState) (taken : List ℕ) (before : Stands
   pub blocks : stands.blocks ≡ before.blocks ++ block ∷ []
 
 -- Nothing stands behind what the reader stood for, and it stands for the same.
-pub record EndsThere (old new : ReaderState) (taken : List ℕ) (before : StandsFor old taken) (left behind : Told) : Type 0 where
+pub record EndsThere (old new : ReaderState) (taken : List ℕ) (before : StandsFor old taken)
+    (left behind : Told) : Type 0 where
   pub ended : IsAtEnd (with_front old.waiting.bytes left)
   pub joined : with_front old.waiting.bytes left ≡ with_front new.waiting.bytes behind
   pub stands : StandsFor new taken

@@ -53,7 +53,9 @@ Gives thing bytes outcome = outcome ≡ found thing bytes
 abbrev pub MagicThen : {A : Type 0} → List ℕ → Reads A → Reads A
 MagicThen [] next bytes outcome = next bytes outcome
 MagicThen (letter ∷ letters) next bytes outcome =
-    ByteThen (λ byte rest outcome. Unless (byte ≢ letter) causes.BadMagic (MagicThen letters next rest) outcome) bytes outcome
+    ByteThen (λ byte rest outcome.
+    Unless (byte ≢ letter) causes.BadMagic (MagicThen letters next rest) outcome)
+    bytes outcome
 
 abbrev pub header_of : ℕ → ℕ → ℕ → ℕ → Header
 header_of writers tick nanos rate =
@@ -61,7 +63,9 @@ header_of writers tick nanos rate =
 
 abbrev pub ReadsRate : ℕ → ℕ → ℕ → Reads Header
 ReadsRate writers tick nanos bytes outcome =
-    NumberThen 8 (λ rate rest outcome. Unless (rate ≡ 0) causes.BadHeader (Gives (header_of writers tick nanos rate) rest) outcome) bytes outcome
+    NumberThen 8 (λ rate rest outcome.
+    Unless (rate ≡ 0) causes.BadHeader (Gives (header_of writers tick nanos rate) rest) outcome)
+    bytes outcome
 
 abbrev pub ReadsNanos : ℕ → ℕ → Reads Header
 ReadsNanos writers tick bytes outcome = NumberThen 8 (ReadsRate writers tick) bytes outcome
@@ -71,7 +75,9 @@ ReadsClock writers bytes outcome = NumberThen 8 (ReadsNanos writers) bytes outco
 
 abbrev pub ReadsWriters : Reads Header
 ReadsWriters bytes outcome =
-    ByteThen (λ writers rest outcome. Unless ((writers ≡ 0) ⊎ (MAX_WRITERS < writers)) causes.BadHeader (ReadsClock writers rest) outcome) bytes outcome
+    ByteThen (λ writers rest outcome.
+    Unless ((writers ≡ 0) ⊎ (MAX_WRITERS < writers)) causes.BadHeader (ReadsClock writers rest) outcome)
+    bytes outcome
 
 abbrev pub ReadsVersion : Reads Header
 ReadsVersion bytes outcome =
@@ -88,13 +94,16 @@ abbrev pub EntryThen : List Message → (Message → Reads Block) → Reads Bloc
 EntryThen defined next bytes outcome =
     (IsCutEntry bytes × (outcome ≡ broken causes.Cut))
     ⊎ (IsBadEntry bytes × (outcome ≡ broken causes.BadEntry))
-    ⊎ ((message : Message) × (front : List ℕ) × (rest : List ℕ) × SpellsEntry front message × (bytes ≡ front ++ rest) × Unless (HasMessage defined message) causes.BadEntry (next message rest) outcome)
+    ⊎ ((message : Message) × (front : List ℕ) × (rest : List ℕ) × SpellsEntry front message × (bytes ≡ front ++ rest)
+    × Unless (HasMessage defined message) causes.BadEntry (next message rest) outcome)
 
 -- so many new messages behind those that were read
 abbrev pub ReadsEntries : List Message → ℕ → List Message → ℕ → Reads Block
 ReadsEntries before first read zero bytes outcome = Gives (Fragment first read) bytes outcome
 ReadsEntries before first read (suc count) bytes outcome =
-    EntryThen (before ++ read) (λ message rest outcome. ReadsEntries before first (read ++ message ∷ []) count rest outcome) bytes outcome
+    EntryThen (before ++ read) (λ message rest outcome.
+    ReadsEntries before first (read ++ message ∷ []) count rest outcome)
+    bytes outcome
 
 -- a fragment has 1 to 16 messages, and there are 65,536 ids
 abbrev pub IsBadCount : List Message → ℕ → Type 0
@@ -102,11 +111,15 @@ IsBadCount before count = (count ≡ 0) ⊎ (MAX_FRAGMENT_MESSAGES < count) ⊎ 
 
 abbrev pub ReadsCount : List Message → ℕ → Reads Block
 ReadsCount before first bytes outcome =
-    NumberThen 2 (λ count rest outcome. Unless (IsBadCount before count) causes.BadLength (ReadsEntries before first [] count rest) outcome) bytes outcome
+    NumberThen 2 (λ count rest outcome.
+    Unless (IsBadCount before count) causes.BadLength (ReadsEntries before first [] count rest) outcome)
+    bytes outcome
 
 abbrev pub ReadsFragment : List Message → Reads Block
 ReadsFragment before bytes outcome =
-    NumberThen 4 (λ first rest outcome. Unless (first ≢ length before) causes.FragmentOrder (ReadsCount before first rest) outcome) bytes outcome
+    NumberThen 4 (λ first rest outcome.
+    Unless (first ≢ length before) causes.FragmentOrder (ReadsCount before first rest) outcome)
+    bytes outcome
 
 -- ---- extents and close marks
 
@@ -128,16 +141,20 @@ ReadsBody messages tick last writer len bytes outcome =
     ((length bytes < len) × (outcome ≡ broken causes.Cut))
     ⊎ ((body : List ℕ) × (rest : List ℕ) × (length body ≡ len) × (bytes ≡ body ++ rest)
     × (((cause : BodyCause) × BodyBreak messages tick last body cause × (outcome ≡ broken (causes.Body cause)))
-    ⊎ ((entries : List Call) × IsBody messages tick last entries body × (outcome ≡ found (Extent writer entries) rest))))
+    ⊎ ((entries : List Call) × IsBody messages tick last entries body
+    × (outcome ≡ found (Extent writer entries) rest))))
 
 -- a length and a body of so many bytes
 abbrev pub ReadsRecords : List Message → ℕ → ℕ → ℕ → Reads Block
 ReadsRecords messages tick last writer bytes outcome =
-    NumberThen 4 (λ len rest outcome. Unless ((len ≡ 0) ⊎ (MAX_BODY < len)) causes.BadLength (ReadsBody messages tick last writer len rest) outcome) bytes outcome
+    NumberThen 4 (λ len rest outcome.
+    Unless ((len ≡ 0) ⊎ (MAX_BODY < len)) causes.BadLength (ReadsBody messages tick last writer len rest) outcome)
+    bytes outcome
 
 abbrev pub ReadsLength : Header → List Block → ℕ → Reads Block
 ReadsLength header before writer bytes outcome =
-    ReadsRecords (messages_of before) header.clock.tick (last_stamp header.clock.tick (records_of writer before)) writer bytes outcome
+    ReadsRecords (messages_of before) header.clock.tick
+    (last_stamp header.clock.tick (records_of writer before)) writer bytes outcome
 
 abbrev pub ReadsExtent : Header → List Block → Reads Block
 ReadsExtent header before bytes outcome = WriterThen header before (ReadsLength header before) bytes outcome

@@ -27,7 +27,8 @@ Line clock call =
 -- the first call's line stands before the second's: by stamp, then writer, then ordinal
 abbrev pub comes_before : LogCall → LogCall → Bool
 comes_before a b =
-    nat_lt a.stamp b.stamp || (a.stamp == b.stamp && (nat_lt a.writer b.writer || (a.writer == b.writer && nat_lt a.ordinal b.ordinal)))
+    nat_lt a.stamp b.stamp
+    || (a.stamp == b.stamp && (nat_lt a.writer b.writer || (a.writer == b.writer && nat_lt a.ordinal b.ordinal)))
 
 -- a call put at its place in a list that is in order: behind the calls that come before it
 unfoldable pub insert_call : LogCall → List LogCall → List LogCall

@@ -54,7 +54,9 @@ cause_words cause = decimal (cause_number cause) ++ 32 ∷ cause_name cause
 
 -- the line that says what is refused, up to the place in a format
 abbrev pub refusal_fields : Refusal → List ℕ
-refusal_fields refusal = codes "nanolog: " ++ refusal.file ++ 58 ∷ decimal refusal.line ++ codes ": refused: " ++ cause_words refusal.cause
+refusal_fields refusal =
+    codes "nanolog: " ++ refusal.file ++ 58 ∷ decimal refusal.line
+    ++ codes ": refused: " ++ cause_words refusal.cause
 
 -- the whole line
 abbrev pub refusal_line : Refusal → List ℕ

@@ -56,7 +56,8 @@ IsNamed (found.Bad bad) = Unit {0}
 abbrev pub AreFindings : List Found → List Finding → Type 0
 AreFindings [] findings = findings ≡ []
 AreFindings (one ∷ found) findings =
-    (first : Finding) × (others : List Finding) × (findings ≡ first ∷ others) × IsFinding one first × AreFindings found others
+    (first : Finding) × (others : List Finding) × (findings ≡ first ∷ others)
+    × IsFinding one first × AreFindings found others
 
 -- what is refused where a source is too large
 abbrev pub large_refusal : List ℕ → Refusal
@@ -64,7 +65,9 @@ large_refusal name = record { file = name; line = 0; cause = causes.TooLarge }
 
 -- what stands in a source, which isn't scanned where it is too large
 pub data HasFindings (file : SourceFile) (findings : List Finding) : Type 0 where
-  too_large : MAX_SOURCE < length file.bytes → findings ≡ Finding.refused (large_refusal file.name) ∷ [] → HasFindings file findings
+  too_large : MAX_SOURCE < length file.bytes
+      → findings ≡ Finding.refused (large_refusal file.name) ∷ []
+      → HasFindings file findings
   scanned : (found : List Found) → length file.bytes ≤ MAX_SOURCE → Statements file.name file.bytes found
       → AreFindings found findings → HasFindings file findings
 
@@ -72,4 +75,5 @@ pub data HasFindings (file : SourceFile) (findings : List Finding) : Type 0 wher
 abbrev pub AllHave : List SourceFile → List Finding → Type 0
 AllHave [] findings = findings ≡ []
 AllHave (file ∷ files) findings =
-    (first : List Finding) × (others : List Finding) × (findings ≡ first ++ others) × HasFindings file first × AllHave files others
+    (first : List Finding) × (others : List Finding) × (findings ≡ first ++ others)
+    × HasFindings file first × AllHave files others

@@ -6,8 +6,8 @@ use Rattle.std.specs.Str.Parse.{digits_value}
 use Rattle.std.proofs.lemmas.Bool.{cases_Bool, and_parts, leb-true, MatchBool-at_true, MatchBool-at_false}
 use Rattle.std.proofs.lemmas.List.{length-take, length-drop}
 use Rattle.std.proofs.lemmas.List.Sums.{count_by-le-length}
-use Rattle.source_tokens.specs.declared.kind.Kind.{Kind}
-use Rattle.source_tokens.specs.declared.kind.Kind.TheVariants as kinds
+use Rattle.source_tokens.specs.declared.kind.TokenKind.{TokenKind}
+use Rattle.source_tokens.specs.declared.kind.TokenKind.TheVariants as kinds
 use Rattle.source_tokens.specs.declared.token.Token.{Token}
 use Rattle.source_scan.specs.declared.line_change.TheConstants.{MAX_LINE}
 use Rattle.source_scan.specs.declared.line_change.LineChange.{LineChange}
@@ -37,7 +37,7 @@ number-within text =
     chosen (list_all is_decimal text && nat_le (digits_value 10 text) MAX_LINE) (digits_value 10 text)
     (λ is. leb-true (digits_value 10 text) MAX_LINE (and_parts (list_all is_decimal text) (nat_le (digits_value 10 text) MAX_LINE) is).1)
 
-kind-within : (kind : Kind) (bytes : List ℕ) → IfSome (kind_number kind bytes) IsWithin
+kind-within : (kind : TokenKind) (bytes : List ℕ) → IfSome (kind_number kind bytes) IsWithin
 kind-within kinds.Number bytes = number-within (unspliced bytes)
 kind-within _ bytes = tt
 

@@ -1,11 +1,11 @@
 -- The parentheses of a statement, and its arguments. A depth is the number of parentheses that are open.
 use Rattle.std.specs.Prelude.{ℕ, suc, ◌-◌, Bool, false, ◌&&◌, ◌==◌, if◌then◌else◌, List, [], ◌∷◌, Option, Some, None}
 use Rattle.std.specs.Option.{option_map}
-use Rattle.source_tokens.specs.declared.kind.Kind.{Kind}
-use Rattle.source_tokens.specs.declared.kind.Kind.TheVariants.{Punctuator}
+use Rattle.source_tokens.specs.declared.kind.TokenKind.{TokenKind}
+use Rattle.source_tokens.specs.declared.kind.TokenKind.TheVariants.{Punctuator}
 use Rattle.source_tokens.specs.declared.token.Token.{Token}
 
-abbrev pub is_punctuator : ℕ → Kind → Bool
+abbrev pub is_punctuator : ℕ → TokenKind → Bool
 is_punctuator byte (Punctuator other) = other == byte
 is_punctuator byte _ = false
 

@@ -5,8 +5,8 @@ use Rattle.std.specs.Option.{option_map}
 use Rattle.std.specs.List.{before_first, after_first, list_any, starts_with}
 use Rattle.std.specs.Prelude.{nat_eq}
 use Rattle.std.specs.Str.{bytes_eq}
-use Rattle.source_tokens.specs.declared.kind.Kind.{Kind}
-use Rattle.source_tokens.specs.declared.kind.Kind.TheVariants as kinds
+use Rattle.source_tokens.specs.declared.kind.TokenKind.{TokenKind}
+use Rattle.source_tokens.specs.declared.kind.TokenKind.TheVariants as kinds
 use Rattle.source_tokens.specs.declared.token.Token.{Token}
 use Rattle.source_tokens.specs.RawStrings.{past_delimiter, opens_raw, closing_of}
 use Rattle.source_scan.specs.Texts.{unspliced, bytes_of, is_word, touches}
@@ -48,17 +48,17 @@ raw_bytes bytes =
 
 -- ---- items
 
-abbrev pub is_string : Kind → Bool
+abbrev pub is_string : TokenKind → Bool
 is_string kinds.StringLiteral = true
 is_string _ = false
 
-abbrev pub is_literal : Kind → Bool
+abbrev pub is_literal : TokenKind → Bool
 is_literal kinds.StringLiteral = true
 is_literal kinds.RawString = true
 is_literal _ = false
 
 -- what a token of this kind stands for
-abbrev pub kind_bytes : Kind → List ℕ → Option (List ℕ)
+abbrev pub kind_bytes : TokenKind → List ℕ → Option (List ℕ)
 kind_bytes kinds.StringLiteral bytes = string_bytes bytes
 kind_bytes kinds.RawString bytes = raw_bytes bytes
 kind_bytes kinds.Identifier bytes = pri_bytes (unspliced bytes)

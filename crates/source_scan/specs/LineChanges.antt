@@ -1,7 +1,7 @@
 -- Line directives (C++ [cpp.line]).
 use Rattle.std.specs.Prelude.{◌≡◌, ℕ, if◌then◌else◌, List, [], ◌∷◌, drop, codes, Option, Some, None}
-use Rattle.source_tokens.specs.declared.kind.Kind.{Kind}
-use Rattle.source_tokens.specs.declared.kind.Kind.TheVariants as kinds
+use Rattle.source_tokens.specs.declared.kind.TokenKind.{TokenKind}
+use Rattle.source_tokens.specs.declared.kind.TokenKind.TheVariants as kinds
 use Rattle.source_tokens.specs.declared.token.Token.{Token}
 use Rattle.source_tokens.specs.Tokens.{Tokens}
 use Rattle.source_scan.specs.declared.line_change.LineChange.{LineChange}
@@ -11,7 +11,7 @@ use Rattle.source_scan.specs.LineNumbers.{number_of}
 
 -- ---- numbers and names
 
-abbrev pub kind_number : Kind → List ℕ → Option ℕ
+abbrev pub kind_number : TokenKind → List ℕ → Option ℕ
 kind_number kinds.Number bytes = number_of (unspliced bytes)
 kind_number _ bytes = None
 
@@ -19,7 +19,7 @@ kind_number _ bytes = None
 abbrev pub line_number : List ℕ → Token → Option ℕ
 line_number source token = kind_number token.kind (bytes_of source token)
 
-abbrev pub kind_name : Kind → List ℕ → Option (List ℕ)
+abbrev pub kind_name : TokenKind → List ℕ → Option (List ℕ)
 kind_name kinds.StringLiteral bytes = string_bytes bytes
 kind_name _ bytes = None
 

@@ -1,8 +1,8 @@
 -- The line and the name of a file that are in force at a place of a source.
 use Rattle.std.specs.Prelude.{◌≡◌, ℕ, ◌+◌, ◌-◌, Bool, true, false, ◌&&◌, ◌==◌, nat_lt, nat_le, if◌then◌else◌}
 use Rattle.std.specs.Prelude.{List, [], ◌∷◌, length, take, drop, count_by, unwrap_or, MatchBool, Option, Some, None}
-use Rattle.source_tokens.specs.declared.kind.Kind.{Kind}
-use Rattle.source_tokens.specs.declared.kind.Kind.TheVariants as kinds
+use Rattle.source_tokens.specs.declared.kind.TokenKind.{TokenKind}
+use Rattle.source_tokens.specs.declared.kind.TokenKind.TheVariants as kinds
 use Rattle.source_tokens.specs.declared.token.Token.{Token}
 use Rattle.source_scan.specs.declared.line_change.LineChange.{LineChange}
 use Rattle.source_scan.specs.declared.position.PlacedChange.{PlacedChange}
@@ -12,7 +12,7 @@ use Rattle.source_scan.specs.LineChanges.{ReadsDirective}
 
 -- ---- the changes of a source
 
-abbrev pub is_directive : Kind → Bool
+abbrev pub is_directive : TokenKind → Bool
 is_directive kinds.Directive = true
 is_directive _ = false
 

@@ -1,6 +1,6 @@
 -- Worked tokens.
 use Rattle.std.specs.Prelude.{ℕ, suc, List, [], ◌∷◌, codes}
-use Rattle.source_tokens.specs.declared.kind.Kind.TheVariants.{Identifier, Number, StringLiteral, Punctuator}
+use Rattle.source_tokens.specs.declared.kind.TokenKind.TheVariants.{Identifier, Number, StringLiteral, Punctuator}
 use Rattle.source_tokens.specs.declared.token.Token.{Token}
 use Rattle.source_scan.specs.Readings.{Parted}
 

@@ -1,8 +1,8 @@
 -- Bytes of a source without splices, and what tokens spell.
 use Rattle.std.specs.Prelude.{ℕ, ◌-◌, Bool, true, false, ◌&&◌, ◌==◌, if◌then◌else◌, List, [], ◌∷◌, take, drop, filter}
 use Rattle.std.specs.Str.{bytes_eq}
-use Rattle.source_tokens.specs.declared.kind.Kind.{Kind}
-use Rattle.source_tokens.specs.declared.kind.Kind.TheVariants as kinds
+use Rattle.source_tokens.specs.declared.kind.TokenKind.{TokenKind}
+use Rattle.source_tokens.specs.declared.kind.TokenKind.TheVariants as kinds
 use Rattle.source_tokens.specs.declared.token.Token.{Token}
 
 -- the bytes without their splices, each a backslash and LF, or a backslash, CR and LF
@@ -22,7 +22,7 @@ abbrev pub bytes_of : List ℕ → Token → List ℕ
 bytes_of source token = take (token.end - token.start) (drop token.start source)
 
 -- the token is an identifier
-abbrev pub is_identifier : Kind → Bool
+abbrev pub is_identifier : TokenKind → Bool
 is_identifier kinds.Identifier = true
 is_identifier _ = false
 
@@ -35,7 +35,7 @@ abbrev pub touches : Token → Token → Bool
 touches token next = token.end == next.start
 
 -- neither space nor a comment, and no directive
-abbrev pub is_significant : Kind → Bool
+abbrev pub is_significant : TokenKind → Bool
 is_significant kinds.Space = false
 is_significant kinds.NewLine = false
 is_significant kinds.LineComment = false

@@ -6,14 +6,14 @@ ghost use Rattle.source_tokens.specs.declared.token.Token.{Token as SourceToken}
 ghost use Rattle.source_scan.specs.Arguments.{is_mark, is_bare, depth_behind};
 ghost use Rattle.source_scan.specs.Arguments.{closing_from, parted_from, first_argument};
 
-use source_tokens::{Kind, Token};
+use source_tokens::{Token, TokenKind};
 
 /// Whether the token is this byte alone.
 pub fn is_mark(byte: u8, token: &Token) -> bool
     ensures { result ≡ is_mark byte token.now }
 {
     match token.kind {
-        Kind::Punctuator(other) => other == byte,
+        TokenKind::Punctuator(other) => other == byte,
         _ => false,
     }
 }

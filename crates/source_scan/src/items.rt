@@ -10,19 +10,19 @@ use crate::literals::{raw_bytes, string_bytes};
 use crate::pri_word::pri_conversion;
 use crate::text::{bytes_of, is_word, touches, unspliced};
 use printf_grammar::Bytes;
-use source_tokens::{Kind, Token};
+use source_tokens::{Token, TokenKind};
 use std::alloc::{AllocError, Global};
 
-fn is_string(kind: Kind) -> bool
+fn is_string(kind: TokenKind) -> bool
     ensures { result ≡ is_string kind }
 {
-    matches!(kind, Kind::StringLiteral)
+    matches!(kind, TokenKind::StringLiteral)
 }
 
-fn is_literal(kind: Kind) -> bool
+fn is_literal(kind: TokenKind) -> bool
     ensures { result ≡ is_literal kind }
 {
-    matches!(kind, Kind::StringLiteral | Kind::RawString)
+    matches!(kind, TokenKind::StringLiteral | TokenKind::RawString)
 }
 
 /// What a PRI word stands for, from its bytes in the source.
@@ -47,9 +47,9 @@ fn item_bytes(alloc: Global, source: &[u8], token: &Token) -> Result<Option<Byte
 {
     let bytes = bytes_of(source, token);
     match token.kind {
-        Kind::StringLiteral => string_bytes(alloc, bytes),
-        Kind::RawString => raw_bytes(alloc, bytes),
-        Kind::Identifier => word_bytes(alloc, bytes),
+        TokenKind::StringLiteral => string_bytes(alloc, bytes),
+        TokenKind::RawString => raw_bytes(alloc, bytes),
+        TokenKind::Identifier => word_bytes(alloc, bytes),
         _ => Ok(None),
     }
 }

@@ -10,7 +10,7 @@ use crate::escape::value_within;
 use crate::literals::string_bytes;
 use crate::text::{bytes_of, is_word, significant, unspliced};
 use printf_grammar::Bytes;
-use source_tokens::{Kind, Token, tokens};
+use source_tokens::{Token, TokenKind, tokens};
 use std::alloc::{AllocError, Global};
 
 /// The greatest number that a line directive gives to a line.
@@ -51,7 +51,7 @@ fn line_number(alloc: Global, source: &[u8], token: &Token) -> Result<Option<u32
     ensures { IfOk result (λ found. found ≡ line_number source.now token.now) }
 {
     match token.kind {
-        Kind::Number => {
+        TokenKind::Number => {
             let text = unspliced(alloc, bytes_of(source, token))?;
             Ok(number_of(&text))
         }
@@ -64,7 +64,7 @@ fn file_name(alloc: Global, source: &[u8], token: &Token) -> Result<Option<Bytes
     ensures { IfOk result (λ found. found ≡ file_name source.now token.now) }
 {
     match token.kind {
-        Kind::StringLiteral => string_bytes(alloc, bytes_of(source, token)),
+        TokenKind::StringLiteral => string_bytes(alloc, bytes_of(source, token)),
         _ => Ok(None),
     }
 }

@@ -5,7 +5,7 @@ ghost use Rattle.source_scan.specs.Positions.{has_next_line, Changes, in_force_o
 
 use crate::line_change::{LineChange, read_directive};
 use crate::text::{between, bytes_of};
-use source_tokens::{Kind, Token};
+use source_tokens::{Token, TokenKind};
 use std::alloc::{AllocError, Global};
 
 /// What a line directive says, and the place where its next line begins.
@@ -19,7 +19,7 @@ pub struct PlacedChange {
 fn has_next_line(source: &[u8], part: &Token) -> bool
     ensures { result ≡ has_next_line source.now part.now }
 {
-    matches!(part.kind, Kind::Directive) && part.end < source.len()
+    matches!(part.kind, TokenKind::Directive) && part.end < source.len()
 }
 
 /// The line directives among the parts, in order.

@@ -4,7 +4,7 @@ ghost use Rattle.std.specs.Prelude.{◌≡◌, ◌↔◌, ◌-◌, take, drop, I
 ghost use Rattle.source_scan.specs.Texts.{unspliced, bytes_of, is_identifier, is_word};
 ghost use Rattle.source_scan.specs.Texts.{touches, is_significant, significant};
 
-use source_tokens::{Kind, Token, TokenList, past_splices};
+use source_tokens::{Token, TokenKind, TokenList, past_splices};
 use std::alloc::{AllocError, Global};
 
 /// The bytes without splices.
@@ -53,10 +53,10 @@ pub fn bytes_of<'a>(source: &'a [u8], token: &Token) -> &'a [u8]
     between(source, token.start, token.end)
 }
 
-pub(crate) fn is_identifier(kind: Kind) -> bool
+pub(crate) fn is_identifier(kind: TokenKind) -> bool
     ensures { result ≡ is_identifier kind }
 {
-    matches!(kind, Kind::Identifier)
+    matches!(kind, TokenKind::Identifier)
 }
 
 /// Whether the token is the identifier that spells this.
@@ -74,13 +74,15 @@ pub(crate) fn touches(token: &Token, next: &Token) -> bool
 }
 
 /// Whether it is neither space nor a comment, and no directive.
-fn is_significant(kind: Kind) -> bool
+fn is_significant(kind: TokenKind) -> bool
     ensures { result ≡ is_significant kind }
 {
     match kind {
-        Kind::Space | Kind::NewLine | Kind::LineComment | Kind::BlockComment | Kind::Directive => {
-            false
-        }
+        TokenKind::Space
+        | TokenKind::NewLine
+        | TokenKind::LineComment
+        | TokenKind::BlockComment
+        | TokenKind::Directive => false,
         _ => true,
     }
 }

@@ -2,7 +2,7 @@
 use Rattle.std.proofs.Common.{◌≡◌, ℕ, zero, suc, ◌+◌, ◌<◌, ◌≤◌, Bool, true, false, if◌then◌else◌, List, [], ◌∷◌, ◌++◌, length, drop, Option, Some, None, refl, sym, subst, ap, inl, inr, arith, append_assoc}
 use Rattle.std.specs.List.{flat_map}
 use Rattle.std.proofs.lemmas.List.{length-drop}
-use Rattle.source_tokens.specs.declared.kind.Kind.{Kind}
+use Rattle.source_tokens.specs.declared.kind.TokenKind.{TokenKind}
 use Rattle.source_tokens.specs.declared.token.Token.{Token}
 use Rattle.source_tokens.specs.Splices.{past_splices}
 use Rattle.source_tokens.specs.RawStrings.{EndsAt, past_delimiter, delimiter_of, closing_of}
@@ -28,7 +28,7 @@ join-split start end (part ∷ front) back joins =
 
 -- ---- tokens
 
-past-raw : (raw rest : List ℕ) (place : Option ℕ) (kind : Kind) → EndsAt raw place kind rest → length rest ≤ length raw
+past-raw : (raw rest : List ℕ) (place : Option ℕ) (kind : TokenKind) → EndsAt raw place kind rest → length rest ≤ length raw
 past-raw raw rest None kind ends = omega (arith, ap length ends.1)
 past-raw raw rest (Some at) kind ends =
     let marked : List ℕ = drop 1 (past_delimiter raw) in
@@ -36,7 +36,7 @@ past-raw raw rest (Some at) kind ends =
     omega (arith, ap length ends.1, length-past (drop count marked), length-drop count marked, length-drop 1 (past_delimiter raw), length-drop (length (delimiter_of raw)) raw)
 
 -- what stands there is not empty
-stands-shorter : (bytes rest : List ℕ) (kind : Kind) → Stands bytes kind rest → length rest < length bytes
+stands-shorter : (bytes rest : List ℕ) (kind : TokenKind) → Stands bytes kind rest → length rest < length bytes
 stands-shorter bytes rest kind (inl raw) = omega (arith, reads-length bytes raw.begins.prefix (34 ∷ raw.raw) raw.begins.reads, past-raw raw.raw rest raw.ends.place kind raw.ends.ends)
 stands-shorter bytes rest kind (inr plain) =
     omega (arith, ap length plain.bytes_are, length-past plain.behind, reads-length (past_splices plain.behind) plain.goes_on.0 rest plain.goes_on.1.reads)

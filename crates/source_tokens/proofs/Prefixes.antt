@@ -9,7 +9,7 @@ use Rattle.source_tokens.specs.Reading.{Reads}
 use Rattle.source_tokens.specs.RawStrings.{IsRawPrefix, BeginsRaw, EndsRaw, opens_raw, is_prefix_byte}
 use Rattle.source_tokens.specs.Forms.{begins_with}
 use Rattle.source_tokens.specs.Tokens.{StandsRaw}
-use Rattle.source_tokens.specs.declared.kind.Kind.{Kind}
+use Rattle.source_tokens.specs.declared.kind.TokenKind.{TokenKind}
 use Rattle.source_tokens.proofs.Texts.{reads-push, reads-first, reads-nothing, reads-rest, reads-once, reads-longer, reads-length}
 use Rattle.source_tokens.proofs.Passing.{back_of, first_and_back, nothing_there}
 
@@ -82,7 +82,7 @@ not_raw bytes prefix raw other is reads shut begins =
     let opens : opens_raw raw ≡ true = subst (λ (behind : List ℕ). opens_raw behind ≡ true) same begins.opens in
     false≢true (sym shut ∙ opens)
 
-pub stands_raw : (bytes prefix raw rest : List ℕ) (kind : Kind) → IsRawPrefix prefix → Reads bytes prefix (34 ∷ raw) → opens_raw raw ≡ true → EndsRaw raw kind rest → length rest ≤ length raw → StandsRaw bytes kind rest × (length rest < length bytes)
+pub stands_raw : (bytes prefix raw rest : List ℕ) (kind : TokenKind) → IsRawPrefix prefix → Reads bytes prefix (34 ∷ raw) → opens_raw raw ≡ true → EndsRaw raw kind rest → length rest ≤ length raw → StandsRaw bytes kind rest × (length rest < length bytes)
 stands_raw bytes prefix raw rest kind is reads opens ends within =
     (record { raw = raw; begins = record { prefix = prefix; is_prefix = is; reads = reads; opens = opens }; ends = ends }, omega (arith, reads-length bytes prefix (34 ∷ raw) reads))
 

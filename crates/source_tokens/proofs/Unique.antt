@@ -3,12 +3,12 @@ use Rattle.std.proofs.Common.{◌≡◌, ℕ, ◌≤◌, Bool, List, [], ◌∷�
 use Rattle.std.proofs.lemmas.Bool.{cases_order}
 use Rattle.std.proofs.lemmas.List.{append-nil, length-append}
 use Rattle.memchr.specs.Find.{IsFirst}
-use Rattle.source_tokens.specs.declared.kind.Kind.{Kind}
+use Rattle.source_tokens.specs.declared.kind.TokenKind.{TokenKind}
 use Rattle.source_tokens.specs.declared.token.Token.{Token}
 use Rattle.source_tokens.specs.Splices.{past_splices}
 use Rattle.source_tokens.specs.Reading.{Reads, IsLongest}
 use Rattle.source_tokens.specs.RawStrings.{EndsRaw, EndsAt}
-use Rattle.source_tokens.specs.Forms.{opening_of, is_tail, kind_of}
+use Rattle.source_tokens.specs.Forms.{opening_of, is_tail, token_kind}
 use Rattle.source_tokens.specs.Tokens.{Tokens, IsToken, Follow, Stands, GoesOn, past_front, front_tokens}
 use Rattle.source_tokens.proofs.Texts.{reads-longer, reads-once, reads-length}
 use Rattle.source_tokens.proofs.Prefixes.{one_mark}
@@ -41,22 +41,22 @@ first_once P end (Some k) (Some j) here there = elim (cases_order k j) [
   ]
 ]
 
-place_end : (raw : List ℕ) (place : Option ℕ) (rest behind : List ℕ) (kind other : Kind) → EndsAt raw place kind rest → EndsAt raw place other behind → (kind ≡ other) × (rest ≡ behind)
+place_end : (raw : List ℕ) (place : Option ℕ) (rest behind : List ℕ) (kind other : TokenKind) → EndsAt raw place kind rest → EndsAt raw place other behind → (kind ≡ other) × (rest ≡ behind)
 place_end raw None rest behind kind other here there = (here.0 ∙ sym there.0, here.1 ∙ sym there.1)
 place_end raw (Some at) rest behind kind other here there = (here.0 ∙ sym there.0, here.1 ∙ sym there.1)
 
-pub raw_once : (raw rest behind : List ℕ) (kind other : Kind) → EndsRaw raw kind rest → EndsRaw raw other behind → (kind ≡ other) × (rest ≡ behind)
+pub raw_once : (raw rest behind : List ℕ) (kind other : TokenKind) → EndsRaw raw kind rest → EndsRaw raw other behind → (kind ≡ other) × (rest ≡ behind)
 raw_once raw rest behind kind other here there =
     let same : there.place ≡ here.place = first_once _ _ there.place here.place there.first here.first in
     place_end raw here.place rest behind kind other here.ends (subst (λ (place : Option ℕ). EndsAt raw place other behind) same there.ends)
 
-goes_once : (first : ℕ) (behind rest end : List ℕ) (kind other : Kind) → GoesOn (opening_of first behind) first behind kind rest → GoesOn (opening_of first behind) first behind other end → (kind ≡ other) × (rest ≡ end)
+goes_once : (first : ℕ) (behind rest end : List ℕ) (kind other : TokenKind) → GoesOn (opening_of first behind) first behind kind rest → GoesOn (opening_of first behind) first behind other end → (kind ≡ other) × (rest ≡ end)
 goes_once first behind rest end kind other here there =
     let same = longest_once (is_tail (opening_of first behind) first) behind here.0 rest there.0 end here.1 there.1 in
-    (here.2 ∙ ap (λ tail. kind_of (opening_of first behind) (first ∷ tail)) (sym same.0) ∙ sym there.2, sym same.1)
+    (here.2 ∙ ap (λ tail. token_kind (opening_of first behind) (first ∷ tail)) (sym same.0) ∙ sym there.2, sym same.1)
 
 -- one thing stands at the front
-pub stands_once : (bytes rest behind : List ℕ) (kind other : Kind) → Stands bytes kind rest → Stands bytes other behind → (kind ≡ other) × (rest ≡ behind)
+pub stands_once : (bytes rest behind : List ℕ) (kind other : TokenKind) → Stands bytes kind rest → Stands bytes other behind → (kind ≡ other) × (rest ≡ behind)
 stands_once bytes rest behind kind other (inl here) (inl there) =
     let same : there.raw ≡ here.raw = one_mark bytes there.begins.prefix here.begins.prefix there.raw here.raw there.begins.is_prefix here.begins.is_prefix there.begins.reads here.begins.reads in
     raw_once here.raw rest behind kind other here.ends (subst (λ (raw : List ℕ). EndsRaw raw other behind) same there.ends)
@@ -70,11 +70,11 @@ stands_once bytes rest behind kind other (inr here) (inr there) =
     let goes = subst (λ (b : List ℕ). GoesOn (opening_of here.first (past_splices b)) here.first (past_splices b) other behind) tail moved in
     goes_once here.first (past_splices here.behind) rest behind kind other here.goes_on goes
 
-nothing_stands : (rest : List ℕ) (kind : Kind) → Stands [] kind rest → ⊥
+nothing_stands : (rest : List ℕ) (kind : TokenKind) → Stands [] kind rest → ⊥
 nothing_stands rest kind (inl raw) = omega (arith, reads-length [] raw.begins.prefix (34 ∷ raw.raw) raw.begins.reads)
 nothing_stands rest kind (inr plain) = cc (plain.bytes_are)
 
-fields_once : (kind other : Kind) (start from end to : ℕ) → kind ≡ other → start ≡ from → end ≡ to
+fields_once : (kind other : TokenKind) (start from end to : ℕ) → kind ≡ other → start ≡ from → end ≡ to
     → (let a : Token = record { kind = kind; start = start; end = end } in let b : Token = record { kind = other; start = from; end = to } in a ≡ b)
 fields_once kind other start from end to k s e = cc
 

@@ -1,9 +1,9 @@
 -- A source as the list of what it is made of outside directives, and its directives (C++ [cpp.pre]).
 use Rattle.std.specs.Prelude.{◌≡◌, ℕ, Bool, true, false, not, ◌==◌, if◌then◌else◌, List, [], ◌∷◌, ◌++◌}
 use Rattle.std.specs.List.{list_all, flat_map, AllByRecursion}
-use Rattle.source_tokens.specs.declared.kind.Kind.{Kind}
-use Rattle.source_tokens.specs.declared.kind.Kind.TheVariants.{Space, NewLine, LineComment, BlockComment}
-use Rattle.source_tokens.specs.declared.kind.Kind.TheVariants.{Punctuator, Directive}
+use Rattle.source_tokens.specs.declared.kind.TokenKind.{TokenKind}
+use Rattle.source_tokens.specs.declared.kind.TokenKind.TheVariants.{Space, NewLine, LineComment, BlockComment}
+use Rattle.source_tokens.specs.declared.kind.TokenKind.TheVariants.{Punctuator, Directive}
 use Rattle.source_tokens.specs.declared.token.Token.{Token}
 use Rattle.source_tokens.specs.declared.line_parts.Place.{Place}
 use Rattle.source_tokens.specs.declared.line_parts.Place.TheVariants as places
@@ -12,18 +12,18 @@ use Rattle.source_tokens.specs.Tokens.{Tokens}
 -- ---- one line
 
 -- space or a comment
-abbrev pub is_blank : Kind → Bool
+abbrev pub is_blank : TokenKind → Bool
 is_blank Space = true
 is_blank LineComment = true
 is_blank BlockComment = true
 is_blank _ = false
 
-abbrev pub is_hash : Kind → Bool
+abbrev pub is_hash : TokenKind → Bool
 is_hash (Punctuator byte) = byte == 35
 is_hash _ = false
 
 -- the LF that ends a line
-abbrev pub ends_line : Kind → Bool
+abbrev pub ends_line : TokenKind → Bool
 ends_line NewLine = true
 ends_line _ = false
 

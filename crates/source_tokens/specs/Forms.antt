@@ -4,8 +4,8 @@ use Rattle.std.specs.List.{list_all}
 use Rattle.std.specs.Char.{is_ascii_digit}
 use Rattle.source_tokens.specs.Bytes.{is_space, begins_word, is_word, is_number_byte, is_exponent, is_sign}
 use Rattle.source_tokens.specs.Bytes.{is_within_line}
-use Rattle.source_tokens.specs.declared.kind.Kind.{Kind}
-use Rattle.source_tokens.specs.declared.kind.Kind.TheVariants as kinds
+use Rattle.source_tokens.specs.declared.kind.TokenKind.{TokenKind}
+use Rattle.source_tokens.specs.declared.kind.TokenKind.TheVariants as kinds
 use Rattle.source_tokens.specs.declared.opening.Opening.{Opening}
 use Rattle.source_tokens.specs.declared.opening.Opening.TheVariants.{Space, NewLine, LineComment, BlockComment}
 use Rattle.source_tokens.specs.declared.opening.Opening.TheVariants.{Identifier, Number, StringLiteral}
@@ -95,18 +95,18 @@ is_tail CharacterConstant first bytes = is_literal_body 39 bytes
 is_tail Punctuator first bytes = is_empty bytes
 
 -- a string literal or a character constant, or a broken one, where its mark doesn't stand at the end
-abbrev pub literal_kind : Bool → Kind → Kind → Kind
+abbrev pub literal_kind : Bool → TokenKind → TokenKind → TokenKind
 literal_kind ended whole broken = if ended then whole else broken
 
 -- what a text is that was read with this opening
-abbrev pub kind_of : Opening → List ℕ → Kind
-kind_of Space text = kinds.Space
-kind_of NewLine text = kinds.NewLine
-kind_of LineComment text = kinds.LineComment
-kind_of BlockComment text = kinds.BlockComment
-kind_of Identifier text = kinds.Identifier
-kind_of Number text = kinds.Number
-kind_of StringLiteral text = literal_kind (has_mark 34 (drop 1 text)) kinds.StringLiteral kinds.BrokenString
-kind_of CharacterConstant text = literal_kind (has_mark 39 (drop 1 text)) kinds.CharacterConstant kinds.BrokenConstant
-kind_of Punctuator [] = kinds.Space
-kind_of Punctuator (byte ∷ bytes) = kinds.Punctuator byte
+abbrev pub token_kind : Opening → List ℕ → TokenKind
+token_kind Space text = kinds.Space
+token_kind NewLine text = kinds.NewLine
+token_kind LineComment text = kinds.LineComment
+token_kind BlockComment text = kinds.BlockComment
+token_kind Identifier text = kinds.Identifier
+token_kind Number text = kinds.Number
+token_kind StringLiteral text = literal_kind (has_mark 34 (drop 1 text)) kinds.StringLiteral kinds.BrokenString
+token_kind CharacterConstant text = literal_kind (has_mark 39 (drop 1 text)) kinds.CharacterConstant kinds.BrokenConstant
+token_kind Punctuator [] = kinds.Space
+token_kind Punctuator (byte ∷ bytes) = kinds.Punctuator byte

@@ -2,8 +2,8 @@
 use Rattle.std.specs.Prelude.{◌≡◌, ◌⊎◌, ℕ, ◌+◌, Bool, true, not, ◌&&◌, ◌||◌, ◌==◌, nat_lt, nat_le}
 use Rattle.std.specs.Prelude.{List, [], ◌∷◌, ◌++◌, length, drop, codes, Option, None, Some, take_while}
 use Rattle.memchr.specs.Find.{FindsNeedle}
-use Rattle.source_tokens.specs.declared.kind.Kind.{Kind}
-use Rattle.source_tokens.specs.declared.kind.Kind.TheVariants.{RawString, BrokenRawString}
+use Rattle.source_tokens.specs.declared.kind.TokenKind.{TokenKind}
+use Rattle.source_tokens.specs.declared.kind.TokenKind.TheVariants.{RawString, BrokenRawString}
 use Rattle.source_tokens.specs.declared.raw_string.TheConstants.{MAX_DELIMITER}
 use Rattle.source_tokens.specs.Forms.{begins_with}
 use Rattle.source_tokens.specs.Splices.{past_splices}
@@ -49,13 +49,13 @@ pub record BeginsRaw (bytes raw : List ℕ) : Type 0 where
 
 -- what stands behind a raw string whose closing stands at the place, and behind a broken one, which goes to the end of
 -- the file
-abbrev pub EndsAt : List ℕ → Option ℕ → Kind → List ℕ → Type 0
+abbrev pub EndsAt : List ℕ → Option ℕ → TokenKind → List ℕ → Type 0
 EndsAt raw None kind rest = (kind ≡ BrokenRawString) × (rest ≡ [])
 EndsAt raw (Some at) kind rest =
     (kind ≡ RawString) × (rest ≡ past_splices (drop (at + length (closing_of raw)) (drop 1 (past_delimiter raw))))
 
 -- a raw string goes to the first place where its closing stands; `rest` stands behind it
-pub record EndsRaw (raw : List ℕ) (kind : Kind) (rest : List ℕ) : Type 0 where
+pub record EndsRaw (raw : List ℕ) (kind : TokenKind) (rest : List ℕ) : Type 0 where
   pub place : Option ℕ
   pub first : FindsNeedle (drop 1 (past_delimiter raw)) (closing_of raw) 0 place
   pub ends : EndsAt raw place kind rest

@@ -1,35 +1,35 @@
 -- A source as the list of what it is made of.
 use Rattle.std.specs.Prelude.{◌≡◌, ◌⊎◌, ℕ, zero, suc, ◌+◌, ◌&&◌, ◌==◌, if◌then◌else◌, List, [], ◌∷◌, ◌++◌, length}
-use Rattle.source_tokens.specs.declared.kind.Kind.{Kind}
-use Rattle.source_tokens.specs.declared.kind.Kind.TheVariants as kinds
+use Rattle.source_tokens.specs.declared.kind.TokenKind.{TokenKind}
+use Rattle.source_tokens.specs.declared.kind.TokenKind.TheVariants as kinds
 use Rattle.source_tokens.specs.declared.token.Token.{Token}
 use Rattle.source_tokens.specs.declared.opening.Opening.{Opening}
-use Rattle.source_tokens.specs.Forms.{opening_of, is_tail, kind_of}
+use Rattle.source_tokens.specs.Forms.{opening_of, is_tail, token_kind}
 use Rattle.source_tokens.specs.RawStrings.{BeginsRaw, EndsRaw}
 use Rattle.source_tokens.specs.Splices.{past_splices}
 use Rattle.source_tokens.specs.Reading.{IsLongest}
 
 -- a raw string stands at the front
-pub record StandsRaw (bytes : List ℕ) (kind : Kind) (rest : List ℕ) : Type 0 where
+pub record StandsRaw (bytes : List ℕ) (kind : TokenKind) (rest : List ℕ) : Type 0 where
   pub raw : List ℕ
   pub begins : BeginsRaw bytes raw
   pub ends : EndsRaw raw kind rest
 
 -- what the byte `first` opens goes on with the longest text that stands at the front of the bytes behind it, and
 -- `rest` stands behind that
-abbrev pub GoesOn : Opening → ℕ → List ℕ → Kind → List ℕ → Type 0
+abbrev pub GoesOn : Opening → ℕ → List ℕ → TokenKind → List ℕ → Type 0
 GoesOn opening first behind kind rest =
-    (tail : List ℕ) × IsLongest (is_tail opening first) behind tail rest × (kind ≡ kind_of opening (first ∷ tail))
+    (tail : List ℕ) × IsLongest (is_tail opening first) behind tail rest × (kind ≡ token_kind opening (first ∷ tail))
 
 -- what the first byte opens stands at the front, as long as it can be, and `rest` stands behind it and its splices
-pub record StandsPlain (bytes : List ℕ) (kind : Kind) (rest : List ℕ) : Type 0 where
+pub record StandsPlain (bytes : List ℕ) (kind : TokenKind) (rest : List ℕ) : Type 0 where
   pub first : ℕ
   pub behind : List ℕ
   pub bytes_are : bytes ≡ first ∷ behind
   pub goes_on : GoesOn (opening_of first (past_splices behind)) first (past_splices behind) kind rest
   pub not_raw : (raw : List ℕ) → ¬ (BeginsRaw bytes raw)
 
-abbrev pub Stands : List ℕ → Kind → List ℕ → Type 0
+abbrev pub Stands : List ℕ → TokenKind → List ℕ → Type 0
 Stands bytes kind rest = StandsRaw bytes kind rest ⊎ StandsPlain bytes kind rest
 
 -- the token is what stands at the front of these bytes, which are the last of a source of so many bytes

@@ -2,7 +2,7 @@
 
 /// What stands in a source.
 #[derive(Clone, Copy, Debug, PartialEq, Eq)]
-pub enum Kind {
+pub enum TokenKind {
     /// Space other than the end of a line; also a byte order mark and splices at the front of a source.
     Space,
     /// The LF that ends a line and stands in no comment and no raw string.

@@ -16,7 +16,7 @@ mod source;
 mod splice;
 mod token;
 
-pub use kind::Kind;
+pub use kind::TokenKind;
 pub use raw_string::delimiter_length;
 pub use source::{parts, tokens};
 pub use splice::past_splices;

@@ -5,7 +5,7 @@ ghost use Rattle.source_tokens.specs.declared.token.Token.{Token as SourceToken}
 ghost use Rattle.source_tokens.specs.Tokens.{front_tokens};
 ghost use Rattle.source_tokens.specs.Directives.{is_blank, is_hash, ends_line, InLines, InLinesTo};
 
-use crate::kind::Kind;
+use crate::kind::TokenKind;
 use crate::token::{Token, TokenList, front_tokens};
 use std::alloc::{AllocError, Global};
 
@@ -20,22 +20,25 @@ pub(crate) enum Place {
     Inside(Token),
 }
 
-fn is_blank(kind: Kind) -> bool
+fn is_blank(kind: TokenKind) -> bool
     ensures { result ≡ is_blank kind }
 {
-    matches!(kind, Kind::Space | Kind::LineComment | Kind::BlockComment)
+    matches!(
+        kind,
+        TokenKind::Space | TokenKind::LineComment | TokenKind::BlockComment
+    )
 }
 
-fn is_hash(kind: Kind) -> bool
+fn is_hash(kind: TokenKind) -> bool
     ensures { result ≡ is_hash kind }
 {
-    kind == Kind::Punctuator(b'#')
+    kind == TokenKind::Punctuator(b'#')
 }
 
-fn ends_line(kind: Kind) -> bool
+fn ends_line(kind: TokenKind) -> bool
     ensures { result ≡ ends_line kind }
 {
-    matches!(kind, Kind::NewLine)
+    matches!(kind, TokenKind::NewLine)
 }
 
 /// The parts of the tokens so far.
@@ -64,7 +67,7 @@ impl LineParts {
         match self.place {
             Place::Front if is_blank(token.kind) => self.parts.push(token),
             Place::Front if is_hash(token.kind) => {
-                let kind = Kind::Directive;
+                let kind = TokenKind::Directive;
                 self.place = Place::Inside(Token { kind, ..token });
                 Ok(())
             }

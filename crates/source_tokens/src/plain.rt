@@ -6,7 +6,7 @@ ghost use Rattle.source_tokens.specs.Tokens.{GoesOn, Stands};
 
 use crate::class::Class;
 use crate::comment::past_comment;
-use crate::kind::Kind;
+use crate::kind::TokenKind;
 use crate::literal::literal_end;
 use crate::number::past_number;
 use crate::opening::{Opening, opening_of};
@@ -17,7 +17,7 @@ use crate::splice::past_splices;
 /// What stands at the front of bytes, and the bytes behind it and its splices.
 #[derive(Clone, Copy, Debug)]
 pub(crate) struct Standing<'a> {
-    pub(crate) kind: Kind,
+    pub(crate) kind: TokenKind,
     pub(crate) rest: &'a [u8],
 }
 
@@ -29,9 +29,9 @@ fn string_literal(behind: &[u8]) -> Standing<'_>
     let end = literal_end(b'"', behind);
     let rest = end.rest;
     let kind = if end.whole {
-        Kind::StringLiteral
+        TokenKind::StringLiteral
     } else {
-        Kind::BrokenString
+        TokenKind::BrokenString
     };
     Standing { kind, rest }
 }
@@ -44,9 +44,9 @@ fn character_constant(behind: &[u8]) -> Standing<'_>
     let end = literal_end(b'\'', behind);
     let rest = end.rest;
     let kind = if end.whole {
-        Kind::CharacterConstant
+        TokenKind::CharacterConstant
     } else {
-        Kind::BrokenConstant
+        TokenKind::BrokenConstant
     };
     Standing { kind, rest }
 }
@@ -57,15 +57,15 @@ fn plain(first: u8, behind: &[u8]) -> Standing<'_>
     ensures within { length result.rest.now ≤ length behind.now }
 {
     let (kind, rest) = match opening_of(first, behind) {
-        Opening::Space => (Kind::Space, past_run(Class::Space, behind)),
-        Opening::NewLine => (Kind::NewLine, behind),
-        Opening::LineComment => (Kind::LineComment, past_run(Class::Line, behind)),
-        Opening::BlockComment => (Kind::BlockComment, past_comment(behind)),
-        Opening::Identifier => (Kind::Identifier, past_run(Class::Word, behind)),
-        Opening::Number => (Kind::Number, past_number(first, behind)),
+        Opening::Space => (TokenKind::Space, past_run(Class::Space, behind)),
+        Opening::NewLine => (TokenKind::NewLine, behind),
+        Opening::LineComment => (TokenKind::LineComment, past_run(Class::Line, behind)),
+        Opening::BlockComment => (TokenKind::BlockComment, past_comment(behind)),
+        Opening::Identifier => (TokenKind::Identifier, past_run(Class::Word, behind)),
+        Opening::Number => (TokenKind::Number, past_number(first, behind)),
         Opening::StringLiteral => return string_literal(behind),
         Opening::CharacterConstant => return character_constant(behind),
-        Opening::Punctuator => (Kind::Punctuator(first), behind),
+        Opening::Punctuator => (TokenKind::Punctuator(first), behind),
     };
     Standing { kind, rest }
 }

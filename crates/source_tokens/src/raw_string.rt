@@ -7,7 +7,7 @@ ghost use Rattle.source_tokens.specs.RawStrings.{is_delimiter_byte, opens_raw, d
 ghost use Rattle.source_tokens.specs.Reading.{Reads};
 ghost use Rattle.source_tokens.specs.Tokens.{StandsRaw};
 
-use crate::kind::Kind;
+use crate::kind::TokenKind;
 use crate::plain::Standing;
 use crate::splice::past_splices;
 use arrayvec::ArrayVec;
@@ -116,11 +116,11 @@ fn raw_end(raw: &[u8], len: usize) -> Standing<'_>
     closing.push(b'"');
     match content.find(closing.as_slice()) {
         Some(at) => Standing {
-            kind: Kind::RawString,
+            kind: TokenKind::RawString,
             rest: past_splices(content.split_at(at + closing.len()).1),
         },
         None => Standing {
-            kind: Kind::BrokenRawString,
+            kind: TokenKind::BrokenRawString,
             rest: content.split_at(content.len()).1,
         },
     }

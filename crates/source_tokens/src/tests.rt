@@ -5,22 +5,22 @@ use std::process::Abort;
 use std::test::Fail;
 
 /// One letter for each kind.
-fn letter(kind: Kind) -> u8 {
+fn letter(kind: TokenKind) -> u8 {
     match kind {
-        Kind::Space => b's',
-        Kind::NewLine => b'n',
-        Kind::LineComment => b'l',
-        Kind::BlockComment => b'b',
-        Kind::Identifier => b'i',
-        Kind::Number => b'd',
-        Kind::StringLiteral => b'S',
-        Kind::CharacterConstant => b'C',
-        Kind::RawString => b'R',
-        Kind::BrokenString => b'x',
-        Kind::BrokenConstant => b'y',
-        Kind::BrokenRawString => b'z',
-        Kind::Punctuator(_) => b'p',
-        Kind::Directive => b'D',
+        TokenKind::Space => b's',
+        TokenKind::NewLine => b'n',
+        TokenKind::LineComment => b'l',
+        TokenKind::BlockComment => b'b',
+        TokenKind::Identifier => b'i',
+        TokenKind::Number => b'd',
+        TokenKind::StringLiteral => b'S',
+        TokenKind::CharacterConstant => b'C',
+        TokenKind::RawString => b'R',
+        TokenKind::BrokenString => b'x',
+        TokenKind::BrokenConstant => b'y',
+        TokenKind::BrokenRawString => b'z',
+        TokenKind::Punctuator(_) => b'p',
+        TokenKind::Directive => b'D',
     }
 }
 

@@ -3,14 +3,14 @@
 ghost use Rattle.std.specs.Prelude.{◌≡◌, [], ◌∷◌, ◌++◌, length, OnOk, OnErr, IfOk};
 ghost use Rattle.source_tokens.specs.Tokens.{front_tokens};
 
-use crate::kind::Kind;
+use crate::kind::TokenKind;
 use std::alloc::{AllocError, Global};
 use std::marker::Model;
 
 /// A token, a comment or space of a source, from `start` up to `end`. Splices behind it are part of it.
 #[derive(Clone, Copy, Debug, PartialEq, Eq)]
 pub struct Token {
-    pub kind: Kind,
+    pub kind: TokenKind,
     pub start: usize,
     pub end: usize,
 }
@@ -64,7 +64,7 @@ pub(crate) fn front_tokens(alloc: Global, front: usize) -> Result<TokenList, All
     let mut tokens = TokenList::make(alloc);
     if front > 0 {
         tokens.push(Token {
-            kind: Kind::Space,
+            kind: TokenKind::Space,
             start: 0,
             end: front,
         })?;

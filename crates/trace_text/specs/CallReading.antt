@@ -68,7 +68,8 @@ unsigned_below limit (negsuc n) = Err ArgRange
 -- a text without a byte 0 and of at most 4,000 bytes
 abbrev pub text_of : List ℕ → Result Value TraceCause
 text_of bytes =
-    if has_nul bytes then Err NulInText else (if nat_lt MAX_TEXT (length bytes) then Err TooLong else Ok (values.Text bytes))
+    if has_nul bytes then Err NulInText
+    else (if nat_lt MAX_TEXT (length bytes) then Err TooLong else Ok (values.Text bytes))
 
 -- the value of the type that the item is
 abbrev pub argument_of : ArgType → Item → Result Value TraceCause

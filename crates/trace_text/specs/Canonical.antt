@@ -41,7 +41,9 @@ made_by writer call = record { writer = writer; call = call }
 -- the call that stands in the run at a place, with its writer
 abbrev pub made_at : Recording → Place → Option WriterCall
 made_at run place =
-    option_and_then (λ calls. option_map (made_by place.writer) (slice_get calls place.ordinal)) (slice_get run.writers place.writer)
+    option_and_then
+    (λ calls. option_map (made_by place.writer) (slice_get calls place.ordinal))
+    (slice_get run.writers place.writer)
 
 -- the calls of a run by stamp, those of one stamp by writer, and those of one writer in the order in which it made them
 abbrev pub calls_in_order : Recording → List WriterCall

@@ -41,7 +41,8 @@ SpellsArgument field (values.Text bytes) =
 abbrev pub SpellsArguments : List ℕ → List Value → Type 0
 SpellsArguments fields [] = fields ≡ []
 SpellsArguments fields (value ∷ args) =
-    (field : List ℕ) × (others : List ℕ) × (fields ≡ 32 ∷ field ++ others) × SpellsArgument field value × SpellsArguments others args
+    (field : List ℕ) × (others : List ℕ) × (fields ≡ 32 ∷ field ++ others)
+    × SpellsArgument field value × SpellsArguments others args
 
 -- a call of a writer
 pub record WriterCall : Type 0 where

@@ -32,5 +32,6 @@ places_by_writer writers = flat_map writer_places (enumerate_from 0 writers)
 abbrev pub call_in : Recording → Place → Option LogCall
 call_in run place =
     option_and_then
-    (λ calls. option_and_then (λ call. log_call run.dictionary place.writer (place.ordinal, call)) (slice_get calls place.ordinal))
+    (λ calls. option_and_then (λ call. log_call run.dictionary place.writer (place.ordinal, call))
+    (slice_get calls place.ordinal))
     (slice_get run.writers place.writer)

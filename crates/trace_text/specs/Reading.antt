@@ -53,7 +53,8 @@ abbrev pub Follows : Part → List ℕ → Part → Type 0
 Follows opening line next = (line ≡ first_line) × (next ≡ messages [])
 Follows (messages before) line next =
     FollowsMessages before line next
-    ⊎ ((begins_with (codes "message ") line ≡ false) × ((time : Clock) × (clock_at line ≡ Some time) × (next ≡ clock before time)))
+    ⊎ ((begins_with (codes "message ") line ≡ false)
+    × ((time : Clock) × (clock_at line ≡ Some time) × (next ≡ clock before time)))
 Follows (clock dictionary time) line next =
     (count : ℕ) × (writers_at line ≡ Some count)
     × (next ≡ calls (record { dictionary = dictionary; clock = time; writers = replicate count [] }))

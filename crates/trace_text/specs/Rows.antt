@@ -75,7 +75,9 @@ three_writers_canonical =
 abbrev pub one_text_run : Recording
 one_text_run = record three_writers {
   dictionary =
-      record row_message { format = record { bytes = codes "%s"; pieces = Field (record plain_d { conversion = S }) ∷ [] } } ∷ [];
+      record row_message {
+        format = record { bytes = codes "%s"; pieces = Field (record plain_d { conversion = S }) ∷ [] };
+      } ∷ [];
   writers = [] ∷ [];
 }
 
