@@ -4,7 +4,7 @@ use Rattle.std.specs.Int.{w64, from_le_bytes}
 use Rattle.arg_records.specs.Frames.{number_of_bytes, words_of_bytes}
 
 -- the number of the first eight bytes
-eight : (bytes : List ℕ) → 8 ≤ length bytes → from_le_bytes w64 (take 8 bytes) ≡ number_of_bytes (take 8 bytes)
+pub eight : (bytes : List ℕ) → 8 ≤ length bytes → from_le_bytes w64 (take 8 bytes) ≡ number_of_bytes (take 8 bytes)
 eight [] long = absurd omega arith
 eight (a ∷ []) long = absurd omega arith
 eight (a ∷ b ∷ []) long = absurd omega arith

@@ -13,7 +13,7 @@ use Rattle.arg_records.specs.Frames.{IsShort, AreArguments, Frame}
 use Rattle.arg_records.specs.Kinds.{ArgKind, arg_kind, type_kind, IsArgument, HoldsBytes}
 use Rattle.arg_records.proofs.Unique.{Frame-unique}
 
-kind_fits : (value : Value) (type : ArgType) → FitsType value type → arg_kind value ≡ type_kind type
+pub kind_fits : (value : Value) (type : ArgType) → FitsType value type → arg_kind value ≡ type_kind type
 kind_fits (values.Signed z) types.Int fits = refl
 kind_fits (values.Signed z) types.UInt fits = absurd fits
 kind_fits (values.Signed z) types.Long fits = refl
@@ -36,7 +36,7 @@ kind_fits (values.Text bytes) types.Width fits = absurd fits
 kind_fits (values.Text bytes) types.Precision fits = absurd fits
 kind_fits (values.Text bytes) types.Text fits = refl
 
-argument_fits : (value : Value) (type : ArgType) → FitsType value type → HoldsBytes value → IsArgument value
+pub argument_fits : (value : Value) (type : ArgType) → FitsType value type → HoldsBytes value → IsArgument value
 argument_fits (values.Signed z) types.Int fits bytes_below = omega (arith, ints, fits)
 argument_fits (values.Signed z) types.UInt fits bytes_below = absurd fits
 argument_fits (values.Signed z) types.Long fits bytes_below = fits

@@ -12,7 +12,7 @@ use Rattle.arg_records.specs.Frames.{words_of_bytes, words_of_argument, argument
 one_more : (n k : ℕ) → k ≡ (n + 7) / 8 → suc k ≡ (suc (suc (suc (suc (suc (suc (suc (suc n))))))) + 7) / 8
 one_more n k e = omega arith
 
-length-words_of_bytes : (bytes : List ℕ) → length (words_of_bytes bytes) ≡ (length bytes + 7) / 8
+pub length-words_of_bytes : (bytes : List ℕ) → length (words_of_bytes bytes) ≡ (length bytes + 7) / 8
 length-words_of_bytes [] = refl
 length-words_of_bytes (a ∷ []) = refl
 length-words_of_bytes (a ∷ b ∷ []) = refl
@@ -28,7 +28,7 @@ length-words_of_argument (values.Signed z) = refl
 length-words_of_argument (values.Unsigned n) = refl
 length-words_of_argument (values.Text bytes) = omega (arith, length-words_of_bytes bytes)
 
-length-arguments : (args : List Value) → length (flat_map words_of_argument args) ≡ sum_by argument_words args
+pub length-arguments : (args : List Value) → length (flat_map words_of_argument args) ≡ sum_by argument_words args
 length-arguments [] = refl
 length-arguments (value ∷ args) =
     ap length (flat_map-cons words_of_argument value args)

@@ -4,4 +4,6 @@ pub mod Fitted
 pub mod Lengths
 pub mod Places
 pub mod Unique
+pub mod TextWords
+pub mod Reading
 pub mod CallLaws

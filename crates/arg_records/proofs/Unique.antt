@@ -27,7 +27,7 @@ numbers_same (x ∷ xs) (y ∷ ys) same left right e =
     cc
 
 -- words of as many bytes begin equal lists only where the bytes are the same
-bytes_same : (most : ℕ) (xs ys vs ws : List ℕ) → length xs ≤ most → length xs ≡ length ys → All (λ byte. byte < 256) xs → All (λ byte. byte < 256) ys
+pub bytes_same : (most : ℕ) (xs ys vs ws : List ℕ) → length xs ≤ most → length xs ≡ length ys → All (λ byte. byte < 256) xs → All (λ byte. byte < 256) ys
     → words_of_bytes xs ++ vs ≡ words_of_bytes ys ++ ws → (xs ≡ ys) × (vs ≡ ws)
 bytes_same most [] [] vs ws few same left right e = (refl, e)
 bytes_same most [] (y ∷ ys) vs ws few same left right e = absurd omega (arith, same)
@@ -52,7 +52,7 @@ bytes_same (suc most) (x ∷ xs) (y ∷ ys) vs ws few same left right e =
     (cases_lt (length (x ∷ xs)) 8)
 
 -- so do the words of arguments of one kind
-argument_same : (v w : Value) (vs ws : List ℕ) → arg_kind v ≡ arg_kind w → IsArgument v → IsArgument w → words_of_argument v ++ vs ≡ words_of_argument w ++ ws → (v ≡ w) × (vs ≡ ws)
+pub argument_same : (v w : Value) (vs ws : List ℕ) → arg_kind v ≡ arg_kind w → IsArgument v → IsArgument w → words_of_argument v ++ vs ≡ words_of_argument w ++ ws → (v ≡ w) × (vs ≡ ws)
 argument_same (values.Signed y) (values.Signed z) vs ws same left right e =
     let words : cast_unsigned w64 y ≡ cast_unsigned w64 z = cc in
     let number : y ≡ z = sym (to_z-of_z w64 y left) ∙ ap (cast_signed w64) words ∙ to_z-of_z w64 z right in
