@@ -1,0 +1,5 @@
+pub mod Frames
+pub mod Needs
+pub mod DictionaryCalls
+pub mod Storing
+pub mod OneReading

@@ -1,0 +1,5 @@
+use Rattle.ring_core.proofs.Needs.{Need-inside}
+use Rattle.ring_core.proofs.laws.no_frame_crosses_the_end_of_the_ring.Goals as goal
+
+pub returns : goal.returns
+returns c = Need-inside

@@ -1,0 +1,6 @@
+pub mod Positions
+pub mod Plans
+pub mod Answers
+pub mod Rows
+pub mod Stored
+pub mod StoredInside

@@ -1,0 +1,36 @@
+-- How an end over stored frames keeps them.
+use Rattle.std.specs.Prelude.{◌≡◌, ℕ, ◌≤◌, true, List, Option, None, Some, map, take, drop, length}
+use Rattle.arg_records.specs.declared.call.Call.{Call}
+use Rattle.arg_records.specs.Calls.{last_stamp}
+use Rattle.ring_core.specs.declared.stored_out.Entry.{Entry}
+use Rattle.ring_core.specs.declared.stored_out.Entry.TheVariants as entries
+use Rattle.ring_core.specs.declared.stored_out.StoredOut.TheInside.{Inside}
+use Rattle.ring_core.specs.Plans.{plan_of, AreFramesOf}
+use Rattle.ring_core.specs.Stored.{StoredEnd, stored_frames}
+
+-- the words of a frame, if the entry is one
+abbrev pub words_of : Entry → Option (List ℕ)
+words_of (entries.Frame words) = Some words.items
+words_of entries.Pause = None
+
+-- what contracts see
+abbrev pub end_of : Inside → StoredEnd
+end_of s = record {
+  plan = plan_of s.dictionary.now s.first;
+  last = s.last;
+  got = stored_frames (map words_of (take s.next s.entries.items));
+  ahead = map words_of (drop s.next s.entries.items);
+  closed = s.closed;
+  ended = s.ended;
+  loads = s.loads;
+}
+
+-- All stored frames are lawful, `last` is the stamp of the last one's call, and an end has ended only where it is closed and
+-- all was answered.
+pub record IsStored (s : Inside) : Type 0 where
+  pub calls : List Call
+  pub lawful : AreFramesOf (plan_of s.dictionary.now s.first) (stored_frames (map words_of s.entries.items)) calls
+  pub last_is : last_stamp s.first calls ≡ s.last
+  pub within : s.next ≤ length s.entries.items
+  pub closed_end : s.ended ≡ true → s.closed ≡ true
+  pub whole_end : s.ended ≡ true → s.next ≡ length s.entries.items

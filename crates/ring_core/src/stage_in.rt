@@ -1,0 +1,80 @@
+//! The writer's end of a ring.
+
+ghost use Rattle.std.specs.Prelude.{◌≡◌, ◌+◌, ◌≤◌, ◌∷◌, ◌++◌, [], ℕ, Bool, true, false, List, length, OnOk, OnErr, IfErr};
+ghost use Rattle.nl_io.specs.Count.{Rose};
+ghost use Rattle.ring_core.specs.declared.limits.TheConstants.{MAX_POSITION, OFFER_ROOM};
+ghost use Rattle.ring_core.specs.Positions.{Need};
+ghost use Rattle.ring_core.specs.Plans.{Plan, Lawful};
+ghost use Rattle.ring_core.specs.Answers.{IsFull};
+
+use crate::answers::Full;
+use std::sync::Wait;
+
+/// The end of a ring into which a writer puts the frames of its calls.
+pub trait StageIn {
+    /// The frames that were accepted.
+    ghost sent: { Self → List (List ℕ) };
+
+    /// Whether the end was closed.
+    ghost closed: { Self → Bool };
+
+    /// The position in the stream: how many places were filled or skipped.
+    ghost at: { Self → ℕ };
+
+    /// Up to which position the writer knows that its frames were taken.
+    ghost seen: { Self → ℕ };
+
+    /// How often the writer looked how far its frames were taken.
+    ghost looks: { Self → ℕ };
+
+    /// How many words the ring has.
+    ghost words: { Self → ℕ };
+
+    /// Which ring it is: numbers that no other ring has.
+    ghost pair: { Self → List ℕ };
+
+    /// What the two ends agree on.
+    ghost plan: { Self → Plan };
+
+    /// Puts a frame behind those that were put before, if the ring has room for it.
+    fn offer<R: Wait + Copy>(&mut self, rt: R, frame: &[u64]) -> Result<(), Full>
+        requires lawful { Lawful (plan self.old) (sent self.old ++ frame.now ∷ []) }
+        requires not_closed { closed self.old ≡ false }
+        requires position { at self.old + OFFER_ROOM ≤ MAX_POSITION }
+        ensures ok { OnOk result (sent self.new ≡ sent self.old ++ frame.now ∷ []) }
+        ensures moved { OnOk result (at self.new
+            ≡ at self.old + Need (at self.old) (length frame.now) (words self.old)) }
+        ensures full { IfErr result (IsFull (at self.old) (length frame.now) (words self.old) (seen self.new)) }
+        ensures looked { OnErr result (Rose (looks self.old) (looks self.new)) }
+        ensures err { OnErr result ((sent self.new ≡ sent self.old) × (at self.new ≡ at self.old)) }
+        ensures stays_open { closed self.new ≡ false }
+        ensures seen_never_falls { seen self.old ≤ seen self.new }
+        ensures looks_never_fall { looks self.old ≤ looks self.new }
+        ensures same { (words self.new ≡ words self.old) × (pair self.new ≡ pair self.old)
+            × (plan self.new ≡ plan self.old) };
+
+    /// Closes the end: no frame comes behind those that were put. Where the ring has no room for the mark that tells
+    /// it, which takes one place, the end stays open.
+    fn close<R: Wait + Copy>(&mut self, rt: R) -> Result<(), Full>
+        requires { closed self.old ≡ false }
+        ensures ok { OnOk result ((closed self.new ≡ true) × (seen self.new ≡ seen self.old)) }
+        ensures full { IfErr result (IsFull (at self.old) 1 (words self.old) (seen self.new)) }
+        ensures looked { OnErr result (Rose (looks self.old) (looks self.new)) }
+        ensures err { OnErr result (closed self.new ≡ false) }
+        ensures others { (sent self.new ≡ sent self.old) × (at self.new ≡ at self.old) }
+        ensures seen_never_falls { seen self.old ≤ seen self.new }
+        ensures looks_never_fall { looks self.old ≤ looks self.new }
+        ensures same { (words self.new ≡ words self.old) × (pair self.new ≡ pair self.old)
+            × (plan self.new ≡ plan self.old) };
+
+    /// The position in the stream.
+    fn at(&self) -> u64
+        ensures { result ≡ at self.now };
+
+    /// How many words the ring has.
+    fn words(&self) -> u64
+        ensures { result ≡ words self.now };
+
+    /// No frame is taken before it was put.
+    ghost seen_within: { (end : Self) → seen end ≤ at end };
+}
