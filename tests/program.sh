@@ -122,6 +122,44 @@ cmp -s many.lines <(./nanolog decompress many.log) || fail "the log of 128 calls
 expect 0 $'accepted 6 dropped 0 filtered 0\n' '' replay examples/first.trace first.log
 cmp -s <(./nanolog direct examples/first.trace) <(./nanolog decompress first.log) || fail "first.log has other lines"
 
+# ---- logs of several writers, and what is left of one that is cut
+
+# Each block with the offset where it ends, the lines that it adds up to, and the writers that are open behind it. The
+# first is the header. The extent of writer 1 stands before that of writer 0.
+blocks=(4e4c4f470103e8030000000000000000445e8f8605150094357700000000
+    01000000000100030c00000006007372762e63630400783d2564
+    02010700000010030102000103
+    02000400000010030101
+    0400 0401 0402)
+ends=(30 56 69 79 81 83 85)
+later=$'1514764800.000000001 srv.cc:12 NOTICE[1]: x=2\n1514764800.000000001 srv.cc:12 NOTICE[1]: x=3\n'
+all=$'1514764800.000000001 srv.cc:12 NOTICE[0]: x=1\n'$later
+lines=('' '' "$later" "$all" "$all" "$all" "$all")
+open=('0 1 2' '0 1 2' '0 1 2' '0 1 2' '1 2' 2 '')
+printf "$(printf %s "${blocks[@]}" | sed 's/../\\x&/g')" >three
+
+whole=0
+for ((length = 0; length <= ends[-1]; length++)); do
+    head -c "$length" three >cut
+    if [ "$length" = "${ends[whole]}" ]; then
+        still=${open[whole]:+$'nanolog: cut: writers still open: '${open[whole]}$'\n'}
+        expect 0 "${lines[whole]}" "$still" decompress cut
+        whole=$((whole + 1))
+    elif [ "$whole" = 0 ]; then
+        expect 3 '' $'nanolog: cut:0: damaged: 4 Cut\n' decompress cut
+    else
+        expect 3 "${lines[whole - 1]}" "nanolog: cut:${ends[whole - 1]}: damaged: 4 Cut"$'\n' decompress cut
+    fi
+done
+
+# The lines in front of a damaged block are printed, and those behind it aren't.
+{
+    head -c 69 three
+    printf '\3'
+    tail -c +70 three
+} >damaged
+expect 3 "$later" $'nanolog: damaged:69: damaged: 5 BadBlock\n' decompress damaged
+
 # ---- inputs that can't be taken
 
 expect 7 '' $'nanolog: nofile: absent\n' direct nofile
@@ -148,8 +186,8 @@ expect 2 '' $'nanolog: early:5: refused: 7 BeforeClock\n' direct early
 expect 2 '' $'nanolog: early:5: refused: 7 BeforeClock\n' replay early m
 expect 0 $'1514764800.000000001 srv.cc:12 NOTICE[0]: x=    7\n' '' direct wide
 expect 2 '' $'nanolog: wide:0: refused: 99 NotYet\n' replay wide m
-expect 2 '' $'nanolog: t:0: refused: 99 NotYet\n' decompress t
-expect 2 '' $'nanolog: empty:0: refused: 99 NotYet\n' decompress empty
+expect 3 '' $'nanolog: t:0: damaged: 1 BadMagic\n' decompress t
+expect 3 '' $'nanolog: empty:0: damaged: 4 Cut\n' decompress empty
 expect 2 '' $'nanolog: l:1: refused: 14 NoEnd\n' replay l m
 
 # So many zeros are no trace. Where memory is too small for them, that can't be known.
@@ -157,8 +195,9 @@ truncate -s 100M zeros
 expect 2 '' $'nanolog: zeros:0: refused: 18 TooLarge\n' direct zeros
 (ulimit -v 65536 && ./nanolog direct zeros) >out 2>err
 judge "nanolog direct zeros, in little memory" $? 6 $'nanolog: want of memory\n'
-# They are no log either, and that is told in the same words as of a log that isn't taken yet.
-expect 2 '' $'nanolog: zeros:0: refused: 99 NotYet\n' decompress zeros
+# They are no log either, as the first bytes tell.
+(ulimit -v 65536 && ./nanolog decompress zeros) >out 2>err
+judge "nanolog decompress zeros, in little memory" $? 3 $'nanolog: zeros:0: damaged: 1 BadMagic\n'
 
 [ -e m ] && fail "a trace that isn't taken created a log"
 

@@ -102,7 +102,7 @@ no_front : (told : Told) → with_front [] told ≡ told
 no_front None = refl
 no_front (Some content) = refl
 
-pub started : (reader : ReaderState) (none : Waiting) (from to : Told) → none.bytes ≡ [] → none.offset ≡ 0 → reader.messages ≡ [] → AreStatesOf reader.writers reader.header.clock.tick [] → reader.offset ≡ reader.waiting.offset → Takes ReadsHeader reader.header (place_of none from) (place_of reader.waiting to) → (taken : List ℕ) × StandsFor reader taken × (from ≡ with_front (taken ++ reader.waiting.bytes) to)
+pub started : (reader : ReaderState) (none : Waiting) (from to : Told) → none.bytes ≡ [] → none.offset ≡ 0 → reader.messages ≡ [] → AreStatesOf reader.writers reader.header.clock.tick [] → reader.offset ≡ reader.waiting.offset → Takes ReadsHeader reader.header (place_of none from) (place_of reader.waiting to) → (taken : List ℕ) × (read : StandsFor reader taken) × (read.blocks ≡ []) × (from ≡ with_front (taken ++ reader.waiting.bytes) to)
 started reader none from to no_bytes front messages states offset takes =
     let header = reader.header in
     let read = header_right (takes.front ++ []) header [] (takes.found []) in
@@ -121,6 +121,7 @@ started reader none from to no_bytes front messages states offset takes =
         at = omega (arith, passes, front, len, header_long header);
         within = omega (arith, header_long header);
       },
+      refl,
       start ∙ takes.passes.ahead ∙ ap (λ (b : List ℕ). with_front b (with_front reader.waiting.bytes to)) is ∙ parted (header_bytes header) reader.waiting.bytes to,
     )
 

@@ -1,6 +1,6 @@
 //! The reader of a log.
 
-ghost use Rattle.std.specs.Prelude.{◌≡◌, ◌≤◌, List, ◌++◌, length, take, true, false, ◌<◌, get_or, IfOk, IfErr, IfSome, OnOk, OnErr, IsErrOf, Err, ℕ};
+ghost use Rattle.std.specs.Prelude.{◌≡◌, ◌≤◌, List, [], ◌++◌, length, take, true, false, ◌<◌, get_or, IfOk, IfErr, IfSome, OnOk, OnErr, IsErrOf, Err, ℕ};
 ghost use Rattle.std.specs.List.{list_any};
 ghost use Rattle.nl_io.specs.Count.{Rose};
 ghost use Rattle.checkpoint_io.specs.declared.cause.Cause.{Cause as LogCause};
@@ -59,8 +59,8 @@ impl Reader {
     ///
     /// The source begins with no header, a read failed before its end, or there is no memory.
     pub fn start<S: Source>(alloc: Global, source: &mut S) -> Result<Reader, BlockFault>
-        // The reader stands for the header, behind which stands what waits and what the source has left.
-        ensures ok { IfOk result (λ reader. (taken : List ℕ) × StandsFor reader taken
+        // The reader stands for the header alone, behind which stands what waits and what the source has left.
+        ensures ok { IfOk result (λ reader. (taken : List ℕ) × (read : StandsFor reader taken) × (read.blocks ≡ [])
             × (S.left source.old ≡ with_front (taken ++ reader.waiting.bytes) (S.left source.new))) }
         ensures right { IfOk result (λ reader. reader.failed ≡ false) }
         ensures damaged { (cause : LogCause) → result ≡ Err (BlockFault.Damaged cause)

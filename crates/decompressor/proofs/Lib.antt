@@ -1,4 +1,12 @@
 pub mod DecompressionLaws
 pub mod TextLaws
+pub mod Merging
+pub mod Taking
+pub mod Gathering
+pub mod Endings
+pub mod Lines
+pub mod Unclosed
+pub mod LeftFrom
+pub mod Outcomes
 pub mod Worked
 pub mod SomeText

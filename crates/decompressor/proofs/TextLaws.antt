@@ -15,7 +15,7 @@ use Rattle.decompressor.specs.Decompression.{CallsOf, all_calls, Decompressed}
 use Rattle.decompressor.proofs.DecompressionLaws.{whole_is_text}
 
 -- messages behind those that the records name change no call
-same_calls : (messages more : List Message) (writer from : ℕ) (entries : List Call) → AllByRecursion (IsCall messages) entries → filter_map (log_call messages writer) (enumerate_from from entries) ≡ filter_map (log_call (messages ++ more) writer) (enumerate_from from entries)
+pub same_calls : (messages more : List Message) (writer from : ℕ) (entries : List Call) → AllByRecursion (IsCall messages) entries → filter_map (log_call messages writer) (enumerate_from from entries) ≡ filter_map (log_call (messages ++ more) writer) (enumerate_from from entries)
 same_calls messages more writer from [] all = refl
 same_calls messages more writer from (entry ∷ entries) all =
     let is = all.0 in
@@ -23,12 +23,12 @@ same_calls messages more writer from (entry ∷ entries) all =
     let others = same_calls messages more writer (from + 1) entries all.1 in
     λ i. cons_option (option_map (λ message. record { writer = writer; ordinal = from; stamp = entry.stamp; message = message; args = entry.args }) (known i)) (others i)
 
-same_flat : {X Y : Type 0} (f g : X → List Y) (xs : List X) → ((x : X) → f x ≡ g x) → flat_map f xs ≡ flat_map g xs
+pub same_flat : {X Y : Type 0} (f g : X → List Y) (xs : List X) → ((x : X) → f x ≡ g x) → flat_map f xs ≡ flat_map g xs
 same_flat f g [] same = refl
 same_flat f g (x ∷ xs) same = λ i. same x i ++ same_flat f g xs same i
 
 -- lists that a function gives for numbers, each with its number
-numbered : {X Y : Type 0} (f : ℕ × X → List Y) (g : ℕ → X) (from n : ℕ) → flat_map f (enumerate_from from (map g (range_with_len from n))) ≡ flat_map (λ k. f (k, g k)) (range_with_len from n)
+pub numbered : {X Y : Type 0} (f : ℕ × X → List Y) (g : ℕ → X) (from n : ℕ) → flat_map f (enumerate_from from (map g (range_with_len from n))) ≡ flat_map (λ k. f (k, g k)) (range_with_len from n)
 numbered f g from zero = refl
 numbered f g from (suc n) = ap (λ l. f (from, g from) ++ l) (numbered f g (from + 1) n)
 

@@ -19,5 +19,6 @@ all_calls header blocks = flat_map (CallsOf blocks) (range_with_len 0 header.wri
 
 -- The text is the lines of the calls of the front's blocks, in order; it is empty where there is no header.
 pub data Decompressed (bytes text : List ℕ) : Type 0 where
-  of_front : (header : Header) (blocks : List Block) (count : ℕ) → Front bytes header blocks count → text ≡ Direct header.clock (all_calls header blocks) → Decompressed bytes text
+  of_front : (header : Header) (blocks : List Block) (count : ℕ) → Front bytes header blocks count
+      → text ≡ Direct header.clock (all_calls header blocks) → Decompressed bytes text
   of_nothing : HasNoHeader bytes → text ≡ [] → Decompressed bytes text

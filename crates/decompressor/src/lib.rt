@@ -1,4 +1,19 @@
-//! The text that a log stands for.
+//! The text that a log stands for, and printing it.
 #![tactic(auto)]
 
+mod decompressing;
+mod fault;
 pub mod laws;
+mod numbers;
+mod order;
+mod printing;
+mod reading;
+mod records;
+mod report;
+#[cfg(test)]
+mod tests;
+
+pub use decompressing::decompress;
+pub use fault::DecodeFault;
+pub use numbers::Numbers;
+pub use report::Report;

@@ -7,7 +7,7 @@ use Rattle.nl_io.specs.Desk.{Desk, Held, OnlyReadFaults, IsReading, Opens, Creat
 use Rattle.nl_io.specs.DeskLaws.{Opens-content, written, written-holds}
 use Rattle.nanolog_cli.specs.declared.refusal.Cause.{Cause}
 use Rattle.nanolog_cli.specs.declared.refusal.Refusal.{Refusal}
-use Rattle.nanolog_cli.specs.Endings.{Ending, Done, Usage, Absent, ReadFault, Refused, RefusedSources, WriteFault, NoMemory, refusal_ending, fault_ending}
+use Rattle.nanolog_cli.specs.Endings.{Ending, Absent, ReadFault, Refused, NoMemory, refusal_ending, fault_ending}
 use Rattle.nanolog_cli.specs.Inputs.{WrongTrace, UntakenTrace, GivesNothing}
 use Rattle.nanolog_cli.specs.declared.refusal.Cause.TheVariants.{NotYet}
 use Rattle.trace_text.specs.declared.reading.TraceFault.{TraceFault}
@@ -22,7 +22,7 @@ use Rattle.nanolog_cli.specs.Outcomes.{IsHeld, HoldsFront, HoldsSuch, IsThere, G
 use Rattle.nanolog_cli.proofs.Choices.{some_same}
 
 -- what is known of a content that the name holds holds of what it holds
-of_held : (held : Option Held) (name : List ℕ) (content : Told) (P : List ℕ → Type 0) → IfSome held (λ h. (bytes : List ℕ) × (map.get h name ≡ Some bytes) × (content ≡ Some bytes)) → IfSome content P
+pub of_held : (held : Option Held) (name : List ℕ) (content : Told) (P : List ℕ → Type 0) → IfSome held (λ h. (bytes : List ℕ) × (map.get h name ≡ Some bytes) × (content ≡ Some bytes)) → IfSome content P
     → IfSome held (λ h. (bytes : List ℕ) × (map.get h name ≡ Some bytes) × P bytes)
 of_held None name content P holds p = tt
 of_held (Some h) name content P (bytes, is, told) p = (bytes, is, subst (λ (t : Told). IfSome t P) told p)
@@ -40,7 +40,8 @@ all_held old name id new bytes opened all =
 pub such_held : (old : Desk) (name : List ℕ) (id : ℕ) (new : Desk) (such : List ℕ → Type 0) → Opens old name id new → ((content : Told) → IsReading new id content → IfSome content such) → HoldsSuch old name such
 such_held old name id new such opened so = of_held old.held name opened.content such opened.holds (so opened.content (Opens-content old name id new opened))
 
-there_held : (held : Option Held) (name : List ℕ) (content : Told) → IfSome held (λ h. (bytes : List ℕ) × (map.get h name ≡ Some bytes) × (content ≡ Some bytes)) → IfSome held (λ h. map.get h name ≢ None)
+-- a name of which a content is told is there
+pub there_held : (held : Option Held) (name : List ℕ) (content : Told) → IfSome held (λ h. (bytes : List ℕ) × (map.get h name ≡ Some bytes) × (content ≡ Some bytes)) → IfSome held (λ h. map.get h name ≢ None)
 there_held None name content holds = tt
 there_held (Some h) name content (bytes, is, told) = λ none. absurd cc
 
@@ -66,25 +67,16 @@ held_such desk name bytes such is so = such_there desk.held name bytes such is s
 
 -- a file that gave no bytes gave nothing
 pub unread_never : (refused : List ℕ → ℕ → Cause → Type 0) (input : List ℕ) (old new : Desk) (ending : Ending) → GivesNoBytes input old new ending → IsUnread refused input old new ending
-unread_never refused input old new Done gives = gives
-unread_never refused input old new Usage gives = gives
 unread_never refused input old new (Absent name) gives = gives
 unread_never refused input old new (ReadFault name) gives = gives
-unread_never refused input old new (Refused name line cause) gives = absurd gives
-unread_never refused input old new (RefusedSources lines) gives = gives
-unread_never refused input old new (WriteFault name) gives = gives
 unread_never refused input old new NoMemory gives = gives
+unread_never refused input old new ending gives = absurd gives
 
 -- a file of which the bytes gave nothing
 pub unread_bytes : (refused : List ℕ → ℕ → Cause → Type 0) (input bytes : List ℕ) (old new : Desk) (ending : Ending) → IsHeld old input bytes → new ≡ old → GivesNothing refused input bytes ending → IsUnread refused input old new ending
-unread_bytes refused input bytes old new Done held same nothing = nothing
-unread_bytes refused input bytes old new Usage held same nothing = nothing
-unread_bytes refused input bytes old new (Absent name) held same nothing = absurd nothing
-unread_bytes refused input bytes old new (ReadFault name) held same nothing = absurd nothing
 unread_bytes refused input bytes old new (Refused name line cause) held same nothing = (nothing.0, same, held_such old input bytes (λ found. refused found line cause) held nothing.1)
-unread_bytes refused input bytes old new (RefusedSources lines) held same nothing = absurd nothing
-unread_bytes refused input bytes old new (WriteFault name) held same nothing = nothing
 unread_bytes refused input bytes old new NoMemory held same nothing = (same, held_there old input bytes held)
+unread_bytes refused input bytes old new ending held same nothing = absurd nothing
 
 -- the same of what a call answers
 pub unread_given : {T : Type 0} (refused : List ℕ → ℕ → Cause → Type 0) (input bytes : List ℕ) (old new : Desk) (r : Result T Refusal) → IsHeld old input bytes → new ≡ old

@@ -10,6 +10,7 @@ use Rattle.arg_records.specs.declared.call.Call.{Call}
 use Rattle.arg_records.specs.Calls.{IsCall, NeverFalls}
 use Rattle.checkpoint_io.specs.Validity.{last_stamp}
 use Rattle.trace_text.specs.Recordings.{Recording, IsRecording}
+use Rattle.nanolog_cli.specs.declared.narrow.TheConstants.{MAX_NARROW_CALLS}
 use Rattle.nanolog_cli.specs.NarrowTraces.{IsNarrowRun}
 use Rattle.nanolog_cli.specs.Levels.{keeps, kept_run}
 use Rattle.nanolog_cli.proofs.Walks.{seen_next}
@@ -86,7 +87,7 @@ narrow_kept run level narrow =
     record {
       one_writer = length-map {B = List Call} run.writers (filter p) ∙ narrow.one_writer;
       few_messages = narrow.few_messages;
-      few_calls = all_mapped (λ calls. length calls ≤ 128) (filter p) run.writers (λ calls few. omega (arith, few, filter_fewer p calls)) narrow.few_calls;
+      few_calls = all_mapped (λ calls. length calls ≤ MAX_NARROW_CALLS) (filter p) run.writers (λ calls few. omega (arith, few, filter_fewer p calls)) narrow.few_calls;
       narrow = narrow.narrow;
     }
 

@@ -23,68 +23,12 @@ use Rattle.nanolog_cli.specs.Texts.{direct_text, HasCall}
 use Rattle.nanolog_cli.proofs.Choices.{some_same}
 use Rattle.nanolog_cli.proofs.Walks.{seen_next}
 
--- ---- the calls of one writer
-
-later_in_middle : (least : ℕ) (front back : List Call) (call : Call) → NeverFalls least (front ++ call ∷ back) → least ≤ call.stamp
-later_in_middle least [] back call later = later.0
-later_in_middle least (c ∷ front) back call later = omega (arith, later.0, later_in_middle c.stamp front back call later.1)
-
--- no call is earlier than the stamp that none may be below
-pub next_later : (least : ℕ) (seen rest all left : List Call) (call : Call) → seen ++ rest ≡ all → rest ≡ call ∷ left → NeverFalls least all → least ≤ call.stamp
-next_later least seen rest all left call joined next later = later_in_middle least seen left call (subst (NeverFalls least) (sym (seen_next seen rest all left call joined next)) later)
-
-enumerate-push : (n : ℕ) (calls : List Call) (call : Call) → enumerate_from n (calls ++ call ∷ []) ≡ enumerate_from n calls ++ (n + length calls, call) ∷ []
-enumerate-push n [] call = ap (λ (m : ℕ). (m, call) ∷ []) (sym (add-zero n))
-enumerate-push n (c ∷ calls) call =
-    let place : (n + 1) + length calls ≡ n + length (c ∷ calls) = omega arith in
-    ap (λ (r : List (ℕ × Call)). (n, c) ∷ r) (enumerate-push (n + 1) calls call ∙ ap (λ (m : ℕ). enumerate_from (n + 1) calls ++ (m, call) ∷ []) place)
-
--- a call with its message
-abbrev made : ℕ → Call → Message → LogCall
-made ordinal call message = record { writer = 0; ordinal = ordinal; stamp = call.stamp; message = message; args = call.args }
-
-is_made : (messages : List Message) (ordinal : ℕ) (call : Call) (message : Message) → slice_get messages call.id ≡ Some message → log_call messages 0 (ordinal, call) ≡ Some (made ordinal call message)
-is_made messages ordinal call message known = rw known refl
-
-one_made : (messages : List Message) (ordinal : ℕ) (call : Call) (message : Message) → slice_get messages call.id ≡ Some message → filter_map (log_call messages 0) ((ordinal, call) ∷ []) ≡ made ordinal call message ∷ []
-one_made messages ordinal call message known = rw known refl
-
-writer_calls-push : (messages : List Message) (front : List Call) (call : Call) (message : Message) → slice_get messages call.id ≡ Some message
-    → writer_calls messages (0, front ++ call ∷ []) ≡ writer_calls messages (0, front) ++ made (0 + length front) call message ∷ []
-writer_calls-push messages front call message known =
-    ap (filter_map (log_call messages 0)) (enumerate-push 0 front call)
-    ∙ filter_map-append (log_call messages 0) (enumerate_from 0 front) ((0 + length front, call) ∷ [])
-    ∙ ap (λ (r : List LogCall). writer_calls messages (0, front) ++ r) (one_made messages (0 + length front) call message known)
+-- ---- lines
 
 one_line : (clock : Clock) (calls : List LogCall) (call : LogCall) → flat_map (Line clock) (calls ++ call ∷ []) ≡ flat_map (Line clock) calls ++ Line clock call
 one_line clock calls call =
     flat_map-append (Line clock) calls (call ∷ [])
     ∙ ap (λ (r : List ℕ). flat_map (Line clock) calls ++ r) (flat_map-cons (Line clock) call [] ∙ append-nil (Line clock call))
-
--- the line of one more call of writer 0
-pub lines_more : (messages : List Message) (clock : Clock) (seen : List Call) (call : Call) (old new : List ℕ) → IsCall messages call → old ≡ flat_map (Line clock) (writer_calls messages (0, seen))
-    → ((ordinal : ℕ) (line : LogCall) → log_call messages 0 (ordinal, call) ≡ Some line → new ≡ old ++ Line clock line) → new ≡ flat_map (Line clock) (writer_calls messages (0, seen ++ call ∷ []))
-lines_more messages clock seen call old new is so_far next =
-    let ordinal : ℕ = 0 + length seen in
-    next ordinal (made ordinal call is.message) (is_made messages ordinal call is.message is.known)
-    ∙ ap (λ (t : List ℕ). t ++ Line clock (made ordinal call is.message)) so_far
-    ∙ sym (ap (flat_map (Line clock)) (writer_calls-push messages seen call is.message is.known) ∙ one_line clock (writer_calls messages (0, seen)) (made ordinal call is.message))
-
-not_after : (messages : List Message) (n : ℕ) (call : Call) (message : Message) (calls : List Call) → AllByRecursion (IsCall messages) calls → NeverFalls call.stamp calls
-    → IsNotAfter (made n call message) (filter_map (log_call messages 0) (enumerate_from (n + 1) calls))
-not_after messages n call message [] named later = tt
-not_after messages n call message (next ∷ calls) named later =
-    rw named.0.known (comes_before-later (made n call message) (made (n + 1) next named.0.message) later.0 refl (omega arith))
-
-in_order_from : (messages : List Message) (n least : ℕ) (calls : List Call) → AllByRecursion (IsCall messages) calls → NeverFalls least calls → IsInOrder (filter_map (log_call messages 0) (enumerate_from n calls))
-in_order_from messages n least [] named later = tt
-in_order_from messages n least (call ∷ calls) named later =
-    rw named.0.known (not_after messages n call named.0.message calls named.1 later.1, in_order_from messages (n + 1) call.stamp calls named.1 later.1)
-
--- the lines of one writer's calls are those of all, in order
-pub writer_lines : (messages : List Message) (clock : Clock) (calls : List Call) → AllByRecursion (IsCall messages) calls → NeverFalls clock.tick calls
-    → flat_map (Line clock) (writer_calls messages (0, calls)) ≡ Direct clock (writer_calls messages (0, calls))
-writer_lines messages clock calls named later = sym (Direct-sorted clock (writer_calls messages (0, calls)) (in_order_from messages 0 clock.tick calls named later))
 
 -- one writer's calls are all
 pub single : (writers : List (List Call)) (calls : List Call) → length writers ≡ 1 → Some calls ≡ slice_get writers 0 → writers ≡ calls ∷ []

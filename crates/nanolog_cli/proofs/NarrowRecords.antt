@@ -11,6 +11,7 @@ use Rattle.printf_grammar.specs.declared.argument.Value.TheVariants as values
 use Rattle.printf_grammar.specs.declared.piece.Piece.{Piece}
 use Rattle.printf_grammar.specs.declared.piece.Piece.TheVariants.{Literal, Percent, Field}
 use Rattle.printf_grammar.specs.declared.piece.Spec.{Spec}
+use Rattle.printf_grammar.specs.declared.limits.TheConstants.{MAX_ARGUMENTS}
 use Rattle.printf_grammar.specs.Narrow.{IsNarrow}
 use Rattle.printf_grammar.specs.Types.{field_types, Types, FitsType, Fits, text_of}
 use Rattle.arg_records.specs.Kinds.{HoldsBytes}
@@ -47,7 +48,7 @@ pub narrow_bytes : (pieces : List Piece) (args : List Value) → IsNarrow pieces
 narrow_bytes pieces args narrow fits = (int_values (Types pieces) args (narrow_ints pieces narrow) fits).0
 
 -- a record of a narrow format has at most 299 bytes
-pub narrow_room : (pieces : List Piece) (args : List Value) → IsNarrow pieces → Fits args (Types pieces) → length (Types pieces) ≤ 64 → record_room (Types pieces) args ≤ 299
+pub narrow_room : (pieces : List Piece) (args : List Value) → IsNarrow pieces → Fits args (Types pieces) → length (Types pieces) ≤ MAX_ARGUMENTS → record_room (Types pieces) args ≤ 299
 narrow_room pieces args narrow fits few =
     let ints = narrow_ints pieces narrow in
     omega (arith, ints_room (Types pieces) ints, ap length (int_values (Types pieces) args ints fits).1)

@@ -4,17 +4,17 @@ use Rattle.std.specs.Prelude.{slice_get, max, filter}
 use Rattle.std.proofs.lemmas.List.{append-nil, take_at, take_more, length-append, length-take-le, length-drop}
 use Rattle.std.proofs.lemmas.Option.{slice_get_within, get_or_from_slice_get}
 use Rattle.log_dictionary.specs.declared.message.Message.{Message}
-use Rattle.log_dictionary.specs.BinaryEntries.{SpellsEntry}
 use Rattle.arg_records.specs.Places.{with_words}
 use Rattle.arg_records.specs.declared.call.Call.{Call}
 use Rattle.buffer_extent.specs.Bodies.{SpellsRecord, SpellsRecords}
-use Rattle.checkpoint_io.specs.Blocks.{SpellsEntries}
 use Rattle.checkpoint_io.specs.Validity.{last_stamp}
 use Rattle.checkpoint_io.specs.Logs.{ids_used}
 use Rattle.arg_records.specs.Calls.{IsCall, NeverFalls}
+use Rattle.checkpoint_io.specs.declared.heads.TheConstants.{MAX_BODY}
+use Rattle.nanolog_cli.specs.declared.narrow.TheConstants.{MAX_NARROW_CALLS}
+use Rattle.nanolog_cli.specs.declared.log_of_run.TheConstants.{MAX_NARROW_RECORD}
 use Rattle.nanolog_cli.proofs.Levels.{filter_yes, filter_no, filter_fewer, not_below}
 use Rattle.checkpoint_io.proofs.ValidityLaws.{last_stamp-push}
-use Rattle.nanolog_cli.proofs.LogParts.{entries_push}
 use Rattle.nanolog_cli.proofs.Walks.{seen_next}
 
 -- ---- ids
@@ -32,15 +32,6 @@ ids_more p seen call count kept so_far = ap (λ (n : ℕ). max n (call.id + 1)) 
 
 pub ids_same : (p : Call → Bool) (seen : List Call) (call : Call) (count : ℕ) → p call ≡ false → count ≡ ids_used (filter p seen) → count ≡ ids_used (filter p (seen ++ call ∷ []))
 ids_same p seen call count left so_far = so_far ∙ sym (ap ids_used (filter_no p seen call left))
-
--- ---- entries
-
-pub entries_more : (messages : List Message) (i : ℕ) (message : Message) (bytes entry : List ℕ) → Some message ≡ slice_get messages i → SpellsEntries (take i messages) bytes → SpellsEntry entry message
-    → SpellsEntries (take (i + 1) messages) (bytes ++ entry)
-entries_more messages i message bytes entry e spelled is =
-    let more : take (i + 1) messages ≡ take i messages ++ message ∷ [] =
-    take_more messages i message (slice_get_within messages i message (sym e)) ∙ ap (λ (m : Message). take i messages ++ m ∷ []) (get_or_from_slice_get messages i message message (sym e)) in
-    subst (λ (ms : List Message). SpellsEntries ms (bytes ++ entry)) (sym more) (entries_push (take i messages) message bytes entry spelled is)
 
 -- ---- records
 
@@ -69,13 +60,6 @@ pub not_before : (p : Call → Bool) (tick : ℕ) (seen rest all left : List Cal
 not_before p tick seen rest all left call before joined next later last =
     omega (arith, last, not_below p tick seen left call (subst (NeverFalls tick) (sym (seen_next seen rest all left call joined next)) later))
 
--- the entry is appended behind those before it
-pub fragment_more : (messages : List Message) (i : ℕ) (message : Message) (old head before now entry : List ℕ) → Some message ≡ slice_get messages i
-    → (entries : List ℕ) × SpellsEntries (take i messages) entries × (before ≡ old ++ head ++ entries) → SpellsEntry entry message → now ≡ before ++ entry
-    → (entries : List ℕ) × SpellsEntries (take (i + 1) messages) entries × (now ≡ old ++ head ++ entries)
-fragment_more messages i message old head before now entry e (entries, spelled, joined) is appended =
-    (entries ++ entry, entries_more messages i message entries entry e spelled is, appended ∙ ap (λ (b : List ℕ). b ++ entry) joined ∙ append_assoc (old ++ head) entries entry)
-
 -- words that are written within a list leave it as long as it was
 same_length : (list words : List ℕ) (at : ℕ) → at + length words ≤ length list → length (with_words list at words) ≡ length list
 same_length list words at within =
@@ -91,18 +75,18 @@ same_length list words at within =
 -- the records of the calls that were seen stand in front of this place
 pub record IsPacked (messages : List Message) (tick : ℕ) (seen : List Call) (end before : ℕ) (body : List ℕ) : Type 0 where
   pub spelled : SpellsRecords messages tick seen (take end body)
-  pub short : end ≤ 320 * length seen
-  pub size : length body ≡ 65536
+  pub short : end ≤ MAX_NARROW_RECORD * length seen
+  pub size : length body ≡ MAX_BODY
   pub last : before ≡ last_stamp tick seen
 
--- of 128 calls at most, those that were seen and are kept are fewer while one is left
-pub seen_few : (p : Call → Bool) (seen rest all left : List Call) (call : Call) → seen ++ rest ≡ all → rest ≡ call ∷ left → length all ≤ 128 → length (filter p seen) + 1 ≤ 128
+-- of the calls of a narrow run, those that were seen and are kept are fewer while one is left
+pub seen_few : (p : Call → Bool) (seen rest all left : List Call) (call : Call) → seen ++ rest ≡ all → rest ≡ call ∷ left → length all ≤ MAX_NARROW_CALLS → length (filter p seen) + 1 ≤ MAX_NARROW_CALLS
 seen_few p seen rest all left call joined next few =
     omega (arith, few, ap length (seen_next seen rest all left call joined next), length-append seen (call ∷ left), filter_fewer p seen)
 
-pub packed_more : (messages : List Message) (tick : ℕ) (seen : List Call) (call : Call) (before end next : ℕ) (body new : List ℕ) → length seen + 1 ≤ 128
+pub packed_more : (messages : List Message) (tick : ℕ) (seen : List Call) (call : Call) (before end next : ℕ) (body new : List ℕ) → length seen + 1 ≤ MAX_NARROW_CALLS
     → IsPacked messages tick seen end before body
-    → (packed : List ℕ) × SpellsRecord messages before call packed × (length packed ≤ 320) × (next ≡ end + length packed) × (new ≡ with_words body end packed)
+    → (packed : List ℕ) × SpellsRecord messages before call packed × (length packed ≤ MAX_NARROW_RECORD) × (next ≡ end + length packed) × (new ≡ with_words body end packed)
     → IsPacked messages tick (seen ++ call ∷ []) next call.stamp new
 packed_more messages tick seen call before end next body new few was (packed, is, small, ends, written) =
     let room = was.short in
@@ -118,9 +102,9 @@ packed_more messages tick seen call before end next body new few was (packed, is
     }
 
 -- one more call is kept, and its record stands behind the others
-pub kept_more : (messages : List Message) (p : Call → Bool) (tick : ℕ) (seen : List Call) (call : Call) (before end next : ℕ) (body new : List ℕ) → p call ≡ true → length (filter p seen) + 1 ≤ 128
+pub kept_more : (messages : List Message) (p : Call → Bool) (tick : ℕ) (seen : List Call) (call : Call) (before end next : ℕ) (body new : List ℕ) → p call ≡ true → length (filter p seen) + 1 ≤ MAX_NARROW_CALLS
     → IsPacked messages tick (filter p seen) end before body
-    → (packed : List ℕ) × SpellsRecord messages before call packed × (length packed ≤ 320) × (next ≡ end + length packed) × (new ≡ with_words body end packed)
+    → (packed : List ℕ) × SpellsRecord messages before call packed × (length packed ≤ MAX_NARROW_RECORD) × (next ≡ end + length packed) × (new ≡ with_words body end packed)
     → IsPacked messages tick (filter p (seen ++ call ∷ [])) next call.stamp new
 kept_more messages p tick seen call before end next body new kept few was put =
     subst (λ (calls : List Call). IsPacked messages tick calls next call.stamp new) (sym (filter_yes p seen call kept)) (packed_more messages tick (filter p seen) call before end next body new few was put)

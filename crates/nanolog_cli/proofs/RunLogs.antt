@@ -15,16 +15,18 @@ use Rattle.log_dictionary.proofs.BinaryLaws.{raw_length}
 use Rattle.arg_records.specs.declared.call.Call.{Call}
 use Rattle.buffer_extent.specs.Bodies.{SpellsRecords}
 use Rattle.arg_records.specs.Calls.{IsCall, NeverFalls, log_call, writer_calls}
-use Rattle.checkpoint_io.specs.Blocks.{Block, Fragment, Extent, Close, messages_of, SpellsEntries, SpellsBlocks, FileOf, header_bytes, fragment_head_bytes, extent_head_bytes, close_bytes}
+use Rattle.checkpoint_io.specs.Blocks.{Block, Fragment, Extent, Close, messages_of, SpellsEntries, SpellsFragment, SpellsExtent, SpellsBlocks, FileOf, header_bytes, fragment_head_bytes, extent_head_bytes, close_bytes}
 use Rattle.checkpoint_io.specs.Validity.{records_of, IsClosed, IsHeader, Valid}
+use Rattle.checkpoint_io.specs.Appending.{Appends}
 use Rattle.checkpoint_io.specs.Logs.{ids_used, LogOf, IsLaidOut, ends, extent, close}
 use Rattle.direct_printf.specs.Lines.{Direct}
 use Rattle.trace_text.specs.Lines.{FitsLine}
 use Rattle.trace_text.specs.Recordings.{Recording, IsRecording, calls_of}
-use Rattle.decompressor.specs.Decompression.{CallsOf, all_calls, Decompressed}
-use Rattle.decompressor.proofs.DecompressionLaws.{whole_is_text}
+use Rattle.decompressor.proofs.TextLaws.{log_is_text}
+use Rattle.nanolog_cli.specs.declared.narrow.TheConstants.{MAX_NARROW_CALLS}
 use Rattle.nanolog_cli.specs.NarrowTraces.{IsNarrowRun, HasNarrowFormats}
-use Rattle.nanolog_cli.specs.NarrowLogs.{narrow_header, narrow_blocks, IsLog}
+use Rattle.checkpoint_io.specs.declared.heads.TheConstants.{MAX_LOG, MAX_BODY}
+use Rattle.nanolog_cli.specs.declared.log_of_run.TheConstants.{BATCH}
 use Rattle.nanolog_cli.specs.Texts.{direct_text}
 use Rattle.nanolog_cli.specs.Replays.{LogOfRun}
 use Rattle.nanolog_cli.specs.Appending.{FragmentAndExtent, AppendsCalls}
@@ -32,6 +34,10 @@ use Rattle.nanolog_cli.specs.Levels.{keeps, kept_run}
 use Rattle.nanolog_cli.proofs.Levels.{recorded_kept, narrow_kept, kept_at}
 use Rattle.nanolog_cli.proofs.LineLemmas.{single}
 use Rattle.checkpoint_io.proofs.BlockLaws.{le_length}
+
+-- a header of one writer
+abbrev one_writer : Clock → Header
+one_writer clock = record { writers = 1; clock = clock }
 
 -- ---- the messages that are used
 
@@ -68,13 +74,6 @@ records_right messages used (call ∷ calls) h (is, named) = (
   records_right messages used calls (others_used call calls used h) named,
 )
 
-pub calls_with_used : (messages : List Message) (used n : ℕ) (calls : List Call) → ids_used calls ≤ used
-    → filter_map (log_call (take used messages) 0) (enumerate_from n calls) ≡ filter_map (log_call messages 0) (enumerate_from n calls)
-calls_with_used messages used n [] h = refl
-calls_with_used messages used n (call ∷ calls) h =
-    rw (used_same used messages call.id (first_used call calls used h))
-    (ap (cons_option (log_call messages 0 (n, call))) (calls_with_used messages used (n + 1) calls (others_used call calls used h)))
-
 -- no id is used that isn't a message's
 pub ids_known : (messages : List Message) (calls : List Call) → AllByRecursion (IsCall messages) calls → ids_used calls ≤ length messages
 ids_known messages [] named = omega arith
@@ -102,12 +101,8 @@ pub ids_some : (calls : List Call) → 1 ≤ length calls → 1 ≤ ids_used cal
 ids_some [] some = absurd (omega (arith, some))
 ids_some (call ∷ calls) some = grind arith
 
-joined_parts : (a b c d e f : List ℕ) → a ++ b ++ c ++ d ++ e ++ f ≡ a ++ ((b ++ c) ++ ((d ++ e) ++ f))
-joined_parts a b c d e f =
-    ap (λ (l : List ℕ). l ++ f) (append_assoc (a ++ b ++ c) d e)
-    ∙ append_assoc (a ++ b ++ c) (d ++ e) f
-    ∙ ap (λ (l : List ℕ). l ++ ((d ++ e) ++ f)) (append_assoc a b c)
-    ∙ append_assoc a (b ++ c) ((d ++ e) ++ f)
+joined_parts : (a b c d : List ℕ) → a ++ b ++ c ++ d ≡ a ++ (b ++ (c ++ d))
+joined_parts a b c d = append_assoc (a ++ b) c d ∙ append_assoc a b (c ++ d)
 
 -- ---- the log of a run
 
@@ -117,31 +112,19 @@ only_closed blocks n (suc writer) one closed within = absurd (omega (arith, one,
 
 -- blocks that are right, are laid out, and have the messages that are used and the records of the calls
 record IsLogOfCalls (run : Recording) (calls : List Call) (blocks : List Block) (bytes : List ℕ) : Type 0 where
-  file : FileOf (narrow_header run.clock) blocks bytes
-  valid : Valid (narrow_header run.clock) blocks
+  file : FileOf (one_writer run.clock) blocks bytes
+  valid : Valid (one_writer run.clock) blocks
   messages : messages_of blocks ≡ take (ids_used calls) run.dictionary
   records : records_of 0 blocks ≡ calls
   closed : IsClosed 0 blocks
-  laid_out : IsLaidOut run.dictionary 4096 [] blocks
-  is_read : IsLog bytes
-
-text_of_blocks : (run : Recording) (calls : List Call) (blocks : List Block) (bytes : List ℕ) → run.writers ≡ calls ∷ [] → IsLogOfCalls run calls blocks bytes
-    → Direct run.clock (all_calls (narrow_header run.clock) blocks) ≡ direct_text run
-text_of_blocks run calls blocks bytes one log =
-    let used = ids_used calls in
-    let of_blocks : all_calls (narrow_header run.clock) blocks ≡ writer_calls run.dictionary (0, calls) =
-    append-nil (CallsOf blocks 0)
-    ∙ (λ i. filter_map (log_call (log.messages i) 0) (enumerate_from 0 (log.records i)))
-    ∙ calls_with_used run.dictionary used 0 calls (omega arith) in
-    let of_run : calls_of run ≡ writer_calls run.dictionary (0, calls) =
-    ap (λ (ws : List (List Call)). flat_map (writer_calls run.dictionary) (enumerate_from 0 ws)) one ∙ append-nil (writer_calls run.dictionary (0, calls)) in
-    ap (Direct run.clock) (of_blocks ∙ sym of_run)
+  laid_out : IsLaidOut run.dictionary BATCH [] blocks
+  within : length bytes ≤ MAX_LOG
 
 log_of_calls : (run : Recording) (calls : List Call) (blocks : List Block) (bytes : List ℕ) → run.writers ≡ calls ∷ [] → IsLogOfCalls run calls blocks bytes → LogOfRun run bytes
 log_of_calls run calls blocks bytes one log =
     let used = ids_used calls in
-    let lawful : LogOf bytes run.writers run.dictionary run.clock 4096 = record {
-      header = narrow_header run.clock;
+    let lawful : LogOf bytes run.writers run.dictionary run.clock BATCH = record {
+      header = one_writer run.clock;
       blocks = blocks;
       file = log.file;
       valid = log.valid;
@@ -155,8 +138,8 @@ log_of_calls run calls blocks bytes one log =
     record {
       lawful = lawful;
       closed = λ writer within. only_closed blocks (length run.writers) writer (ap length one) log.closed within;
-      is_read = log.is_read;
-      text_same = subst (Decompressed bytes) (text_of_blocks run calls blocks bytes one log) (whole_is_text (narrow_header run.clock) blocks bytes log.file log.valid);
+      within = log.within;
+      text_same = log_is_text bytes run.writers run.dictionary run.clock BATCH lawful;
     }
 
 -- a narrow run whose clock and messages can stand in a log
@@ -165,7 +148,7 @@ pub record Replayed (run : Recording) : Type 0 where
   pub clock_fits : FitsLine run.clock
   pub distinct : AreDistinct run.dictionary
 
-header_right : (run : Recording) → Replayed run → IsRecording run → IsHeader (narrow_header run.clock)
+header_right : (run : Recording) → Replayed run → IsRecording run → IsHeader (one_writer run.clock)
 header_right run narrow recorded = record {
   some_writer = omega arith;
   few_writers = omega arith;
@@ -203,59 +186,48 @@ entries_length (message ∷ messages) bytes (front, back, joined, is, others) =
       entries_length messages back others,
     )
 
-narrow_used : (messages : List Message) (used : ℕ) → HasNarrowFormats messages → HasNarrowFormats (take used messages)
-narrow_used messages zero narrow = tt
-narrow_used [] (suc used) narrow = tt
-narrow_used (m ∷ messages) (suc used) narrow = (narrow.0, narrow_used messages used narrow.1)
-
--- a log with so many bytes of entries and of a body isn't long
-log_length : (clock : Clock) (count : ℕ) (entries body bytes : List ℕ) → bytes ≡ header_bytes (narrow_header clock) ++ ((fragment_head_bytes 0 count ++ entries) ++ ((extent_head_bytes 0 (length body) ++ body) ++ close_bytes 0))
-    → length entries ≤ 69744 → length body ≤ 65536 → length bytes ≤ 134217728
-log_length clock count entries body bytes joined entries_short body_short =
+-- a fragment of few messages isn't long
+fragment_length : (first : ℕ) (messages : List Message) (bytes : List ℕ) → SpellsFragment first messages bytes → length bytes ≤ 69751
+fragment_length first messages bytes is =
     omega (
       arith,
-      entries_short,
-      body_short,
-      ap length joined,
-      header_length (narrow_header clock),
-      length-append (header_bytes (narrow_header clock)) ((fragment_head_bytes 0 count ++ entries) ++ ((extent_head_bytes 0 (length body) ++ body) ++ close_bytes 0)),
-      length-append (fragment_head_bytes 0 count ++ entries) ((extent_head_bytes 0 (length body) ++ body) ++ close_bytes 0),
-      length-append (fragment_head_bytes 0 count) entries,
-      length-append (le_bytes 4 0) (le_bytes 2 count),
-      le_length 4 0,
-      le_length 2 count,
-      length-append (extent_head_bytes 0 (length body) ++ body) (close_bytes 0),
-      length-append (extent_head_bytes 0 (length body)) body,
-      le_length 4 (length body),
+      ap length is.joined,
+      length-append (fragment_head_bytes first (length messages)) is.entries,
+      length-append (le_bytes 4 first) (le_bytes 2 (length messages)),
+      le_length 4 first,
+      le_length 2 (length messages),
+      entries_length messages is.entries is.entries_spelled,
+      is.few,
     )
 
--- the blocks of a log with messages and records
-some_blocks : (messages : List Message) (entries : List Call) → 1 ≤ length messages → 1 ≤ length entries → narrow_blocks messages entries ≡ Fragment 0 messages ∷ Extent 0 entries ∷ Close 0 ∷ []
-some_blocks [] entries some some_too = absurd (omega (arith, some))
-some_blocks (m ∷ messages) [] some some_too = absurd (omega (arith, some_too))
-some_blocks (m ∷ messages) (e ∷ entries) some some_too = refl
+extent_length : (messages : List Message) (tick writer : ℕ) (entries : List Call) (bytes : List ℕ) → SpellsExtent messages tick writer entries bytes → length bytes ≤ 65542
+extent_length messages tick writer entries bytes is =
+    omega (arith, ap length is.joined, length-append (extent_head_bytes writer (length is.body)) is.body, le_length 4 (length is.body), is.short)
+
+-- a log with one of each isn't long
+log_length : (clock : Clock) (front back bytes : List ℕ) → bytes ≡ header_bytes (one_writer clock) ++ (front ++ (back ++ close_bytes 0))
+    → length front ≤ 69751 → length back ≤ 65542 → length bytes ≤ MAX_LOG
+log_length clock front back bytes joined front_short body_short =
+    omega (
+      arith,
+      front_short,
+      body_short,
+      ap length joined,
+      header_length (one_writer clock),
+      length-append (header_bytes (one_writer clock)) (front ++ (back ++ close_bytes 0)),
+      length-append front (back ++ close_bytes 0),
+      length-append back (close_bytes 0),
+    )
 
 -- a run without calls: a header and a close mark
-empty_log : (run : Recording) (bytes : List ℕ) → Replayed run → IsRecording run → run.writers ≡ [] ∷ [] → bytes ≡ header_bytes (narrow_header run.clock) ++ close_bytes 0 → LogOfRun run bytes
+empty_log : (run : Recording) (bytes : List ℕ) → Replayed run → IsRecording run → run.writers ≡ [] ∷ [] → bytes ≡ header_bytes (one_writer run.clock) ++ close_bytes 0 → LogOfRun run bytes
 empty_log run bytes narrow recorded one is =
-    let file : FileOf (narrow_header run.clock) (Close 0 ∷ []) bytes = record { block_bytes = close_bytes 0; spelled = (close_bytes 0, [], refl, record { writer_fits = omega arith; joined = refl }, refl); joined = is } in
-    let valid : Valid (narrow_header run.clock) (Close 0 ∷ []) = record { header_right = header_right run narrow recorded; blocks_right = (record { known = omega arith; unclosed = unclosed }, tt) } in
+    let file : FileOf (one_writer run.clock) (Close 0 ∷ []) bytes = record { block_bytes = close_bytes 0; spelled = (close_bytes 0, [], refl, record { writer_fits = omega arith; joined = refl }, refl); joined = is } in
+    let valid : Valid (one_writer run.clock) (Close 0 ∷ []) = record { header_right = header_right run narrow recorded; blocks_right = (record { known = omega arith; unclosed = unclosed }, tt) } in
     log_of_calls run [] (Close 0 ∷ []) bytes one (record {
       file = file;
       valid = valid;
-      is_read = (
-        run.clock,
-        [],
-        [],
-        record {
-          file = file;
-          valid = valid;
-          few_messages = omega arith;
-          narrow = tt;
-          few_records = omega arith;
-          short = omega (arith, ap length is, length-append (header_bytes (narrow_header run.clock)) (close_bytes 0), header_length (narrow_header run.clock));
-        },
-      );
+      within = omega (arith, ap length is, length-append (header_bytes (one_writer run.clock)) (close_bytes 0), header_length (one_writer run.clock));
       messages = refl;
       records = refl;
       closed = refl;
@@ -264,7 +236,7 @@ empty_log run bytes narrow recorded one is =
 
 -- a run with calls: a header, a fragment, an extent and a close mark
 full_log : (run : Recording) (calls : List Call) (after bytes : List ℕ) → Replayed run → IsRecording run → run.writers ≡ calls ∷ [] → 1 ≤ length calls
-    → FragmentAndExtent run.dictionary run.clock.tick calls (header_bytes (narrow_header run.clock)) after → bytes ≡ after ++ close_bytes 0 → LogOfRun run bytes
+    → FragmentAndExtent run.dictionary run.clock.tick calls (header_bytes (one_writer run.clock)) after → bytes ≡ after ++ close_bytes 0 → LogOfRun run bytes
 full_log run calls after bytes narrow recorded one some parts closed_by =
     let used = ids_used calls in
     let messages = take used run.dictionary in
@@ -274,43 +246,31 @@ full_log run calls after bytes narrow recorded one some parts closed_by =
     let extent_block = Extent 0 entries in
     let named : AllByRecursion (IsCall run.dictionary) calls = (subst (AllByRecursion (AllByRecursion (IsCall run.dictionary))) one recorded.calls).0 in
     let later : NeverFalls tick calls = (subst (AllByRecursion (NeverFalls tick)) one recorded.stamps).0 in
-    let few : length calls ≤ 128 = (subst (AllByRecursion (λ cs. length cs ≤ 128)) one narrow.narrow.few_calls).0 in
+    let few : length calls ≤ MAX_NARROW_CALLS = (subst (AllByRecursion (λ cs. length cs ≤ MAX_NARROW_CALLS)) one narrow.narrow.few_calls).0 in
     let known = ids_known run.dictionary calls named in
     let count : length messages ≡ used = length-take-le used run.dictionary known in
     let some_id = ids_some calls some in
     let all_there : messages_of (fragment ∷ []) ≡ messages = append-nil messages in
     let narrow_messages = narrow.narrow.few_messages in
-    let spelled : SpellsBlocks tick [] (fragment ∷ extent_block ∷ Close 0 ∷ []) ((fragment_head_bytes 0 used ++ parts.entries) ++ ((extent_head_bytes 0 (length parts.body) ++ parts.body) ++ close_bytes 0)) = (
-      fragment_head_bytes 0 used ++ parts.entries,
-      (extent_head_bytes 0 (length parts.body) ++ parts.body) ++ close_bytes 0,
+    let extent_spelled : SpellsExtent (messages_of (fragment ∷ [])) tick 0 entries parts.extent = record {
+      body = parts.extent_spelled.body;
+      some = parts.extent_spelled.some;
+      short = parts.extent_spelled.short;
+      writer_fits = parts.extent_spelled.writer_fits;
+      body_spelled = subst (λ (ms : List Message). SpellsRecords ms tick entries parts.extent_spelled.body) (sym all_there) (spelled_with_used run.dictionary used tick entries parts.extent_spelled.body (omega arith) parts.extent_spelled.body_spelled);
+      joined = parts.extent_spelled.joined;
+    } in
+    let block_bytes = parts.fragment ++ (parts.extent ++ close_bytes 0) in
+    let spelled : SpellsBlocks tick [] (fragment ∷ extent_block ∷ Close 0 ∷ []) block_bytes = (
+      parts.fragment,
+      parts.extent ++ close_bytes 0,
       refl,
-      record {
-        entries = parts.entries;
-        some = omega (arith, count, some_id);
-        few = omega (arith, count, known, narrow_messages);
-        first_fits = omega arith;
-        entries_spelled = parts.entries_spelled;
-        joined = ap (λ (n : ℕ). fragment_head_bytes 0 n ++ parts.entries) (sym count);
-      },
-      (
-        extent_head_bytes 0 (length parts.body) ++ parts.body,
-        close_bytes 0,
-        refl,
-        record {
-          body = parts.body;
-          some = body_some run.dictionary tick entries parts.body (omega (arith, some)) parts.body_spelled;
-          short = parts.short;
-          writer_fits = omega arith;
-          body_spelled = subst (λ (ms : List Message). SpellsRecords ms tick entries parts.body) (sym all_there) (spelled_with_used run.dictionary used tick entries parts.body (omega arith) parts.body_spelled);
-          joined = refl;
-        },
-        (close_bytes 0, [], refl, record { writer_fits = omega arith; joined = refl }, refl),
-      ),
+      parts.fragment_spelled,
+      (parts.extent, close_bytes 0, refl, extent_spelled, (close_bytes 0, [], refl, record { writer_fits = omega arith; joined = refl }, refl)),
     ) in
-    let joined = closed_by ∙ ap (λ (b : List ℕ). b ++ close_bytes 0) parts.joined ∙ joined_parts (header_bytes (narrow_header run.clock)) (fragment_head_bytes 0 used) parts.entries (extent_head_bytes 0 (length parts.body)) parts.body (close_bytes 0) in
-    let block_bytes = (fragment_head_bytes 0 used ++ parts.entries) ++ ((extent_head_bytes 0 (length parts.body) ++ parts.body) ++ close_bytes 0) in
-    let file : FileOf (narrow_header run.clock) (fragment ∷ extent_block ∷ Close 0 ∷ []) bytes = record { block_bytes = block_bytes; spelled = spelled; joined = joined } in
-    let valid : Valid (narrow_header run.clock) (fragment ∷ extent_block ∷ Close 0 ∷ []) = record {
+    let joined = closed_by ∙ ap (λ (b : List ℕ). b ++ close_bytes 0) parts.joined ∙ joined_parts (header_bytes (one_writer run.clock)) parts.fragment parts.extent (close_bytes 0) in
+    let file : FileOf (one_writer run.clock) (fragment ∷ extent_block ∷ Close 0 ∷ []) bytes = record { block_bytes = block_bytes; spelled = spelled; joined = joined } in
+    let valid : Valid (one_writer run.clock) (fragment ∷ extent_block ∷ Close 0 ∷ []) = record {
       header_right = header_right run narrow recorded;
       blocks_right = (
         record { next = refl; distinct = distinct_used run.dictionary used narrow.distinct; few = omega (arith, count, known, narrow_messages) },
@@ -324,7 +284,6 @@ full_log run calls after bytes narrow recorded one some parts closed_by =
         ),
       );
     } in
-    let as_narrow = sym (some_blocks messages entries (omega (arith, count, some_id)) (omega (arith, some))) in
     log_of_calls run calls (fragment ∷ extent_block ∷ Close 0 ∷ []) bytes one (record {
       file = file;
       valid = valid;
@@ -332,43 +291,59 @@ full_log run calls after bytes narrow recorded one some parts closed_by =
       records = append-nil entries;
       closed = refl;
       laid_out = extent [] (fragment ∷ []) 0 entries (Close 0 ∷ []) ([], refl, sym (append-nil messages), inl refl, refl) (omega (arith, few)) (close (fragment ∷ extent_block ∷ []) 0 [] (ends (fragment ∷ extent_block ∷ Close 0 ∷ [])));
-      is_read = (
-        run.clock,
-        messages,
-        entries,
-        record {
-          file = subst (λ (bs : List Block). FileOf (narrow_header run.clock) bs bytes) as_narrow file;
-          valid = subst (Valid (narrow_header run.clock)) as_narrow valid;
-          few_messages = omega (arith, count, known, narrow_messages);
-          narrow = narrow_used run.dictionary used narrow.narrow.narrow;
-          few_records = omega (arith, few);
-          short = log_length run.clock used parts.entries parts.body bytes joined (omega (arith, entries_length messages parts.entries parts.entries_spelled, count, known, narrow_messages)) parts.short;
-        },
-      );
+      within = log_length run.clock parts.fragment parts.extent bytes joined (fragment_length 0 messages parts.fragment parts.fragment_spelled)
+          (extent_length run.dictionary tick 0 entries parts.extent parts.extent_spelled);
     })
 
 log_of : (run : Recording) (calls : List Call) (after bytes : List ℕ) → Replayed run → IsRecording run → run.writers ≡ calls ∷ []
-    → AppendsCalls run.dictionary run.clock.tick calls (header_bytes (narrow_header run.clock)) after → bytes ≡ after ++ close_bytes 0 → LogOfRun run bytes
+    → AppendsCalls run.dictionary run.clock.tick calls (header_bytes (one_writer run.clock)) after → bytes ≡ after ++ close_bytes 0 → LogOfRun run bytes
 log_of run [] after bytes narrow recorded one appended is = empty_log run bytes narrow recorded one (is ∙ ap (λ (b : List ℕ). b ++ close_bytes 0) appended)
 log_of run (call ∷ calls) after bytes narrow recorded one parts is = full_log run (call ∷ calls) after bytes narrow recorded one (omega arith) parts is
 
 -- what was appended is the log of the run
 whole_log : (seen run : Recording) (calls : List Call) (empty head after bytes : List ℕ) → seen ≡ run → Replayed run → IsRecording seen → Some calls ≡ slice_get seen.writers 0
-    → empty ≡ [] → head ≡ empty ++ header_bytes (narrow_header seen.clock) → AppendsCalls seen.dictionary seen.clock.tick calls head after → bytes ≡ after ++ close_bytes 0 → LogOfRun run bytes
+    → empty ≡ [] → head ≡ empty ++ header_bytes (one_writer seen.clock) → AppendsCalls seen.dictionary seen.clock.tick calls head after → bytes ≡ after ++ close_bytes 0 → LogOfRun run bytes
 whole_log seen run calls empty head after bytes same narrow recorded first nothing headed appended is =
     let narrow_too = subst Replayed (sym same) narrow in
     let one = single seen.writers calls narrow_too.narrow.one_writer first in
     subst (λ (r : Recording). LogOfRun r bytes) same
-    (log_of seen calls after bytes narrow_too recorded one (subst (λ (h : List ℕ). AppendsCalls seen.dictionary seen.clock.tick calls h after) (headed ∙ ap (λ (e : List ℕ). e ++ header_bytes (narrow_header seen.clock)) nothing) appended) is)
+    (log_of seen calls after bytes narrow_too recorded one (subst (λ (h : List ℕ). AppendsCalls seen.dictionary seen.clock.tick calls h after) (headed ∙ ap (λ (e : List ℕ). e ++ header_bytes (one_writer seen.clock)) nothing) appended) is)
 
 -- it is that of the calls that the level keeps
 pub kept_log : (level : Severity) (seen run : Recording) (calls : List Call) (empty head after bytes : List ℕ) → seen ≡ run → Replayed run → IsRecording seen → Some calls ≡ slice_get seen.writers 0
-    → empty ≡ [] → head ≡ empty ++ header_bytes (narrow_header seen.clock) → AppendsCalls seen.dictionary seen.clock.tick (filter (keeps seen.dictionary level) calls) head after → bytes ≡ after ++ close_bytes 0
+    → empty ≡ [] → head ≡ empty ++ header_bytes (one_writer seen.clock) → AppendsCalls seen.dictionary seen.clock.tick (filter (keeps seen.dictionary level) calls) head after → bytes ≡ after ++ close_bytes 0
     → LogOfRun (kept_run run level) bytes
 kept_log level seen run calls empty head after bytes same narrow recorded first nothing headed appended is =
     whole_log (kept_run seen level) (kept_run run level) (filter (keeps seen.dictionary level) calls) empty head after bytes (ap (λ (r : Recording). kept_run r level) same)
     (record { narrow = narrow_kept run level narrow.narrow; clock_fits = narrow.clock_fits; distinct = narrow.distinct }) (recorded_kept seen level recorded)
     (kept_at (keeps seen.dictionary level) seen.writers 0 calls first) nothing headed appended is
+
+-- ---- what was appended
+
+-- a fragment and an extent were appended for some calls
+pub parts_appended : (dictionary : List Message) (tick count : ℕ) (calls : List Call) (old mid new body : List ℕ) → count ≡ ids_used calls → (count ≡ 0 → ⊥)
+    → Appends (SpellsFragment 0 (take count dictionary)) old mid → SpellsRecords dictionary tick calls body → length body ≤ MAX_BODY
+    → new ≡ mid ++ (extent_head_bytes 0 (length body) ++ body) → AppendsCalls dictionary tick calls old new
+parts_appended dictionary tick count [] old mid new body is some fragment spelled short joined = absurd (some is)
+parts_appended dictionary tick count (call ∷ calls) old mid new body is some fragment spelled short joined = record {
+  fragment = fragment.bytes;
+  extent = extent_head_bytes 0 (length body) ++ body;
+  fragment_spelled = subst (λ (n : ℕ). SpellsFragment 0 (take n dictionary) fragment.bytes) is fragment.spelled;
+  extent_spelled = record {
+    body = body;
+    some = body_some dictionary tick (call ∷ calls) body (omega arith) spelled;
+    short = short;
+    writer_fits = omega arith;
+    body_spelled = spelled;
+    joined = refl;
+  };
+  joined = joined ∙ ap (λ (b : List ℕ). b ++ (extent_head_bytes 0 (length body) ++ body)) fragment.joined;
+}
+
+-- and nothing for no calls
+pub nothing_appended : (dictionary : List Message) (tick count : ℕ) (calls : List Call) (log : List ℕ) → count ≡ ids_used calls → count ≡ 0 → AppendsCalls dictionary tick calls log log
+nothing_appended dictionary tick count [] log is none = refl
+nothing_appended dictionary tick count (call ∷ calls) log is none = let some = ids_some (call ∷ calls) (omega arith) in absurd (omega (arith, some, is, none))
 
 -- ---- what is asked of the parts
 
@@ -384,7 +359,7 @@ pub run_later : (seen run : Recording) (calls : List Call) → seen ≡ run → 
 run_later seen run calls same narrow recorded first =
     (subst (AllByRecursion (NeverFalls seen.clock.tick)) (single seen.writers calls (subst IsNarrowRun (sym same) narrow).one_writer first) recorded.stamps).0
 
-pub run_few : (seen run : Recording) (calls : List Call) → seen ≡ run → IsNarrowRun run → Some calls ≡ slice_get seen.writers 0 → length calls ≤ 128
+pub run_few : (seen run : Recording) (calls : List Call) → seen ≡ run → IsNarrowRun run → Some calls ≡ slice_get seen.writers 0 → length calls ≤ MAX_NARROW_CALLS
 run_few seen run calls same narrow first =
     let narrow_too = subst IsNarrowRun (sym same) narrow in
-    (subst (AllByRecursion (λ cs. length cs ≤ 128)) (single seen.writers calls narrow_too.one_writer first) narrow_too.few_calls).0
+    (subst (AllByRecursion (λ cs. length cs ≤ MAX_NARROW_CALLS)) (single seen.writers calls narrow_too.one_writer first) narrow_too.few_calls).0

@@ -14,7 +14,7 @@ use Rattle.preprocessor.specs.Findings.{SourceFile, Finding, HasFindings, AllHav
 use Rattle.preprocessor.specs.Numbering.{finding_messages, messages_of, finding_refusals, refusals_of, firsts, numbered, excess_refusal, Refusals}
 use Rattle.preprocessor.proofs.Behind.{grown_behind}
 use Rattle.preprocessor.proofs.Once.{refusals_once}
-use Rattle.nanolog_cli.specs.Endings.{Ending, Done, Usage, Absent, ReadFault, Refused, RefusedSources, WriteFault, NoMemory}
+use Rattle.nanolog_cli.specs.Endings.{Ending, Done, StillOpen, Usage, Absent, ReadFault, Refused, RefusedSources, Damaged, WriteFault, NoMemory}
 use Rattle.nanolog_cli.specs.HeldFiles.{IsHeld, IsThere}
 use Rattle.nanolog_cli.specs.Preprocessing.{source_name, AreRead, EndsReading, AreRight, AreRefused, IsReached, GiveNothing, AreNumbered}
 use Rattle.nanolog_cli.specs.Preprocessing.EndsReading.{all_read, too_many, absent, failed}
@@ -117,6 +117,8 @@ ends_reading old new sources unread (failed name others is few only rose) = inr 
 -- the files are as they were, but for the count of read faults
 pub only_reads : (names : List (List ℕ)) (old new : Desk) (ending : Ending) → GiveNothing names old new ending → (new ≡ old) ⊎ OnlyReadFaults old new
 only_reads names old new Done nothing = absurd nothing
+only_reads names old new (StillOpen said numbers) nothing = absurd nothing
+only_reads names old new (Damaged said offset cause) nothing = absurd nothing
 only_reads names old new Usage nothing = absurd nothing
 only_reads names old new (Absent name) nothing = inl nothing.2
 only_reads names old new (ReadFault name) nothing = inr nothing.1
@@ -134,6 +136,8 @@ seen_name names front name others is =
 pub reads_told : (names : List (List ℕ)) (old new : Desk) (ending : Ending) → GiveNothing names old new ending
     → ((name : List ℕ) × Contains names name × (ending ≡ ReadFault name)) ⊎ (new.read_faults ≡ old.read_faults) ⊎ ((lines : List ℕ) × AreRefused names old new lines)
 reads_told names old new Done nothing = absurd nothing
+reads_told names old new (StillOpen said numbers) nothing = absurd nothing
+reads_told names old new (Damaged said offset cause) nothing = absurd nothing
 reads_told names old new Usage nothing = absurd nothing
 reads_told names old new (Absent name) nothing = inr (inl (ap (λ (d : Desk). d.read_faults) nothing.2))
 reads_told names old new (ReadFault name) nothing = inl (name, seen_name names (map source_name nothing.0.sources) name nothing.0.others nothing.0.read.named, refl)
@@ -159,6 +163,8 @@ right_there names old name right reached gone =
 
 pub right_taken : (names : List (List ℕ)) (old new : Desk) (ending : Ending) → GiveNothing names old new ending → AreRight old names → ¬ (Rose old.read_faults new.read_faults) → ending ≡ NoMemory
 right_taken names old new Done nothing right r = absurd nothing
+right_taken names old new (StillOpen said numbers) nothing right r = absurd nothing
+right_taken names old new (Damaged said offset cause) nothing right r = absurd nothing
 right_taken names old new Usage nothing right r = absurd nothing
 right_taken names old new (Absent name) nothing right r = absurd (right_there names old name right nothing.0 nothing.1)
 right_taken names old new (ReadFault name) nothing right r = absurd (r nothing.2)
@@ -192,6 +198,8 @@ first_reached names old found name others held reached is told none =
 pub first_absent : (names : List (List ℕ)) (old new : Desk) (ending : Ending) (name : List ℕ) (others : List (List ℕ)) (held : Held) → GiveNothing names old new ending → names ≡ name ∷ others → old.held ≡ Some held
     → map.get held name ≡ None → ¬ (Rose old.read_faults new.read_faults) → ending ≡ Absent name
 first_absent names old new Done name others held nothing is told none r = absurd nothing
+first_absent names old new (StillOpen said numbers) name others held nothing is told none r = absurd nothing
+first_absent names old new (Damaged said offset cause) name others held nothing is told none r = absurd nothing
 first_absent names old new Usage name others held nothing is told none r = absurd nothing
 first_absent names old new (Absent found) name others held nothing is told none r = ap Absent (first_reached names old found name others held nothing.0 is told none)
 first_absent names old new (ReadFault found) name others held nothing is told none r = absurd (r nothing.2)

@@ -20,7 +20,7 @@ use Rattle.preprocessor.specs.Numbering.{refusals_of, excess_refusal, Refusals, 
 use Rattle.preprocessor.proofs.Told.{numbering_refuses, numbering_numbers}
 use Rattle.nanolog_cli.specs.declared.refusal.Refusal.{Refusal}
 use Rattle.nanolog_cli.specs.declared.refusal.Refusal.TheVariants.{NoMemory as WantsMemory}
-use Rattle.nanolog_cli.specs.Endings.{Ending, Done, Usage, Absent, ReadFault, Refused, RefusedSources, WriteFault, NoMemory, refusal_ending}
+use Rattle.nanolog_cli.specs.Endings.{Ending, Done, StillOpen, Usage, Absent, ReadFault, Refused, RefusedSources, Damaged, WriteFault, NoMemory, refusal_ending}
 use Rattle.nanolog_cli.specs.HeldFiles.{IsHeld, IsThere, HoldsSuch}
 use Rattle.nanolog_cli.specs.Outcomes.{GivesNoBytes}
 use Rattle.nanolog_cli.specs.Preprocessing.{source_name, AreRead, HaveExcess, HaveNoExcess, EndsReading, IsNumbered, IsMissing, AreRefused, IsReached, GiveNothing, AreNumbered}
@@ -152,6 +152,8 @@ large_added numbering name source (Err e) is added = tt
 missing_ends : (old new : Desk) (sources : List SourceFile) (name : List ℕ) (others : List (List ℕ)) (ending : Ending) → HaveNoExcess sources → GivesNoBytes name old new ending → IsMissing ending
     → EndsReading old new sources (name ∷ others)
 missing_ends old new sources name others Done few gives missing = absurd gives
+missing_ends old new sources name others (StillOpen said numbers) few gives missing = absurd gives
+missing_ends old new sources name others (Damaged said offset cause) few gives missing = absurd gives
 missing_ends old new sources name others Usage few gives missing = absurd gives
 missing_ends old new sources name others (Absent said) few gives missing = absent name others refl few gives.2 gives.1
 missing_ends old new sources name others (ReadFault said) few gives missing = failed name others refl few gives.1 gives.2
@@ -178,6 +180,8 @@ lacks_answered names old new (Err e) is nothing = subst (λ (refusal : Refusal).
 missing_gives : (names : List (List ℕ)) (old new : Desk) (sources : List SourceFile) (numbering : Numbering) (name : List ℕ) (others : List (List ℕ)) (ending : Ending) → AreRead old names sources (name ∷ others)
     → Numbers sources numbering → GivesNoBytes name old new ending → (IsMissing ending → numbering.refusals.items ≡ []) → GiveNothing names old new ending
 missing_gives names old new sources numbering name others Done read numbers gives none = absurd gives
+missing_gives names old new sources numbering name others (StillOpen said writers) read numbers gives none = absurd gives
+missing_gives names old new sources numbering name others (Damaged said offset cause) read numbers gives none = absurd gives
 missing_gives names old new sources numbering name others Usage read numbers gives none = absurd gives
 missing_gives names old new sources numbering name others (Absent said) read numbers gives none =
     subst (λ (n : List ℕ). IsReached old names n × IsAbsent old n × (new ≡ old)) (sym gives.0)

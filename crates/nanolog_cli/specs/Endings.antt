@@ -1,5 +1,7 @@
 -- How a command ends: all of it is done, or why it isn't.
 use Rattle.std.specs.Prelude.{ℕ, List, Result, Ok, Err, codes}
+use Rattle.std.specs.String.{string_bytes}
+use Rattle.checkpoint_io.specs.declared.cause.Cause.{Cause as LogCause}
 use Rattle.trace_text.specs.Causes.{cause_number, cause_name}
 use Rattle.trace_text.specs.declared.reading.TraceFault.{TraceFault}
 use Rattle.trace_text.specs.declared.reading.TraceFault.TheVariants as faults
@@ -9,27 +11,34 @@ use Rattle.nanolog_cli.specs.declared.refusal.Cause.{Cause}
 use Rattle.nanolog_cli.specs.declared.refusal.Cause.TheVariants.{Trace, NotYet}
 use Rattle.nanolog_cli.specs.declared.refusal.Refusal.{Refusal}
 use Rattle.nanolog_cli.specs.declared.refusal.Refusal.TheVariants as refusals
+use Rattle.nanolog_cli.specs.declared.note.Note.{Note}
+use Rattle.nanolog_cli.specs.declared.note.Note.TheVariants as notes
 
--- An end, with the name that it tells of. A refused file is told with a line, which is 0 where that is none, and a cause,
--- and refused sources with the lines on all that is refused.
+-- an end, with the name that it tells of; a refused file is told with a line, which is 0 where that is none, and a
+-- cause, refused sources with the lines on all that is refused, and a damaged log with an offset and a cause; where all
+-- was done, but writers of a log are still open, their numbers are told
 pub data Ending : Type 0 where
   Done : Ending
+  StillOpen : (name numbers : List ℕ) → Ending
   Usage : Ending
   Absent : (name : List ℕ) → Ending
   ReadFault : (name : List ℕ) → Ending
   Refused : (name : List ℕ) (line : ℕ) (cause : Cause) → Ending
   RefusedSources : (lines : List ℕ) → Ending
+  Damaged : (name : List ℕ) (offset : ℕ) (cause : LogCause) → Ending
   WriteFault : (name : List ℕ) → Ending
   NoMemory : Ending
 
 -- the status that goes with it
 abbrev pub status_of : Ending → Status
 status_of Done = statuses.Done
+status_of (StillOpen name numbers) = statuses.Done
 status_of Usage = statuses.Usage
 status_of (Absent name) = statuses.Absent
 status_of (ReadFault name) = statuses.ReadFault
 status_of (Refused name line cause) = statuses.Refused
 status_of (RefusedSources lines) = statuses.Refused
+status_of (Damaged name offset cause) = statuses.Damaged
 status_of (WriteFault name) = statuses.WriteFault
 status_of NoMemory = statuses.NoMemory
 
@@ -50,6 +59,7 @@ refusal_ending (refusals.Absent name) = Absent name.now
 refusal_ending (refusals.ReadFault name) = ReadFault name.now
 refusal_ending (refusals.Refused name line cause) = Refused name.now line cause
 refusal_ending (refusals.RefusedSources lines) = RefusedSources lines.items
+refusal_ending (refusals.Damaged name offset cause) = Damaged name.now offset cause
 refusal_ending (refusals.WriteFault name) = WriteFault name.now
 refusal_ending refusals.NoMemory = NoMemory
 
@@ -57,6 +67,16 @@ refusal_ending refusals.NoMemory = NoMemory
 abbrev pub ending_of : {T : Type 0} → Result T Refusal → Ending
 ending_of (Ok x) = Done
 ending_of (Err refusal) = refusal_ending refusal
+
+-- a command that was done, with what is said beside its text, as an end
+abbrev pub note_ending : Note → Ending
+note_ending notes.Nothing = Done
+note_ending (notes.StillOpen log numbers) = StillOpen log.now (string_bytes numbers)
+
+-- what a command answers, as an end
+abbrev pub answer_ending : Result Note Refusal → Ending
+answer_ending (Ok note) = note_ending note
+answer_ending (Err refusal) = refusal_ending refusal
 
 -- why the name gave no trace, as an end
 abbrev pub fault_ending : List ℕ → TraceFault → Ending

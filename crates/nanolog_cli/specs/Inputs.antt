@@ -1,13 +1,16 @@
 -- Of which form a file has to be, and why one is refused.
-use Rattle.std.specs.Prelude.{◌≡◌, ℕ, List, ⊤}
+use Rattle.std.specs.Prelude.{◌≡◌, ℕ, ◌≤◌, List, length, ⊤}
 use Rattle.trace_text.specs.Recordings.{Recording}
 use Rattle.trace_text.specs.Traces.{TraceText}
 use Rattle.trace_text.specs.Reading.{TraceBreak}
+use Rattle.checkpoint_io.specs.declared.heads.TheConstants.{MAX_LOG}
+use Rattle.checkpoint_io.specs.declared.header.Header.{Header}
+use Rattle.checkpoint_io.specs.Blocks.{Block, FileOf}
+use Rattle.checkpoint_io.specs.Validity.{Valid}
 use Rattle.nanolog_cli.specs.declared.refusal.Cause.{Cause}
 use Rattle.nanolog_cli.specs.declared.refusal.Cause.TheVariants.{Trace, NotYet}
 use Rattle.nanolog_cli.specs.Endings.{Ending, Refused, NoMemory}
 use Rattle.nanolog_cli.specs.NarrowTraces.{NarrowTrace}
-use Rattle.nanolog_cli.specs.NarrowLogs.{IsLog}
 
 -- the bytes spell a run
 abbrev pub IsTrace : List ℕ → Type 0
@@ -16,6 +19,14 @@ IsTrace bytes = (run : Recording) × TraceText bytes run
 -- the bytes spell a run that `replay` takes
 abbrev pub IsNarrowTrace : List ℕ → Type 0
 IsNarrowTrace bytes = (run : Recording) × NarrowTrace bytes run
+
+-- the bytes are a log from the first to the last, and no more than are read
+pub record IsLog (bytes : List ℕ) : Type 0 where
+  pub header : Header
+  pub blocks : List Block
+  pub file : FileOf header blocks bytes
+  pub valid : Valid header blocks
+  pub within : length bytes ≤ MAX_LOG
 
 -- a line of the trace is wrong, by this cause
 abbrev pub WrongTrace : List ℕ → ℕ → Cause → Type 0
@@ -26,11 +37,6 @@ WrongTrace bytes line NotYet = ⊥
 abbrev pub UntakenTrace : List ℕ → ℕ → Cause → Type 0
 UntakenTrace bytes line (Trace cause) = TraceBreak bytes line cause
 UntakenTrace bytes line NotYet = (line ≡ 0) × IsTrace bytes × (¬ (IsNarrowTrace bytes))
-
--- the file is none of the logs that are taken so far
-abbrev pub UntakenLog : List ℕ → ℕ → Cause → Type 0
-UntakenLog bytes line (Trace cause) = ⊥
-UntakenLog bytes line NotYet = (line ≡ 0) × (¬ (IsLog bytes))
 
 -- why the bytes of a file gave nothing: they are refused, or memory was wanting
 abbrev pub GivesNothing : (List ℕ → ℕ → Cause → Type 0) → List ℕ → List ℕ → Ending → Type 0

@@ -7,11 +7,10 @@ pub mod Words
 pub mod HeldFiles
 pub mod Scenes
 pub mod NarrowTraces
-pub mod NarrowLogs
-pub mod LogParts
 pub mod Inputs
 pub mod Texts
 pub mod Replays
 pub mod Appending
 pub mod Preprocessing
+pub mod Decompressing
 pub mod Outcomes

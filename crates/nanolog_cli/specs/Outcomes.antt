@@ -1,94 +1,32 @@
 -- How a command ends: what its answer says of the files and of the standard output.
-use Rattle.std.specs.Prelude.{◌≡◌, ◌≢◌, ◌⊎◌, ℕ, ◌≤◌, List, length, take, Option, Some, None, IfSome}
-use Rattle.std.specs.FinMap as map
+use Rattle.std.specs.Prelude.{◌≡◌, ◌⊎◌, ℕ, List, Option, Some, None, ⊤}
 use Rattle.nl_io.specs.Count.{Rose}
 use Rattle.nl_io.specs.Content.{Told, with_end, PutsFront}
-use Rattle.nl_io.specs.Desk.{Desk, Held, OnlyReadFaults, OnlyName, IsAbsent, found_in}
-use Rattle.log_dictionary.specs.declared.clock.Clock.{Clock}
-use Rattle.log_dictionary.specs.declared.message.Message.{Message}
-use Rattle.arg_records.specs.declared.call.Call.{Call}
+use Rattle.nl_io.specs.Desk.{Desk, OnlyReadFaults, OnlyName, IsAbsent, found_in}
+use Rattle.log_dictionary.specs.declared.severity.Severity.{Severity}
 use Rattle.trace_text.specs.Recordings.{Recording}
 use Rattle.trace_text.specs.Traces.{TraceText}
-use Rattle.decompressor.specs.Decompression.{Decompressed}
 use Rattle.nanolog_cli.specs.declared.refusal.Cause.{Cause}
 use Rattle.cli_words.specs.Commands.{Command, Preprocess, Direct, Replay, Decompress}
 use Rattle.nanolog_cli.specs.Levels.{kept_run}
 use Rattle.nanolog_cli.specs.Endings.{Ending, Done, Usage, Absent, ReadFault, Refused, WriteFault, NoMemory}
-use Rattle.nanolog_cli.specs.Inputs.{IsTrace, IsNarrowTrace, WrongTrace, UntakenTrace, UntakenLog}
+use Rattle.nanolog_cli.specs.Inputs.{IsTrace, IsNarrowTrace, IsLog, WrongTrace, UntakenTrace}
 use Rattle.nanolog_cli.specs.NarrowTraces.{NarrowTrace}
-use Rattle.nanolog_cli.specs.NarrowLogs.{NarrowLog, IsLog}
-use Rattle.nanolog_cli.specs.Texts.{direct_text}
-use Rattle.nanolog_cli.specs.Replays.{LogOfRun, accepted_text}
-use Rattle.nanolog_cli.specs.Preprocessing.{GiveNothing, AreRefused, AreRight, WritesDictionary, LosesDictionary}
 pub use Rattle.nanolog_cli.specs.HeldFiles.{IsHeld, HoldsFront, IsThere, HoldsSuch, Holds}
 pub use Rattle.nanolog_cli.specs.Scenes.{Scene, scene, Prints}
+use Rattle.nanolog_cli.specs.Preprocessing.{GiveNothing, AreRefused, AreRight, WritesDictionary, LosesDictionary}
+use Rattle.nanolog_cli.specs.Decompressing.{Decodes}
+use Rattle.nanolog_cli.specs.Texts.{direct_text}
+use Rattle.nanolog_cli.specs.Replays.{LogOfRun, accepted_text}
+use Rattle.nanolog_cli.specs.Words.{words_of}
 
--- ---- what names held
-
--- what the name held, where that is told, is such a text of the run
-abbrev pub HeldRun : (List ℕ → Recording → Type 0) → Desk → List ℕ → Recording → Type 0
-HeldRun is_text desk name run = HoldsSuch desk name (λ bytes. is_text bytes run)
-
--- what the name held, where that is told, is the log of these messages and records
-pub record HeldNarrowLog (desk : Desk) (name : List ℕ) (clock : Clock) (messages : List Message) (entries : List Call) : Type 0 where
-  pub bytes : List ℕ
-  pub was_held : IsHeld desk name bytes
-  pub is_log : NarrowLog bytes clock messages entries
-
--- what the name held, where that is told, is a log that decompresses to the text
-pub record HeldLog (desk : Desk) (name text : List ℕ) : Type 0 where
-  pub bytes : List ℕ
-  pub was_held : IsHeld desk name bytes
-  pub is_log : IsLog bytes
-  pub decompressed : Decompressed bytes text
-
--- ---- the log of `replay`
-
--- The name holds the log of the run. All else of the files is as it was, and no call failed.
-pub record LogWritten (old new : Desk) (log : List ℕ) (run : Recording) : Type 0 where
-  pub bytes : List ℕ
-  pub log_of_run : LogOfRun run bytes
-  pub written : IsHeld new log bytes
-  pub only : OnlyName log old new
-  pub counted : new.write_faults ≡ old.write_faults
-
--- A write of the log failed. Its name holds what it held, or a front of the log of the run. All else of the files is as it was.
-pub record LogCutOff (old new : Desk) (log : List ℕ) (run : Recording) : Type 0 where
-  pub bytes : List ℕ
-  pub log_of_run : LogOfRun run bytes
-  pub holds : (found_in new log ≡ found_in old log) ⊎ HoldsFront new log bytes
-  pub only : OnlyName log old new
-  pub failed : Rose old.write_faults new.write_faults
-
--- ---- what was done
-
--- The text that a command prints, when all else is done: what it reads was read to the last byte, and what it writes to
--- a file is written.
-abbrev pub HasText : Command → Desk → Desk → List ℕ → Type 0
-HasText (Preprocess dictionary sources) old new text = WritesDictionary dictionary sources old new text
-HasText (Direct trace) old new text = (run : Recording) × HeldRun TraceText old trace run × (text ≡ direct_text run) × (new ≡ old)
-HasText (Replay trace log level) old new text =
-    (run : Recording) × HeldRun NarrowTrace old trace run × LogWritten old new log (kept_run run level) × (text ≡ accepted_text run level)
-HasText (Decompress log) old new text = HeldLog old log text × (new ≡ old)
-
--- all was done that comes before the text is printed, and the printing of it ended so
-abbrev pub PrintsText : Command → Scene → Scene → Ending → Type 0
-PrintsText command old new ending =
-    (text : List ℕ) × HasText command old.desk new.desk text × Prints text old.put new.put old.faults new.faults ending
-
--- what a command writes to a file couldn't be written whole, and nothing was printed
-abbrev pub LosesFile : Command → Scene → Scene → List ℕ → Type 0
-LosesFile (Preprocess dictionary sources) old new name =
-    (name ≡ dictionary) × LosesDictionary dictionary sources old.desk new.desk × (new.put ≡ old.put) × (new.faults ≡ old.faults)
-LosesFile (Replay trace log level) old new name =
-    (name ≡ log) × ((run : Recording) × HeldRun NarrowTrace old.desk trace run × LogCutOff old.desk new.desk log (kept_run run level))
-    × (new.put ≡ old.put) × (new.faults ≡ old.faults)
-LosesFile _ old new name = ⊥
+-- ---- a file that gives nothing
 
 -- why a file gave no bytes: it isn't there, a call failed, or memory was wanting
 abbrev pub GivesNoBytes : List ℕ → Desk → Desk → Ending → Type 0
 GivesNoBytes input old new (Absent name) = (name ≡ input) × (new ≡ old) × IsAbsent old input
-GivesNoBytes input old new (ReadFault name) = (name ≡ input) × OnlyReadFaults old new × Rose old.read_faults new.read_faults
+GivesNoBytes input old new (ReadFault name) =
+    (name ≡ input) × OnlyReadFaults old new × Rose old.read_faults new.read_faults
 GivesNoBytes input old new NoMemory = (new ≡ old) × IsThere old input
 GivesNoBytes input old new ending = ⊥
 
@@ -98,16 +36,102 @@ IsUnread refused input old new (Refused name line cause) =
     (name ≡ input) × (new ≡ old) × HoldsSuch old input (λ bytes. refused bytes line cause)
 IsUnread refused input old new ending = GivesNoBytes input old new ending
 
--- why what a command reads gave nothing
-abbrev pub Unread : Command → Desk → Desk → Ending → Type 0
-Unread (Preprocess dictionary sources) = GiveNothing sources
-Unread (Direct trace) = IsUnread WrongTrace trace
-Unread (Replay trace log level) = IsUnread UntakenTrace trace
-Unread (Decompress log) = IsUnread UntakenLog log
+-- the file that is read gave nothing, and nothing was printed
+abbrev pub ReadsNothing : (List ℕ → ℕ → Cause → Type 0) → List ℕ → Scene → Scene → Ending → Type 0
+ReadsNothing refused input old new ending =
+    IsUnread refused input old.desk new.desk ending × (new.put ≡ old.put) × (new.faults ≡ old.faults)
 
--- what the command reads gave nothing, and nothing was printed
-abbrev pub ReadsNothing : Command → Scene → Scene → Ending → Type 0
-ReadsNothing command old new ending = Unread command old.desk new.desk ending × (new.put ≡ old.put) × (new.faults ≡ old.faults)
+-- what the name held, where that is told, is such a text of the run
+abbrev pub HeldRun : (List ℕ → Recording → Type 0) → Desk → List ℕ → Recording → Type 0
+HeldRun is_text desk name run = HoldsSuch desk name (λ bytes. is_text bytes run)
+
+-- ---- a text that is printed last
+
+-- all was done that comes before such a text is printed, and the printing of it ended so
+abbrev pub PrintsText : (Desk → Desk → List ℕ → Type 0) → Scene → Scene → Ending → Type 0
+PrintsText has_text old new ending =
+    (text : List ℕ) × has_text old.desk new.desk text × Prints text old.put new.put old.faults new.faults ending
+
+-- ---- `preprocess`
+
+-- the dictionary couldn't be written whole, and nothing was printed
+abbrev pub LosesNames : List ℕ → List (List ℕ) → Scene → Scene → List ℕ → Type 0
+LosesNames dictionary sources old new name =
+    (name ≡ dictionary) × LosesDictionary dictionary sources old.desk new.desk × (new.put ≡ old.put)
+    × (new.faults ≡ old.faults)
+
+-- what the answer of `preprocess` says
+abbrev pub Preprocesses : List ℕ → List (List ℕ) → Scene → Scene → Ending → Type 0
+Preprocesses dictionary sources old new Done = PrintsText (WritesDictionary dictionary sources) old new Done
+Preprocesses dictionary sources old new (WriteFault name) =
+    PrintsText (WritesDictionary dictionary sources) old new (WriteFault name)
+    ⊎ LosesNames dictionary sources old new name
+Preprocesses dictionary sources old new ending =
+    GiveNothing sources old.desk new.desk ending × (new.put ≡ old.put) × (new.faults ≡ old.faults)
+
+-- ---- `direct`
+
+-- the trace was read to its last byte, and the text is the lines of its calls
+abbrev pub HasTraceLines : List ℕ → Desk → Desk → List ℕ → Type 0
+HasTraceLines trace old new text =
+    (run : Recording) × HeldRun TraceText old trace run × (text ≡ direct_text run) × (new ≡ old)
+
+-- what the answer of `direct` says
+abbrev pub Directs : List ℕ → Scene → Scene → Ending → Type 0
+Directs trace old new Done = PrintsText (HasTraceLines trace) old new Done
+Directs trace old new (WriteFault name) = PrintsText (HasTraceLines trace) old new (WriteFault name)
+Directs trace old new NoMemory =
+    ReadsNothing WrongTrace trace old new NoMemory ⊎ PrintsText (HasTraceLines trace) old new NoMemory
+Directs trace old new ending = ReadsNothing WrongTrace trace old new ending
+
+-- ---- `replay`
+
+-- The name holds the log of the run. All else of the files is as it was, and no call failed.
+pub record LogWritten (old new : Desk) (log : List ℕ) (run : Recording) : Type 0 where
+  pub bytes : List ℕ
+  pub log_of_run : LogOfRun run bytes
+  pub written : IsHeld new log bytes
+  pub only : OnlyName log old new
+  pub counted : new.write_faults ≡ old.write_faults
+
+-- A write of the log failed. Its name holds what it held, or a front of the log of the run. All else of the files is as
+-- it was.
+pub record LogCutOff (old new : Desk) (log : List ℕ) (run : Recording) : Type 0 where
+  pub bytes : List ℕ
+  pub log_of_run : LogOfRun run bytes
+  pub holds : (found_in new log ≡ found_in old log) ⊎ HoldsFront new log bytes
+  pub only : OnlyName log old new
+  pub failed : Rose old.write_faults new.write_faults
+
+-- the trace was read to its last byte, the log of the calls that are kept is written, and the text is how many they are
+abbrev pub HasWrittenLog : List ℕ → List ℕ → Severity → Desk → Desk → List ℕ → Type 0
+HasWrittenLog trace log level old new text =
+    (run : Recording) × HeldRun NarrowTrace old trace run × LogWritten old new log (kept_run run level)
+    × (text ≡ accepted_text run level)
+
+-- the log of the run that was read couldn't be written whole, and nothing was printed
+abbrev pub LosesLog : List ℕ → List ℕ → Severity → Scene → Scene → List ℕ → Type 0
+LosesLog trace log level old new name =
+    (name ≡ log)
+    × ((run : Recording) × HeldRun NarrowTrace old.desk trace run
+    × LogCutOff old.desk new.desk log (kept_run run level))
+    × (new.put ≡ old.put) × (new.faults ≡ old.faults)
+
+-- what the answer of `replay` says
+abbrev pub Replays : List ℕ → List ℕ → Severity → Scene → Scene → Ending → Type 0
+Replays trace log level old new Done = PrintsText (HasWrittenLog trace log level) old new Done
+Replays trace log level old new (WriteFault name) =
+    PrintsText (HasWrittenLog trace log level) old new (WriteFault name) ⊎ LosesLog trace log level old new name
+Replays trace log level old new ending = ReadsNothing UntakenTrace trace old new ending
+
+-- ---- all commands
+
+-- What the answer of a command says.
+abbrev pub Ends : Command → Scene → Scene → Ending → Type 0
+Ends (Preprocess dictionary sources) = Preprocesses dictionary sources
+Ends (Direct trace) = Directs trace
+Ends (Replay trace log level) = Replays trace log level
+Ends (Decompress log) = Decodes log
 
 -- it is told that what a command reads is there, and is right
 abbrev pub IsRight : Command → Desk → Type 0
@@ -116,32 +140,32 @@ IsRight (Direct trace) desk = Holds desk trace IsTrace
 IsRight (Replay trace log level) desk = Holds desk trace IsNarrowTrace
 IsRight (Decompress log) desk = Holds desk log IsLog
 
--- of what a command read something is refused, on which it goes on to read; only `preprocess` does so
-abbrev pub ReadsOn : Command → Desk → Desk → Type 0
-ReadsOn (Preprocess dictionary sources) old new = (lines : List ℕ) × AreRefused sources old new lines
-ReadsOn _ old new = ⊥
-
--- memory was wanting: nothing was printed or, of the lines of `direct`, a front
-abbrev pub LacksMemory : Command → Scene → Scene → Type 0
-LacksMemory (Direct trace) old new = ReadsNothing (Direct trace) old new NoMemory ⊎ PrintsText (Direct trace) old new NoMemory
-LacksMemory command old new = ReadsNothing command old new NoMemory
-
--- What the answer of a command says.
-abbrev pub Ends : Command → Scene → Scene → Ending → Type 0
-Ends command old new Done = PrintsText command old new Done
-Ends command old new (WriteFault name) = PrintsText command old new (WriteFault name) ⊎ LosesFile command old new name
-Ends command old new NoMemory = LacksMemory command old new
-Ends command old new ending = ReadsNothing command old new ending
+-- Where a read failed, this may be told in its place: with `preprocess` what is refused of the sources before, and with
+-- `decompress` that a write failed, or that memory was wanting, behind the lines of what was read before.
+abbrev pub HidesReadFault : Command → Desk → Desk → Ending → Type 0
+HidesReadFault (Preprocess dictionary sources) old new ending = (lines : List ℕ) × AreRefused sources old new lines
+HidesReadFault (Decompress log) old new (WriteFault name) = ⊤
+HidesReadFault (Decompress log) old new NoMemory = ⊤
+HidesReadFault command old new ending = ⊥
 
 -- what the answer says of words that were read, which spell a command or none
 abbrev pub AnswersRead : Option Command → Scene → Scene → Ending → Type 0
 AnswersRead None old new ending = (ending ≡ Usage) × (new ≡ old)
 AnswersRead (Some command) old new ending = Ends command old new ending
 
--- What the answer says of words: memory was wanting while they were read, and all is as it was; or it is that of the words that were read.
+-- What the answer says of words: memory was wanting while they were read, and all is as it was; or it is that of the
+-- words that were read.
 abbrev pub Answers : Option Command → Scene → Scene → Ending → Type 0
 Answers asked old new ending = ((ending ≡ NoMemory) × (new ≡ old)) ⊎ AnswersRead asked old new ending
 
+-- ---- what is told of it
+
 -- these words were said whole, and no call failed, or a front of them, and a call failed
 abbrev pub Says : List ℕ → Told → Told → ℕ → ℕ → Type 0
-Says words was is before after = ((is ≡ with_end words was) × (after ≡ before)) ⊎ (PutsFront words was is × Rose before after)
+Says words was is before after =
+    ((is ≡ with_end words was) × (after ≡ before)) ⊎ (PutsFront words was is × Rose before after)
+
+-- What is said of an end: its words; where all was done and there is nothing to tell, no call is made.
+abbrev pub Tells : Ending → Told → Told → ℕ → ℕ → Type 0
+Tells Done was is before after = (is ≡ was) × (after ≡ before)
+Tells ending was is before after = Says (words_of ending) was is before after

@@ -106,8 +106,8 @@ pub record LackMemory (names : List (List ℕ)) (old new : Desk) : Type 0 where
   pub there : (name : List ℕ) (others : List (List ℕ)) → unread ≡ name ∷ others → IsThere old name
   pub same : new ≡ old
 
--- Why the sources gave no dictionary: the first of them that isn't there, can't be read or is refused says why, or memory
--- was wanting, also for the lines on what is refused.
+-- Why the sources gave no dictionary: the first of them that isn't there, can't be read or is refused says why, or
+-- memory was wanting, also for the lines on what is refused.
 abbrev pub GiveNothing : List (List ℕ) → Desk → Desk → Ending → Type 0
 GiveNothing names old new (Absent name) = IsReached old names name × IsAbsent old name × (new ≡ old)
 GiveNothing names old new (ReadFault name) =

@@ -2,7 +2,8 @@
 use Rattle.std.specs.Prelude.{ℕ, List, [], ◌++◌, map, codes}
 use Rattle.std.specs.Fmt.{decimal}
 use Rattle.std.specs.Borrow.{Bor}
-use Rattle.nanolog_cli.specs.Endings.{Ending, Done, Usage, Absent, ReadFault, Refused, RefusedSources, WriteFault, NoMemory, number_of, name_of}
+use Rattle.checkpoint_io.specs.Causes.{cause_number, cause_name}
+use Rattle.nanolog_cli.specs.Endings.{Ending, Done, StillOpen, Usage, Absent, ReadFault, Refused, RefusedSources, Damaged, WriteFault, NoMemory, number_of, name_of}
 
 -- the forms of the command line
 abbrev pub usage_text : List ℕ
@@ -20,6 +21,7 @@ usage_text =
 -- the words that tell of an end
 abbrev pub words_of : Ending → List ℕ
 words_of Done = []
+words_of (StillOpen name numbers) = codes "nanolog: " ++ name ++ codes ": writers still open:" ++ numbers ++ codes "\n"
 words_of Usage = usage_text
 words_of (Absent name) = codes "nanolog: " ++ name ++ codes ": absent\n"
 words_of (ReadFault name) = codes "nanolog: " ++ name ++ codes ": read fault\n"
@@ -27,6 +29,9 @@ words_of (Refused name line cause) =
     codes "nanolog: " ++ name ++ codes ":" ++ decimal line
     ++ codes ": refused: " ++ decimal (number_of cause) ++ codes " " ++ name_of cause ++ codes "\n"
 words_of (RefusedSources lines) = lines
+words_of (Damaged name offset cause) =
+    codes "nanolog: " ++ name ++ codes ":" ++ decimal offset
+    ++ codes ": damaged: " ++ decimal (cause_number cause) ++ codes " " ++ cause_name cause ++ codes "\n"
 words_of (WriteFault name) = codes "nanolog: " ++ name ++ codes ": write fault\n"
 words_of NoMemory = codes "nanolog: want of memory\n"
 

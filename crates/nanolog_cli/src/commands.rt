@@ -3,20 +3,28 @@
 ghost use Rattle.std.specs.Prelude.{◌≡◌};
 ghost use Rattle.cli_words.specs.Commands.{command_of as command_spelled, texts_of};
 ghost use Rattle.cli_words.specs.CommandViews.{command_is};
-ghost use Rattle.nanolog_cli.specs.Endings.{Ending, status_of, ending_of};
-ghost use Rattle.nanolog_cli.specs.Words.{words_of};
-ghost use Rattle.nanolog_cli.specs.Outcomes.{scene, Ends, Answers, Says};
+ghost use Rattle.nanolog_cli.specs.Endings.{Ending, status_of, ending_of, answer_ending};
+ghost use Rattle.nanolog_cli.specs.Outcomes.{scene, Ends, Answers, Tells};
 
 use crate::decompress::decompress;
 use crate::direct::direct;
+use crate::note::Note;
 use crate::preprocess::preprocess;
 use crate::refusal::Refusal;
 use crate::replay::replay;
-use crate::report::say;
+use crate::report::{say, say_note};
 use crate::status::Status;
 use cli_words::{Command, command_of};
 use nl_io::{Files, Sink};
 use std::alloc::Global;
+
+/// The answer of a command that has nothing to tell beside its text.
+fn without_note<'a>(answer: Result<(), Refusal<'a>>) -> Result<Note<'a>, Refusal<'a>>
+    ensures { answer_ending result ≡ ending_of answer.entry }
+{
+    answer?;
+    Ok(Note::Nothing)
+}
 
 /// Does what the command says.
 fn run<'a, F: Files, O: Sink>(
@@ -24,9 +32,9 @@ fn run<'a, F: Files, O: Sink>(
     command: Command<'a>,
     files: &mut F,
     out: &mut O,
-) -> Result<(), Refusal<'a>>
+) -> Result<Note<'a>, Refusal<'a>>
     ensures ends { Ends (command_is command.entry) (scene (F.desk files.old) (O.put out.old) (O.faults out.old))
-        (scene (F.desk files.new) (O.put out.new) (O.faults out.new)) (ending_of result) }
+        (scene (F.desk files.new) (O.put out.new) (O.faults out.new)) (answer_ending result) }
     ensures files_others { F.rest files.old files.new }
     ensures out_others { O.rest out.old out.new }
 {
@@ -34,9 +42,11 @@ fn run<'a, F: Files, O: Sink>(
         Command::Preprocess {
             dictionary,
             sources,
-        } => preprocess(alloc, files, dictionary, &sources, out),
-        Command::Direct { trace } => direct(alloc, files, trace, out),
-        Command::Replay { trace, log, level } => replay(alloc, files, trace, log, level, out),
+        } => without_note(preprocess(alloc, files, dictionary, &sources, out)),
+        Command::Direct { trace } => without_note(direct(alloc, files, trace, out)),
+        Command::Replay { trace, log, level } => {
+            without_note(replay(alloc, files, trace, log, level, out))
+        }
         Command::Decompress { log } => decompress(alloc, files, log, out),
     }
 }
@@ -47,10 +57,10 @@ fn run_words<'a, F: Files, O: Sink>(
     words: &'a [String],
     files: &mut F,
     out: &mut O,
-) -> Result<(), Refusal<'a>>
+) -> Result<Note<'a>, Refusal<'a>>
     ensures ends { Answers (command_spelled (texts_of words.now))
         (scene (F.desk files.old) (O.put out.old) (O.faults out.old))
-        (scene (F.desk files.new) (O.put out.new) (O.faults out.new)) (ending_of result) }
+        (scene (F.desk files.new) (O.put out.new) (O.faults out.new)) (answer_ending result) }
     ensures files_others { F.rest files.old files.new }
     ensures out_others { O.rest out.old out.new }
 {
@@ -62,11 +72,12 @@ fn run_words<'a, F: Files, O: Sink>(
 
 /// Does what the words after the program's name ask for, and answers how that ended. It waits for nobody.
 ///
-/// So far there are four commands. `preprocess DICT FILE..` writes the messages of the sources to DICT, and prints how
-/// many they are, and how many statements; where something of the sources is refused, it tells all of that instead.
-/// `direct TRACE` prints the lines of all calls of the trace. `replay TRACE LOG [--level S]` writes the log of the calls
-/// that the level keeps, and prints how many it keeps and how many it doesn't. `decompress LOG` prints the lines of the
-/// log. A file that is no trace is refused, and so is a trace, or a log, that isn't narrow, with the last two.
+/// So far there are four commands. `preprocess DICT FILE..` writes the messages of the sources, and prints how many
+/// they are, and how many statements; where something of the sources is refused, all of that is told. `direct TRACE`
+/// prints the lines of all calls of the trace. `replay TRACE LOG [--level S]` writes the log of the calls that the
+/// level keeps, and prints how many it keeps and how many it doesn't. `decompress LOG` prints the lines of the log, up
+/// to where it is damaged, and tells of writers without a close mark. A file that is no trace is refused, and so is a
+/// trace that isn't narrow, with `replay`.
 pub fn quick<F: Files, O: Sink, E: Sink>(
     alloc: Global,
     words: &[String],
@@ -75,15 +86,12 @@ pub fn quick<F: Files, O: Sink, E: Sink>(
     err: &mut E,
 ) -> Status
     // The answer is the status of an end. What that says of the files and the standard output is so, and it is put into
-    // words on the standard error.
+    // words on the standard error. Where all was done nothing is said, but of writers of a log that are still open.
     ensures ends { (ending : Ending) × (result ≡ status_of ending)
         × Answers (command_spelled (texts_of words.now))
         (scene (F.desk files.old) (O.put out.old) (O.faults out.old))
         (scene (F.desk files.new) (O.put out.new) (O.faults out.new)) ending
-        × Says (words_of ending) (E.put err.old) (E.put err.new) (E.faults err.old) (E.faults err.new) }
-
-    // Where all was done, nothing is said.
-    ensures quiet { result ≡ Status.Done → (E.put err.new ≡ E.put err.old) × (E.faults err.new ≡ E.faults err.old) }
+        × Tells ending (E.put err.old) (E.put err.new) (E.faults err.old) (E.faults err.new) }
 
     // All else is as it was.
     ensures files_others { F.rest files.old files.new }
@@ -91,7 +99,10 @@ pub fn quick<F: Files, O: Sink, E: Sink>(
     ensures err_others { E.rest err.old err.new }
 {
     match run_words(alloc, words, files, out) {
-        Ok(()) => Status::Done,
+        Ok(note) => {
+            say_note(err, &note);
+            Status::Done
+        }
         Err(refusal) => {
             say(err, &refusal);
             refusal.status()

@@ -1,4 +1,4 @@
-//! Files that are read whole.
+//! Opening files, and reading traces.
 
 ghost use Rattle.std.specs.Prelude.{◌≡◌, ◌≢◌, ◌<◌, ◌≤◌, ℕ, List, length, None, IfOk, IfErr, IfSome, IfNone, OnOk, IsErrOf, vec_len};
 ghost use Rattle.std.specs.FinMap as map;
@@ -7,15 +7,13 @@ ghost use Rattle.nl_io.specs.Content.{Told};
 ghost use Rattle.nl_io.specs.Desk.{IsReading, Opens, SameButLeft};
 ghost use Rattle.trace_text.specs.Traces.{TraceText};
 ghost use Rattle.trace_text.specs.TraceReading.{IsAnswer};
-ghost use Rattle.nanolog_cli.specs.Outcomes.{IsHeld, HoldsSuch, HeldRun, HeldNarrowLog, GivesNoBytes, IsUnread};
+ghost use Rattle.nanolog_cli.specs.Outcomes.{IsHeld, HoldsSuch, HeldRun, GivesNoBytes, IsUnread};
 ghost use Rattle.nanolog_cli.specs.NarrowTraces.{NarrowTrace};
-ghost use Rattle.nanolog_cli.specs.NarrowLogs.{NarrowLog};
-ghost use Rattle.nanolog_cli.specs.Inputs.{WrongTrace, UntakenTrace, UntakenLog, GivesNothing};
+ghost use Rattle.nanolog_cli.specs.Inputs.{WrongTrace, UntakenTrace, GivesNothing};
 ghost use Rattle.nanolog_cli.specs.Endings.{refusal_ending, fault_ending, Refused as RefusedFile};
 ghost use Rattle.nanolog_cli.specs.declared.refusal.Cause.TheVariants.{NotYet as NotTakenYet};
 
 use crate::narrow::{has_escape, is_narrow_run};
-use crate::narrow_log::{MAX_LOG_BYTES, NarrowFault, ReadLog, read_log};
 use crate::refusal::{Cause, Refusal};
 use nl_io::{FileSource, Files, ReadAllFault, read_to_limit};
 use std::alloc::Global;
@@ -63,7 +61,7 @@ fn trace_of_open<F: Files>(alloc: Global, files: &mut F, id: u32) -> Result<Trac
 }
 
 /// The id under which the name is opened.
-fn open<'a, F: Files>(files: &mut F, name: &'a str) -> Result<u32, Refusal<'a>>
+pub(crate) fn open<'a, F: Files>(files: &mut F, name: &'a str) -> Result<u32, Refusal<'a>>
     ensures opened { IfOk result (λ id. Opens (F.desk files.old) name.now id (F.desk files.new)) }
     ensures unread { IfErr result (λ refusal. GivesNoBytes name.now (F.desk files.old) (F.desk files.new)
         (refusal_ending refusal)) }
@@ -186,39 +184,6 @@ pub(crate) fn narrow_run_of_file<'a, F: Files>(
             line: 0,
             cause: Cause::Trace(TraceCause::TooLarge),
         }),
-        Err(refusal) => Err(refusal),
-    }
-}
-
-/// The log that the bytes of the name are.
-fn log_of<'a>(alloc: Global, name: &'a str, bytes: &[u8]) -> Result<ReadLog, Refusal<'a>>
-    ensures found { IfOk result (λ log. NarrowLog bytes.now log.clock log.dictionary log.records) }
-    ensures nothing { IfErr result (λ refusal. GivesNothing UntakenLog name.now bytes.now
-        (refusal_ending refusal)) }
-{
-    match read_log(alloc, bytes) {
-        Ok(log) => Ok(log),
-        Err(NarrowFault::NotYet) => Err(not_yet(name)),
-        Err(NarrowFault::NoMemory) => Err(Refusal::NoMemory),
-    }
-}
-
-/// The log that the name holds.
-pub(crate) fn log_of_file<'a, F: Files>(
-    alloc: Global,
-    files: &mut F,
-    name: &'a str,
-) -> Result<ReadLog, Refusal<'a>>
-    ensures found { IfOk result (λ log. HeldNarrowLog
-        (F.desk files.old) name.now log.clock log.dictionary log.records) }
-    ensures same { OnOk result (F.desk files.new ≡ F.desk files.old) }
-    ensures unread { IfErr result (λ refusal. IsUnread UntakenLog name.now (F.desk files.old) (F.desk files.new)
-        (refusal_ending refusal)) }
-    ensures others { F.rest files.old files.new }
-{
-    match read_file(alloc, files, name, MAX_LOG_BYTES) {
-        Ok(Some(bytes)) => log_of(alloc, name, &bytes),
-        Ok(None) => Err(not_yet(name)),
         Err(refusal) => Err(refusal),
     }
 }

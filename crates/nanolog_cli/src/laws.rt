@@ -5,11 +5,15 @@ ghost use Rattle.std.specs.Prelude.{◌≡◌, ◌≢◌, ◌⊎◌, ◌∷◌, 
 ghost use Rattle.std.specs.FinMap as map;
 ghost use Rattle.nl_io.specs.Count.{Rose};
 ghost use Rattle.nl_io.specs.Desk.{Held, found_in};
+ghost use Rattle.nl_io.specs.Content.{with_end};
+ghost use Rattle.trace_text.specs.Recordings.{Recording};
 ghost use Rattle.trace_text.specs.Rows.{three_writers};
-ghost use Rattle.cli_words.specs.Commands.{Command};
+ghost use Rattle.cli_words.specs.Commands.{Command, Decompress};
 ghost use Rattle.nanolog_cli.specs.CommandFiles.{input_names, output_name};
-ghost use Rattle.nanolog_cli.specs.Endings.{Ending, Done, Absent, ReadFault, WriteFault, NoMemory};
-ghost use Rattle.nanolog_cli.specs.Outcomes.{Scene, IsRight, ReadsOn, Ends};
+ghost use Rattle.nanolog_cli.specs.Endings.{Ending, Done, Absent, ReadFault, WriteFault, NoMemory, status_of};
+ghost use Rattle.nanolog_cli.specs.Outcomes.{Scene, IsRight, HidesReadFault, Ends};
+ghost use Rattle.nanolog_cli.specs.Replays.{LogOfRun};
+ghost use Rattle.nanolog_cli.specs.declared.status.Status.TheVariants.{Done as IsDone};
 ghost use Rattle.nanolog_cli.specs.Texts.{direct_text};
 
 /// Calls of one stamp are printed by writer, and those of one writer in their order.
@@ -26,19 +30,28 @@ pub fn commands_are_done_where_they_can_be()
     ensures taken { (command : Command) (old new : Scene) (ending : Ending) → Ends command old new ending →
         IsRight command old.desk →
         ¬ (Rose old.desk.read_faults new.desk.read_faults) → ¬ (Rose old.desk.write_faults new.desk.write_faults) →
-        ¬ (Rose old.faults new.faults) → (ending ≡ Done) ⊎ (ending ≡ NoMemory) }
+        ¬ (Rose old.faults new.faults) → (status_of ending ≡ IsDone) ⊎ (ending ≡ NoMemory) }
     ensures absent { (command : Command) (old new : Scene) (ending : Ending) → Ends command old new ending →
         (name : List ℕ) (others : List (List ℕ)) (held : Held) → input_names command ≡ name ∷ others →
         old.desk.held ≡ Some held → map.get held name ≡ None →
         ¬ (Rose old.desk.read_faults new.desk.read_faults) → ending ≡ Absent name }
 {}
 
-/// A count of failed calls rises only where the answer says so, but that `preprocess` tells what is refused of sources
-/// also where it can't read one behind them.
+/// `decompress` gives back what `replay` wrote: it prints the lines of the calls that were kept, and tells of no writer
+/// that is still open, where no call fails and memory suffices.
+pub fn replayed_logs_decompress()
+    ensures { (run : Recording) (bytes log : List ℕ) (old new : Scene) (ending : Ending) (held : Held)
+        → LogOfRun run bytes → old.desk.held ≡ Some held → map.get held log ≡ Some bytes
+        → Ends (Decompress log) old new ending
+        → ¬ (Rose old.desk.read_faults new.desk.read_faults) → ¬ (Rose old.faults new.faults)
+        → ((ending ≡ Done) × (new.put ≡ with_end (direct_text run) old.put)) ⊎ (ending ≡ NoMemory) }
+{}
+
+/// A count of failed calls rises only where the answer says so, but that some answers stand in place of a failed read.
 pub fn failures_are_told()
     ensures reading { (command : Command) (old new : Scene) (ending : Ending) → Ends command old new ending →
         ((name : List ℕ) × Contains (input_names command) name × (ending ≡ ReadFault name))
-        ⊎ (new.desk.read_faults ≡ old.desk.read_faults) ⊎ ReadsOn command old.desk new.desk }
+        ⊎ (new.desk.read_faults ≡ old.desk.read_faults) ⊎ HidesReadFault command old.desk new.desk ending }
     ensures writing { (command : Command) (old new : Scene) (ending : Ending) → Ends command old new ending →
         ((name : List ℕ) × (ending ≡ WriteFault name))
         ⊎ ((new.desk.write_faults ≡ old.desk.write_faults) × (new.faults ≡ old.faults)) }

@@ -12,7 +12,7 @@ mod log_of_run;
 #[cfg(test)]
 mod log_tests;
 mod narrow;
-mod narrow_log;
+mod note;
 mod output;
 mod preprocess;
 #[cfg(test)]

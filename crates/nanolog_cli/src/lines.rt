@@ -1,17 +1,14 @@
 //! The lines of calls.
 
-ghost use Rattle.std.specs.Prelude.{◌≡◌, ◌≤◌, ◌++◌, ℕ, List, Some, IfOk, OnOk};
+ghost use Rattle.std.specs.Prelude.{◌≡◌, ◌≤◌, ◌++◌, ℕ, Some, OnOk};
 ghost use Rattle.log_dictionary.specs.Calls.{LogCall};
 ghost use Rattle.direct_printf.specs.Lines.{Line};
 ghost use Rattle.arg_records.specs.Calls.{IsCall, log_call};
 ghost use Rattle.trace_text.specs.Order.{place_of, places_in_order as ordered_places};
-ghost use Rattle.decompressor.specs.Decompression.{Decompressed};
 ghost use Rattle.nanolog_cli.specs.Endings.{ending_of};
 ghost use Rattle.nanolog_cli.specs.Outcomes.{Prints};
 ghost use Rattle.nanolog_cli.specs.Texts.{direct_text, HasCall};
-ghost use Rattle.nanolog_cli.specs.NarrowLogs.{NarrowLog};
 
-use crate::narrow_log::ReadLog;
 use crate::output::{print, print_long};
 use crate::refusal::Refusal;
 use direct_printf::line;
@@ -93,17 +90,4 @@ pub(crate) fn print_run<O: Sink>(
 {
     let places = places_in_order(alloc, run)?;
     print_places(alloc, run, &places, out)
-}
-
-/// The lines of the records of a log of one writer.
-pub(crate) fn text_of_log(alloc: Global, log: &ReadLog) -> Result<Vec<u8>, AllocError>
-    requires { (bytes : List ℕ) × NarrowLog bytes log.now.clock log.now.dictionary log.now.records }
-    ensures { IfOk result (λ text. (bytes : List ℕ)
-        → NarrowLog bytes log.now.clock log.now.dictionary log.now.records → Decompressed bytes text.items) }
-{
-    let mut text = Vec::new(alloc);
-    for call in &log.records {
-        append_line(&log.dictionary, &log.clock, 0, call, &mut text)?;
-    }
-    Ok(text)
 }

@@ -7,12 +7,11 @@ use crate::tests::{
 };
 use nl_io::{MemFiles, MemSink};
 use std::alloc::Global;
+use std::fmt::Write;
 use std::process::Abort;
 use std::test::Fail;
 
 const ACCEPTED: &str = "accepted 1 dropped 0 filtered 0\n";
-
-const REFUSED_LOG: &str = "nanolog: l:0: refused: 99 NotYet\n";
 
 /// The log of [`TRACE`], a line for each part: the magic, the version and the number of writers; the clock; a fragment
 /// with its message; an extent with its record; and the close mark.
@@ -215,85 +214,148 @@ fn only_messages_up_to_the_last_used_are_kept(rt: HostRuntime) -> Result<(), Fai
     expect_same_lines(&rt, rt.alloc(), last.as_str(), line)
 }
 
+/// Asserts how `decompress` of the log ends: it prints the lines, and says this behind the log's name.
+fn expect_decompressed(
+    rt: &impl Abort,
+    alloc: Global,
+    log: &[u8],
+    lines: &str,
+    told: &str,
+) -> Result<(), Fail> {
+    let status = if told.contains("damaged") {
+        Status::Damaged
+    } else {
+        Status::Done
+    };
+    let mut err = String::new(alloc);
+    if !told.is_empty() {
+        writeln!(err, "nanolog: l:{told}")?;
+    }
+    let ran = run_over(rt, alloc, &["decompress", "l"], ("l", log), NONE)?;
+    assert_eq!(rt;
+        ran.shown(),
+        (status, lines, err.as_str()),
+        "{} bytes",
+        log.len()
+    );
+    Ok(())
+}
+
+/// Each row has the lengths of some fronts of the log, a `|`, what is said of them, a `|`, and how many lines they
+/// have.
 #[test]
-fn each_front_of_a_log_is_refused(rt: HostRuntime) -> Result<(), Fail> {
+fn each_front_of_a_log_gives_its_lines(rt: HostRuntime) -> Result<(), Fail> {
     let log = bytes_of(rt.alloc(), LOG)?;
-    for len in 0..log.len() {
-        let front = ("l", &log[..len]);
-        let ran = run_over(&rt, rt.alloc(), &["decompress", "l"], front, NONE)?;
-        assert_eq!(rt;
-            ran.shown(),
-            (Status::Refused, "", REFUSED_LOG),
-            "{len} bytes"
-        );
+    for row in "0 29|0: damaged: 4 Cut|0
+30 30| writers still open: 0|0
+31 55|30: damaged: 4 Cut|0
+56 56| writers still open: 0|0
+57 65|56: damaged: 4 Cut|0
+66 66| writers still open: 0|1
+67 67|66: damaged: 4 Cut|1
+68 68||1"
+        .lines()
+    {
+        let mut columns = row.split('|');
+        let lens = columns.next().ok_or("a row without lengths")?;
+        let told = columns.next().ok_or("a row without words")?;
+        let count = columns.next().ok_or("a row without a count")?;
+        let (first, last) = lens.split_once(' ').ok_or("a row with one length")?;
+        let lines = if count == "1" { LINE } else { "" };
+        for len in first.parse::<usize>()?..=last.parse::<usize>()? {
+            let front = log.get(..len).ok_or("a log that is too short")?;
+            expect_decompressed(&rt, rt.alloc(), front, lines, told)?;
+        }
     }
     Ok(())
 }
 
-/// How `decompress` of the bytes ends, and what it prints.
-fn decompressed(alloc: Global, words: &[String], log: &[u8]) -> Result<(Status, Vec<u8>), Fail> {
-    let mut files = MemFiles::make(alloc, 4096, &[])?;
-    files.put_file("l", log)?;
-    let mut out = MemSink::make(alloc, 4096, &[])?;
-    let mut err = MemSink::make(alloc, 4096, &[])?;
-    let status = quick(alloc, words, &mut files, &mut out, &mut err);
-    Ok((status, out.bytes().to_vec(alloc)?))
-}
-
-/// How many of the 255 changes of a byte leave a log of today's form.
-fn count_of_logs(
-    rt: &impl Abort,
-    alloc: Global,
-    log: &mut [u8],
-    place: usize,
-) -> Result<u32, Fail> {
-    let words = owned_words(alloc, &["decompress", "l"])?;
-    let mut count = 0u32;
-    for change in 1..=255 {
-        *log.get_mut(place).ok_or("no such byte")? ^= change;
-        let (status, out) = decompressed(alloc, &words, log)?;
-        *log.get_mut(place).ok_or("no such byte")? ^= change;
-        if status == Status::Done {
-            assert!(rt; out.ends_with(b"\n"));
-            count = count.saturating_add(1);
-        } else {
-            assert_eq!(rt; status, Status::Refused);
-            assert!(rt; out.is_empty());
-        }
+/// Each row has a piece of [`LOG`] that is left out, a `|`, the piece that stands in its place, a `|` and what is said.
+#[test]
+fn what_is_wrong_with_a_log_is_told(rt: HostRuntime) -> Result<(), Fail> {
+    for row in "4e 4c|4e 4d|0: damaged: 1 BadMagic
+01 01|02 01|0: damaged: 2 BadVersion
+01 01|01 41|0: damaged: 3 BadHeader
+01 00 00 00 00 01 00|03 00 00 00 00 01 00|30: damaged: 5 BadBlock
+01 00 00 00 00 01 00|01 01 00 00 00 01 00|30: damaged: 6 FragmentOrder
+25 64|25 66|30: damaged: 7 BadEntry
+02 00 04|02 01 04|56: damaged: 8 UnknownWriter
+02 00 04|02 00 00|56: damaged: 10 BadLength
+04 00 00 00 10 03 01 07|05 00 00 00 20 03 00 01 07|56: damaged: 98 Body"
+        .lines()
+    {
+        let mut columns = row.split('|');
+        let old = columns.next().ok_or("a row without a piece")?;
+        let new = columns.next().ok_or("a row without a new piece")?;
+        let told = columns.next().ok_or("a row without words")?;
+        let text = LOG.replacen(rt.alloc(), old, new, 1)?;
+        let log = bytes_of(rt.alloc(), text.as_str())?;
+        expect_decompressed(&rt, rt.alloc(), &log, "", told)?;
     }
-    Ok(count)
+    // A block behind the close mark: the line of the extent in front of it is printed.
+    let text = format!(in rt.alloc(); "{LOG} 04 00")?;
+    let log = bytes_of(rt.alloc(), text.as_str())?;
+    expect_decompressed(&rt, rt.alloc(), &log, LINE, "68: damaged: 9 AfterClose")
 }
 
 #[test]
-fn each_changed_byte_gives_a_log_or_is_refused(rt: HostRuntime) -> Result<(), Fail> {
-    let mut log = bytes_of(rt.alloc(), LOG)?;
-    // The first and the last place of a part, and how many changes of each of its bytes are logs. A severity is one of
-    // four; NUL and `%` can't stand for the first two bytes of the format; a step or a value with a byte isn't 0; and
-    // the code 1 of the value 7 can be the code 10, of -8.
-    for row in "0 5 0
-6 29 255
-30 36 0
-37 37 3
-38 41 255
-42 43 0
-44 49 255
-50 51 0
-52 53 253
-54 62 0
-63 63 254
-64 64 1
-65 65 254
-66 67 0"
-        .lines()
-    {
-        let mut numbers = row.split(' ');
-        let first = numbers.next().ok_or("a short row")?.parse::<usize>()?;
-        let last = numbers.next().ok_or("a short row")?.parse::<usize>()?;
-        let want = numbers.next().ok_or("a short row")?.parse::<u32>()?;
-        for place in first..=last {
-            let count = count_of_logs(&rt, rt.alloc(), &mut log, place)?;
-            assert_eq!(rt; count, want, "byte {place}");
-        }
+fn writers_that_are_open_are_told(rt: HostRuntime) -> Result<(), Fail> {
+    let text = EMPTY_LOG.replacen(rt.alloc(), "01 01", "01 0c", 1)?;
+    for (marks, told) in [
+        ("04 00", " writers still open: 1 2 3 4 5 6 7 8 9 10 11"),
+        (
+            "04 0b 04 00 04 01",
+            " writers still open: 2 3 4 5 6 7 8 9 10",
+        ),
+    ] {
+        let text = text.as_str().replacen(rt.alloc(), "04 00", marks, 1)?;
+        let log = bytes_of(rt.alloc(), text.as_str())?;
+        expect_decompressed(&rt, rt.alloc(), &log, "", told)?;
+    }
+    // That the words on it can't be written changes nothing else.
+    let log = bytes_of(rt.alloc(), text.as_str())?;
+    let failing = Failing { err: &[0], ..NONE };
+    let ran = run_over(&rt, rt.alloc(), &["decompress", "l"], ("l", &log), failing)?;
+    assert_eq!(rt; ran.shown(), (Status::Done, "", ""));
+    Ok(())
+}
+
+#[test]
+fn a_failed_read_of_a_log_is_told(rt: HostRuntime) -> Result<(), Fail> {
+    let log = bytes_of(rt.alloc(), LOG)?;
+    // One call opens the log, one takes each piece, and one finds the end: then the block with the record is whole.
+    let calls = 2 + log.len().div_ceil(PIECE) as u64;
+    for call in 0..=calls {
+        let failing = Failing {
+            files: &[call],
+            ..NONE
+        };
+        let ran = run_over(&rt, rt.alloc(), &["decompress", "l"], ("l", &log), failing)?;
+        let lines = if call + 1 < calls { "" } else { LINE };
+        let want = if call < calls {
+            (Status::ReadFault, lines, "nanolog: l: read fault\n")
+        } else {
+            (Status::Done, lines, "")
+        };
+        assert_eq!(rt; ran.shown(), want, "call {call}");
+    }
+    Ok(())
+}
+
+/// A failed write is told in place of what is wrong with the log, and of a failed read.
+#[test]
+fn a_failed_write_of_lines_is_told(rt: HostRuntime) -> Result<(), Fail> {
+    let log = bytes_of(rt.alloc(), LOG)?;
+    let told = "nanolog: standard output: write fault\n";
+    for (len, files) in [(68, [100]), (67, [100]), (68, [6])] {
+        let failing = Failing {
+            files: &files,
+            out: &[1],
+            ..NONE
+        };
+        let front = log.get(..len).ok_or("a log that is too short")?;
+        let ran = run_over(&rt, rt.alloc(), &["decompress", "l"], ("l", front), failing)?;
+        assert_eq!(rt; ran.shown(), (Status::WriteFault, "1514764800.00000", told));
     }
     Ok(())
 }
@@ -374,9 +436,6 @@ fn a_failed_write_of_the_count_leaves_the_log(rt: HostRuntime) -> Result<(), Fai
     let told = "nanolog: standard output: write fault\n";
     assert_eq!(rt; ran.shown(), (Status::WriteFault, "accepted 1 dropp", told));
     assert_eq!(rt; ran.log.as_deref(), Some(log.as_slice()));
-    let file = ("l", log.as_slice());
-    let ran = run_over(&rt, rt.alloc(), &["decompress", "l"], file, failing)?;
-    assert_eq!(rt; ran.shown(), (Status::WriteFault, "1514764800.00000", told));
     Ok(())
 }
 

@@ -5,6 +5,7 @@ ghost use Rattle.nanolog_cli.specs.Endings.{status_of, refusal_ending, number_of
 ghost use Rattle.nanolog_cli.specs.declared.refusal.Refusal.TheVariants.{NoMemory as WantsMemory};
 
 use crate::status::Status;
+use checkpoint_io::Cause as LogCause;
 use std::alloc::AllocError;
 use trace_text::TraceCause;
 
@@ -56,6 +57,12 @@ pub(crate) enum Refusal<'a> {
         /// What is said of all that is refused, a line for each.
         lines: Vec<u8>,
     },
+    Damaged {
+        name: &'a str,
+        /// Where the block begins that is broken, or that isn't read any more.
+        offset: u64,
+        cause: LogCause,
+    },
     WriteFault(&'a str),
     NoMemory,
 }
@@ -78,6 +85,7 @@ impl Refusal<'_> {
             Refusal::Absent(_) => Status::Absent,
             Refusal::ReadFault(_) => Status::ReadFault,
             Refusal::Refused { .. } | Refusal::RefusedSources { .. } => Status::Refused,
+            Refusal::Damaged { .. } => Status::Damaged,
             Refusal::WriteFault(_) => Status::WriteFault,
             Refusal::NoMemory => Status::NoMemory,
         }

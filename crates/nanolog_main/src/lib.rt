@@ -3,13 +3,12 @@
 //! Two programs are made of it: `nanolog`, and `nanolog_absent`, which is there for a second stored run.
 #![tactic(auto)]
 
-ghost use Rattle.std.specs.Prelude.{◌≡◌, ◌≢◌, Option};
+ghost use Rattle.std.specs.Prelude.{◌≡◌, Option};
 ghost use Rattle.std.specs.Process.{exit_status};
 ghost use Rattle.nanolog_cli.specs.Commands.{Command};
 ghost use Rattle.nanolog_cli.specs.Endings.{Ending, status_of};
-ghost use Rattle.nanolog_cli.specs.Outcomes.{scene, Answers, Says};
+ghost use Rattle.nanolog_cli.specs.Outcomes.{scene, Answers, Tells};
 ghost use Rattle.nanolog_cli.specs.Statuses.{status_number};
-ghost use Rattle.nanolog_cli.specs.Words.{words_of as said_of};
 
 use nanolog_cli::{Status, quick};
 use nl_io::{Files, Sink, StdFiles, StdSink, write_all};
@@ -64,7 +63,7 @@ fn run_words<R: Env + AllocGlobal, F: Files, O: Sink, E: Sink>(
     ensures ends { (command : Option Command) × (ending : Ending) × (result ≡ status_of ending)
         × Answers command (scene (F.desk files.old) (O.put out.old) (O.faults out.old))
         (scene (F.desk files.new) (O.put out.new) (O.faults out.new)) ending
-        × Says (said_of ending) (E.put err.old) (E.put err.new) (E.faults err.old) (E.faults err.new) }
+        × Tells ending (E.put err.old) (E.put err.new) (E.faults err.old) (E.faults err.new) }
 {
     let Ok(words) = words_of(rt) else {
         let _ = write_all(err, b"nanolog: want of memory\n");
@@ -74,9 +73,11 @@ fn run_words<R: Env + AllocGlobal, F: Files, O: Sink, E: Sink>(
 }
 
 /// Runs the program over the files of the system. What these hold, and what the outputs get, is told to no contract.
-pub fn run<R: rt::Files + Env + AllocGlobal + Copy + Drop>(rt: R, out: Stdout, err: Stderr) -> Ended
-    ensures { result ≢ Status.Damaged }
-{
+pub fn run<R: rt::Files + Env + AllocGlobal + Copy + Drop>(
+    rt: R,
+    out: Stdout,
+    err: Stderr,
+) -> Ended {
     let mut files = StdFiles::make(rt, rt.alloc());
     let mut out = StdSink::make(out);
     let mut err = StdSink::make(err);

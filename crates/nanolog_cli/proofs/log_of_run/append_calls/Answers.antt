@@ -6,6 +6,11 @@ use Rattle.nanolog_cli.proofs.Levels.{all_kept}
 use Rattle.nanolog_cli.proofs.RunLogs.{ids_known, kept_some, body_some}
 use Rattle.nanolog_cli.proofs.log_of_run.append_calls.Goals as goal
 
+pub overflow_cast-count : goal.overflow_cast-count
+overflow_cast-count c =
+    let named = all_kept (IsCall c.args.dictionary.now) (keeps c.args.dictionary.now c.args.level) c.args.calls.now c.requires.named in
+    omega (arith, ids_known c.args.dictionary.now (filter (keeps c.args.dictionary.now c.args.level) c.args.calls.now) named, c.requires.few_messages, c.count_of_ids-count.ensures)
+
 pub append_fragment-requires-clause-few : goal.append_fragment-requires-clause-few
 append_fragment-requires-clause-few c =
     let named = all_kept (IsCall c.args.dictionary.now) (keeps c.args.dictionary.now c.args.level) c.args.calls.now c.requires.named in

@@ -14,4 +14,4 @@ append_calls-requires-clause-few_calls c = run_few _ _ _ c.run.view_is c.require
 pub returns : goal.returns
 returns c =
     kept_log c.args.level _ _ _ _ _ _ _ c.run.view_is (record { narrow = c.requires.1.narrow; clock_fits = c.requires.1.text.clock_fits; distinct = c.requires.1.text.distinct }) c.run.invariant (sym c.calls-calls.ensures)
-    c.new-log.ensures.items c.in_ok-append_header.ensures c.in_ok-append_calls.ensures c.in_ok-append_close.ensures
+    c.new-log.ensures.items c.in_ok-append_header.ensures.ok c.in_ok-append_calls.ensures c.in_ok-append_close.ensures.ok

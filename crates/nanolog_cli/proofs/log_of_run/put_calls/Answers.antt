@@ -2,6 +2,7 @@ use Rattle.std.proofs.Common.{◌≡◌, ◌+◌, ◌≤◌, List, [], ◌∷◌
 use Rattle.std.specs.Prelude.{filter}
 use Rattle.arg_records.specs.declared.call.Call.{Call}
 use Rattle.buffer_extent.specs.Bodies.{SpellsRecords}
+use Rattle.nanolog_cli.specs.declared.narrow.TheConstants.{MAX_NARROW_CALLS}
 use Rattle.nanolog_cli.specs.Levels.{keeps}
 use Rattle.nanolog_cli.proofs.Levels.{filter_fewer}
 use Rattle.nanolog_cli.proofs.Walks.{seen_more, seen_all, next_is}
@@ -23,7 +24,7 @@ put_call-end-requires-clause-later c = not_before _ _ _ _ _ _ _ _ c.loop-call.in
 pub put_call-end-requires-clause-room : goal.put_call-end-requires-clause-room
 put_call-end-requires-clause-room c =
     let kept = filter (keeps c.args.dictionary.now c.args.level) c.loop-call.invariant.0 in
-    let few : length kept + 1 ≤ 128 = seen_few (keeps c.args.dictionary.now c.args.level) c.loop-call.invariant.0 _ _ _ _ c.loop-call.invariant.1 c.in-Some.ensures.steps c.requires.few_calls in
+    let few : length kept + 1 ≤ MAX_NARROW_CALLS = seen_few (keeps c.args.dictionary.now c.args.level) c.loop-call.invariant.0 _ _ _ _ c.loop-call.invariant.1 c.in-Some.ensures.steps c.requires.few_calls in
     omega (arith, few, c.loop-call.invariant.2.short, c.loop-call.invariant.2.size)
 
 pub loop-call-preserved-then-is_kept : goal.loop-call-preserved-then-is_kept

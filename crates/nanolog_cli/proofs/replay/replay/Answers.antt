@@ -1,11 +1,10 @@
 use Rattle.std.proofs.Common.{refl, inr, ap, ◌∙◌}
 use Rattle.nl_io.specs.Desk.{Desk}
-use Rattle.cli_words.specs.Commands.{Replay}
-use Rattle.nanolog_cli.proofs.Endings.{printed}
+use Rattle.nanolog_cli.proofs.Endings.{replay_printed}
 use Rattle.nanolog_cli.proofs.replay.replay.Goals as goal
 
 pub returns-in-Ok-clause-ends : goal.returns-in-Ok-clause-ends
-returns-in-Ok-clause-ends g c = printed (Replay c.args.trace.now c.args.log.now c.args.level) _ _ c.in_ok-text.text.items _ _ _ (
+returns-in-Ok-clause-ends g c = replay_printed c.args.trace.now c.args.log.now c.args.level _ _ c.in_ok-text.text.items _ _ _ (
   c.in_ok-run.run',
   c.in_ok-run.ensures.found,
   record {

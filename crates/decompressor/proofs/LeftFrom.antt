@@ -1,0 +1,26 @@
+-- What stands in lists from a place of the first one on.
+use Rattle.std.proofs.Common.{◌≡◌, ℕ, zero, suc, ◌+◌, ◌≤◌, List, [], ◌∷◌, ◌++◌, length, drop, Some, refl, ap, sym, ◌∙◌, arith}
+use Rattle.std.specs.Prelude.{slice_get}
+use Rattle.std.specs.List.{flat_map}
+use Rattle.std.proofs.lemmas.List.{drop_all}
+use Rattle.std.proofs.lemmas.Option.{same_Some}
+use Rattle.decompressor.specs.Taking.{left_from}
+
+drop_some : {A : Type 0} (xs : List A) (place : ℕ) (x : A) → slice_get xs place ≡ Some x → drop place xs ≡ x ∷ drop (place + 1) xs
+drop_some [] place x there = cc
+drop_some (y ∷ xs) zero x there = ap (λ z. z ∷ xs) (same_Some y x there)
+drop_some (y ∷ xs) (suc place) x there =
+    let next : suc place + 1 ≡ suc (place + 1) = omega arith in
+    drop_some xs place x there ∙ ap (λ (n : ℕ). x ∷ drop n (y ∷ xs)) (sym next)
+
+-- one is taken
+pub left_from-more : {A : Type 0} (place : ℕ) (first : List A) (others : List (List A)) (x : A) → slice_get first place ≡ Some x → left_from place (first ∷ others) ≡ x ∷ left_from (place + 1) (first ∷ others)
+left_from-more place first others x there = ap (λ xs. xs ++ flat_map (λ entries. entries) others) (drop_some first place x there)
+
+left_from-all : {A : Type 0} (lists : List (List A)) → flat_map (λ entries. entries) lists ≡ left_from 0 lists
+left_from-all [] = refl
+left_from-all (first ∷ others) = refl
+
+-- the first list is passed over
+pub left_from-next : {A : Type 0} (place : ℕ) (first : List A) (others : List (List A)) → length first ≤ place → left_from place (first ∷ others) ≡ left_from 0 others
+left_from-next place first others passed = ap (λ xs. xs ++ flat_map (λ entries. entries) others) (drop_all place first passed) ∙ left_from-all others
