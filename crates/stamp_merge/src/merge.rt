@@ -37,7 +37,8 @@ pub fn merge_order(alloc: Global, lists: &[Vec<u64>]) -> Result<Vec<u32>, AllocE
     for (list, stamps) in lists.iter().enumerate() {
         add_heads(list as u32, stamps, &mut heads)?;
     }
-    heads.sort_unstable();
+    // The stable sort keeps rising runs and merges them, and each list is one: in time n log(lists) for n stamps.
+    heads.sort()?;
     let mut order = Vec::with_capacity(alloc, heads.len())?;
     for head in heads.iter() {
         order.push(head.list)?;

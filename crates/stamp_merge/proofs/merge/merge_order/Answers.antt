@@ -22,6 +22,6 @@ returns c =
     let end : length lists ≤ c.loop-list.list = c.loop-list-test.false in
     let none = heads_from-none c.loop-list.list lists end in
     let all : heads ≡ heads_of (map (λ list. list.items) lists) = sym (append-nil heads) ∙ ap (λ (rest : List Head). heads ++ rest) (sym none) ∙ c.loop-list.invariant in
-    let sorted = heads_sorted (map (λ list. list.items) lists) c.sort_unstable.new.self.items (subst (λ (before : List Head). IsPermutation before c.sort_unstable.new.self.items) all c.sort_unstable.ensures.permutation) c.sort_unstable.ensures.sorted in
+    let sorted = heads_sorted (map (λ list. list.items) lists) c.sort.new.self.items (subst (λ (before : List Head). IsPermutation before c.sort.new.self.items) all c.in_ok-sort.ensures.permutation) c.in_ok-sort.ensures.sorted in
     let whole = take_all c.loop-head.head-index c.deref-head-items.result.now c.loop-head-test.false in
     c.loop-head.invariant ∙ ap (λ (heads : List Head). map (λ head. head.list) heads) (whole ∙ c.deref-head-items.ensures.value ∙ sorted)
