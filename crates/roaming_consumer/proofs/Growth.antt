@@ -1,0 +1,279 @@
+-- How the log of a run grows.
+use Rattle.std.proofs.Common.{◌≡◌, ℕ, ◌+◌, ◌-◌, ◌<◌, ◌≤◌, Bool, true, false, ◌||◌, List, [], ◌∷◌, ◌++◌, length, map, get_or, take, drop, refl, sym, ap, subst, ◌∙◌, append_assoc, inl, inr, arith}
+use Rattle.std.specs.Prelude.{max, slice_set, replicate}
+use Rattle.std.specs.List.{AllByRecursion, list_any, range_with_len}
+use Rattle.std.proofs.Math.ListN.{length-set}
+use Rattle.std.proofs.lemmas.Bool.Decides.{eqb_tells}
+use Rattle.std.proofs.lemmas.List.{append-nil, length-append, length-take, take-append-drop, length-replicate, get_or-set_same, get_or-set_other}
+use Rattle.std.proofs.lemmas.List.Folds.{list_any-append}
+use Rattle.std.proofs.lemmas.List.FromFn.{get_or-map-range_with_len}
+use Rattle.std.proofs.lemmas.Grind.{flat_map-append}
+use Rattle.log_dictionary.specs.declared.clock.Clock.{Clock}
+use Rattle.log_dictionary.specs.declared.message.Message.{Message}
+use Rattle.log_dictionary.specs.Messages.{AreDistinct}
+use Rattle.arg_records.specs.declared.call.Call.{Call}
+use Rattle.arg_records.specs.Calls.{IsCall, NeverFalls, last_stamp}
+use Rattle.buffer_extent.specs.Bodies.{SpellsRecords}
+use Rattle.checkpoint_io.specs.declared.header.Header.{Header}
+use Rattle.checkpoint_io.specs.Blocks.{Block, Fragment, Extent, Close, block_messages, messages_of, header_bytes, close_bytes, SpellsBlocks, SpellsExtent, SpellsClose, FileOf}
+use Rattle.checkpoint_io.specs.Validity.{block_records, records_of, closes, IsClosed, DefinesNext, AreRightAfter, IsHeader, Valid}
+use Rattle.checkpoint_io.specs.Logs.{ids_used, new_messages, AreFragments, IsLaidOut, ends, extent, close, LogOf}
+use Rattle.checkpoint_io.proofs.FrontLaws.{empty_file, file_goes_on}
+use Rattle.checkpoint_io.proofs.LogLaws.{messages_of-AreFragments, laid_out_join}
+use Rattle.checkpoint_io.proofs.ValidityLaws.{messages-push, records-push, AreRightAfter-append, goes_on}
+use Rattle.roaming_consumer.specs.Growth.{Progress, IsLogSoFar, with_calls, IsNext, progress_behind, progress_closing}
+use Rattle.roaming_consumer.proofs.Used.{distinct_front, new_behind, ids_known, calls_of_front, spelled_with_front}
+use Rattle.roaming_consumer.proofs.Lists.{at_one, more_at_one, none_each}
+
+-- ---- several blocks more
+
+-- a file goes on with blocks
+pub file_goes_on_with : (header : Header) (blocks more : List Block) (bytes spelled : List ℕ) → FileOf header blocks bytes → SpellsBlocks header.clock.tick blocks more spelled → FileOf header (blocks ++ more) (bytes ++ spelled)
+file_goes_on_with header blocks [] bytes spelled file none =
+    subst (λ (b : List Block). FileOf header b (bytes ++ spelled)) (sym (append-nil blocks)) (subst (FileOf header blocks) (sym (ap (λ (l : List ℕ). bytes ++ l) none ∙ append-nil bytes)) file)
+file_goes_on_with header blocks (block ∷ more) bytes spelled file (front, back, joined, is, others) =
+    let behind = file_goes_on_with header (blocks ++ block ∷ []) more (bytes ++ front) back (file_goes_on header blocks block bytes front file is) others in
+    subst (λ (b : List Block). FileOf header b (bytes ++ spelled)) (append_assoc blocks (block ∷ []) more)
+    (subst (FileOf header (blocks ++ block ∷ [] ++ more)) (append_assoc bytes front back ∙ ap (λ (l : List ℕ). bytes ++ l) (sym joined)) behind)
+
+-- fragments of new messages are right
+pub fragments_right : (header : Header) (first : ℕ) (messages : List Message) (blocks before : List Block) → AreFragments first messages blocks → first ≡ length (messages_of before) → AreDistinct (messages_of before ++ messages) → length (messages_of before ++ messages) ≤ 65536 → AreRightAfter header before blocks
+fragments_right header first messages [] before are next distinct few = tt
+fragments_right header first messages (Extent writer entries ∷ blocks) before are next distinct few = absurd are
+fragments_right header first messages (Close writer ∷ blocks) before are next distinct few = absurd are
+fragments_right header first messages (Fragment id front ∷ blocks) before (back, is, joined, full, rest) next distinct few =
+    let defined = messages_of before in
+    let all : defined ++ messages ≡ (defined ++ front) ++ back = ap (λ (l : List Message). defined ++ l) joined ∙ sym (append_assoc defined front back) in
+    let now : messages_of (before ++ Fragment id front ∷ []) ≡ defined ++ front = messages-push before (Fragment id front) in
+    let whole : AreDistinct ((defined ++ front) ++ back) = subst AreDistinct all distinct in
+    let right : DefinesNext before id front = record {
+      next = is ∙ next;
+      distinct = distinct_front (defined ++ front) back whole;
+      few = omega (arith, few, ap length all, length-append (defined ++ front) back);
+    } in (
+      right,
+      fragments_right header (first + length front) back blocks (before ++ Fragment id front ∷ []) rest
+          (omega (arith, next, ap length now, length-append defined front))
+          (subst (λ (l : List Message). AreDistinct (l ++ back)) (sym now) whole)
+          (omega (arith, few, ap length all, ap (λ (l : List Message). length (l ++ back)) now)),
+    )
+
+-- ---- what fragments leave as it was
+
+or_false : (b : Bool) → (b || false) ≡ b
+or_false true = refl
+or_false false = refl
+
+true_is_not_false : true ≡ false → ⊥
+true_is_not_false e = cc
+
+fragments_close_none : (writer first : ℕ) (messages : List Message) (blocks : List Block) → AreFragments first messages blocks → list_any (closes writer) blocks ≡ false
+fragments_close_none writer first messages [] are = refl
+fragments_close_none writer first messages (Fragment id front ∷ blocks) (back, is, joined, full, rest) = fragments_close_none writer (first + length front) back blocks rest
+fragments_close_none writer first messages (Extent w entries ∷ blocks) are = absurd are
+fragments_close_none writer first messages (Close w ∷ blocks) are = absurd are
+
+fragments_have_no_records : (writer first : ℕ) (messages : List Message) (blocks : List Block) → AreFragments first messages blocks → records_of writer blocks ≡ []
+fragments_have_no_records writer first messages [] are = refl
+fragments_have_no_records writer first messages (Fragment id front ∷ blocks) (back, is, joined, full, rest) = fragments_have_no_records writer (first + length front) back blocks rest
+fragments_have_no_records writer first messages (Extent w entries ∷ blocks) are = absurd are
+fragments_have_no_records writer first messages (Close w ∷ blocks) are = absurd are
+
+-- ---- stamps
+
+-- those behind don't fall from the last one in front
+pub falls_behind : (least : ℕ) (front back : List Call) → NeverFalls least (front ++ back) → NeverFalls (last_stamp least front) back
+falls_behind least [] back rising = rising
+falls_behind least (call ∷ front) back rising = falls_behind call.stamp front back rising.1
+
+-- ---- messages
+
+-- behind the messages that are defined come the new ones, and others may be left
+record MessagesGrow (dictionary defined : List Message) (count : ℕ) (entries : List Call) : Type 0 where
+  undefined : List Message
+  whole : dictionary ≡ defined ++ new_messages dictionary count entries ++ undefined
+  used : ids_used entries ≤ length (defined ++ new_messages dictionary count entries)
+  counted : max count (ids_used entries) ≡ length (defined ++ new_messages dictionary count entries)
+
+messages_grow : (dictionary defined others : List Message) (count : ℕ) (entries : List Call) → dictionary ≡ defined ++ others → count ≡ length defined → ids_used entries ≤ length dictionary → MessagesGrow dictionary defined count entries
+messages_grow dictionary defined others count entries whole counted known =
+    let more = ids_used entries - length defined in
+    let new : new_messages dictionary count entries ≡ take more others = (λ i. drop (counted i) (take (ids_used entries) (whole i))) ∙ new_behind defined others (ids_used entries) in
+    let sizes = length-append defined (take more others) in
+    let size : length (defined ++ new_messages dictionary count entries) ≡ length (defined ++ take more others) = ap (λ (l : List Message). length (defined ++ l)) new in
+    let all : ids_used entries ≤ length defined + length others = omega (arith, known, ap length whole, length-append defined others) in
+    let took = length-take more others in
+    record {
+      undefined = drop more others;
+      whole =
+          whole ∙ ap (λ (l : List Message). defined ++ l) (sym (take-append-drop more others)) ∙ sym (append_assoc defined (take more others) (drop more others))
+          ∙ ap (λ (l : List Message). defined ++ l ++ drop more others) (sym new);
+      used = omega (arith, size, sizes, took, all);
+      counted = omega (arith, size, sizes, took, all, counted);
+    }
+
+-- ---- an extent with its fragments
+
+-- blocks, and behind them fragments and an extent
+abbrev with_extent : List Block → List Block → ℕ → List Call → List Block
+with_extent blocks fragments writer entries = blocks ++ fragments ++ Extent writer entries ∷ []
+
+messages_now : (blocks fragments : List Block) (first : ℕ) (messages : List Message) → AreFragments first messages fragments → messages_of (blocks ++ fragments) ≡ messages_of blocks ++ messages
+messages_now blocks fragments first messages are =
+    flat_map-append block_messages blocks fragments ∙ ap (λ (l : List Message). messages_of blocks ++ l) (messages_of-AreFragments first messages fragments are)
+
+records_now : (writer : ℕ) (blocks fragments : List Block) (first : ℕ) (messages : List Message) → AreFragments first messages fragments → records_of writer (blocks ++ fragments) ≡ records_of writer blocks
+records_now writer blocks fragments first messages are =
+    flat_map-append (block_records writer) blocks fragments ∙ ap (λ (l : List Call). records_of writer blocks ++ l) (fragments_have_no_records writer first messages fragments are)
+    ∙ append-nil (records_of writer blocks)
+
+closed_now : (writer : ℕ) (blocks fragments : List Block) (first : ℕ) (messages : List Message) → AreFragments first messages fragments → list_any (closes writer) (blocks ++ fragments) ≡ list_any (closes writer) blocks
+closed_now writer blocks fragments first messages are =
+    list_any-append (closes writer) blocks fragments ∙ ap (λ (b : Bool). list_any (closes writer) blocks || b) (fragments_close_none writer first messages fragments are)
+    ∙ or_false (list_any (closes writer) blocks)
+
+same_taken : (wrote : List ℕ) (taken : List (List Call)) (dictionary : List Message) (clock : Clock) (batch writer : ℕ) → (log : LogOf wrote taken dictionary clock batch) → writer < length taken → get_or taken writer [] ≡ records_of writer log.blocks
+same_taken wrote taken dictionary clock batch writer log known =
+    ap (λ (l : List (List Call)). get_or l writer []) log.records_are ∙ get_or-map-range_with_len (λ w. records_of w log.blocks) 0 (length taken) writer writer [] known (omega arith)
+
+set_length : {A : Type 0} (items : List A) (place : ℕ) (item : A) → length (slice_set items place item) ≡ length items
+set_length items place item = length-set items place item
+
+pub grown : (wrote : List ℕ) (taken : List (List Call)) (dictionary : List Message) (clock : Clock) (batch : ℕ) (progress : Progress) (writer : ℕ) (entries : List Call) (fragments extent_bytes : List ℕ) → IsLogSoFar wrote taken dictionary clock batch progress → AreDistinct dictionary → length dictionary ≤ 65536
+    → IsNext taken dictionary clock.tick batch progress writer entries fragments extent_bytes
+    → IsLogSoFar (wrote ++ fragments ++ extent_bytes) (with_calls taken writer entries) dictionary clock batch (progress_behind progress entries)
+grown wrote taken dictionary clock batch progress writer entries fragments extent_bytes so_far distinct few next =
+    let log = so_far.log in
+    let header = log.header in
+    let blocks = log.blocks in
+    let front = next.fragments_spelled.blocks in
+    let are = next.fragments_spelled.are in
+    let first = progress.defined in
+    let new = new_messages dictionary first entries in
+    let known = ids_known dictionary entries next.right in
+    let grow = messages_grow dictionary (messages_of blocks) log.undefined first entries log.messages_are so_far.defined known in
+    let fronts : messages_of (blocks ++ front) ≡ messages_of blocks ++ new = messages_now blocks front first new are in
+    let all_messages : messages_of (with_extent blocks front writer entries) ≡ messages_of blocks ++ new =
+    messages-push (blocks ++ front) (Extent writer entries) ∙ append-nil (messages_of (blocks ++ front)) ∙ fronts in
+    let tick : header.clock.tick ≡ clock.tick = ap (λ (c : Clock). c.tick) log.clock_is in
+    let same_calls : get_or taken writer [] ≡ records_of writer (blocks ++ front) =
+    same_taken wrote taken dictionary clock batch writer log next.known ∙ sym (records_now writer blocks front first new are) in
+    let unclosed : ¬ (IsClosed writer (blocks ++ front)) =
+    λ closed. true_is_not_false (sym closed ∙ closed_now writer blocks front first new are ∙ sym (so_far.closed writer next.known) ∙ next.not_closed) in
+    let distinct_fronts : AreDistinct (messages_of blocks ++ new) = distinct_front (messages_of blocks ++ new) grow.undefined (subst AreDistinct grow.whole distinct) in
+    let few_fronts : length (messages_of blocks ++ new) ≤ 65536 = omega (arith, few, ap length grow.whole, length-append (messages_of blocks ++ new) grow.undefined) in
+    let front_valid : Valid header (blocks ++ front) = record {
+      header_right = log.valid.header_right;
+      blocks_right = AreRightAfter-append header [] blocks front log.valid.blocks_right (fragments_right header first new front blocks are so_far.defined distinct_fronts few_fronts);
+    } in
+    let used : ids_used entries ≤ length (messages_of (blocks ++ front)) = omega (arith, grow.used, ap length fronts) in
+    let whole : dictionary ≡ messages_of (blocks ++ front) ++ grow.undefined = grow.whole ∙ ap (λ (l : List Message). l ++ grow.undefined) (sym fronts) in
+    let right = calls_of_front (messages_of (blocks ++ front)) grow.undefined entries used (subst (λ (l : List Message). AllByRecursion (IsCall l) entries) whole next.right) in
+    let rising : NeverFalls (last_stamp header.clock.tick (records_of writer (blocks ++ front))) entries =
+    subst (λ (n : ℕ). NeverFalls (last_stamp n (records_of writer (blocks ++ front))) entries) (sym tick)
+    (subst (λ (l : List Call). NeverFalls (last_stamp clock.tick l) entries) same_calls (falls_behind clock.tick (get_or taken writer []) entries next.rising)) in
+    let e = next.extent_spelled in
+    let body_spelled : SpellsRecords (messages_of (blocks ++ front)) header.clock.tick entries e.body =
+    spelled_with_front (messages_of (blocks ++ front)) grow.undefined header.clock.tick entries e.body used
+    (subst (λ (n : ℕ). SpellsRecords (messages_of (blocks ++ front) ++ grow.undefined) n entries e.body) (sym tick)
+    (subst (λ (l : List Message). SpellsRecords l clock.tick entries e.body) whole e.body_spelled)) in
+    let extent_spelled : SpellsExtent (messages_of (blocks ++ front)) header.clock.tick writer entries extent_bytes =
+    record { body = e.body; some = e.some; short = e.short; writer_fits = e.writer_fits; body_spelled = body_spelled; joined = e.joined } in
+    let length_now : length (with_calls taken writer entries) ≡ length taken = set_length taken writer (get_or taken writer [] ++ entries) in
+    let records_all : (w : ℕ) → records_of w (with_extent blocks front writer entries) ≡ records_of w blocks ++ at_one writer entries w =
+    λ w. records-push w (blocks ++ front) (Extent writer entries) ∙ ap (λ (l : List Call). l ++ at_one writer entries w) (records_now w blocks front first new are) in
+    let records_are : with_calls taken writer entries ≡ map (λ w. records_of w (with_extent blocks front writer entries)) (range_with_len 0 (length (with_calls taken writer entries))) =
+    ap (λ (l : List (List Call)). slice_set l writer (get_or l writer [] ++ entries)) log.records_are
+    ∙ more_at_one (λ w. records_of w blocks) writer entries 0 (length taken) writer next.known (omega arith)
+    ∙ (λ i. map (λ w. sym (records_all w) i) (range_with_len 0 (length taken)))
+    ∙ ap (λ (n : ℕ). map (λ w. records_of w (with_extent blocks front writer entries)) (range_with_len 0 n)) (sym length_now) in
+    let laid : IsLaidOut dictionary batch blocks (front ++ Extent writer entries ∷ []) =
+    extent blocks front writer entries [] (subst (λ (n : ℕ). AreFragments n (new_messages dictionary n entries) front) so_far.defined are) next.few (ends (blocks ++ front ++ Extent writer entries ∷ [])) in
+    let laid_out : IsLaidOut dictionary batch [] (with_extent blocks front writer entries) =
+    subst (IsLaidOut dictionary batch []) (sym (append_assoc blocks front (Extent writer entries ∷ []))) (laid_out_join dictionary batch [] blocks (front ++ Extent writer entries ∷ []) log.laid_out laid) in
+    record {
+      log = record {
+        header = header;
+        blocks = with_extent blocks front writer entries;
+        file = file_goes_on header (blocks ++ front) (Extent writer entries) (wrote ++ fragments) extent_bytes (file_goes_on_with header blocks front wrote fragments log.file (next.fragments_spelled.spelled header.clock.tick blocks)) extent_spelled;
+        valid = goes_on header (blocks ++ front) (Extent writer entries) front_valid (record { writer_open = record { known = subst (λ (n : ℕ). writer < n) (sym log.writers_are) next.known; unclosed = unclosed }; right = right; rising = rising });
+        clock_is = log.clock_is;
+        writers_are = log.writers_are ∙ sym length_now;
+        undefined = grow.undefined;
+        messages_are = grow.whole ∙ ap (λ (l : List Message). l ++ grow.undefined) (sym all_messages);
+        records_are = records_are;
+        laid_out = laid_out;
+      };
+      defined = grow.counted ∙ ap length (sym all_messages);
+      closed = λ w within.
+          so_far.closed w (subst (λ (n : ℕ). w < n) length_now within) ∙ sym (closed_now w blocks front first new are)
+          ∙ sym (list_any-append (closes w) (blocks ++ front) (Extent writer entries ∷ []) ∙ or_false (list_any (closes w) (blocks ++ front)));
+    }
+
+-- ---- a close mark
+
+or_true : (b : Bool) → (b || true) ≡ true
+or_true true = refl
+or_true false = refl
+
+closed_behind : (closed : List Bool) (blocks : List Block) (writer w : ℕ) → writer < length closed → get_or closed w false ≡ list_any (closes w) blocks → get_or (slice_set closed writer true) w false ≡ list_any (closes w) (blocks ++ Close writer ∷ [])
+closed_behind closed blocks writer w within before =
+    elim (eqb_tells writer w) [
+      | inl same ↦
+          let here : get_or (slice_set closed writer true) w false ≡ true = ap (λ (n : ℕ). get_or (slice_set closed writer true) n false) (sym same.1) ∙ get_or-set_same closed writer true false within in
+          here ∙ sym (list_any-append (closes w) blocks (Close writer ∷ []) ∙ ap (λ (b : Bool). list_any (closes w) blocks || (b || false)) same.0 ∙ or_true (list_any (closes w) blocks))
+      | inr differs ↦
+          get_or-set_other closed writer w true false (λ same. differs.1 (sym same)) ∙ before
+          ∙ sym (list_any-append (closes w) blocks (Close writer ∷ []) ∙ ap (λ (b : Bool). list_any (closes w) blocks || (b || false)) differs.0 ∙ or_false (list_any (closes w) blocks))
+    ]
+
+pub closing : (wrote : List ℕ) (taken : List (List Call)) (dictionary : List Message) (clock : Clock) (batch : ℕ) (progress : Progress) (writer : ℕ) → IsLogSoFar wrote taken dictionary clock batch progress → writer < length taken → get_or progress.closed writer false ≡ false → writer < length progress.closed → IsLogSoFar (wrote ++ close_bytes writer) taken dictionary clock batch (progress_closing progress writer)
+closing wrote taken dictionary clock batch progress writer so_far known not_closed within =
+    let log = so_far.log in
+    let header = log.header in
+    let blocks = log.blocks in
+    let few = log.valid.header_right.few_writers in
+    let messages : messages_of (blocks ++ Close writer ∷ []) ≡ messages_of blocks = messages-push blocks (Close writer) ∙ append-nil (messages_of blocks) in
+    let records : (w : ℕ) → records_of w (blocks ++ Close writer ∷ []) ≡ records_of w blocks = λ w. records-push w blocks (Close writer) ∙ append-nil (records_of w blocks) in
+    let unclosed : ¬ (IsClosed writer blocks) = λ closed. true_is_not_false (sym closed ∙ sym (so_far.closed writer known) ∙ not_closed) in
+    let spelled : SpellsClose writer (close_bytes writer) = record { writer_fits = omega (arith, known, log.writers_are, few); joined = refl } in
+    record {
+      log = record {
+        header = header;
+        blocks = blocks ++ Close writer ∷ [];
+        file = file_goes_on header blocks (Close writer) wrote (close_bytes writer) log.file spelled;
+        valid = goes_on header blocks (Close writer) log.valid (record { known = subst (λ (n : ℕ). writer < n) (sym log.writers_are) known; unclosed = unclosed });
+        clock_is = log.clock_is;
+        writers_are = log.writers_are;
+        undefined = log.undefined;
+        messages_are = log.messages_are ∙ ap (λ (l : List Message). l ++ log.undefined) (sym messages);
+        records_are = log.records_are ∙ (λ i. map (λ w. sym (records w) i) (range_with_len 0 (length taken)));
+        laid_out = laid_out_join dictionary batch [] blocks (Close writer ∷ []) log.laid_out (close blocks writer [] (ends (blocks ++ Close writer ∷ [])));
+      };
+      defined = so_far.defined ∙ ap length (sym messages);
+      closed = λ w inside. closed_behind progress.closed blocks writer w within (so_far.closed w inside);
+    }
+
+-- ---- a header
+
+pub beginning : (header : Header) (dictionary : List Message) (batch : ℕ) (closed : List Bool) → IsHeader header → ((writer : ℕ) → get_or closed writer false ≡ false) → IsLogSoFar (header_bytes header) (replicate header.writers []) dictionary header.clock batch (record { defined = 0; closed = closed })
+beginning header dictionary batch closed right none_closed =
+    let none : List (List Call) = replicate header.writers [] in
+    let count : length none ≡ header.writers = length-replicate header.writers [] in
+    let no_records : (w : ℕ) → records_of w [] ≡ [] = λ w. refl in
+    record {
+      log = record {
+        header = header;
+        blocks = [];
+        file = empty_file header;
+        valid = record { header_right = right; blocks_right = tt };
+        clock_is = refl;
+        writers_are = sym count;
+        undefined = dictionary;
+        messages_are = refl;
+        records_are = sym (ap (λ (n : ℕ). map (λ w. records_of w []) (range_with_len 0 n)) count ∙ none_each (λ w. records_of w []) header.writers 0 no_records);
+        laid_out = ends [];
+      };
+      defined = refl;
+      closed = λ writer within. none_closed writer;
+    }

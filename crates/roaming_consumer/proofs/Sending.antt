@@ -1,0 +1,139 @@
+-- What a sink took in several calls, one after another.
+use Rattle.std.proofs.Common.{◌≡◌, ℕ, suc, ◌+◌, ◌≤◌, List, [], ◌∷◌, ◌++◌, length, take, drop, Some, None, refl, sym, ap, subst, ◌∙◌, append_assoc, inl, inr, arith}
+use Rattle.std.specs.Prelude.{Result, Ok, Err, IsErr, is_err, OnOk, OnErr, false}
+use Rattle.std.proofs.lemmas.List.{append-nil, length-append, take-append-le}
+use Rattle.nl_io.specs.Count.{Rose}
+use Rattle.nl_io.specs.Content.{Told, with_end, PutsFront}
+use Rattle.log_dictionary.specs.declared.message.Message.{Message}
+use Rattle.checkpoint_io.specs.Blocks.{extent_head_bytes}
+use Rattle.roaming_consumer.specs.Growth.{FragmentsFor}
+use Rattle.roaming_consumer.specs.Sinks.{Sends, SendsFragments, SendsExtent}
+
+pub with_end-append : (front back : List ℕ) (told : Told) → with_end back (with_end front told) ≡ with_end (front ++ back) told
+with_end-append front back None = refl
+with_end-append front back (Some content) = ap Some (append_assoc content front back)
+
+pub with_end-nil : (told : Told) → told ≡ with_end [] told
+with_end-nil None = refl
+with_end-nil (Some content) = ap Some (sym (append-nil content))
+
+-- as many bytes more as stand in front
+pub take_behind : (front back : List ℕ) (n : ℕ) → take (length front + n) (front ++ back) ≡ front ++ take n back
+take_behind [] back n = let same : 0 + n ≡ n = omega arith in ap (λ (k : ℕ). take k back) same
+take_behind (x ∷ front) back n =
+    let same : length (x ∷ front) + n ≡ suc (length front + n) = omega arith in
+    ap (λ (k : ℕ). take k (x ∷ (front ++ back))) same ∙ ap (λ (l : List ℕ). x ∷ l) (take_behind front back n)
+
+puts_behind : (front back : List ℕ) (p q s : Told) → q ≡ with_end front p → PutsFront back q s → PutsFront (front ++ back) p s
+puts_behind front back p q s first (n, within, is) = (
+  length front + n,
+  omega (arith, within, length-append front back),
+  is ∙ ap (with_end (take n back)) first ∙ with_end-append front (take n back) p ∙ ap (λ (l : List ℕ). with_end l p) (sym (take_behind front back n)),
+)
+
+puts_more : (front back : List ℕ) (p q : Told) → PutsFront front p q → PutsFront (front ++ back) p q
+puts_more front back p q (n, within, is) = (n, omega (arith, within, length-append front back), is ∙ ap (λ (l : List ℕ). with_end l p) (sym (take-append-le n front back within)))
+
+-- behind bytes that went out
+pub sends_then : {T E : Type 0} (r : Result T E) (front back : List ℕ) (p q s : Told) (f g h : ℕ) → q ≡ with_end front p → g ≡ f → Sends r back q s g h → Sends r (front ++ back) p s f h
+sends_then (Ok x) front back p q s f g h first same sent = record {
+  ok = sent.ok ∙ ap (with_end back) first ∙ with_end-append front back p;
+  counted = sent.counted ∙ same;
+  err = tt;
+  cause = tt;
+  count = omega (arith, same, sent.count);
+}
+sends_then (Err e) front back p q s f g h first same sent = record {
+  ok = tt;
+  counted = tt;
+  err = puts_behind front back p q s first sent.err;
+  cause = subst (λ (n : ℕ). Rose n h) same sent.cause;
+  count = omega (arith, same, sent.count);
+}
+
+-- where a call failed nothing more is written
+pub sends_stop : {T E : Type 0} (r : Result T E) (front back : List ℕ) (p q : Told) (f g : ℕ) → IsErr r → PutsFront front p q → Rose f g → f ≤ g → Sends r (front ++ back) p q f g
+sends_stop (Ok x) front back p q f g failed puts rose count = absurd cc
+sends_stop (Err e) front back p q f g failed puts rose count = record {
+  ok = tt;
+  counted = tt;
+  err = puts_more front back p q puts;
+  cause = rose;
+  count = count;
+}
+
+-- what one call of `write_all` does
+pub sends_all : {T E : Type 0} (r : Result T E) (bytes : List ℕ) (p q : Told) (f g : ℕ) → OnOk r (q ≡ with_end bytes p) → OnOk r (g ≡ f) → OnErr r (PutsFront bytes p q) → OnErr r (Rose f g) → f ≤ g → Sends r bytes p q f g
+sends_all r bytes p q f g ok counted err cause count = record { ok = ok; counted = counted; err = err; cause = cause; count = count }
+
+-- what a call that failed did
+pub sends_err : {T E : Type 0} (r : Result T E) (bytes : List ℕ) (p q : Told) (f g : ℕ) → IsErr r → PutsFront bytes p q → Rose f g → f ≤ g → Sends r bytes p q f g
+sends_err (Ok x) bytes p q f g failed puts rose count = absurd cc
+sends_err (Err e) bytes p q f g failed puts rose count = record { ok = tt; counted = tt; err = puts; cause = rose; count = count }
+
+-- ---- an extent, and its fragments in front
+
+-- the fragments failed
+pub extent_stops_early : {T E U F : Type 0} (r : Result T E) (e : F) (dictionary : List Message) (first end writer : ℕ) (body : List ℕ) (p q : Told) (f g : ℕ) → IsErr r → SendsFragments {T = U} (Err e) dictionary first end p q f g → SendsExtent r dictionary first end writer body p q f g
+extent_stops_early (Ok x) e dictionary first end writer body p q f g failed sent = absurd cc
+extent_stops_early (Err u) e dictionary first end writer body p q f g failed sent = record {
+  up_to = sent.up_to;
+  within = sent.within;
+  fragments = sent.bytes;
+  spelled = sent.spelled;
+  extent = [];
+  behind = inl refl;
+  whole = tt;
+  sent = sends_stop (Err u) sent.bytes [] p q f g refl sent.sent.err sent.sent.cause sent.sent.count;
+}
+
+-- the fragments went out
+pub extent_behind : {T E U F : Type 0} (r : Result T E) (x : U) (dictionary : List Message) (first end writer : ℕ) (body : List ℕ) (p q s : Told) (f g h : ℕ) → SendsFragments {E = F} (Ok x) dictionary first end p q f g → Sends r (extent_head_bytes writer (length body) ++ body) q s g h → SendsExtent r dictionary first end writer body p s f h
+extent_behind (Ok y) x dictionary first end writer body p q s f g h sent extent = record {
+  up_to = sent.up_to;
+  within = sent.within;
+  fragments = sent.bytes;
+  spelled = sent.spelled;
+  extent = extent_head_bytes writer (length body) ++ body;
+  behind = inr (sent.whole, refl);
+  whole = (sent.whole, refl);
+  sent = sends_then (Ok y) sent.bytes (extent_head_bytes writer (length body) ++ body) p q s f g h sent.sent.ok sent.sent.counted extent;
+}
+extent_behind (Err e) x dictionary first end writer body p q s f g h sent extent = record {
+  up_to = sent.up_to;
+  within = sent.within;
+  fragments = sent.bytes;
+  spelled = sent.spelled;
+  extent = extent_head_bytes writer (length body) ++ body;
+  behind = inr (sent.whole, refl);
+  whole = tt;
+  sent = sends_then (Err e) sent.bytes (extent_head_bytes writer (length body) ++ body) p q s f g h sent.sent.ok sent.sent.counted extent;
+}
+
+-- a call that didn't fail
+pub sent_whole : {T E : Type 0} (r : Result T E) (bytes : List ℕ) (p q : Told) (f g : ℕ) → false ≡ is_err r → Sends r bytes p q f g → q ≡ with_end bytes p
+sent_whole (Ok x) bytes p q f g passed sent = sent.ok
+sent_whole (Err e) bytes p q f g passed sent = absurd cc
+
+-- an extent that went out, and its fragments in front
+pub record ExtentSent (dictionary : List Message) (first end writer : ℕ) (body : List ℕ) (put put_after : Told) : Type 0 where
+  pub fragments : List ℕ
+  pub extent : List ℕ
+  pub spelled : FragmentsFor first (drop first (take end dictionary)) fragments
+  pub extent_is : extent ≡ extent_head_bytes writer (length body) ++ body
+  pub put_is : put_after ≡ with_end (fragments ++ extent) put
+
+pub extent_sent : {T E : Type 0} (r : Result T E) (dictionary : List Message) (first end writer : ℕ) (body : List ℕ) (p q : Told) (f g : ℕ) → false ≡ is_err r → SendsExtent r dictionary first end writer body p q f g → ExtentSent dictionary first end writer body p q
+extent_sent (Ok x) dictionary first end writer body p q f g passed sent = record {
+  fragments = sent.fragments;
+  extent = sent.extent;
+  spelled = subst (λ (n : ℕ). FragmentsFor first (drop first (take n dictionary)) sent.fragments) sent.whole.0 sent.spelled;
+  extent_is = sent.whole.1;
+  put_is = sent.sent.ok;
+}
+extent_sent (Err e) dictionary first end writer body p q f g passed sent = absurd cc
+
+-- what holds of an answer that is Ok
+pub ok_of : {T E P : Type 0} (r : Result T E) → false ≡ is_err r → OnOk r P → P
+ok_of (Ok x) passed holds = holds
+ok_of (Err e) passed holds = absurd cc

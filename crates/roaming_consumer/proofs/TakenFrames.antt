@@ -1,0 +1,135 @@
+-- A frame more is taken.
+use Rattle.std.proofs.Common.{◌≡◌, ℕ, zero, suc, ◌+◌, ◌≤◌, List, [], ◌∷◌, ◌++◌, Some, refl, sym, ap, subst, ◌∙◌, append_assoc, arith}
+use Rattle.std.specs.Prelude.{slice_get}
+use Rattle.std.specs.List.{AllByRecursion}
+use Rattle.std.proofs.lemmas.List.{append-nil, map-append, length-append, length-map}
+use Rattle.std.proofs.lemmas.Option.{same_Some}
+use Rattle.printf_grammar.specs.declared.arg_type.ArgType.{ArgType}
+use Rattle.printf_grammar.specs.Types.{Types, Fits}
+use Rattle.log_dictionary.specs.declared.message.Message.{Message}
+use Rattle.arg_records.specs.declared.call.Call.{Call}
+use Rattle.arg_records.specs.Calls.{IsCall, NeverFalls, last_stamp}
+use Rattle.ring_core.specs.Plans.{Plan, types_by_id, plan_of, IsPlanned, frame_of, frames_of, AreFramesOf, Lawful, MayFollow}
+use Rattle.ring_core.proofs.Frames.{AreFramesOf-push, Lawful-front, Lawful-last}
+use Rattle.ring_core.proofs.OneReading.{AreFramesOf-unique}
+use Rattle.roaming_consumer.specs.declared.draft.Draft.{Draft}
+use Rattle.roaming_consumer.specs.Drafts.{IsFrameOf, IsDraft}
+use Rattle.roaming_consumer.specs.Gathering.{Comes, Gathers, Came}
+
+-- ---- calls
+
+-- a message whose types are known by its id
+message_of_types : (messages : List Message) (id : ℕ) (types : List ArgType) → slice_get (types_by_id messages) id ≡ Some types → (message : Message) × (slice_get messages id ≡ Some message) × (Types message.format.pieces ≡ types)
+message_of_types [] id types known = absurd cc
+message_of_types (message ∷ messages) zero types known = (message, refl, same_Some (Types message.format.pieces) types known)
+message_of_types (message ∷ messages) (suc id) types known = message_of_types messages id types known
+
+-- a call that is planned names one of the messages and fits it
+planned_call : (messages : List Message) (call : Call) → IsPlanned (types_by_id messages) call → IsCall messages call
+planned_call messages call planned =
+    let found = message_of_types messages call.id planned.types planned.known in
+    record { message = found.0; known = found.1; fits = subst (Fits call.args) (sym found.2) planned.fits; short = planned.staged.within }
+
+All_push : {A : Type 0} (P : A → Type 0) (items : List A) (item : A) → AllByRecursion P items → P item → AllByRecursion P (items ++ item ∷ [])
+All_push P [] item all last = (last, tt)
+All_push P (x ∷ items) item all last = (all.0, All_push P items item all.1 last)
+
+-- ---- stamps
+
+last_rises : (least more : ℕ) (calls : List Call) → least ≤ more → last_stamp least calls ≤ last_stamp more calls
+last_rises least more [] below = below
+last_rises least more (call ∷ calls) below = omega arith
+
+-- the last of calls isn't before that of the calls behind some of them, counted from the first stamp
+last_behind : (least : ℕ) (front back : List Call) → NeverFalls least (front ++ back) → last_stamp least back ≤ last_stamp least (front ++ back)
+last_behind least [] back rising = omega arith
+last_behind least (call ∷ front) back rising = omega (arith, last_rises least call.stamp back rising.0, last_behind call.stamp front back rising.1)
+
+-- ---- frames
+
+-- no frame is taken yet
+pub comes_none : (plan : Plan) (before : List (List ℕ)) → Comes plan before before []
+comes_none plan before = record {
+  joined = sym (append-nil before);
+  lawful = λ calls are. subst (AreFramesOf plan before) (sym (append-nil calls)) are;
+}
+
+-- the next frame is that of a call which goes on with those that were taken
+record Next (messages : List Message) (tick : ℕ) (before after : List (List ℕ)) (entries : List Call) (last : ℕ)
+    (frame : List ℕ) : Type 0 where
+  call : Call
+  is : IsFrameOf messages last frame call
+  comes : Comes (plan_of messages tick) before (after ++ frame ∷ []) (entries ++ call ∷ [])
+
+next_call : (messages : List Message) (tick : ℕ) (before after : List (List ℕ)) (entries : List Call) (last : ℕ) (frame : List ℕ) → Comes (plan_of messages tick) before after entries → last ≡ last_stamp tick entries → Lawful (plan_of messages tick) (after ++ frame ∷ []) → Next messages tick before after entries last frame
+next_call messages tick before after entries last frame comes last_is lawful =
+    let plan = plan_of messages tick in
+    let ends = Lawful-last plan after frame lawful in
+    let calls = ends.0 in
+    let call = ends.1 in
+    let are = ends.2 in
+    let may = ends.4 in
+    let all = Lawful-front plan after (frame ∷ []) lawful in
+    let first = Lawful-front plan before (frames_of entries) (subst (Lawful plan) comes.joined all) in
+    let whole : calls ≡ first.0 ++ entries = AreFramesOf-unique plan after calls (first.0 ++ entries) are (comes.lawful first.0 first.1) in
+    let rising : NeverFalls tick (first.0 ++ entries) = (comes.lawful first.0 first.1).rising in
+    let not_before : last ≤ call.stamp = omega (arith, last_is, last_behind tick first.0 entries rising, ap (last_stamp tick) whole, may.not_before) in
+    record {
+      call = call;
+      is = record { named = planned_call messages call may.planned; bytes = may.planned.bytes; staged = may.planned.staged; not_before = not_before; is = ends.3 };
+      comes = record {
+        joined =
+            ap (λ (l : List (List ℕ)). l ++ frame ∷ []) comes.joined ∙ append_assoc before (frames_of entries) (frame ∷ [])
+            ∙ ap (λ (f : List ℕ). before ++ (frames_of entries ++ f ∷ [])) ends.3
+            ∙ ap (λ (l : List (List ℕ)). before ++ l) (sym (map-append frame_of entries (call ∷ [])));
+        lawful = λ some are_some.
+            let same : calls ≡ some ++ entries = AreFramesOf-unique plan after calls (some ++ entries) are (comes.lawful some are_some) in
+            let more = AreFramesOf-push plan after (some ++ entries) call (comes.lawful some are_some) (subst (λ (cs : List Call). MayFollow plan (last_stamp tick cs) call) same may) in
+            subst (AreFramesOf plan (after ++ frame ∷ [])) (append_assoc some entries (call ∷ []))
+            (subst (λ (f : List ℕ). AreFramesOf plan (after ++ f ∷ []) (some ++ entries ++ call ∷ [])) (sym ends.3) more);
+      };
+    }
+
+-- the frame that was taken is that of a call
+pub taken_call : (messages : List Message) (tick : ℕ) (before after : List (List ℕ)) (draft : Draft) (body : List ℕ) (frame : List ℕ) → Gathers messages tick before after draft body → Lawful (plan_of messages tick) (after ++ frame ∷ []) → (call : Call) × IsFrameOf messages draft.last frame call
+taken_call messages tick before after draft body frame was lawful =
+    let next = next_call messages tick before after was.entries draft.last frame was.comes was.drafted.last lawful in
+    (next.call, next.is)
+
+-- behind it the draft has its record too
+pub gathers_more : (messages : List Message) (tick : ℕ) (before after : List (List ℕ)) (draft now : Draft) (body body_now : List ℕ) (frame : List ℕ) → Gathers messages tick before after draft body → Lawful (plan_of messages tick) (after ++ frame ∷ [])
+    → ((call : Call) (from : ℕ) (entries : List Call) → IsFrameOf messages draft.last frame call → IsDraft messages from entries draft body → IsDraft messages from (entries ++ call ∷ []) now body_now)
+    → Gathers messages tick before (after ++ frame ∷ []) now body_now
+gathers_more messages tick before after draft now body body_now frame was lawful puts =
+    let next = next_call messages tick before after was.entries draft.last frame was.comes was.drafted.last lawful in
+    record {
+      entries = was.entries ++ next.call ∷ [];
+      comes = next.comes;
+      right = All_push (IsCall messages) was.entries next.call was.right next.is.named;
+      drafted = puts next.call tick was.entries next.is was.drafted;
+    }
+
+-- nothing was taken yet
+pub gathers_none : (messages : List Message) (tick : ℕ) (before : List (List ℕ)) (body : List ℕ) → Gathers messages tick before before (record { records = 0; len = 0; ids = 0; last = tick }) body
+gathers_none messages tick before body = record {
+  entries = [];
+  comes = comes_none (plan_of messages tick) before;
+  right = tt;
+  drafted = record { records = refl; ids = refl; last = refl; within = omega arith; spelled = refl };
+}
+
+-- ---- frames that are thrown away
+
+pub came_none : (before : List (List ℕ)) → Came before before 0
+came_none before = ([], sym (append-nil before), refl)
+
+pub came_more : (before mid after : List (List ℕ)) (frame : List ℕ) (count : ℕ) → Came before mid count → after ≡ mid ++ frame ∷ [] → Came before after (count + 1)
+came_more before mid after frame count (frames, is, many) more = (
+  frames ++ frame ∷ [],
+  more ∙ ap (λ (l : List (List ℕ)). l ++ frame ∷ []) is ∙ append_assoc before frames (frame ∷ []),
+  omega (arith, many, length-append frames (frame ∷ [])),
+)
+
+-- the frames of a draft's records came
+pub gathers_came : (messages : List Message) (tick : ℕ) (before after : List (List ℕ)) (draft : Draft) (body : List ℕ) → Gathers messages tick before after draft body → Came before after draft.records
+gathers_came messages tick before after draft body was = (frames_of was.entries, was.comes.joined, length-map was.entries frame_of ∙ sym was.drafted.records)

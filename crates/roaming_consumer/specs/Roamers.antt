@@ -1,0 +1,119 @@
+-- What a roamer keeps, and the bytes for which it stands.
+use Rattle.std.specs.Prelude.{◌≡◌, ◌≤◌, ℕ, Bool, true, false, List, [], ◌∷◌, ◌++◌, get_or, All, Some, slice_get, slice_set, length}
+use Rattle.nl_io.specs.Count.{Rose}
+use Rattle.nl_io.specs.Content.{Told, with_end}
+use Rattle.checkpoint_io.specs.declared.header.Header.{Header}
+use Rattle.log_dictionary.specs.declared.clock.Clock.{Clock}
+use Rattle.log_dictionary.specs.declared.message.Message.{Message}
+use Rattle.arg_records.specs.declared.call.Call.{Call}
+use Rattle.ring_core.specs.Plans.{Plan, plan_of, AreFramesOf}
+use Rattle.roaming_consumer.specs.declared.roamer.Roamer.{Roamer}
+use Rattle.roaming_consumer.specs.Growth.{Progress, IsLogSoFar}
+
+-- the ends of the writers, by their numbers
+abbrev pub ends_of : {S : Type 0} → Roamer S → List S
+ends_of roamer = roamer.ends.items
+
+abbrev pub messages_of : {S : Type 0} → Roamer S → List Message
+messages_of roamer = roamer.dictionary.now
+
+abbrev pub clock_of : {S : Type 0} → Roamer S → Clock
+clock_of roamer = roamer.clock
+
+-- the most frames of a visit
+abbrev pub batch_of : {S : Type 0} → Roamer S → ℕ
+batch_of roamer = roamer.batch
+
+-- what is kept of the log
+abbrev pub progress_of : {S : Type 0} → Roamer S → Progress
+progress_of roamer = record { defined = roamer.defined; closed = roamer.closed }
+
+-- whether the header was to be written
+abbrev pub is_begun : {S : Type 0} → Roamer S → Bool
+is_begun roamer = roamer.begun
+
+-- whether a call answered that a write failed
+abbrev pub is_faulted : {S : Type 0} → Roamer S → Bool
+is_faulted roamer = roamer.faulted
+
+-- what the roamer's ends are to agree on
+abbrev pub plan_of_roamer : {S : Type 0} → Roamer S → Plan
+plan_of_roamer roamer = plan_of (messages_of roamer) (clock_of roamer).tick
+
+-- each end has the plan of the roamer
+abbrev pub ArePlanned : {S : Type 0} → (S → Plan) → Roamer S → Type 0
+ArePlanned plan roamer = All (λ end. plan end ≡ plan_of_roamer roamer) (ends_of roamer)
+
+-- the same dictionary, clock and batch
+pub record IsSameRun {S : Type 0} (old new : Roamer S) : Type 0 where
+  pub messages : messages_of new ≡ messages_of old
+  pub clock : clock_of new ≡ clock_of old
+  pub batch : batch_of new ≡ batch_of old
+
+-- One of the ends took a step, and all others are as they were.
+pub record ChangesOne {S : Type 0} (ends ends_after : List S) (writer : ℕ) (Step : S → S → Type 0) : Type 0 where
+  pub before : S
+  pub after : S
+  pub was : slice_get ends writer ≡ Some before
+  pub now : ends_after ≡ slice_set ends writer after
+  pub step : Step before after
+
+-- of each end the frames that were taken are those of the calls of one list
+abbrev pub AreTaken : {S : Type 0} → Plan → (S → List (List ℕ)) → List S → List (List Call) → Type 0
+AreTaken plan got [] [] = Unit {0}
+AreTaken plan got (end ∷ ends) (calls ∷ taken) = AreFramesOf plan (got end) calls × AreTaken plan got ends taken
+AreTaken plan got [] (calls ∷ taken) = ⊥
+AreTaken plan got (end ∷ ends) [] = ⊥
+
+-- a writer whose close mark was written has ended
+abbrev pub HaveEnded : {S : Type 0} → (S → Bool) → List S → List Bool → Type 0
+HaveEnded {S} ended ends closed = (writer : ℕ) (end : S) → slice_get ends writer ≡ Some end
+    → get_or closed writer false ≡ true
+    → ended end ≡ true
+
+-- The bytes are the log of the calls whose frames were taken from the ends, with a close mark of each writer that was
+-- closed, and they give what the roamer keeps of the log.
+pub record IsLogOfEnds {S : Type 0} (got : S → List (List ℕ)) (ended : S → Bool) (roamer : Roamer S)
+    (wrote : List ℕ) : Type 0 where
+  pub taken : List (List Call)
+  pub frames : AreTaken (plan_of_roamer roamer) got (ends_of roamer) taken
+  pub log : IsLogSoFar wrote taken (messages_of roamer) (clock_of roamer) (batch_of roamer) (progress_of roamer)
+  pub closed : HaveEnded ended (ends_of roamer) (progress_of roamer).closed
+
+-- The roamer's calls have put these bytes. Before the header there are none, and nothing was taken, defined or closed;
+-- from then on and until a write fails they are the log of what was taken.
+pub record StandsFor {S : Type 0} (got : S → List (List ℕ)) (ended : S → Bool) (roamer : Roamer S)
+    (wrote : List ℕ) : Type 0 where
+  pub nothing : is_begun roamer ≡ false → wrote ≡ []
+  pub untaken : is_begun roamer ≡ false → All (λ end. got end ≡ []) (ends_of roamer)
+  pub undefined : is_begun roamer ≡ false → (progress_of roamer).defined ≡ 0
+  pub unclosed : is_begun roamer ≡ false → (writer : ℕ) → get_or (progress_of roamer).closed writer false ≡ false
+  pub lawful : is_begun roamer ≡ true → is_faulted roamer ≡ false → IsLogOfEnds got ended roamer wrote
+
+-- what is told of an end from which so many frames were taken, and of which the last answer was that all had ended or not
+pub record Answers {S : Type 0} (ended : S → Bool) (loads : S → ℕ) (pair : S → List ℕ) (plan : S → Plan) (frames : ℕ)
+    (all : Bool) (before after : S) : Type 0 where
+  pub none : frames ≡ 0 → ended after ≡ all
+  pub looked : frames ≡ 0 → all ≡ false → Rose (loads before) (loads after)
+  pub stays_ended : ended before ≡ true → (frames ≡ 0) × (all ≡ true)
+  pub loads_never_fall : loads before ≤ loads after
+  pub same_pair : pair after ≡ pair before
+  pub same_plan : plan after ≡ plan before
+
+-- all but the ends is as it was
+pub record KeepsLog {S : Type 0} (old new : Roamer S) : Type 0 where
+  pub same_run : IsSameRun old new
+  pub progress : progress_of new ≡ progress_of old
+  pub begun : is_begun new ≡ is_begun old
+  pub faulted : is_faulted new ≡ is_faulted old
+
+-- the header of the roamer's log
+abbrev pub header_of : {S : Type 0} → Roamer S → Header
+header_of roamer = record { writers = length (ends_of roamer); clock = clock_of roamer }
+
+-- The sink took some bytes. Where the roamer stood for others, it stands for them with these behind them.
+pub record Adds {S : Type 0} (got : S → List (List ℕ)) (ended : S → Bool) (old new : Roamer S)
+    (put put_after : Told) : Type 0 where
+  pub bytes : List ℕ
+  pub put_is : put_after ≡ with_end bytes put
+  pub stands : (wrote : List ℕ) → StandsFor got ended old wrote → StandsFor got ended new (wrote ++ bytes)

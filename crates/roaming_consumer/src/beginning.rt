@@ -1,0 +1,55 @@
+//! The header of the log.
+
+ghost use Rattle.std.specs.Prelude.{◌≡◌, true, false, length, OnOk, OnErr};
+ghost use Rattle.checkpoint_io.specs.Blocks.{header_bytes};
+ghost use Rattle.checkpoint_io.specs.Validity.{IsHeader};
+ghost use Rattle.roaming_consumer.specs.Sinks.{Sends};
+ghost use Rattle.roaming_consumer.specs.Roamers.{ends_of, clock_of, progress_of, is_begun, is_faulted, header_of, IsSameRun, Adds};
+
+use crate::blocks::write_header;
+use crate::roamer::Roamer;
+use crate::visit::SinkFault;
+use checkpoint_io::Header;
+use nl_io::Sink;
+use ring_core::StageOut;
+
+impl<'d, S> Roamer<'d, S> {
+    /// The header of the log.
+    fn header(&self) -> Header
+        ensures value { result ≡ header_of self.now }
+        ensures right { IsHeader (header_of self.now) }
+    {
+        Header {
+            writers: self.ends.len() as u32,
+            clock: self.clock,
+        }
+    }
+}
+
+impl<'d, S: StageOut> Roamer<'d, S> {
+    /// Writes the header of the log. It takes no memory.
+    ///
+    /// # Errors
+    ///
+    /// A write failed. The roamer is begun then too, and faulted.
+    pub fn begin<K: Sink>(&mut self, sink: &mut K) -> Result<(), SinkFault>
+        requires { is_begun self.old ≡ false }
+        ensures sent { Sends result (header_bytes (header_of self.old))
+            (K.put sink.old) (K.put sink.new) (K.faults sink.old) (K.faults sink.new) }
+        ensures wrote { Adds S.got S.ended self.old self.new (K.put sink.old) (K.put sink.new) }
+        ensures others { K.rest sink.old sink.new }
+        ensures begun { is_begun self.new ≡ true }
+        ensures ok { OnOk result (is_faulted self.new ≡ is_faulted self.old) }
+        ensures err { OnErr result (is_faulted self.new ≡ true) }
+        ensures same_ends { ends_of self.new ≡ ends_of self.old }
+        ensures same_run { IsSameRun self.old self.new }
+    {
+        self.begun = true;
+        let header = self.header();
+        if write_header(&header, sink).is_err() {
+            self.faulted = true;
+            return Err(SinkFault);
+        }
+        Ok(())
+    }
+}

@@ -1,0 +1,46 @@
+//! Laws over the definitions of a log that grows. The functions do nothing: what they ensure is proved of the
+//! definitions.
+
+ghost use Rattle.std.specs.Prelude.{◌≡◌, ◌<◌, ◌≤◌, ◌++◌, [], ℕ, Bool, false, List, length, get_or, replicate};
+ghost use Rattle.log_dictionary.specs.declared.clock.Clock.{Clock};
+ghost use Rattle.log_dictionary.specs.declared.message.Message.{Message};
+ghost use Rattle.log_dictionary.specs.Messages.{AreDistinct};
+ghost use Rattle.arg_records.specs.declared.call.Call.{Call};
+ghost use Rattle.checkpoint_io.specs.declared.header.Header.{Header};
+ghost use Rattle.checkpoint_io.specs.Blocks.{header_bytes, close_bytes};
+ghost use Rattle.checkpoint_io.specs.Validity.{IsHeader};
+ghost use Rattle.roaming_consumer.specs.Growth.{Progress, IsLogSoFar, with_calls, IsNext, progress_behind, progress_closing};
+
+/// The log of a run grows by an extent of a writer, in front of which stand the fragments that it wants. Then it is the
+/// log of as many calls more.
+pub fn logs_grow_by_extents()
+    ensures { (wrote : List ℕ) (taken : List (List Call)) (dictionary : List Message) (clock : Clock) (batch : ℕ)
+        (progress : Progress) (writer : ℕ) (entries : List Call) (fragments extent : List ℕ)
+        → IsLogSoFar wrote taken dictionary clock batch progress
+        → AreDistinct dictionary
+        → length dictionary ≤ 65536
+        → IsNext taken dictionary clock.tick batch progress writer entries fragments extent
+        → IsLogSoFar (wrote ++ fragments ++ extent) (with_calls taken writer entries) dictionary clock batch
+        (progress_behind progress entries) }
+{}
+
+/// The header alone is the log of no calls.
+pub fn logs_begin_with_their_header()
+    ensures { (header : Header) (dictionary : List Message) (batch : ℕ) (closed : List Bool)
+        → IsHeader header
+        → ((writer : ℕ) → get_or closed writer false ≡ false)
+        → IsLogSoFar (header_bytes header) (replicate header.writers []) dictionary header.clock batch
+        (record { defined = 0; closed = closed }) }
+{}
+
+/// Behind the close mark of a writer that was open it is the log of the same calls.
+pub fn logs_grow_by_close_marks()
+    ensures { (wrote : List ℕ) (taken : List (List Call)) (dictionary : List Message) (clock : Clock) (batch : ℕ)
+        (progress : Progress) (writer : ℕ)
+        → IsLogSoFar wrote taken dictionary clock batch progress
+        → writer < length taken
+        → get_or progress.closed writer false ≡ false
+        → writer < length progress.closed
+        → IsLogSoFar (wrote ++ close_bytes writer) taken dictionary clock batch
+        (progress_closing progress writer) }
+{}

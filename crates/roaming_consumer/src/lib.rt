@@ -1,0 +1,22 @@
+//! Taking the calls of many writers, one writer after another, and writing the log of them.
+#![tactic(auto)]
+
+mod beginning;
+mod blocks;
+mod collecting;
+mod draft;
+mod fragments;
+mod gathering;
+pub mod laws;
+mod making;
+mod put_frame;
+mod roamer;
+mod visit;
+mod visiting;
+
+pub use making::MAX_BATCH;
+pub use roamer::Roamer;
+pub use visit::{SinkFault, Visit};
+
+#[cfg(test)]
+mod tests;

@@ -1,0 +1,124 @@
+//! Visits.
+
+ghost use Rattle.std.specs.Prelude.{◌≡◌, ◌<◌, ◌≤◌, ◌+◌, ℕ, true, false, length, Ok, IfOk, OnOk, OnErr};
+ghost use Rattle.nl_io.specs.Count.{Rose};
+ghost use Rattle.roaming_consumer.specs.Roamers.{ends_of, messages_of, clock_of, batch_of, progress_of, is_begun, is_faulted, ArePlanned, IsSameRun, ChangesOne, KeepsLog, Adds};
+ghost use Rattle.roaming_consumer.specs.Visits.{Tells, Leaves, IsWritten, IsThrown};
+
+use crate::gathering::{Gathered, Thrown};
+use crate::roamer::Roamer;
+use crate::visit::{SinkFault, Visit};
+use nl_io::Sink;
+use ring_core::StageOut;
+use std::sync::Wait;
+
+impl<'d, S: StageOut> Roamer<'d, S> {
+    /// A visit before any write has failed.
+    fn write_visit<R: Wait + Copy, K: Sink>(
+        &mut self,
+        rt: R,
+        writer: u32,
+        sink: &mut K,
+    ) -> Result<Visit, SinkFault>
+        requires known { writer < length (ends_of self.old) }
+        requires planned { ArePlanned S.plan self.old }
+        requires begun { is_begun self.old ≡ true }
+        requires unfaulted { is_faulted self.old ≡ false }
+        ensures visits { ChangesOne (ends_of self.old) (ends_of self.new) writer (λ before after.
+            IfOk result (λ visit. Tells S.got S.ended S.loads visit before after)
+            × Leaves S.ended S.loads S.pair S.plan before after) }
+        ensures written { IfOk result IsWritten }
+        ensures wrote { Adds S.got S.ended self.old self.new (K.put sink.old) (K.put sink.new) }
+        ensures counted { OnOk result (K.faults sink.new ≡ K.faults sink.old) }
+        ensures cause { OnErr result (Rose (K.faults sink.old) (K.faults sink.new)) }
+        ensures count { K.faults sink.old ≤ K.faults sink.new }
+        ensures others { K.rest sink.old sink.new }
+        ensures ok { OnOk result (is_faulted self.new ≡ false) }
+        ensures err { OnErr result (is_faulted self.new ≡ true) }
+        ensures begun { is_begun self.new ≡ true }
+        ensures same_run { IsSameRun self.old self.new }
+    {
+        let Gathered { draft, ended } = self.collect(rt, writer);
+        if draft.records > 0 {
+            if self.write_draft(writer, draft, sink).is_err() {
+                self.faulted = true;
+                return Err(SinkFault);
+            }
+            return Ok(Visit::Wrote(u64::from(draft.records)));
+        }
+        if !ended {
+            return Ok(Visit::Idle);
+        }
+        if !self.closed[writer as usize] && self.write_mark(writer, sink).is_err() {
+            self.faulted = true;
+            return Err(SinkFault);
+        }
+        Ok(Visit::Ended)
+    }
+}
+
+impl<'d, S: StageOut> Roamer<'d, S> {
+    /// A visit after a write has failed.
+    fn throw_visit<R: Wait + Copy>(&mut self, rt: R, writer: u32) -> Visit
+        requires known { writer < length (ends_of self.old) }
+        ensures visits { ChangesOne (ends_of self.old) (ends_of self.new) writer (λ before after.
+            Tells S.got S.ended S.loads result before after × Leaves S.ended S.loads S.pair S.plan before after) }
+        ensures thrown { IsThrown result }
+        ensures others { KeepsLog self.old self.new }
+    {
+        let Thrown { frames, ended } = self.toss(rt, writer);
+        if frames > 0 {
+            return Visit::Discarded(u64::from(frames));
+        }
+        if ended { Visit::Ended } else { Visit::Idle }
+    }
+
+    /// Takes frames of the writer's end, and writes their records as one extent, in front of which stand the fragments
+    /// of the messages that it wants and that the log doesn't define yet. It takes frames until there are as many as in
+    /// a batch, a record might have no room in the body, or the end gives none. Where it gives none at first and all has
+    /// ended, the close mark of the writer is written, once. It takes no memory.
+    ///
+    /// After a write has failed the frames are thrown away, and nothing is written.
+    ///
+    /// # Errors
+    ///
+    /// A write failed in this call. The roamer is faulted from then on.
+    pub fn visit<R: Wait + Copy, K: Sink>(
+        &mut self,
+        rt: R,
+        writer: u32,
+        sink: &mut K,
+    ) -> Result<Visit, SinkFault>
+        requires known { writer < length (ends_of self.old) }
+        requires planned { ArePlanned S.plan self.old }
+        requires begun { is_begun self.old ≡ true }
+
+        // What the answer says of the writer's end. All other ends are as they were.
+        ensures visits { ChangesOne (ends_of self.old) (ends_of self.new) writer (λ before after.
+            IfOk result (λ visit. Tells S.got S.ended S.loads visit before after)
+            × Leaves S.ended S.loads S.pair S.plan before after) }
+        ensures written { is_faulted self.old ≡ false → IfOk result IsWritten }
+        ensures thrown { is_faulted self.old ≡ true → IfOk result IsThrown }
+
+        // What the sink was given.
+        ensures wrote { Adds S.got S.ended self.old self.new (K.put sink.old) (K.put sink.new) }
+        ensures untouched { is_faulted self.old ≡ true → sink.new ≡ sink.old }
+        ensures counted { OnOk result (K.faults sink.new ≡ K.faults sink.old) }
+        ensures cause { OnErr result (Rose (K.faults sink.old) (K.faults sink.new)) }
+        ensures count { K.faults sink.old ≤ K.faults sink.new }
+        ensures others { K.rest sink.old sink.new }
+
+        // What state the roamer is in.
+        ensures ok { OnOk result (is_faulted self.new ≡ is_faulted self.old) }
+        ensures err { OnErr result ((is_faulted self.old ≡ false) × (is_faulted self.new ≡ true)) }
+        ensures begun { is_begun self.new ≡ true }
+        ensures same_run { IsSameRun self.old self.new }
+        ensures planned { ArePlanned S.plan self.new }
+        ensures same_count { length (ends_of self.new) ≡ length (ends_of self.old) }
+    {
+        if self.faulted {
+            return Ok(self.throw_visit(rt, writer));
+        }
+        self.write_visit(rt, writer, sink)
+    }
+}
