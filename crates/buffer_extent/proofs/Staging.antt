@@ -1,10 +1,9 @@
 -- Texts as words, and the words as bytes again.
-use Rattle.std.proofs.Common.{◌≡◌, inl, inr, ℕ, ◌+◌, ◌-◌, ◌*◌, ◌<◌, ◌≤◌, List, [], ◌∷◌, ◌++◌, length, take, drop, get_or, min, refl, sym, ap, subst, ◌∙◌, append_assoc, arith}
+use Rattle.std.proofs.Common.{◌≡◌, ℕ, ◌+◌, ◌-◌, ◌*◌, ◌<◌, ◌≤◌, List, [], ◌∷◌, ◌++◌, length, take, drop, get_or, min, refl, sym, ap, subst, ◌∙◌, append_assoc, arith}
 use Rattle.std.specs.Prelude.{All, replicate}
 use Rattle.std.specs.Int.{bytes_low_first}
 use Rattle.std.specs.List.{flat_map}
-use Rattle.std.proofs.lemmas.Bool.{cases_lt}
-use Rattle.std.proofs.lemmas.List.{length-append, length-take-le, append-nil, drop_more, drop_all, take_all, take_at, drop_at, take-append-le, take_rest}
+use Rattle.std.proofs.lemmas.List.{length-append, length-take-le, drop_more, drop_all, take_at, drop_at, take_rest}
 use Rattle.std.proofs.lemmas.List.Elements.{All-take, All-drop}
 use Rattle.std.proofs.Math.Seq.{take-append-add}
 use Rattle.printf_grammar.specs.declared.arg_type.ArgType.{ArgType}
@@ -18,7 +17,9 @@ use Rattle.arg_records.specs.Places.{with_words}
 use Rattle.arg_records.proofs.Places.{words_first, no_words}
 use Rattle.arg_records.proofs.Lengths.{length-words_of_argument}
 use Rattle.nibble_pack.specs.Bytes.{number_of_bytes as packed_number_of_bytes, length-bytes_low_first, number_of_bytes-lt, low_first-number_of_bytes, bytes_low_first-zeros}
-use Rattle.buffer_extent.specs.Writing.{AreWordsOf, BeginsWithWords, bytes_of_words}
+use Rattle.arg_records.specs.Reading.{bytes_of_words}
+use Rattle.arg_records.proofs.TextWords.{take_both}
+use Rattle.buffer_extent.specs.Writing.{AreWordsOf, BeginsWithWords}
 use Rattle.buffer_extent.proofs.Packing.{no_value}
 
 same_number : (bytes : List ℕ) → number_of_bytes bytes ≡ packed_number_of_bytes bytes
@@ -57,21 +58,6 @@ text_again (a ∷ b ∷ c ∷ d ∷ e ∷ f ∷ g ∷ h ∷ text) are =
     ap (λ (n : ℕ). take n (bytes_of_words (words_of_bytes (a ∷ b ∷ c ∷ d ∷ e ∷ f ∷ g ∷ h ∷ text)))) long ∙ ap (λ (front : List ℕ). take (length eight + length text) (front ++ bytes_of_words (words_of_bytes text))) here ∙ take-append-add eight (bytes_of_words (words_of_bytes text)) (length text) ∙ ap (λ (t : List ℕ). eight ++ t) others
 
 -- ---- words that are written one behind another
-
--- a number of bytes of two parts
-take_both : (n k : ℕ) (xs ys : List ℕ) → length xs ≡ 8 → k ≡ min n 8 → take n (xs ++ ys) ≡ take k xs ++ take (n - k) ys
-take_both n k xs ys long is =
-    elim (cases_lt n 8) [
-      | inl few ↦
-          let all : k ≡ n = omega arith in
-          let none : n - k ≡ 0 = omega arith in
-          take-append-le n xs ys (omega arith) ∙ sym (ap (λ (j : ℕ). take k xs ++ take j ys) none ∙ ap (λ (j : ℕ). take j xs ++ []) all ∙ append-nil (take n xs))
-      | inr many ↦
-          let eight : n ≡ length xs + (n - 8) = omega arith in
-          let front : xs ≡ take k xs = sym (take_all k xs (omega arith)) in
-          let rest : n - 8 ≡ n - k = omega arith in
-          ap (λ (j : ℕ). take j (xs ++ ys)) eight ∙ take-append-add xs ys (n - 8) ∙ (λ t. front t ++ take (rest t) ys)
-    ]
 
 -- the first bytes of a word were written, and those of the others are left
 pub word_written : (body new : List ℕ) (end behind left count word : ℕ) (words : List ℕ) → new ≡ with_words body end (take count (bytes_low_first 0 8 word)) → behind ≡ end + count → count ≡ min left 8 → end ≤ length body

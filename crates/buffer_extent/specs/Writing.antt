@@ -1,7 +1,6 @@
 -- What is asked of a frame whose record is to be written, and the room that the record takes.
 use Rattle.std.specs.Prelude.{◌≡◌, ℕ, ◌+◌, ◌*◌, ◌/◌, ◌<◌, ◌≤◌, List, ◌∷◌, ◌++◌, pos, length, take, map, sum_by, All}
 use Rattle.std.specs.List.{flat_map}
-use Rattle.std.specs.Int.{bytes_low_first}
 use Rattle.printf_grammar.specs.declared.arg_type.ArgType.{ArgType}
 use Rattle.printf_grammar.specs.declared.arg_type.ArgType.TheVariants as types
 use Rattle.printf_grammar.specs.declared.argument.Value.{Value}
@@ -77,7 +76,3 @@ number_room types.Text = 2
 -- the arguments, their numbers, and the texts.
 abbrev pub record_room : List ArgType → List Value → ℕ
 record_room types args = 11 + (length types + 1) / 2 + sum_by number_room types + length (flat_map text_of args)
-
--- the bytes of words, eight of each, the lowest first
-abbrev pub bytes_of_words : List ℕ → List ℕ
-bytes_of_words words = flat_map (bytes_low_first 0 8) words

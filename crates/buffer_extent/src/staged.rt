@@ -6,7 +6,8 @@ ghost use Rattle.printf_grammar.specs.Types.{FitsType, text_of};
 ghost use Rattle.arg_records.specs.Frames.{words_of_argument};
 ghost use Rattle.arg_records.specs.Kinds.{HoldsBytes};
 ghost use Rattle.arg_records.specs.Places.{with_words};
-ghost use Rattle.buffer_extent.specs.Writing.{BeginsWithWords, PacksWord, bytes_of_words};
+ghost use Rattle.buffer_extent.specs.Writing.{BeginsWithWords, PacksWord};
+ghost use Rattle.arg_records.specs.Reading.{bytes_of_words};
 
 use arg_records::text_words;
 use nibble_pack::{Packed, pack_signed, pack_unsigned};

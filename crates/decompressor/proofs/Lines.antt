@@ -3,7 +3,7 @@ use Rattle.std.proofs.Common.{◌≡◌, ℕ, zero, suc, ◌+◌, ◌<◌, ◌�
 use Rattle.std.specs.Prelude.{filter, slice_get}
 use Rattle.std.specs.List.{AllByRecursion, flat_map}
 use Rattle.std.specs.Result.{IsErrAnd}
-use Rattle.std.proofs.lemmas.List.{append-nil, length-map, drop_all}
+use Rattle.std.proofs.lemmas.List.{append-nil, length-map, drop_all, get_or_default}
 use Rattle.std.proofs.Math.ListN.{length-set}
 use Rattle.std.proofs.lemmas.List.Sorted.{length_permutation}
 use Rattle.nl_io.specs.Content.{Told, with_end, PutsFront}
@@ -117,6 +117,20 @@ module _ (clock : Clock) (messages : List Message) (writers : List (List Call)) 
           are_left = subst (λ (w : ℕ). AreLeft messages clock.tick others (set left w rest)) taken.at.own (others_left messages clock.tick call others left (omega (arith, taken.known, taken.at.own)) here rest own);
         }
 
+  -- the record that is taken in a turn, and those behind it
+  pub record Picks (place writer : ℕ) (left : List (List Call)) (entry : Call) (rest : List Call) : Type 0 where
+    pub turn : Turns place writer left
+    pub there : get_or left writer [] ≡ entry ∷ rest
+    pub said : IsCallOf messages clock.tick turn.at.call entry
+
+  pub picks : (place writer : ℕ) (left : List (List Call)) → IsTurn place left → HaveLines clock messages writers → (order : List ℕ) → order ≡ map (λ (call : LogCall). call.writer) calls → place < length order → writer ≡ get_or order place 0
+      → (lent : List Call) → lent ≡ get_or left writer lent → (entry : Call) (rest : List Call) → lent ≡ entry ∷ rest → Picks place writer left entry rest
+  picks place writer left turn have order ordered within is lent at_writer entry rest parts =
+      let taken = turn_at place writer left turn have order ordered within is in
+      let there : get_or left writer [] ≡ entry ∷ rest = sym (get_or_default left writer lent [] taken.known) ∙ sym at_writer ∙ parts in
+      let same : taken.next.first ≡ entry = let e = sym taken.next.there ∙ there in cc in
+      record { turn = taken; there = there; said = subst (IsCallOf messages clock.tick taken.at.call) same taken.next.is }
+
   -- ---- the text
 
   pub text_is : Direct clock (calls_by_writer messages writers) ≡ flat_map (Line clock) calls
@@ -152,6 +166,23 @@ pub record IsGathered (whole : List ℕ) (gathered others : List ℕ) (was is : 
   pub front : List ℕ
   pub put : is ≡ with_end front was
   pub joined : whole ≡ (front ++ gathered) ++ others
+
+-- the line of the record that is taken in a turn was gathered
+pub gathers_line : (clock : Clock) (messages : List Message) (writers : List (List Call)) (place writer : ℕ) (left : List (List Call)) (entry : Call) (rest : List Call) → Picks clock messages writers place writer left entry rest
+    → (gathered with_line : List ℕ) (was is : Told) → IsGathered (flat_map (Line clock) (calls clock messages writers)) gathered (flat_map (Line clock) (drop place (calls clock messages writers))) was is
+    → ((message : Message) (ordinal : ℕ) → slice_get messages entry.id ≡ Some message
+    → with_line ≡ gathered ++ Line clock (record { writer = writer; ordinal = ordinal; stamp = entry.stamp; message = message; args = entry.args }))
+    → IsGathered (flat_map (Line clock) (calls clock messages writers)) with_line (flat_map (Line clock) (drop (place + 1) (calls clock messages writers))) was is
+gathers_line clock messages writers place writer left entry rest picked gathered with_line was is so_far pushed =
+    let at = picked.turn.at in
+    let all = calls clock messages writers in
+    let lined = pushed at.call.message at.call.ordinal picked.said.message ∙ ap (λ (bytes : List ℕ). gathered ++ bytes) (line_is clock messages at.call entry writer picked.said at.own) in
+    record {
+      front = so_far.front;
+      put = so_far.put;
+      joined = line_gathered (flat_map (Line clock) all) so_far.front gathered (flat_map (Line clock) (drop place all)) (Line clock at.call) (flat_map (Line clock) (drop (place + 1) all)) with_line so_far.joined
+          (lines_more clock (drop place all) (drop (place + 1) all) at.call at.here) lined;
+    }
 
 -- a front of what is gathered was written, and the rest is left
 pub emptied : (whole gathered left others : List ℕ) (was mid is : Told) → IsGathered whole gathered others was mid

@@ -3,7 +3,7 @@ use Rattle.std.proofs.lemmas.List.{drop_more, length-take-le}
 use Rattle.std.specs.Int.{bytes_low_first}
 use Rattle.nibble_pack.specs.Bytes.{length-bytes_low_first}
 use Rattle.arg_records.specs.Places.{with_words}
-use Rattle.buffer_extent.specs.Writing.{bytes_of_words}
+use Rattle.arg_records.specs.Reading.{bytes_of_words}
 use Rattle.buffer_extent.proofs.Staging.{word_written}
 use Rattle.buffer_extent.proofs.staged.put_words.Goals as goal
 

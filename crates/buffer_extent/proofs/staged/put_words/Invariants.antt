@@ -1,6 +1,6 @@
 use Rattle.std.proofs.Common.{◌≡◌, ◌+◌, ◌-◌, ◌*◌, ◌≤◌, length, take, drop}
 use Rattle.arg_records.specs.Places.{with_words}
-use Rattle.buffer_extent.specs.Writing.{bytes_of_words}
+use Rattle.arg_records.specs.Reading.{bytes_of_words}
 use Rattle.buffer_extent.proofs.staged.put_words.Given as goal
 
 abbrev pub invariant-loop-word : goal.invariant-loop-word

@@ -11,7 +11,7 @@ use Rattle.direct_printf.specs.Lines.{Line}
 use Rattle.decompressor.specs.declared.fault.DecodeFault.TheVariants.{WriteFault, NoMemory}
 use Rattle.decompressor.proofs.Merging.{merged_is}
 use Rattle.decompressor.proofs.Taking.{IsCallOf}
-use Rattle.decompressor.proofs.Lines.{calls, IsTurn, Turns, IsGathered, first_turn, turn_at, next_turn, text_is, many_lines, no_lines, cut_printing, lines_more, line_is, line_gathered, emptied, front_out, cut_within, all_out}
+use Rattle.decompressor.proofs.Lines.{calls, first_turn, turn_at, next_turn, picks, gathers_line, text_is, many_lines, no_lines, cut_printing, emptied, front_out, cut_within, all_out}
 use Rattle.decompressor.proofs.printing.print_lines.Goals as goal
 
 pub loop-writer-init : goal.loop-writer-init
@@ -27,25 +27,19 @@ loop-writer-init g c =
 
 pub index_mut-requires : goal.index_mut-requires
 index_mut-requires g c =
-    let clock = c.args.reader.now.header.clock in
-    let messages = c.args.reader.now.messages in
-    let writers = c.args.writers.now in
     let order = c.deref-writer-items.result.now in
-    let ordered = c.deref-writer-items.ensures.value ∙ c.in_ok-order.ensures ∙ merged_is messages writers c.requires.calls in
+    let ordered = c.deref-writer-items.ensures.value ∙ c.in_ok-order.ensures ∙ merged_is c.args.reader.now.messages c.args.writers.now c.requires.calls in
     let place = c.loop-writer.writer-index in
-    let turn = turn_at clock messages writers place (get_or order place 0) c.loop-writer.remaining.items c.loop-writer.invariant.turn c.requires order ordered c.loop-writer-test.true refl in
+    let turn = turn_at c.args.reader.now.header.clock c.args.reader.now.messages c.args.writers.now place (get_or order place 0) c.loop-writer.remaining.items c.loop-writer.invariant.turn c.requires order ordered c.loop-writer-test.true refl in
     omega (arith, turn.known, c.loop-writer.remaining.ok.0)
 
 pub loop-writer-preserved-in_default : goal.loop-writer-preserved-in_default
 loop-writer-preserved-in_default g c =
-    let clock = c.args.reader.now.header.clock in
-    let messages = c.args.reader.now.messages in
-    let writers = c.args.writers.now in
     let order = c.deref-writer-items.result.now in
-    let ordered = c.deref-writer-items.ensures.value ∙ c.in_ok-order.ensures ∙ merged_is messages writers c.requires.calls in
+    let ordered = c.deref-writer-items.ensures.value ∙ c.in_ok-order.ensures ∙ merged_is c.args.reader.now.messages c.args.writers.now c.requires.calls in
     let place = c.loop-writer.writer-index in
     let left = c.loop-writer.remaining.items in
-    let turn = turn_at clock messages writers place (get_or order place 0) left c.loop-writer.invariant.turn c.requires order ordered c.loop-writer-test.true refl in
+    let turn = turn_at c.args.reader.now.header.clock c.args.reader.now.messages c.args.writers.now place (get_or order place 0) left c.loop-writer.invariant.turn c.requires order ordered c.loop-writer-test.true refl in
     let own : c.index_mut.result.now ≡ get_or left (get_or order place 0) [] = c.index_mut.ensures.value ∙ get_or_default left (get_or order place 0) c.index_mut.result.now [] turn.known in
     let empty : c.index_mut.result.now ≡ [] = search rules in
     let wrong = sym turn.next.there ∙ sym own ∙ empty in
@@ -53,31 +47,21 @@ loop-writer-preserved-in_default g c =
 
 pub push_line-requires-clause-named : goal.push_line-requires-clause-named
 push_line-requires-clause-named g c =
-    let clock = c.args.reader.now.header.clock in
-    let messages = c.args.reader.now.messages in
-    let writers = c.args.writers.now in
     let order = c.deref-writer-items.result.now in
-    let ordered = c.deref-writer-items.ensures.value ∙ c.in_ok-order.ensures ∙ merged_is messages writers c.requires.calls in
+    let ordered = c.deref-writer-items.ensures.value ∙ c.in_ok-order.ensures ∙ merged_is c.args.reader.now.messages c.args.writers.now c.requires.calls in
     let place = c.loop-writer.writer-index in
-    let left = c.loop-writer.remaining.items in
-    let turn = turn_at clock messages writers place (get_or order place 0) left c.loop-writer.invariant.turn c.requires order ordered c.loop-writer-test.true refl in
-    let own : c.index_mut.result.now ≡ get_or left (get_or order place 0) [] = c.index_mut.ensures.value ∙ get_or_default left (get_or order place 0) c.index_mut.result.now [] turn.known in
-    let same : turn.next.first ≡ c.in-Some.record.now = let e = sym turn.next.there ∙ sym own ∙ c.in-Some.ensures.some in cc in
-    subst (IsCall messages) same turn.next.is.right
+    let picked = picks c.args.reader.now.header.clock c.args.reader.now.messages c.args.writers.now place (get_or order place 0) c.loop-writer.remaining.items c.loop-writer.invariant.turn c.requires order ordered c.loop-writer-test.true refl
+    c.index_mut.result.now c.index_mut.ensures.value c.in-Some.record.now c.next.new.self c.in-Some.ensures.some in
+    picked.said.right
 
 pub push_line-requires-clause-not_before : goal.push_line-requires-clause-not_before
 push_line-requires-clause-not_before g c =
-    let clock = c.args.reader.now.header.clock in
-    let messages = c.args.reader.now.messages in
-    let writers = c.args.writers.now in
     let order = c.deref-writer-items.result.now in
-    let ordered = c.deref-writer-items.ensures.value ∙ c.in_ok-order.ensures ∙ merged_is messages writers c.requires.calls in
+    let ordered = c.deref-writer-items.ensures.value ∙ c.in_ok-order.ensures ∙ merged_is c.args.reader.now.messages c.args.writers.now c.requires.calls in
     let place = c.loop-writer.writer-index in
-    let left = c.loop-writer.remaining.items in
-    let turn = turn_at clock messages writers place (get_or order place 0) left c.loop-writer.invariant.turn c.requires order ordered c.loop-writer-test.true refl in
-    let own : c.index_mut.result.now ≡ get_or left (get_or order place 0) [] = c.index_mut.ensures.value ∙ get_or_default left (get_or order place 0) c.index_mut.result.now [] turn.known in
-    let same : turn.next.first ≡ c.in-Some.record.now = let e = sym turn.next.there ∙ sym own ∙ c.in-Some.ensures.some in cc in
-    subst (λ (entry : Call). clock.tick ≤ entry.stamp) same turn.next.is.not_before
+    let picked = picks c.args.reader.now.header.clock c.args.reader.now.messages c.args.writers.now place (get_or order place 0) c.loop-writer.remaining.items c.loop-writer.invariant.turn c.requires order ordered c.loop-writer-test.true refl
+    c.index_mut.result.now c.index_mut.ensures.value c.in-Some.record.now c.next.new.self c.in-Some.ensures.some in
+    picked.said.not_before
 
 pub returns-in_err-push_line-clause-printed : goal.returns-in_err-push_line-clause-printed
 returns-in_err-push_line-clause-printed g c =
@@ -86,49 +70,32 @@ returns-in_err-push_line-clause-printed g c =
 
 pub returns-in_err-write_long-clause-printed : goal.returns-in_err-write_long-clause-printed
 returns-in_err-write_long-clause-printed g c =
-    let clock = c.args.reader.now.header.clock in
-    let messages = c.args.reader.now.messages in
-    let writers = c.args.writers.now in
     let order = c.deref-writer-items.result.now in
-    let ordered = c.deref-writer-items.ensures.value ∙ c.in_ok-order.ensures ∙ merged_is messages writers c.requires.calls in
+    let ordered = c.deref-writer-items.ensures.value ∙ c.in_ok-order.ensures ∙ merged_is c.args.reader.now.messages c.args.writers.now c.requires.calls in
     let place = c.loop-writer.writer-index in
-    let left = c.loop-writer.remaining.items in
-    let was = c.loop-writer.invariant in
-    let turn = turn_at clock messages writers place (get_or order place 0) left was.turn c.requires order ordered c.loop-writer-test.true refl in
-    let own : c.index_mut.result.now ≡ get_or left (get_or order place 0) [] = c.index_mut.ensures.value ∙ get_or_default left (get_or order place 0) c.index_mut.result.now [] turn.known in
-    let same : turn.next.first ≡ c.in-Some.record.now = let e = sym turn.next.there ∙ sym own ∙ c.in-Some.ensures.some in cc in
-    let said : IsCallOf messages clock.tick turn.at.call c.in-Some.record.now = subst (IsCallOf messages clock.tick turn.at.call) same turn.next.is in
-    let lined = c.in_ok-push_line.ensures turn.at.call.message turn.at.call.ordinal said.message ∙ ap (λ (bytes : List ℕ). c.loop-writer.text.items ++ bytes) (line_is clock messages turn.at.call c.in-Some.record.now (get_or order place 0) said turn.at.own) in
-    let all = calls clock messages writers in
-    let pushed : IsGathered (flat_map (Line clock) all) c.push_line.new.text.items (flat_map (Line clock) (drop (place + 1) all)) (g.K.Sink.put c.args.out.now) (g.K.Sink.put c.loop-writer.out) =
-    record { front = was.text.front; put = was.text.put; joined = line_gathered _ was.text.front c.loop-writer.text.items _ (Line clock turn.at.call) _ _ was.text.joined (lines_more clock (drop place all) (drop (place + 1) all) turn.at.call turn.at.here) lined } in
-    cut_printing clock messages writers _ _ _ _ c.from_residual-in_err-write_long.result WriteFault c.from_residual-in_err-write_long.ensures.1
+    let picked = picks c.args.reader.now.header.clock c.args.reader.now.messages c.args.writers.now place (get_or order place 0) c.loop-writer.remaining.items c.loop-writer.invariant.turn c.requires order ordered c.loop-writer-test.true refl
+    c.index_mut.result.now c.index_mut.ensures.value c.in-Some.record.now c.next.new.self c.in-Some.ensures.some in
+    let pushed = gathers_line c.args.reader.now.header.clock c.args.reader.now.messages c.args.writers.now place (get_or order place 0) c.loop-writer.remaining.items c.in-Some.record.now c.next.new.self picked
+    c.loop-writer.text.items c.push_line.new.text.items (g.K.Sink.put c.args.out.now) (g.K.Sink.put c.loop-writer.out) c.loop-writer.invariant.text c.in_ok-push_line.ensures in
+    let counted = c.loop-writer.invariant.counted in
+    cut_printing c.args.reader.now.header.clock c.args.reader.now.messages c.args.writers.now _ _ _ _ c.from_residual-in_err-write_long.result WriteFault c.from_residual-in_err-write_long.ensures.1
     (cut_within _ _ _ _ _ _ pushed c.in_err-write_long.ensures.err)
-    (subst (λ (n : ℕ). Rose n (g.K.Sink.faults c.write_long.new.sink)) was.counted c.in_err-write_long.ensures.cause, subst (λ (n : ℕ). n ≤ g.K.Sink.faults c.write_long.new.sink) was.counted c.in_err-write_long.ensures.count)
+    (subst (λ (n : ℕ). Rose n (g.K.Sink.faults c.write_long.new.sink)) counted c.in_err-write_long.ensures.cause, subst (λ (n : ℕ). n ≤ g.K.Sink.faults c.write_long.new.sink) counted c.in_err-write_long.ensures.count)
 
 pub loop-writer-preserved : goal.loop-writer-preserved
 loop-writer-preserved g c =
-    let clock = c.args.reader.now.header.clock in
-    let messages = c.args.reader.now.messages in
-    let writers = c.args.writers.now in
     let order = c.deref-writer-items.result.now in
-    let ordered = c.deref-writer-items.ensures.value ∙ c.in_ok-order.ensures ∙ merged_is messages writers c.requires.calls in
+    let ordered = c.deref-writer-items.ensures.value ∙ c.in_ok-order.ensures ∙ merged_is c.args.reader.now.messages c.args.writers.now c.requires.calls in
     let place = c.loop-writer.writer-index in
-    let left = c.loop-writer.remaining.items in
-    let was = c.loop-writer.invariant in
-    let turn = turn_at clock messages writers place (get_or order place 0) left was.turn c.requires order ordered c.loop-writer-test.true refl in
-    let own : c.index_mut.result.now ≡ get_or left (get_or order place 0) [] = c.index_mut.ensures.value ∙ get_or_default left (get_or order place 0) c.index_mut.result.now [] turn.known in
-    let same : turn.next.first ≡ c.in-Some.record.now = let e = sym turn.next.there ∙ sym own ∙ c.in-Some.ensures.some in cc in
-    let said : IsCallOf messages clock.tick turn.at.call c.in-Some.record.now = subst (IsCallOf messages clock.tick turn.at.call) same turn.next.is in
-    let lined = c.in_ok-push_line.ensures turn.at.call.message turn.at.call.ordinal said.message ∙ ap (λ (bytes : List ℕ). c.loop-writer.text.items ++ bytes) (line_is clock messages turn.at.call c.in-Some.record.now (get_or order place 0) said turn.at.own) in
-    let all = calls clock messages writers in
-    let pushed : IsGathered (flat_map (Line clock) all) c.push_line.new.text.items (flat_map (Line clock) (drop (place + 1) all)) (g.K.Sink.put c.args.out.now) (g.K.Sink.put c.loop-writer.out) =
-    record { front = was.text.front; put = was.text.put; joined = line_gathered _ was.text.front c.loop-writer.text.items _ (Line clock turn.at.call) _ _ was.text.joined (lines_more clock (drop place all) (drop (place + 1) all) turn.at.call turn.at.here) lined } in
+    let picked = picks c.args.reader.now.header.clock c.args.reader.now.messages c.args.writers.now place (get_or order place 0) c.loop-writer.remaining.items c.loop-writer.invariant.turn c.requires order ordered c.loop-writer-test.true refl
+    c.index_mut.result.now c.index_mut.ensures.value c.in-Some.record.now c.next.new.self c.in-Some.ensures.some in
+    let pushed = gathers_line c.args.reader.now.header.clock c.args.reader.now.messages c.args.writers.now place (get_or order place 0) c.loop-writer.remaining.items c.in-Some.record.now c.next.new.self picked
+    c.loop-writer.text.items c.push_line.new.text.items (g.K.Sink.put c.args.out.now) (g.K.Sink.put c.loop-writer.out) c.loop-writer.invariant.text c.in_ok-push_line.ensures in
     record {
       text = emptied _ _ _ _ _ _ _ pushed c.in_ok-write_long.ensures.ok;
-      turn = next_turn clock messages writers place (get_or order place 0) left was.turn turn c.in-Some.record.now c.next.new.self (sym own ∙ c.in-Some.ensures.some);
-      counted = c.in_ok-write_long.ensures.counted ∙ was.counted;
-      others = g.met.K.Sink.rest_then _ _ _ was.others c.write_long.ensures.others;
+      turn = next_turn c.args.reader.now.header.clock c.args.reader.now.messages c.args.writers.now place (get_or order place 0) c.loop-writer.remaining.items c.loop-writer.invariant.turn picked.turn c.in-Some.record.now c.next.new.self picked.there;
+      counted = c.in_ok-write_long.ensures.counted ∙ c.loop-writer.invariant.counted;
+      others = g.met.K.Sink.rest_then _ _ _ c.loop-writer.invariant.others c.write_long.ensures.others;
     }
 
 pub returns-in_err-write_all-clause-printed : goal.returns-in_err-write_all-clause-printed
