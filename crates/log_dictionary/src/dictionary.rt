@@ -5,8 +5,10 @@ ghost use Rattle.std.specs.Option.{option_copied};
 ghost use Rattle.std.specs.Slice.Iter.{iter_rest};
 ghost use Rattle.printf_grammar.specs.declared.piece.Piece.{Piece};
 ghost use Rattle.printf_grammar.specs.Spelling.{Spells};
+ghost use Rattle.printf_grammar.specs.Types.{values_of};
 ghost use Rattle.log_dictionary.specs.declared.message.Message.{Message};
 ghost use Rattle.log_dictionary.specs.Messages.{SpellsMessage, HasMessage, HasId};
+ghost use Rattle.log_dictionary.specs.Calls.{Takes};
 ghost use Rattle.log_dictionary.specs.Additions.{IsAdded, SpellsNone, StopsMessage, ReadsLine};
 ghost use Rattle.log_dictionary.specs.MessageLines.{IsMessageLine};
 
@@ -15,7 +17,7 @@ use crate::message::Message;
 use crate::message_line::message_line_of;
 use crate::text::SpelledText;
 use indexmap::IndexSet;
-use printf_grammar::Format;
+use printf_grammar::{Arg, Format, fits};
 use std::alloc::{AllocError, Global};
 use std::marker::Model;
 use std::slice;
@@ -182,6 +184,16 @@ impl Dictionary {
         ensures { iter_rest result ≡ self.now }
     {
         self.messages.as_slice().iter()
+    }
+
+    /// Whether a call may have this id and these arguments. It takes no memory.
+    pub fn takes(&self, id: u32, args: &[Arg]) -> bool
+        ensures { IsTrue result ↔ Takes self.now id (values_of args.now) }
+    {
+        match self.get(id) {
+            Some(message) => fits(message.format.types(), args),
+            None => false,
+        }
     }
 
     /// Adds a message, unless an equal one is there. It is dropped where it isn't added.

@@ -1,4 +1,5 @@
 use super::*;
+use printf_grammar::Arg;
 use std::alloc::{AllocError, Global};
 use std::test::Fail;
 
@@ -75,6 +76,21 @@ fn a_message_is_read(rt: HostRuntime) -> Result<(), Fail> {
     assert_eq!(rt; message.format.bytes(), b"x=%d".as_slice());
     assert!(rt; dictionary.get(1).is_none());
     Ok(())
+}
+
+#[test]
+fn calls_are_told_from_what_is_none(rt: HostRuntime) {
+    let mut dictionary = Dictionary::make(rt.alloc());
+    assert_eq!(rt; dictionary.read_line(LINE), Ok(()));
+    for (id, arg, takes) in [
+        (0, Arg::Signed(7), true),
+        (0, Arg::Signed(1 << 31), false),
+        (0, Arg::Unsigned(7), false),
+        (1, Arg::Signed(7), false),
+    ] {
+        assert_eq!(rt; dictionary.takes(id, &[arg]), takes);
+    }
+    assert!(rt; !dictionary.takes(0, &[]));
 }
 
 #[test]
