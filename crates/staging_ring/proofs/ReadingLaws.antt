@@ -1,15 +1,15 @@
 -- Laws of words that are read as frames.
 use Rattle.std.proofs.Common.{◌≡◌, ℕ, ◌+◌, ◌*◌, ◌%◌, ◌<◌, ◌≤◌, Bool, true, false, List, [], ◌∷◌, ◌++◌, length, get_or, refl, sym, ap, ◌∙◌, subst, append_assoc, append-nil, length-append, eqb-true, eq-eqb, true≢false, arith}
-use Rattle.std.specs.Prelude.{All, if◌then◌else◌}
+use Rattle.std.specs.Prelude.{if◌then◌else◌}
 use Rattle.std.specs.List.{concat}
-use Rattle.std.proofs.lemmas.Bool.{cond_both, cond-true, cond-false, cases_Bool}
+use Rattle.std.proofs.lemmas.Bool.{cond_both, cond-true, cond-false}
 use Rattle.std.proofs.lemmas.List.Elements.{All-contains, Contains-push}
-use Rattle.arg_records.specs.Frames.{Frame, FrameLen, IsFrame}
+use Rattle.arg_records.specs.Frames.{FrameLen, IsFrame}
 use Rattle.arg_records.proofs.Lengths.{length-Frame}
 use Rattle.ring_core.specs.Plans.{Plan, Lawful, BeginsWith}
 use Rattle.ring_core.proofs.Frames.{Lawful-front, Lawful-frames}
 use Rattle.staging_ring.specs.declared.reading.Reading.{Reading}
-use Rattle.staging_ring.specs.Readings.{IsSettled, reading, nothing_read, stream, words_read, is_whole, is_mark, read_as, joined, read_on, with_frame, frames_with}
+use Rattle.staging_ring.specs.Readings.{IsSettled, reading, stream, words_read, is_whole, is_mark, read_as, joined, read_on, with_frame, frames_with}
 use Rattle.staging_ring.specs.Rule.{GoesOn}
 
 -- ---- one word more

@@ -1,11 +1,9 @@
 -- A roamer's end after a word was taken.
-use Rattle.std.proofs.Common.{◌≡◌, ℕ, ◌+◌, ◌-◌, ◌^◌, ◌<◌, ◌≤◌, Bool, true, false, true≢false, List, [], ◌∷◌, ◌++◌, length, take, refl, sym, ap, ◌∙◌, subst, length-append, arith}
-use Rattle.std.specs.Prelude.{min, Option, Some, None}
-use Rattle.std.specs.Arc.{arc_value}
-use Rattle.crossbeam_queue.specs.Passes.{Pass, view, IsPassOf}
-use Rattle.ring_core.specs.declared.answers.Taken.{Taken}
+use Rattle.std.proofs.Common.{◌≡◌, ℕ, ◌+◌, ◌-◌, ◌^◌, ◌<◌, ◌≤◌, Bool, true, false, List, [], ◌∷◌, ◌++◌, length, take, sym, ap, ◌∙◌, subst, length-append, arith}
+use Rattle.std.specs.Prelude.{min, Some, None}
+use Rattle.crossbeam_queue.specs.Passes.{Pass, view}
 use Rattle.ring_core.specs.declared.answers.Taken.TheVariants as answers
-use Rattle.ring_core.specs.Plans.{Plan, Lawful}
+use Rattle.ring_core.specs.Plans.{Lawful}
 use Rattle.staging_ring.specs.declared.reading.Reading.{Reading}
 use Rattle.staging_ring.specs.declared.known.Known.{Known}
 use Rattle.staging_ring.specs.declared.queue_out.QueueOut.TheInside.{Inside}

@@ -1,17 +1,16 @@
 -- Each move of an end keeps the rule of the ring.
-use Rattle.std.proofs.Common.{◌≡◌, ◌≢◌, ℕ, zero, suc, ◌+◌, ◌<◌, ◌≤◌, Bool, true, false, true≢false, List, [], ◌∷◌, ◌++◌, length, set, sym, refl, ap, ◌∙◌, subst, ⊎_elim, append-nil, length-append, arith}
-use Rattle.std.specs.Prelude.{⊤}
+use Rattle.std.proofs.Common.{◌≡◌, ◌≢◌, ℕ, zero, suc, true, false, true≢false, List, [], ◌∷◌, ◌++◌, length, set, sym, refl, ap, ◌∙◌, subst, ⊎_elim, length-append, arith}
 use mathlib.Core.Option.{some, some-ne-none}
 use lib.ListN.{get_elem?}
 use Rattle.crossbeam_queue.specs.Fifo.{Pushes, Pops, Forks, Merges, Learns}
 use Rattle.crossbeam_queue.proofs.Lists.{at_set, at_snoc}
-use Rattle.ring_core.specs.Plans.{Plan, Lawful}
+use Rattle.ring_core.specs.Plans.{Plan}
 use Rattle.ring_core.proofs.Frames.{AreFramesOf-nil}
 use Rattle.staging_ring.specs.declared.reading.Reading.{Reading}
 use Rattle.staging_ring.specs.declared.known.Known.{Known}
-use Rattle.staging_ring.specs.Readings.{nothing_read, words_read, joined, read_on, frames_with}
-use Rattle.staging_ring.specs.Rule.{plan_in, known, no_plan, newcomer, writer_of, roamer_of, both_of, spent, InOrder, HasPut, putting, GoesOn, Takes, Fits, Staged}
-use Rattle.staging_ring.proofs.ReadingLaws.{read_on-append, words_read-read_on, GoesOn-front, put_next}
+use Rattle.staging_ring.specs.Readings.{nothing_read, words_read, joined, read_on}
+use Rattle.staging_ring.specs.Rule.{plan_in, no_plan, newcomer, writer_of, roamer_of, both_of, spent, InOrder, HasPut, putting, GoesOn, Takes, Fits, Staged}
+use Rattle.staging_ring.proofs.ReadingLaws.{read_on-append, words_read-read_on, GoesOn-front}
 
 -- what holds of each pass
 abbrev Each : (ℕ → Known → Type 0) → List Known → Type 0

@@ -1,13 +1,12 @@
 -- A writer's end after words were put.
-use Rattle.std.proofs.Common.{◌≡◌, ℕ, ◌+◌, ◌%◌, ◌<◌, ◌≤◌, Bool, true, false, true≢false, List, [], ◌∷◌, ◌++◌, length, take, drop, refl, sym, ap, ◌∙◌, subst, ⊎_elim, length-append, arith}
+use Rattle.std.proofs.Common.{◌≡◌, ℕ, ◌+◌, ◌%◌, ◌<◌, ◌≤◌, true, false, true≢false, List, [], ◌∷◌, ◌++◌, length, take, drop, refl, sym, ap, ◌∙◌, subst, ⊎_elim, length-append, arith}
 use Rattle.std.specs.Prelude.{min}
 use Rattle.std.specs.Arc.{arc_value}
-use Rattle.std.proofs.lemmas.List.{take-append-drop, length-drop}
+use Rattle.std.proofs.lemmas.List.{take-append-drop}
 use Rattle.std.proofs.lemmas.Bool.{cases_lt}
 use Rattle.std.proofs.lemmas.List.Elements.{All-contains, Contains-push}
 use Rattle.arg_records.specs.Frames.{IsFrame}
-use Rattle.crossbeam_queue.specs.Passes.{Pass, view, IsPassOf, ruled_capacity}
-use Rattle.nl_io.specs.Count.{counted}
+use Rattle.crossbeam_queue.specs.Passes.{Pass, view, ruled_capacity}
 use Rattle.ring_core.specs.declared.limits.TheConstants.{MAX_POSITION}
 use Rattle.ring_core.specs.Plans.{Plan, Lawful}
 use Rattle.ring_core.specs.Positions.{Need}
@@ -16,7 +15,7 @@ use Rattle.ring_core.proofs.Needs.{Need-within, Need-beyond}
 use Rattle.staging_ring.specs.declared.reading.Reading.{Reading}
 use Rattle.staging_ring.specs.declared.known.Known.{Known}
 use Rattle.staging_ring.specs.declared.queue_in.QueueIn.TheInside.{Inside}
-use Rattle.staging_ring.specs.Ends.{WriterEnd, numbers_of, IsRefused}
+use Rattle.staging_ring.specs.Ends.{numbers_of}
 use Rattle.staging_ring.specs.Readings.{words_read, with_frame, frames_with, IsSettled}
 use Rattle.staging_ring.specs.Rule.{plan_in, having_put, having_closed}
 use Rattle.staging_ring.specs.WriterInside.{writer_knows, writer_end_of, IsWriter}

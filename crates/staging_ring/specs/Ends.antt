@@ -1,9 +1,8 @@
 -- The ends of a ring, as contracts see them.
-use Rattle.std.specs.Prelude.{◌≡◌, ℕ, ◌+◌, ◌≤◌, Bool, true, false, List, [], ◌∷◌, ◌++◌, length, take, Option, None, Some, IfSome}
+use Rattle.std.specs.Prelude.{◌≡◌, ℕ, ◌+◌, ◌≤◌, Bool, false, List, [], ◌∷◌, ◌++◌, length, take, Option, None, Some, IfSome}
 use Rattle.std.specs.Option.{option_map_or}
 use Rattle.arg_records.specs.declared.frame.TheConstants.{MAX_FRAME_WORDS}
 use Rattle.atomic_table.specs.Seated.{TableId}
-use Rattle.crossbeam_queue.specs.Passes.{Pass}
 use Rattle.nl_io.specs.Count.{counted, Rose}
 use Rattle.ring_core.specs.declared.limits.TheConstants.{MIN_RING, MAX_RING}
 use Rattle.ring_core.specs.declared.answers.Taken.{Taken}
@@ -18,8 +17,8 @@ pub record IsRingSize (words : ℕ) : Type 0 where
   pub least : MIN_RING ≤ words
   pub most : words ≤ MAX_RING
 
--- The writer's end: the frames that were accepted, the words of the last one that are not in the queue yet, and how many
--- places the position is ahead of those that are known to have been taken.
+-- The writer's end: the frames that were accepted, the words of the last one that are not in the queue yet, and how
+-- many places the position is ahead of those that are known to have been taken.
 pub record WriterEnd : Type 0 where
   pub pair : List ℕ
   pub plan : Plan
@@ -68,8 +67,8 @@ pub record Accepts (old : WriterEnd) (frame : List ℕ) (new : WriterEnd) : Type
   }
   pub looks : old.looks ≤ new.looks
 
--- The end went on by one word, to this answer, or to none where the frame isn't whole yet. A frame stands at the front of the
--- words that were handed in.
+-- The end went on by one word, to this answer, or to none where the frame isn't whole yet. A frame stands at the front
+-- of the words that were handed in.
 pub record GoesOnTo (old new : RoamerEnd) (into : List ℕ) (answer : Option Taken) : Type 0 where
   pub same : (new.pair ≡ old.pair) × (new.plan ≡ old.plan)
   pub frame : IfSome answer (λ taken. IfFrame taken (λ n. (n ≤ MAX_FRAME_WORDS)

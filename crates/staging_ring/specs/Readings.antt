@@ -1,6 +1,6 @@
--- Words, read as the frames that they spell. The first word of a frame tells how many words the frame has, and is never 0.
--- A word 0 in place of a frame is the closing mark.
-use Rattle.std.specs.Prelude.{◌≡◌, ℕ, ◌+◌, ◌%◌, Bool, true, false, ◌==◌, if◌then◌else◌, List, [], ◌∷◌, ◌++◌, length}
+-- Words, read as the frames that they spell. The first word of a frame tells how many words the frame has, and is
+-- never 0. A word 0 in place of a frame is the closing mark.
+use Rattle.std.specs.Prelude.{◌≡◌, ℕ, ◌%◌, Bool, true, false, ◌==◌, if◌then◌else◌, List, [], ◌∷◌, ◌++◌, length}
 use Rattle.std.specs.List.{concat}
 use Rattle.staging_ring.specs.declared.reading.Reading.{Reading}
 

@@ -1,5 +1,5 @@
 -- How a roamer's end keeps what it is.
-use Rattle.std.specs.Prelude.{◌≡◌, ℕ, ◌+◌, ◌-◌, ◌*◌, ◌^◌, ◌<◌, Bool, true, false, length, min}
+use Rattle.std.specs.Prelude.{◌≡◌, ◌-◌, ◌^◌, ◌<◌, true, false, length, min}
 use Rattle.std.specs.Arc.{arc_value}
 use Rattle.arg_records.specs.declared.frame.TheConstants.{MAX_FRAME_WORDS}
 use Rattle.crossbeam_queue.specs.Passes.{view, IsPassOf}
@@ -21,8 +21,8 @@ roamer_end_of s = record {
   loads = s.loads;
 }
 
--- The words of a frame that isn't whole are kept, and there is room for one more. The frames are counted as far as a u64
--- goes.
+-- The words of a frame that isn't whole are kept, and there is room for one more. The frames are counted as far as a
+-- u64 goes.
 pub record IsRoamer (s : Inside) : Type 0 where
   pub queue : IsPassOf (arc_value s.queue) s.pass
   pub takes : (roamer_knows s).takes ≡ true

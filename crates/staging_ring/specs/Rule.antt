@@ -1,6 +1,6 @@
 -- The rule of a queue between a writer and a roamer. What was taken, then what the queue holds, then the words that the
 -- writer has still to put, is the stream of lawful frames. One pass at most may put words, and one may take them.
-use Rattle.std.specs.Prelude.{◌≡◌, ℕ, ◌≤◌, Bool, true, false, List, [], ◌++◌, length}
+use Rattle.std.specs.Prelude.{◌≡◌, ℕ, ◌≤◌, Bool, true, false, List, [], length}
 use mathlib.Core.Option.{some}
 use lib.ListN.{get_elem?}
 use Rattle.ring_core.specs.Plans.{Plan, Lawful}
@@ -13,7 +13,14 @@ abbrev pub plan_in : Known → Plan
 plan_in v = record { types = v.types; first = v.first }
 
 abbrev pub known : Bool → Bool → Plan → Reading → Reading → Known
-known puts takes plan put taken = record { puts = puts; takes = takes; types = plan.types; first = plan.first; put = put; taken = taken }
+known puts takes plan put taken = record {
+  puts = puts;
+  takes = takes;
+  types = plan.types;
+  first = plan.first;
+  put = put;
+  taken = taken;
+}
 
 -- the plan before there is one
 abbrev pub no_plan : Plan
@@ -64,7 +71,8 @@ abbrev pub Takes : Known → ℕ → Known → Type 0
 Takes v word w = (w ≡ record v { taken = joined v.taken word }) × GoesOn (plan_in v) (joined v.taken word)
 
 -- what the pass with this number knows
-pub record Fits (plan : Plan) (writer : ℕ) (put : Reading) (roamer : ℕ) (taken : Reading) (port : ℕ) (v : Known) : Type 0 where
+pub record Fits (plan : Plan) (writer : ℕ) (put : Reading) (roamer : ℕ) (taken : Reading) (port : ℕ)
+    (v : Known) : Type 0 where
   pub puts : v.puts ≡ true → (port ≡ writer) × (v.put ≡ put) × (plan_in v ≡ plan)
   pub takes : v.takes ≡ true → (port ≡ roamer) × (v.taken ≡ taken) × (plan_in v ≡ plan)
 

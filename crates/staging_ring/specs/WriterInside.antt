@@ -1,5 +1,5 @@
 -- How a writer's end keeps what it is.
-use Rattle.std.specs.Prelude.{◌≡◌, ℕ, ◌+◌, ◌≤◌, Bool, true, false, List, [], length, min}
+use Rattle.std.specs.Prelude.{◌≡◌, ℕ, ◌+◌, ◌≤◌, true, false, [], length, min}
 use Rattle.std.specs.Arc.{arc_value}
 use Rattle.crossbeam_queue.specs.Passes.{view, IsPassOf, ruled_capacity}
 use Rattle.ring_core.specs.declared.limits.TheConstants.{MAX_POSITION}
@@ -28,8 +28,12 @@ writer_end_of s = record {
   looks = s.looks;
 }
 
--- The frames are lawful with the words that wait. The position is not below the words that were put or wait, nor below the
--- number of frames. Behind the closing mark nothing waits.
+-- how many words were put, or wait
+abbrev pub words_accepted : Inside → ℕ
+words_accepted s = length (words_read (writer_knows s).put) + length s.waiting
+
+-- The frames are lawful with the words that wait. The position is not below the number of words, nor below that of
+-- frames. Behind the closing mark nothing waits.
 pub record IsWriter (s : Inside) : Type 0 where
   pub queue : IsPassOf (arc_value s.queue) s.pass
   pub size : IsRingSize (ruled_capacity (arc_value s.queue))
@@ -37,7 +41,7 @@ pub record IsWriter (s : Inside) : Type 0 where
   pub lawful : Lawful (plan_in (writer_knows s)) (frames_with (writer_knows s).put s.waiting)
   pub settled : IsSettled (writer_knows s).put
   pub nothing_behind : (writer_knows s).put.over ≡ true → ((writer_knows s).put.part ≡ []) × (s.waiting ≡ [])
-  pub words_before : (writer_knows s).put.over ≡ false → length (words_read (writer_knows s).put) + length s.waiting ≤ s.at
+  pub words_before : (writer_knows s).put.over ≡ false → words_accepted s ≤ s.at
   pub frames_before : length (frames_with (writer_knows s).put s.waiting) ≤ s.at
   pub position : s.at ≤ MAX_POSITION
   pub ahead_within : s.ahead ≤ s.at

@@ -1,8 +1,7 @@
-use Rattle.std.proofs.Common.{◌≡◌, [], ◌++◌, sym, ap, ◌∙◌, subst}
+use Rattle.std.proofs.Common.{[], sym, ap, ◌∙◌, subst}
 use Rattle.crossbeam_queue.specs.Passes.{view}
-use Rattle.ring_core.specs.Plans.{Lawful}
 use Rattle.staging_ring.specs.declared.reading.Reading.{Reading}
-use Rattle.staging_ring.specs.Rule.{plan_in, GoesOn, having_closed}
+use Rattle.staging_ring.specs.Rule.{plan_in, GoesOn}
 use Rattle.staging_ring.specs.Readings.{joined}
 use Rattle.staging_ring.proofs.ReadingLaws.{joined-close}
 use Rattle.staging_ring.proofs.RuleLaws.{puts, put_before}

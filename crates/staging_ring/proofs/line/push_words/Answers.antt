@@ -1,9 +1,8 @@
-use Rattle.std.proofs.Common.{◌≡◌, ◌+◌, true, false, get_or, sym, ◌∙◌, subst}
+use Rattle.std.proofs.Common.{◌≡◌, ◌+◌, true, get_or, sym, ◌∙◌, subst}
 use Rattle.crossbeam_queue.specs.Passes.{view}
 use Rattle.staging_ring.specs.declared.known.Known.{Known}
 use Rattle.staging_ring.proofs.Putting.{IsPutting, may_put, goes_on, ok_part}
 use Rattle.staging_ring.proofs.RuleLaws.{puts, put_before}
-use Rattle.staging_ring.specs.Readings.{joined}
 use Rattle.staging_ring.proofs.line.push_words.Goals as goal
 
 pub push_as-requires-clause-rule : goal.push_as-requires-clause-rule

@@ -1,4 +1,4 @@
-use Rattle.std.proofs.Common.{◌≡◌, ◌≤◌, length}
+use Rattle.std.proofs.Common.{◌≡◌}
 use Rattle.crossbeam_queue.specs.Passes.{view, IsPassOf}
 use Rattle.staging_ring.proofs.Putting.{IsPutting}
 use Rattle.staging_ring.proofs.line.push_words.Given as goal

@@ -1,4 +1,4 @@
-use Rattle.std.proofs.Common.{◌≡◌, sym, ap, ◌∙◌, subst}
+use Rattle.std.proofs.Common.{ap}
 use Rattle.crossbeam_queue.specs.Passes.{view}
 use Rattle.staging_ring.specs.declared.known.Known.{Known}
 use Rattle.staging_ring.proofs.RuleLaws.{forks}

@@ -1,4 +1,4 @@
-use Rattle.std.proofs.Common.{◌≡◌, true, length, List, ℕ, sym, ap, ◌∙◌, subst}
+use Rattle.std.proofs.Common.{◌≡◌, true, List, ℕ, sym, ap, ◌∙◌, subst}
 use Rattle.crossbeam_queue.specs.Passes.{Pass, view}
 use Rattle.ring_core.specs.Plans.{BeginsWith}
 use Rattle.staging_ring.specs.declared.known.Known.{Known}

@@ -1,20 +1,17 @@
-use Rattle.std.proofs.Common.{◌≡◌, ℕ, ◌+◌, ◌-◌, ◌≤◌, ◌<◌, true, false, List, [], ◌∷◌, ◌++◌, length, take, drop, sym, ap, ◌∙◌, subst, arith}
+use Rattle.std.proofs.Common.{◌≡◌, ℕ, ◌+◌, ◌-◌, ◌≤◌, ◌<◌, false, List, [], ◌∷◌, ◌++◌, length, take, drop, sym, ap, ◌∙◌, subst, arith}
 use Rattle.std.specs.Arc.{arc_value}
 use Rattle.std.proofs.lemmas.Bool.{lt-ltb}
 use Rattle.std.proofs.lemmas.List.{length-drop, length-take}
 use Rattle.std.proofs.Math.Seq.{take-length}
-use Rattle.arg_records.specs.Frames.{IsFrame}
-use Rattle.crossbeam_queue.specs.Passes.{Pass, view, ruled_capacity}
-use Rattle.nl_io.specs.Count.{counted}
-use Rattle.ring_core.specs.Plans.{Plan, Lawful}
+use Rattle.crossbeam_queue.specs.Passes.{view, ruled_capacity}
+use Rattle.ring_core.specs.Plans.{Lawful}
 use Rattle.ring_core.specs.Positions.{Need}
 use Rattle.ring_core.proofs.Needs.{Need-most}
-use Rattle.staging_ring.specs.declared.known.Known.{Known}
 use Rattle.staging_ring.specs.declared.queue_in.QueueIn.TheInside.{Inside}
 use Rattle.staging_ring.specs.Ends.{WriterEnd, IsRefused, Accepts}
 use Rattle.staging_ring.specs.Readings.{words_read, frames_with}
 use Rattle.staging_ring.specs.Rule.{plan_in, having_put}
-use Rattle.staging_ring.specs.WriterInside.{writer_knows, writer_end_of, IsWriter}
+use Rattle.staging_ring.specs.WriterInside.{writer_knows, writer_end_of}
 use Rattle.staging_ring.proofs.ReadingLaws.{frame_head}
 use Rattle.staging_ring.proofs.Writers.{changed, FirstPut, count_same, end_after_put, last_is_frame, frame_begins, accepted_writer, Need-least, same_end}
 use Rattle.staging_ring.proofs.queue_in.QueueIn.accept.Goals as goal

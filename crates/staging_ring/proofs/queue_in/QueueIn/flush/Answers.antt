@@ -1,14 +1,11 @@
-use Rattle.std.proofs.Common.{rules, ◌≡◌, ℕ, ◌≤◌, ◌<◌, true, false, true≢false, List, [], length, take, drop, sym, ap, ◌∙◌, subst, arith}
+use Rattle.std.proofs.Common.{rules, ◌≡◌, ℕ, ◌≤◌, ◌<◌, false, true≢false, length, sym, ap, ◌∙◌, subst, arith}
 use Rattle.std.specs.Arc.{arc_value}
 use Rattle.std.proofs.lemmas.List.{length-drop}
-use Rattle.crossbeam_queue.specs.Passes.{Pass, view, IsPassOf, ruled_capacity}
-use Rattle.nl_io.specs.Count.{counted}
-use Rattle.staging_ring.specs.declared.known.Known.{Known}
+use Rattle.crossbeam_queue.specs.Passes.{view, ruled_capacity}
 use Rattle.staging_ring.specs.Ends.{WriterEnd, IsRefused}
-use Rattle.staging_ring.specs.Readings.{words_read, frames_with, IsSettled}
-use Rattle.staging_ring.specs.WriterInside.{writer_knows, writer_end_of, IsWriter}
-use Rattle.staging_ring.specs.Rule.{having_put}
-use Rattle.staging_ring.proofs.Writers.{changed, FirstPut, put_first, count_same, still_writer, end_after_put, none_left}
+use Rattle.staging_ring.specs.Readings.{words_read}
+use Rattle.staging_ring.specs.WriterInside.{writer_knows, writer_end_of}
+use Rattle.staging_ring.proofs.Writers.{changed, put_first, count_same, still_writer, end_after_put, none_left}
 use Rattle.staging_ring.proofs.queue_in.QueueIn.flush.Goals as goal
 
 pub invariant_of-self : goal.invariant_of-self

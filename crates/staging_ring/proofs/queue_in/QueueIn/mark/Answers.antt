@@ -1,4 +1,4 @@
-use Rattle.std.proofs.Common.{◌≡◌, true, false, [], sym, ap, ◌∙◌}
+use Rattle.std.proofs.Common.{true, ap, ◌∙◌}
 use Rattle.staging_ring.specs.Ends.{WriterEnd}
 use Rattle.staging_ring.specs.Rule.{plan_in}
 use Rattle.staging_ring.specs.WriterInside.{writer_knows}

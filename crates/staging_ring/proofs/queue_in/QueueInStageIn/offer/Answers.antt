@@ -1,4 +1,4 @@
-use Rattle.std.proofs.Common.{◌≤◌, length, arith}
+use Rattle.std.proofs.Common.{arith}
 use Rattle.staging_ring.proofs.ReadingLaws.{frame_head}
 use Rattle.staging_ring.proofs.Writers.{last_is_frame}
 use Rattle.staging_ring.proofs.queue_in.QueueInStageIn.offer.Goals as goal
