@@ -4,3 +4,4 @@ pub mod Putting
 pub mod Writers
 pub mod Roamers
 pub mod Together
+pub mod Feeding
