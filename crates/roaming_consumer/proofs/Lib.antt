@@ -6,3 +6,4 @@ pub mod Sending
 pub mod Fragmenting
 pub mod TakenFrames
 pub mod Standing
+pub mod Marking

@@ -27,7 +27,7 @@ use Rattle.roaming_consumer.proofs.Used.{ids_known}
 use Rattle.roaming_consumer.proofs.Sending.{with_end-nil, ExtentSent}
 use Rattle.roaming_consumer.proofs.Growth.{grown, closing, beginning}
 
-false_is_not_true : {A : Type 0} (b : Bool) → b ≡ false → b ≡ true → A
+pub false_is_not_true : {A : Type 0} (b : Bool) → b ≡ false → b ≡ true → A
 false_is_not_true b is_false is_true = absurd cc
 
 same_log : (wrote others : List ℕ) (taken : List (List Call)) (messages names : List Message) (clock watch : Clock) (batch size : ℕ) (progress now : Progress) → wrote ≡ others → messages ≡ names → clock ≡ watch → batch ≡ size → progress ≡ now → IsLogSoFar wrote taken messages clock batch progress → IsLogSoFar others taken names watch size now

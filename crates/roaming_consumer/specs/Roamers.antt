@@ -1,8 +1,10 @@
 -- What a roamer keeps, and the bytes for which it stands.
-use Rattle.std.specs.Prelude.{◌≡◌, ◌≤◌, ℕ, Bool, true, false, List, [], ◌∷◌, ◌++◌, get_or, All, Some, slice_get, slice_set, length}
+use Rattle.std.specs.Prelude.{◌≡◌, ◌<◌, ◌≤◌, ℕ, Bool, true, false, List, [], ◌∷◌, ◌++◌, get_or, All, Some, slice_get, slice_set, length}
 use Rattle.nl_io.specs.Count.{Rose}
 use Rattle.nl_io.specs.Content.{Told, with_end}
 use Rattle.checkpoint_io.specs.declared.header.Header.{Header}
+use Rattle.checkpoint_io.specs.Logs.{LogOf}
+use Rattle.checkpoint_io.specs.Validity.{IsClosed}
 use Rattle.log_dictionary.specs.declared.clock.Clock.{Clock}
 use Rattle.log_dictionary.specs.declared.message.Message.{Message}
 use Rattle.arg_records.specs.declared.call.Call.{Call}
@@ -27,6 +29,18 @@ batch_of roamer = roamer.batch
 -- what is kept of the log
 abbrev pub progress_of : {S : Type 0} → Roamer S → Progress
 progress_of roamer = record { defined = roamer.defined; closed = roamer.closed }
+
+-- whether the close mark of the writer was written
+abbrev pub is_marked : {S : Type 0} → Roamer S → ℕ → Bool
+is_marked roamer writer = get_or (progress_of roamer).closed writer false
+
+-- each writer's close mark was written
+abbrev pub AreMarked : {S : Type 0} → Roamer S → Type 0
+AreMarked roamer = (writer : ℕ) → writer < length (ends_of roamer) → is_marked roamer writer ≡ true
+
+-- the same close marks were written
+abbrev pub KeepsMarks : {S : Type 0} → Roamer S → Roamer S → Type 0
+KeepsMarks old new = (writer : ℕ) → is_marked new writer ≡ is_marked old writer
 
 -- whether the header was to be written
 abbrev pub is_begun : {S : Type 0} → Roamer S → Bool
@@ -79,6 +93,13 @@ pub record IsLogOfEnds {S : Type 0} (got : S → List (List ℕ)) (ended : S →
   pub frames : AreTaken (plan_of_roamer roamer) got (ends_of roamer) taken
   pub log : IsLogSoFar wrote taken (messages_of roamer) (clock_of roamer) (batch_of roamer) (progress_of roamer)
   pub closed : HaveEnded ended (ends_of roamer) (progress_of roamer).closed
+
+-- The bytes are the log of the calls whose frames were taken from the ends, and the close mark of each writer is in it.
+pub record IsClosedLogOfEnds {S : Type 0} (got : S → List (List ℕ)) (roamer : Roamer S) (wrote : List ℕ) : Type 0 where
+  pub taken : List (List Call)
+  pub frames : AreTaken (plan_of_roamer roamer) got (ends_of roamer) taken
+  pub log : LogOf wrote taken (messages_of roamer) (clock_of roamer) (batch_of roamer)
+  pub closed : (writer : ℕ) → writer < length taken → IsClosed writer log.blocks
 
 -- The roamer's calls have put these bytes. Before the header there are none, and nothing was taken, defined or closed;
 -- from then on and until a write fails they are the log of what was taken.

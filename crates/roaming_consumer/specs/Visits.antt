@@ -1,10 +1,13 @@
 -- What is told of a visit.
-use Rattle.std.specs.Prelude.{◌≡◌, ℕ, ◌≤◌, Bool, true, false, List}
+use Rattle.std.specs.Prelude.{◌≡◌, ◌≢◌, ℕ, ◌≤◌, Bool, true, false, List, Result, Ok}
 use Rattle.nl_io.specs.Count.{Rose}
 use Rattle.ring_core.specs.Plans.{Plan}
 use Rattle.roaming_consumer.specs.declared.visit.Visit.{Visit}
 use Rattle.roaming_consumer.specs.declared.visit.Visit.TheVariants.{Wrote, Idle, Ended, Discarded}
+use Rattle.roaming_consumer.specs.declared.visit.SinkFault.{SinkFault}
+use Rattle.roaming_consumer.specs.declared.roamer.Roamer.{Roamer}
 use Rattle.roaming_consumer.specs.Gathering.{Came}
+use Rattle.roaming_consumer.specs.Roamers.{is_faulted, is_marked}
 
 -- what the answer says of the end: how many frames were taken, or that there was none, or that all had ended
 abbrev pub Tells : {S : Type 0} → (S → List (List ℕ)) → (S → Bool) → (S → ℕ) → Visit → S → S → Type 0
@@ -30,3 +33,12 @@ IsWritten _ = Unit {0}
 abbrev pub IsThrown : Visit → Type 0
 IsThrown (Wrote n) = ⊥
 IsThrown _ = Unit {0}
+
+-- What a visit of the writer does to the close marks. None is lost, and only the writer's may be new. It is new only where
+-- a visit before any write had failed answers that the writer has ended, and where one answers so the mark is written.
+pub record Marks {S : Type 0} (outcome : Result Visit SinkFault) (writer : ℕ) (old new : Roamer S) : Type 0 where
+  pub others : (other : ℕ) → other ≢ writer → is_marked new other ≡ is_marked old other
+  pub kept : is_marked old writer ≡ true → is_marked new writer ≡ true
+  pub written : is_faulted old ≡ false → outcome ≡ Ok Ended → is_marked new writer ≡ true
+  pub new_where : is_marked old writer ≡ false → is_marked new writer ≡ true
+      → (is_faulted old ≡ false) × (outcome ≡ Ok Ended)

@@ -4,7 +4,7 @@ ghost use Rattle.std.specs.Prelude.{◌≡◌, true, false, length, OnOk, OnErr}
 ghost use Rattle.checkpoint_io.specs.Blocks.{header_bytes};
 ghost use Rattle.checkpoint_io.specs.Validity.{IsHeader};
 ghost use Rattle.roaming_consumer.specs.Sinks.{Sends};
-ghost use Rattle.roaming_consumer.specs.Roamers.{ends_of, clock_of, progress_of, is_begun, is_faulted, header_of, IsSameRun, Adds};
+ghost use Rattle.roaming_consumer.specs.Roamers.{ends_of, clock_of, progress_of, is_begun, is_faulted, header_of, KeepsMarks, IsSameRun, Adds};
 
 use crate::blocks::write_header;
 use crate::roamer::Roamer;
@@ -41,6 +41,7 @@ impl<'d, S: StageOut> Roamer<'d, S> {
         ensures begun { is_begun self.new ≡ true }
         ensures ok { OnOk result (is_faulted self.new ≡ is_faulted self.old) }
         ensures err { OnErr result (is_faulted self.new ≡ true) }
+        ensures marks { KeepsMarks self.old self.new }
         ensures same_ends { ends_of self.new ≡ ends_of self.old }
         ensures same_run { IsSameRun self.old self.new }
     {

@@ -79,6 +79,7 @@ impl<'d, S> Roamer<'d, S> {
         ensures ok { OnOk result (progress_of self.new ≡ record (progress_of self.old) {
           defined = max (progress_of self.old).defined draft.ids;
         }) }
+        ensures err { OnErr result (progress_of self.new ≡ progress_of self.old) }
         ensures same_run { IsSameRun self.old self.new }
         ensures same_ends { ends_of self.new ≡ ends_of self.old }
         ensures same_flags { (is_begun self.new ≡ is_begun self.old)
@@ -110,6 +111,7 @@ impl<'d, S> Roamer<'d, S> {
             (K.put sink.old) (K.put sink.new) (K.faults sink.old) (K.faults sink.new) }
         ensures others { K.rest sink.old sink.new }
         ensures ok { OnOk result (progress_of self.new ≡ progress_closing (progress_of self.old) writer) }
+        ensures err { OnErr result (progress_of self.new ≡ progress_of self.old) }
         ensures same_run { IsSameRun self.old self.new }
         ensures same_ends { ends_of self.new ≡ ends_of self.old }
         ensures same_flags { (is_begun self.new ≡ is_begun self.old)

@@ -1,7 +1,7 @@
 //! Laws over the definitions of a log that grows. The functions do nothing: what they ensure is proved of the
 //! definitions.
 
-ghost use Rattle.std.specs.Prelude.{◌≡◌, ◌<◌, ◌≤◌, ◌++◌, [], ℕ, Bool, false, List, length, get_or, replicate};
+ghost use Rattle.std.specs.Prelude.{◌≡◌, ◌<◌, ◌≤◌, ◌++◌, [], ℕ, Bool, true, false, List, length, get_or, replicate};
 ghost use Rattle.log_dictionary.specs.declared.clock.Clock.{Clock};
 ghost use Rattle.log_dictionary.specs.declared.message.Message.{Message};
 ghost use Rattle.log_dictionary.specs.Messages.{AreDistinct};
@@ -10,6 +10,10 @@ ghost use Rattle.checkpoint_io.specs.declared.header.Header.{Header};
 ghost use Rattle.checkpoint_io.specs.Blocks.{header_bytes, close_bytes};
 ghost use Rattle.checkpoint_io.specs.Validity.{IsHeader};
 ghost use Rattle.roaming_consumer.specs.Growth.{Progress, IsLogSoFar, with_calls, IsNext, progress_behind, progress_closing};
+ghost use Rattle.roaming_consumer.specs.declared.roamer.Roamer.{Roamer};
+ghost use Rattle.roaming_consumer.specs.Roamers.{is_begun, is_faulted, AreMarked, IsClosedLogOfEnds, StandsFor};
+
+use ring_core::StageOut;
 
 /// The log of a run grows by an extent of a writer, in front of which stand the fragments that it wants. Then it is the
 /// log of as many calls more.
@@ -43,4 +47,14 @@ pub fn logs_grow_by_close_marks()
         → writer < length progress.closed
         → IsLogSoFar (wrote ++ close_bytes writer) taken dictionary clock batch
         (progress_closing progress writer) }
+{}
+
+/// Where no write has failed and the close mark of each writer was written, the log of what was taken has them all.
+pub fn marks_stand_in_the_log<S: StageOut>()
+    ensures { (roamer : Roamer S) (wrote : List ℕ)
+        → StandsFor S.got S.ended roamer wrote
+        → is_begun roamer ≡ true
+        → is_faulted roamer ≡ false
+        → AreMarked roamer
+        → IsClosedLogOfEnds S.got roamer wrote }
 {}

@@ -1,4 +1,8 @@
-use Rattle.roaming_consumer.proofs.Standing.{threw, planned_after, count_after}
+use Rattle.std.proofs.Common.{ap}
+use Rattle.roaming_consumer.specs.Growth.{Progress}
+use Rattle.roaming_consumer.specs.Roamers.{is_faulted}
+use Rattle.roaming_consumer.proofs.Marking.{marks_stay}
+use Rattle.roaming_consumer.proofs.Standing.{false_is_not_true, threw, planned_after, count_after}
 use Rattle.roaming_consumer.proofs.roamer.Roamer.visit.Goals as goal
 
 pub returns-then-self-clause-wrote : goal.returns-then-self-clause-wrote
@@ -19,3 +23,7 @@ returns-then-self-clause-same_count g c = count_after _ _ _ c.throw_visit.ensure
 
 pub returns-clause-same_count : goal.returns-clause-same_count
 returns-clause-same_count g c = count_after _ _ _ c.write_visit.ensures.visits
+
+pub returns-then-self-clause-marks : goal.returns-then-self-clause-marks
+returns-then-self-clause-marks g c =
+    marks_stay _ c.args.writer c.args.self.now c.throw_visit.new.self (ap (λ (p : Progress). p.closed) c.throw_visit.ensures.others.progress) (λ unfaulted is. false_is_not_true (is_faulted c.args.self.now) unfaulted c.if-self.true)
