@@ -7,3 +7,4 @@ pub mod Fragmenting
 pub mod TakenFrames
 pub mod Standing
 pub mod Marking
+pub mod Stopping

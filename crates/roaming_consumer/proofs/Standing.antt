@@ -13,7 +13,7 @@ use Rattle.log_dictionary.specs.declared.message.Message.{Message}
 use Rattle.log_dictionary.specs.Messages.{AreDistinct}
 use Rattle.arg_records.specs.declared.call.Call.{Call}
 use Rattle.buffer_extent.specs.Bodies.{SpellsRecords}
-use Rattle.checkpoint_io.specs.Blocks.{header_bytes, extent_head_bytes, close_bytes}
+use Rattle.checkpoint_io.specs.Blocks.{SpellsExtent, header_bytes, extent_head_bytes, close_bytes}
 use Rattle.checkpoint_io.specs.Validity.{IsHeader}
 use Rattle.checkpoint_io.specs.Logs.{new_messages}
 use Rattle.ring_core.specs.Plans.{Plan, plan_of, frames_of, AreFramesOf}
@@ -21,6 +21,7 @@ use Rattle.ring_core.proofs.Frames.{AreFramesOf-nil}
 use Rattle.roaming_consumer.specs.declared.draft.Draft.{Draft}
 use Rattle.roaming_consumer.specs.declared.roamer.Roamer.{Roamer}
 use Rattle.roaming_consumer.specs.Growth.{Progress, IsLogSoFar, with_calls, FragmentsFor, IsNext, progress_behind, progress_closing}
+use Rattle.roaming_consumer.specs.Drafts.{IsDraft}
 use Rattle.roaming_consumer.specs.Gathering.{Gathers}
 use Rattle.roaming_consumer.specs.Roamers.{ends_of, messages_of, clock_of, batch_of, progress_of, is_begun, is_faulted, plan_of_roamer, ArePlanned, IsSameRun, KeepsLog, Answers, ChangesOne, AreTaken, IsLogOfEnds, StandsFor, header_of, Adds}
 use Rattle.roaming_consumer.proofs.Used.{ids_known}
@@ -162,6 +163,21 @@ none_came messages tick before after draft body was none =
 
 -- ---- an extent
 
+-- the records of a draft, behind the head of an extent
+pub spells_extent : (messages : List Message) (tick writer : ℕ) (entries : List Call) (draft : Draft) (body extent : List ℕ) → IsDraft messages tick entries draft body → 1 ≤ draft.records → writer < 64 → length body ≤ 65536 → extent ≡ extent_head_bytes writer (length (take draft.len body)) ++ take draft.len body → SpellsExtent messages tick writer entries extent
+spells_extent messages tick writer entries draft body extent drafted some known room is =
+    let records = drafted.records in
+    let within = drafted.within in
+    let long = length-take-le draft.len body within in
+    record {
+      body = take draft.len body;
+      some = body_some messages tick entries (take draft.len body) (omega (arith, some, records)) drafted.spelled;
+      short = omega (arith, long, within, room);
+      writer_fits = omega (arith, known);
+      body_spelled = drafted.spelled;
+      joined = is;
+    }
+
 -- what a visit did before it wrote
 pub record Moved {S : Type 0} (got : S → List (List ℕ)) (ended : S → Bool) (old new : Roamer S) (writer : ℕ)
     (before after : S) (draft : Draft) (body : List ℕ) : Type 0 where
@@ -200,8 +216,6 @@ extent_stands {S} got ended old new writer before after draft body fragments ext
     let new_are : drop (progress_of old).defined (take (max (progress_of old).defined draft.ids) (messages_of old)) ≡ new_messages (messages_of old) (progress_of old).defined entries =
     same_new (messages_of old) (progress_of old).defined draft.ids ∙ ap (λ (n : ℕ). drop (progress_of old).defined (take n (messages_of old))) drafted.ids in
     let records = drafted.records in
-    let long = length-take-le draft.len body drafted.within in
-    let within = drafted.within in
     let next : IsNext log.taken (messages_of old) (clock_of old).tick (batch_of old) (progress_of old) writer entries fragments extent = record {
       known = known;
       not_closed = open_writer;
@@ -209,14 +223,7 @@ extent_stands {S} got ended old new writer before after draft body fragments ext
       right = moved.gathers.right;
       rising = now.rising;
       fragments_spelled = subst (λ (ms : List Message). FragmentsFor (progress_of old).defined ms fragments) new_are spelled;
-      extent_spelled = record {
-        body = take draft.len body;
-        some = body_some (messages_of old) (clock_of old).tick entries (take draft.len body) (omega (arith, some, records)) drafted.spelled;
-        short = omega (arith, long, within, room);
-        writer_fits = omega (arith, inside, few_ends);
-        body_spelled = drafted.spelled;
-        joined = extent_is;
-      };
+      extent_spelled = spells_extent (messages_of old) (clock_of old).tick writer entries draft body extent drafted some (omega (arith, inside, few_ends)) room extent_is;
     } in
     let more = grown wrote log.taken (messages_of old) (clock_of old) (batch_of old) (progress_of old) writer entries fragments extent log.log distinct few_messages next in
     let progress_is : progress_behind (progress_of old) entries ≡ progress_of new =
@@ -320,7 +327,7 @@ stands_faulted got ended roamer wrote now faulted = record {
 -- ---- what a visit adds
 
 -- what was collected
-abbrev Collected : {S : Type 0} → (S → List (List ℕ)) → (S → Bool) → (S → ℕ) → (S → List ℕ) → (S → Plan) → Roamer S → Draft → Bool → List ℕ → S → S → Type 0
+abbrev pub Collected : {S : Type 0} → (S → List (List ℕ)) → (S → Bool) → (S → ℕ) → (S → List ℕ) → (S → Plan) → Roamer S → Draft → Bool → List ℕ → S → S → Type 0
 Collected got ended loads pair plan old draft all body before after =
     Gathers (messages_of old) (clock_of old).tick (got before) (got after) draft body × Answers ended loads pair plan draft.records all before after
 

@@ -1,13 +1,21 @@
 -- What is told of a visit.
-use Rattle.std.specs.Prelude.{◌≡◌, ◌≢◌, ℕ, ◌≤◌, Bool, true, false, List, Result, Ok}
+use Rattle.std.specs.Prelude.{◌≡◌, ◌≢◌, ◌⊎◌, ℕ, ◌≤◌, Bool, true, false, List, [], ◌++◌, length, max, take, drop, Result, Ok}
+use Rattle.std.specs.List.{AllByRecursion}
 use Rattle.nl_io.specs.Count.{Rose}
+use Rattle.nl_io.specs.Content.{Told, PutsFront}
+use Rattle.log_dictionary.specs.declared.message.Message.{Message}
+use Rattle.arg_records.specs.declared.call.Call.{Call}
+use Rattle.arg_records.specs.Calls.{IsCall}
+use Rattle.checkpoint_io.specs.Blocks.{SpellsExtent, close_bytes}
+use Rattle.checkpoint_io.specs.Logs.{ids_used}
 use Rattle.ring_core.specs.Plans.{Plan}
 use Rattle.roaming_consumer.specs.declared.visit.Visit.{Visit}
 use Rattle.roaming_consumer.specs.declared.visit.Visit.TheVariants.{Wrote, Idle, Ended, Discarded}
 use Rattle.roaming_consumer.specs.declared.visit.SinkFault.{SinkFault}
 use Rattle.roaming_consumer.specs.declared.roamer.Roamer.{Roamer}
-use Rattle.roaming_consumer.specs.Gathering.{Came}
-use Rattle.roaming_consumer.specs.Roamers.{is_faulted, is_marked}
+use Rattle.roaming_consumer.specs.Growth.{FragmentsFor}
+use Rattle.roaming_consumer.specs.Gathering.{Came, Comes}
+use Rattle.roaming_consumer.specs.Roamers.{messages_of, clock_of, batch_of, progress_of, is_faulted, is_marked, plan_of_roamer}
 
 -- what the answer says of the end: how many frames were taken, or that there was none, or that all had ended
 abbrev pub Tells : {S : Type 0} → (S → List (List ℕ)) → (S → Bool) → (S → ℕ) → Visit → S → S → Type 0
@@ -42,3 +50,50 @@ pub record Marks {S : Type 0} (outcome : Result Visit SinkFault) (writer : ℕ) 
   pub written : is_faulted old ≡ false → outcome ≡ Ok Ended → is_marked new writer ≡ true
   pub new_where : is_marked old writer ≡ false → is_marked new writer ≡ true
       → (is_faulted old ≡ false) × (outcome ≡ Ok Ended)
+
+-- at most so many frames were taken
+abbrev pub TakesAtMost : ℕ → Visit → Type 0
+TakesAtMost most (Wrote n) = n ≤ most
+TakesAtMost most Idle = Unit {0}
+TakesAtMost most Ended = Unit {0}
+TakesAtMost most (Discarded n) = n ≤ most
+
+-- The bytes of an extent of these records and of the fragments that it wants, behind a log that defines so many messages;
+-- or those of fragments alone, of the messages up to some end.
+pub record AreBytesFor (messages : List Message) (tick defined writer : ℕ) (entries : List Call)
+    (bytes : List ℕ) : Type 0 where
+  pub up_to : ℕ
+  pub within : up_to ≤ max defined (ids_used entries)
+  pub fragments : List ℕ
+  pub spelled : FragmentsFor defined (drop defined (take up_to messages)) fragments
+  pub extent : List ℕ
+  pub behind : (extent ≡ [])
+      ⊎ ((up_to ≡ max defined (ids_used entries)) × SpellsExtent messages tick writer entries extent)
+  pub joined : bytes ≡ fragments ++ extent
+
+-- Frames of these calls were taken, and the sink took some bytes, from the front, of what was to be written of them.
+pub record StopsInExtent {S : Type 0} (got : S → List (List ℕ)) (roamer : Roamer S) (writer : ℕ) (put put_after : Told)
+    (before after : S) : Type 0 where
+  pub entries : List Call
+  pub comes : Comes (plan_of_roamer roamer) (got before) (got after) entries
+  pub right : AllByRecursion (IsCall (messages_of roamer)) entries
+  pub some : 1 ≤ length entries
+  pub few : length entries ≤ batch_of roamer
+  pub bytes : List ℕ
+  pub are : AreBytesFor (messages_of roamer) (clock_of roamer).tick (progress_of roamer).defined writer entries bytes
+  pub puts : PutsFront bytes put put_after
+
+-- No frame was taken, all had ended, and the sink took some bytes, from the front, of the writer's close mark, which
+-- wasn't written before.
+pub record StopsInMark {S : Type 0} (got : S → List (List ℕ)) (ended : S → Bool) (roamer : Roamer S) (writer : ℕ)
+    (put put_after : Told) (before after : S) : Type 0 where
+  pub none : got after ≡ got before
+  pub over : ended after ≡ true
+  pub unmarked : is_marked roamer writer ≡ false
+  pub puts : PutsFront (close_bytes writer) put put_after
+
+-- how far a visit came of which a write failed
+abbrev pub Stops : {S : Type 0} → (S → List (List ℕ)) → (S → Bool) → Roamer S → ℕ → Told → Told → S → S → Type 0
+Stops got ended roamer writer put put_after before after =
+    StopsInExtent got roamer writer put put_after before after
+    ⊎ StopsInMark got ended roamer writer put put_after before after

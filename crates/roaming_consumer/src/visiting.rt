@@ -3,7 +3,7 @@
 ghost use Rattle.std.specs.Prelude.{◌≡◌, ◌<◌, ◌≤◌, ◌+◌, ℕ, true, false, length, Ok, IfOk, OnOk, OnErr};
 ghost use Rattle.nl_io.specs.Count.{Rose};
 ghost use Rattle.roaming_consumer.specs.Roamers.{ends_of, messages_of, clock_of, batch_of, progress_of, is_begun, is_faulted, ArePlanned, IsSameRun, ChangesOne, KeepsLog, Adds};
-ghost use Rattle.roaming_consumer.specs.Visits.{Tells, Leaves, Marks, IsWritten, IsThrown};
+ghost use Rattle.roaming_consumer.specs.Visits.{Tells, Leaves, Marks, TakesAtMost, Stops, IsWritten, IsThrown};
 
 use crate::gathering::{Gathered, Thrown};
 use crate::roamer::Roamer;
@@ -28,7 +28,10 @@ impl<'d, S: StageOut> Roamer<'d, S> {
             IfOk result (λ visit. Tells S.got S.ended S.loads visit before after)
             × Leaves S.ended S.loads S.pair S.plan before after) }
         ensures written { IfOk result IsWritten }
+        ensures few { IfOk result (TakesAtMost (batch_of self.old)) }
         ensures marks { Marks result writer self.old self.new }
+        ensures stops { OnErr result (ChangesOne (ends_of self.old) (ends_of self.new) writer
+            (Stops S.got S.ended self.old writer (K.put sink.old) (K.put sink.new))) }
         ensures wrote { Adds S.got S.ended self.old self.new (K.put sink.old) (K.put sink.new) }
         ensures counted { OnOk result (K.faults sink.new ≡ K.faults sink.old) }
         ensures cause { OnErr result (Rose (K.faults sink.old) (K.faults sink.new)) }
@@ -65,6 +68,7 @@ impl<'d, S: StageOut> Roamer<'d, S> {
         ensures visits { ChangesOne (ends_of self.old) (ends_of self.new) writer (λ before after.
             Tells S.got S.ended S.loads result before after × Leaves S.ended S.loads S.pair S.plan before after) }
         ensures thrown { IsThrown result }
+        ensures few { TakesAtMost (batch_of self.old) result }
         ensures others { KeepsLog self.old self.new }
     {
         let Thrown { frames, ended } = self.toss(rt, writer);
@@ -100,9 +104,12 @@ impl<'d, S: StageOut> Roamer<'d, S> {
             × Leaves S.ended S.loads S.pair S.plan before after) }
         ensures written { is_faulted self.old ≡ false → IfOk result IsWritten }
         ensures thrown { is_faulted self.old ≡ true → IfOk result IsThrown }
+        ensures few { IfOk result (TakesAtMost (batch_of self.old)) }
         ensures marks { Marks result writer self.old self.new }
 
         // What the sink was given.
+        ensures stops { OnErr result (ChangesOne (ends_of self.old) (ends_of self.new) writer
+            (Stops S.got S.ended self.old writer (K.put sink.old) (K.put sink.new))) }
         ensures wrote { Adds S.got S.ended self.old self.new (K.put sink.old) (K.put sink.new) }
         ensures untouched { is_faulted self.old ≡ true → sink.new ≡ sink.old }
         ensures counted { OnOk result (K.faults sink.new ≡ K.faults sink.old) }

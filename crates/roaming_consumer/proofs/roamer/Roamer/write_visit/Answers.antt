@@ -4,6 +4,7 @@ use Rattle.roaming_consumer.proofs.Sending.{ok_of, extent_sent, sent_whole}
 use Rattle.roaming_consumer.proofs.Standing.{draft_some, draft_ids, wrote_extent, wrote_nothing, wrote_mark}
 use Rattle.roaming_consumer.specs.Growth.{Progress}
 use Rattle.roaming_consumer.proofs.Marking.{marks_stay, mark_written}
+use Rattle.roaming_consumer.proofs.Stopping.{stopped_in_extent}
 use Rattle.roaming_consumer.proofs.roamer.Roamer.write_visit.Goals as goal
 use Rattle.roaming_consumer.proofs.roamer.Roamer.write_visit.Goals.{else-not-self-writer-via-then-not-self-writer+else-is_err-2, else-not-self-writer-via-else-not-self-writer}
 
@@ -60,3 +61,9 @@ returns-clause-marks g c =
       | else-not-self-writer-via-else-not-self-writer w ↦
           rw w.self-is (marks_stay _ c.args.writer c.args.self.now mid kept (λ unfaulted is. ap (λ (l : List Bool). get_or l c.args.writer false) (sym kept) ∙ w.if-not-self-writer.false))
     ]
+
+pub returns-then-is_err-clause-stops : goal.returns-then-is_err-clause-stops
+returns-then-is_err-clause-stops g c =
+    let mid = c.collect-ended.new.self in
+    let w = c.write_draft.ensures in
+    stopped_in_extent g.S.StageOut.got g.S.StageOut.ended g.S.StageOut.loads g.S.StageOut.pair g.S.StageOut.plan c.args.self.now mid _ c.args.writer c.collect-ended.result.draft c.collect-ended.result.ended mid.body.items c.write_draft.result _ _ _ _ c.collect-ended.ensures.gathers c.collect-ended.ensures.others w.same_ends (omega arith) c.collect-ended.ensures.few (let known = c.requires.known in omega (arith, known, c.args.self.now.few_ends)) (omega (arith, mid.body_room, mid.body.ok.0)) c.if-is_err.ensures.value w.sent

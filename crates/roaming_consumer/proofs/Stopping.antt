@@ -1,0 +1,59 @@
+-- Visits of which a write failed.
+use Rattle.std.proofs.Common.{◌≡◌, ℕ, ◌<◌, ◌≤◌, Bool, true, List, ◌++◌, length, take, refl, ap, subst, ◌∙◌, inl, inr, arith}
+use Rattle.std.specs.Prelude.{max, Result, Ok, Err, is_err, OnErr}
+use Rattle.nl_io.specs.Content.{Told}
+use Rattle.log_dictionary.specs.declared.message.Message.{Message}
+use Rattle.checkpoint_io.specs.Logs.{ids_used}
+use Rattle.ring_core.specs.Plans.{Plan}
+use Rattle.roaming_consumer.specs.declared.draft.Draft.{Draft}
+use Rattle.roaming_consumer.specs.declared.roamer.Roamer.{Roamer}
+use Rattle.roaming_consumer.specs.Growth.{Progress}
+use Rattle.roaming_consumer.specs.Sinks.{SendsExtent}
+use Rattle.roaming_consumer.specs.Roamers.{ends_of, messages_of, clock_of, batch_of, progress_of, KeepsLog, ChangesOne}
+use Rattle.roaming_consumer.specs.Visits.{Stops}
+use Rattle.roaming_consumer.proofs.Standing.{Collected, spells_extent}
+
+-- what holds of an answer that is Err
+err_of : {T E P : Type 0} (r : Result T E) → true ≡ is_err r → OnErr r P → P
+err_of (Ok x) failed holds = absurd cc
+err_of (Err e) failed holds = holds
+
+pub stopped_in_extent : {S T E : Type 0} (got : S → List (List ℕ)) (ended : S → Bool) (loads : S → ℕ) (pair : S → List ℕ) (plan : S → Plan) (old mid : Roamer S) (ends_now : List S) (writer : ℕ) (draft : Draft) (all : Bool) (body : List ℕ) (r : Result T E) (p q : Told) (f g : ℕ) → ChangesOne (ends_of old) (ends_of mid) writer (Collected got ended loads pair plan old draft all body) → KeepsLog old mid → ends_now ≡ ends_of mid → 1 ≤ draft.records → draft.records ≤ batch_of old → writer < 64 → length body ≤ 65536 → true ≡ is_err r → SendsExtent r (messages_of mid) (progress_of mid).defined (max (progress_of mid).defined draft.ids) writer (take draft.len body) p q f g
+    → ChangesOne (ends_of old) ends_now writer (Stops got ended old writer p q)
+stopped_in_extent got ended loads pair plan old mid ends_now writer draft all body r p q f g one keeps same_ends some few known room failed went =
+    let gathers = one.step.0 in
+    let drafted = gathers.drafted in
+    let ids = drafted.ids in
+    let records = drafted.records in
+    let sent : SendsExtent r (messages_of old) (progress_of old).defined (max (progress_of old).defined draft.ids) writer (take draft.len body) p q f g =
+    subst (λ (ms : List Message). SendsExtent r ms (progress_of old).defined (max (progress_of old).defined draft.ids) writer (take draft.len body) p q f g) keeps.same_run.messages
+    (subst (λ (o : Progress). SendsExtent r (messages_of mid) o.defined (max o.defined draft.ids) writer (take draft.len body) p q f g) keeps.progress went) in
+    let within = sent.within in
+    let end : max (progress_of old).defined draft.ids ≡ max (progress_of old).defined (ids_used gathers.entries) = ap (max (progress_of old).defined) ids in
+    record {
+      before = one.before;
+      after = one.after;
+      was = one.was;
+      now = same_ends ∙ one.now;
+      step = inl (record {
+        entries = gathers.entries;
+        comes = gathers.comes;
+        right = gathers.right;
+        some = omega (arith, some, records);
+        few = omega (arith, few, records);
+        bytes = sent.fragments ++ sent.extent;
+        are = record {
+          up_to = sent.up_to;
+          within = subst (λ (n : ℕ). sent.up_to ≤ n) end within;
+          fragments = sent.fragments;
+          spelled = sent.spelled;
+          extent = sent.extent;
+          behind = elim sent.behind [
+            | inl none ↦ inl none
+            | inr both ↦ inr (both.0 ∙ end, spells_extent (messages_of old) (clock_of old).tick writer gathers.entries draft body sent.extent drafted some known room both.1)
+          ];
+          joined = refl;
+        };
+        puts = err_of r failed sent.sent.err;
+      });
+    }
