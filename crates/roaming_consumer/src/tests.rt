@@ -9,7 +9,7 @@ use log_dictionary::{Clock, Dictionary};
 use nl_io::{MemSink, Sink};
 use printf_grammar::Arg;
 use ring_core::{StageOut, StoredOut};
-use std::alloc::Global;
+use std::alloc::{AllocError, Global};
 use std::process::Abort;
 use std::sync::Wait;
 use std::test::Fail;
@@ -242,4 +242,88 @@ fn pauses(rt: HostRuntime) -> Result<(), Fail> {
     );
     assert_eq!(rt; sink.bytes().len(), 63);
     Ok(())
+}
+
+/// The line of a message whose entry has 11 bytes.
+fn line_with_id(alloc: Global, id: u32) -> Result<String, AllocError> {
+    format!(in alloc; "message {id} NOTICE {id} \"f\" \"x\"")
+}
+
+/// A dictionary of as many messages as there can be.
+fn full_dictionary(alloc: Global) -> Result<Dictionary, Fail> {
+    let mut dictionary = Dictionary::make(alloc);
+    for id in 0..65_536 {
+        let line = line_with_id(alloc, id)?;
+        dictionary.read_line(line.as_bytes())?;
+    }
+    Ok(dictionary)
+}
+
+/// Compares the bytes that stand in a log from a place on.
+fn check_row<R: Wait + Abort + Copy>(
+    rt: R,
+    alloc: Global,
+    log: &[u8],
+    at: usize,
+    spelled: &str,
+) -> Result<(), Fail> {
+    let mut want = Vec::new(alloc);
+    push_bytes(spelled, &mut want)?;
+    let behind = log.get(at..).ok_or("the log is longer")?;
+    assert!(&rt; behind.starts_with(&want), "at {at}");
+    Ok(())
+}
+
+/// The log of one call without arguments, over a dictionary of all messages.
+fn check_last<R: Wait + Abort + Copy>(
+    rt: R,
+    alloc: Global,
+    dictionary: &Dictionary,
+    len: usize,
+    rows: &[(usize, &str)],
+) -> Result<(), Fail> {
+    let mut end = StoredOut::make(alloc, dictionary, 1000);
+    end.push(1003, 65_535, &[])?;
+    end.close();
+    let mut roamer = roamer_over(alloc, end, dictionary, 1)?;
+    let mut sink = MemSink::make(alloc, 100_000, &[])?;
+    let begun = roamer.begin(&mut sink);
+    assert_eq!(&rt; begun, Ok(()));
+    check_visits(
+        rt,
+        &mut roamer,
+        &mut sink,
+        &[Ok(Visit::Wrote(1)), Ok(Visit::Ended)],
+    );
+    assert_eq!(&rt; sink.bytes().len(), len);
+    for (at, spelled) in rows {
+        check_row(rt, alloc, sink.bytes(), *at, spelled)?;
+    }
+    Ok(())
+}
+
+/// Where the last of all messages is used first, 4,096 fragments of 16 messages and of 183 bytes stand in front of the
+/// extent.
+#[test]
+fn all_messages_at_once(rt: HostRuntime) -> Result<(), Fail> {
+    let dictionary = full_dictionary(rt.alloc())?;
+    check_last(
+        &rt,
+        rt.alloc(),
+        &dictionary,
+        749_610,
+        &[
+            (30, "01 00 00 00 00 10 00 03 00 00 00 00 01 00 66 01 00 78"),
+            (202, "03 0f 00 00 00 01 00 66 01 00 78 01 10 00 00 00 10 00"),
+            (
+                749_415,
+                "01 f0 ff 00 00 10 00 03 f0 ff 00 00 01 00 66 01 00 78",
+            ),
+            (
+                749_587,
+                "03 ff ff 00 00 01 00 66 01 00 78 02 00 04 00 00 00 12",
+            ),
+            (749_604, "12 ff ff 03 04 00"),
+        ],
+    )
 }
