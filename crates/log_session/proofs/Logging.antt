@@ -1,0 +1,144 @@
+-- Writers that log one call more.
+use Rattle.std.proofs.Common.{◌≡◌, ℕ, suc, ◌+◌, ◌%◌, ◌<◌, ◌≤◌, ◌^◌, List, [], ◌∷◌, ◌++◌, length, refl, sym, ap, subst, ◌∙◌, arith, ⊎_elim}
+use Rattle.std.specs.Prelude.{All, Option, None, Some, option_map, slice_get, take}
+use Rattle.std.proofs.lemmas.Bool.{cases_lt}
+use Rattle.std.proofs.lemmas.List.{length-append, length-map, take_all}
+use Rattle.std.proofs.lemmas.Option.{slice_get-map, slice_get_within, get_or_from_slice_get}
+use Rattle.std.proofs.lemmas.List.Elements.{All-get_or, All-map, All-push}
+use Rattle.std.proofs.Math.Seq.{take-suc}
+use Rattle.printf_grammar.specs.declared.arg_type.ArgType.{ArgType}
+use Rattle.printf_grammar.specs.declared.argument.Value.{Value}
+use Rattle.printf_grammar.specs.Types.{Types, Fits}
+use Rattle.log_dictionary.specs.Calls.{Takes}
+use Rattle.log_dictionary.specs.declared.message.Message.{Message}
+use Rattle.arg_records.specs.declared.call.Call.{Call}
+use Rattle.arg_records.specs.Calls.{last_stamp}
+use Rattle.arg_records.specs.Frames.{AreArguments, Frame, FrameLen}
+use Rattle.arg_records.specs.Kinds.{HoldsBytes}
+use Rattle.arg_records.proofs.Fitted.{AreArguments-from_Fits}
+use Rattle.ring_core.specs.Plans.{Plan, plan_of, types_by_id, call_of, AreFramesOf, MayFollow, Lawful}
+use Rattle.ring_core.specs.Positions.{Need, Position, position_from}
+use Rattle.ring_core.proofs.Frames.{AreFramesOf-push, last_stamp-push}
+use Rattle.ring_core.proofs.Needs.{Need-within, Need-beyond, position_from-push}
+use Rattle.ring_core.proofs.OneReading.{AreFramesOf-unique}
+use Rattle.log_session.specs.Writers.{IsDictionaryPlan, Knows, Accepts, HasLogged}
+
+-- ---- positions
+
+Need-least : (at frame words : ℕ) → frame ≤ Need at frame words
+Need-least at frame words =
+    ⊎_elim
+    (λ (beyond : words < at % words + frame). omega (arith, Need-beyond at frame words beyond))
+    (λ (within : at % words + frame ≤ words). omega (arith, Need-within at frame words within))
+    (cases_lt words (at % words + frame))
+
+-- each call takes a place at least
+calls-position_from : (at : ℕ) (calls : List Call) (words : ℕ) → at + length calls ≤ position_from at calls words
+calls-position_from at [] words = omega arith
+calls-position_from at (call ∷ calls) words =
+    omega (arith, Need-least at (FrameLen call.args) words, calls-position_from (at + Need at (FrameLen call.args) words) calls words)
+
+pub calls-Position : (calls : List Call) (words : ℕ) → length calls ≤ Position calls words
+calls-Position calls words = omega (arith, calls-position_from 0 calls words)
+
+-- ---- what a writer may log
+
+All-some : {X : Type 0} (P : X → Type 0) (xs : List X) (i : ℕ) (x : X) → All P xs → slice_get xs i ≡ Some x → P x
+All-some P xs i x all there =
+    subst P (get_or_from_slice_get xs i x x there) (All-get_or P xs i x (slice_get_within xs i x there) all)
+
+pub known_arguments : (plan : Plan) (id : ℕ) (args : List Value) → IsDictionaryPlan plan → Knows plan id args → AreArguments args
+known_arguments plan id args is known =
+    AreArguments-from_Fits args known.0 known.2 (All-some (λ (types : List ArgType). length types ≤ 64) plan.types id known.0 is.short known.1)
+
+pub may_follow : (plan : Plan) (stamp id last : ℕ) (args : List Value) → IsDictionaryPlan plan → Knows plan id args → All HoldsBytes args → stamp < 2 ^ 64 → FrameLen args ≤ 512
+    → last ≤ stamp → MayFollow plan last (call_of stamp id args)
+may_follow plan stamp id last args is known bytes fits short later = record {
+  planned = record {
+    types = known.0;
+    known = known.1;
+    fits = known.2;
+    bytes = bytes;
+    staged = record {
+      id_in_range = omega (arith, slice_get_within plan.types id known.0 known.1, is.few);
+      stamp_in_range = fits;
+      arguments = known_arguments plan id args is known;
+      within = short;
+    };
+  };
+  not_before = later;
+}
+
+-- what a writer knows of one call more
+pub logged_more : (plan : Plan) (sent : List (List ℕ)) (at words last accepted stamp id : ℕ) (args : List Value) → (h : HasLogged plan sent at words last accepted)
+    → MayFollow plan last (call_of stamp id args) → HasLogged plan (sent ++ Frame id stamp args ∷ []) (at + Need at (FrameLen args) words) words stamp (accepted + 1)
+logged_more plan sent at words last accepted stamp id args h may =
+    let call = call_of stamp id args in record {
+      planned = h.planned;
+      ring = h.ring;
+      calls = h.calls ++ call ∷ [];
+      frames = AreFramesOf-push plan sent h.calls call h.frames (subst (λ (n : ℕ). MayFollow plan n call) (sym h.last_is) may);
+      last_is = last_stamp-push plan.first h.calls call;
+      placed = ap (λ (n : ℕ). n + Need n (FrameLen args) words) h.placed ∙ sym (position_from-push 0 h.calls call words);
+      counted = omega (arith, h.counted, length-append h.calls (call ∷ []));
+    }
+
+-- its frames with that of the call are lawful
+pub lawful_more : (plan : Plan) (sent : List (List ℕ)) (at words last accepted stamp id : ℕ) (args : List Value) → HasLogged plan sent at words last accepted
+    → MayFollow plan last (call_of stamp id args) → Lawful plan (sent ++ Frame id stamp args ∷ [])
+lawful_more plan sent at words last accepted stamp id args h may =
+    let more = logged_more plan sent at words last accepted stamp id args h may in
+    (more.calls, more.frames)
+
+-- of whatever calls the frames before were, those with that of the call are of these and the call
+pub accepts_more : (plan new_plan : Plan) (sent new_sent : List (List ℕ)) (at words last accepted stamp id : ℕ) (args : List Value) → HasLogged plan sent at words last accepted
+    → MayFollow plan last (call_of stamp id args) → new_plan ≡ plan → new_sent ≡ sent ++ Frame id stamp args ∷ [] → Accepts plan sent new_plan new_sent (call_of stamp id args)
+accepts_more plan new_plan sent new_sent at words last accepted stamp id args h may p s = λ calls frames.
+    let call = call_of stamp id args in
+    let same : h.calls ≡ calls = AreFramesOf-unique plan sent h.calls calls h.frames frames in
+    let last_is : last_stamp plan.first calls ≡ last = sym (ap (last_stamp plan.first) same) ∙ h.last_is in
+    subst (λ (y : Plan × List (List ℕ)). AreFramesOf y.0 y.1 (calls ++ call ∷ [])) (λ i. (sym p i, sym s i))
+    (AreFramesOf-push plan sent calls call frames (subst (λ (n : ℕ). MayFollow plan n call) (sym last_is) may))
+
+-- so it is with whatever equals these
+pub logged_same : (plan new_plan : Plan) (sent new_sent : List (List ℕ)) (at new_at words new_words last accepted : ℕ) → new_plan ≡ plan → new_sent ≡ sent → new_at ≡ at → new_words ≡ words
+    → HasLogged plan sent at words last accepted → HasLogged new_plan new_sent new_at new_words last accepted
+logged_same plan new_plan sent new_sent at new_at words new_words last accepted p s a w =
+    subst (λ (y : Plan × List (List ℕ) × ℕ × ℕ). HasLogged y.0 y.1 y.2 y.3 last accepted) (λ i. (sym p i, sym s i, sym a i, sym w i))
+
+-- ---- plans of dictionaries
+
+-- what holds of the elements up to a place holds of those up to the next one
+pub All-turn : {X : Type 0} (P : X → Type 0) (xs : List X) (i : ℕ) (x : X) → All P (take i xs) → slice_get xs i ≡ Some x → P x → All P (take (i + 1) xs)
+All-turn {X = X} P xs i x all there is =
+    let within = slice_get_within xs i x there in
+    let next : i + 1 ≡ suc i = omega arith in
+    let more : take (i + 1) xs ≡ take i xs ++ x ∷ [] = ap (λ (n : ℕ). take n xs) next ∙ take-suc xs i x within ∙ ap (λ (y : X). take i xs ++ y ∷ []) (get_or_from_slice_get xs i x x there) in
+    subst (All P) (sym more) (All-push P (take i xs) x all is)
+
+short_types : (messages : List Message) → All (λ (message : Message). length (Types message.format.pieces) ≤ 64) messages → All (λ (types : List ArgType). length types ≤ 64) (types_by_id messages)
+short_types messages all = All-map (λ (types : List ArgType). length types ≤ 64) (λ (message : Message). Types message.format.pieces) messages all
+
+pub dictionary_plan : (messages : List Message) (first count : ℕ) → length messages ≤ 65536 → length messages ≤ count → All (λ (message : Message). length (Types message.format.pieces) ≤ 64) (take count messages)
+    → IsDictionaryPlan (plan_of messages first)
+dictionary_plan messages first count few all_of all = record {
+  few = omega (arith, few, length-map messages (λ (message : Message). Types message.format.pieces));
+  short = short_types messages (subst (All (λ (message : Message). length (Types message.format.pieces) ≤ 64)) (take_all count messages all_of) all);
+}
+
+-- ---- what a dictionary takes
+
+pub knows_taken : (messages : List Message) (first id : ℕ) (args : List Value) → Takes messages id args → Knows (plan_of messages first) id args
+knows_taken messages first id args takes =
+    let types_of = λ (message : Message). Types message.format.pieces in
+    (types_of takes.0, slice_get-map types_of messages id ∙ ap (option_map types_of) takes.1, takes.2)
+
+mapped : (o : Option Message) (types : List ArgType) → option_map (λ (message : Message). Types message.format.pieces) o ≡ Some types → (message : Message) × (o ≡ Some message) × (Types message.format.pieces ≡ types)
+mapped None types is = absurd cc
+mapped (Some message) types is = (message, refl, cc is)
+
+pub taken_known : (messages : List Message) (first id : ℕ) (args : List Value) → Knows (plan_of messages first) id args → Takes messages id args
+taken_known messages first id args known =
+    let types_of = λ (message : Message). Types message.format.pieces in
+    let found = mapped (slice_get messages id) known.0 (sym (slice_get-map types_of messages id) ∙ known.1) in
+    (found.0, found.1, subst (Fits args) (sym found.2) known.2)

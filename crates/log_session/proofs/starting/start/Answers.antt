@@ -1,0 +1,17 @@
+use Rattle.std.proofs.Common.{◌≡◌, [], arith}
+use Rattle.ring_core.specs.Plans.{plan_of}
+use Rattle.log_session.proofs.Rings.{zip_length, zip_second}
+use Rattle.log_session.proofs.starting.start.Goals as goal
+
+pub make-requires-clause-some_end : goal.make-requires-clause-some_end
+make-requires-clause-some_end g c = let same = zip_length _ _ _ c.in-Ok.ensures.1 in omega (arith, same, c.in-Ok.ensures.0, c.requires.writers.0)
+
+pub make-requires-clause-few_ends : goal.make-requires-clause-few_ends
+make-requires-clause-few_ends g c = let same = zip_length _ _ _ c.in-Ok.ensures.1 in omega (arith, same, c.in-Ok.ensures.0, c.requires.writers.1)
+
+pub make-requires-clause-untaken : goal.make-requires-clause-untaken
+make-requires-clause-untaken g c = zip_second _ (λ end. g.S.Out.StageOut.got end ≡ []) (λ writer end ring. ring.none_got) _ _ c.in-Ok.ensures.1
+
+pub make-requires-clause-planned : goal.make-requires-clause-planned
+make-requires-clause-planned g c =
+    zip_second _ (λ end. g.S.Out.StageOut.plan end ≡ plan_of c.args.dictionary.now c.args.clock.tick) (λ writer end ring. ring.plan_out_is) _ _ c.in-Ok.ensures.1

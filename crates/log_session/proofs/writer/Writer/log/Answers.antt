@@ -1,0 +1,74 @@
+use Rattle.std.proofs.Common.{rules, ◌≡◌, ◌+◌, ◌<◌, ◌≤◌, inl, inr, ◌++◌, length, ◌∷◌, [], ℕ, List, sym, subst, ap, ◌∙◌, arith}
+use Rattle.std.specs.Prelude.{take}
+use Rattle.std.proofs.lemmas.Bool.{cases_lt}
+use Rattle.printf_grammar.specs.Types.{values_of}
+use Rattle.arg_records.specs.Frames.{Frame, FrameLen}
+use Rattle.arg_records.proofs.Lengths.{length-Frame}
+use Rattle.ring_core.specs.Plans.{AreFramesOf, Lawful}
+use Rattle.ring_core.specs.Positions.{Need}
+use Rattle.log_session.specs.Writers.{WriterView, Knows}
+use Rattle.log_session.proofs.Logging.{calls-Position, known_arguments, may_follow, logged_more, logged_same, lawful_more, accepts_more}
+use Rattle.log_session.proofs.writer.Writer.log.Goals as goal
+
+short_enough : (n : ℕ) → ¬ (512 < n) → n ≤ 512
+short_enough n never = elim (cases_lt 512 n) [
+  | inl long ↦ absurd (never long)
+  | inr within ↦ within
+]
+
+pub frame_words-requires-clause-arguments : goal.frame_words-requires-clause-arguments
+frame_words-requires-clause-arguments g c =
+    let known : Knows (g.S.StageIn.plan c.self.inside.end) c.args.id (values_of c.args.args.now) = let e = c.self.view_is in let k = c.requires.known in search rules in
+    known_arguments (g.S.StageIn.plan c.self.inside.end) c.args.id (values_of c.args.args.now) c.self.invariant.planned known
+
+pub offer-requires-clause-lawful : goal.offer-requires-clause-lawful
+offer-requires-clause-lawful g c =
+    let plan = g.S.StageIn.plan c.self.inside.end in
+    let args = values_of c.args.args.now in
+    let known : Knows plan c.args.id args = let e = c.self.view_is in let k = c.requires.known in search rules in
+    let later : c.self.inside.last ≤ c.args.stamp = let e = c.self.view_is in let k = c.requires.not_before in search rules in
+    let short = short_enough (FrameLen args) (λ (long : 512 < FrameLen args). let no = c.in-Ok.ensures.too_long.1 long in absurd cc) in
+    let may = may_follow plan c.args.stamp c.args.id c.self.inside.last args c.self.invariant.planned known c.hold_bytes.ensures c.ranges.stamp.fits short later in
+    subst (λ (frame : List ℕ). Lawful plan (g.S.StageIn.sent c.self.inside.end ++ frame ∷ [])) (sym c.in-Ok.ensures.ok.1)
+    (lawful_more plan (g.S.StageIn.sent c.self.inside.end) (g.S.StageIn.at c.self.inside.end) (g.S.StageIn.words c.self.inside.end) c.self.inside.last c.self.inside.accepted c.args.stamp c.args.id args c.self.invariant may)
+
+pub overflow_add-self : goal.overflow_add-self
+overflow_add-self g c =
+    let room : g.S.StageIn.at c.self.inside.end + 1024 ≤ 4611686018427387904 = let e = c.self.view_is in let k = c.requires.position in search rules in
+    omega (arith, room, c.self.invariant.placed, c.self.invariant.counted, calls-Position c.self.invariant.calls (g.S.StageIn.words c.self.inside.end))
+
+pub invariant_of-self-2 : goal.invariant_of-self-2
+invariant_of-self-2 g c =
+    let plan = g.S.StageIn.plan c.self.inside.end in
+    let args = values_of c.args.args.now in
+    let known : Knows plan c.args.id args = let e = c.self.view_is in let k = c.requires.known in search rules in
+    let later : c.self.inside.last ≤ c.args.stamp = let e = c.self.view_is in let k = c.requires.not_before in search rules in
+    let short = short_enough (FrameLen args) (λ (long : 512 < FrameLen args). let no = c.in-Ok.ensures.too_long.1 long in absurd cc) in
+    let may = may_follow plan c.args.stamp c.args.id c.self.inside.last args c.self.invariant.planned known c.hold_bytes.ensures c.ranges.stamp.fits short later in
+    let more = logged_more plan (g.S.StageIn.sent c.self.inside.end) (g.S.StageIn.at c.self.inside.end) (g.S.StageIn.words c.self.inside.end) c.self.inside.last c.self.inside.accepted c.args.stamp c.args.id args c.self.invariant may in
+    let offered = c.in_default-offer.ensures in
+    let frame = c.in-Ok.ensures.ok.1 in
+    let len : length (take c.in-Ok.len c.frame_words.new.into) ≡ FrameLen args = ap length frame ∙ length-Frame c.args.id c.args.stamp args in
+    logged_same plan (g.S.StageIn.plan c.offer.new.self) (g.S.StageIn.sent c.self.inside.end ++ Frame c.args.id c.args.stamp args ∷ []) (g.S.StageIn.sent c.offer.new.self)
+    (g.S.StageIn.at c.self.inside.end + Need (g.S.StageIn.at c.self.inside.end) (FrameLen args) (g.S.StageIn.words c.self.inside.end)) (g.S.StageIn.at c.offer.new.self)
+    (g.S.StageIn.words c.self.inside.end) (g.S.StageIn.words c.offer.new.self) c.args.stamp (c.self.inside.accepted + 1)
+    offered.same.2
+    (offered.ok ∙ ap (λ (words : List ℕ). g.S.StageIn.sent c.self.inside.end ++ words ∷ []) frame)
+    (offered.moved ∙ ap (λ (n : ℕ). g.S.StageIn.at c.self.inside.end + Need (g.S.StageIn.at c.self.inside.end) n (g.S.StageIn.words c.self.inside.end)) len)
+    offered.same.0
+    more
+
+pub returns-clause-accepted : goal.returns-clause-accepted
+returns-clause-accepted g c =
+    let plan = g.S.StageIn.plan c.self.inside.end in
+    let args = values_of c.args.args.now in
+    let known : Knows plan c.args.id args = let e = c.self.view_is in let k = c.requires.known in search rules in
+    let later : c.self.inside.last ≤ c.args.stamp = let e = c.self.view_is in let k = c.requires.not_before in search rules in
+    let short = short_enough (FrameLen args) (λ (long : 512 < FrameLen args). let no = c.in-Ok.ensures.too_long.1 long in absurd cc) in
+    let may = may_follow plan c.args.stamp c.args.id c.self.inside.last args c.self.invariant.planned known c.hold_bytes.ensures c.ranges.stamp.fits short later in
+    let same : c.args.self.now.end ≡ c.self.inside.end = sym (ap (λ (w : WriterView g.row.S.Denot). w.end) c.self.view_is) in
+    let offered = c.in_default-offer.ensures in
+    λ calls frames. accepts_more plan (g.S.StageIn.plan c.offer.new.self) (g.S.StageIn.sent c.self.inside.end) (g.S.StageIn.sent c.offer.new.self)
+    (g.S.StageIn.at c.self.inside.end) (g.S.StageIn.words c.self.inside.end) c.self.inside.last c.self.inside.accepted c.args.stamp c.args.id args c.self.invariant may
+    offered.same.2 (offered.ok ∙ ap (λ (words : List ℕ). g.S.StageIn.sent c.self.inside.end ++ words ∷ []) c.in-Ok.ensures.ok.1) calls
+    (subst (λ (end : g.row.S.Denot). AreFramesOf (g.S.StageIn.plan end) (g.S.StageIn.sent end) calls) same frames)

@@ -1,0 +1,4 @@
+pub mod Defaults
+pub mod Writers
+pub mod Starts
+pub mod Settling

@@ -1,0 +1,57 @@
+-- Writers: what one knows of the calls that it logged.
+use Rattle.std.specs.Prelude.{◌≡◌, ℕ, ◌≤◌, List, [], ◌∷◌, ◌++◌, length, slice_get, Some, All, ⊤}
+use Rattle.printf_grammar.specs.declared.arg_type.ArgType.{ArgType}
+use Rattle.printf_grammar.specs.declared.argument.Value.{Value}
+use Rattle.printf_grammar.specs.declared.limits.TheConstants.{MAX_ARGUMENTS}
+use Rattle.printf_grammar.specs.Types.{Fits}
+use Rattle.log_dictionary.specs.declared.dictionary.TheConstants.{MAX_MESSAGES}
+use Rattle.arg_records.specs.declared.call.Call.{Call}
+use Rattle.arg_records.specs.Calls.{last_stamp}
+use Rattle.ring_core.specs.declared.answers.Full.{Full}
+use Rattle.ring_core.specs.declared.limits.TheConstants.{MAX_RING, MIN_RING}
+use Rattle.ring_core.specs.Plans.{Plan, AreFramesOf}
+use Rattle.ring_core.specs.Positions.{Position}
+use Rattle.log_session.specs.declared.refusal.LogRefusal.{LogRefusal}
+use Rattle.log_session.specs.declared.refusal.LogRefusal.TheVariants as refusals
+
+-- a writer as contracts see it: the end of its ring, the stamp of its last call, and the number of its calls
+pub record WriterView (S : Type 0) : Type 0 where
+  pub end : S
+  pub last : ℕ
+  pub accepted : ℕ
+
+-- the plan is one of a dictionary: it has so many ids at most, each with so many types at most
+pub record IsDictionaryPlan (plan : Plan) : Type 0 where
+  pub few : length plan.types ≤ MAX_MESSAGES
+  pub short : All (λ types. length types ≤ MAX_ARGUMENTS) plan.types
+
+-- the plan has the id, and the arguments fit its types
+abbrev pub Knows : Plan → ℕ → List Value → Type 0
+Knows plan id args = (types : List ArgType) × (slice_get plan.types id ≡ Some types) × Fits args types
+
+-- The frames that a writer's end accepted are those of calls. This is the last one's stamp, or the plan's first where
+-- there is none, and this is their number. They take the places of the ring up to the end's position.
+pub record HasLogged (plan : Plan) (sent : List (List ℕ)) (at words : ℕ) (last accepted : ℕ) : Type 0 where
+  pub planned : IsDictionaryPlan plan
+  pub ring : (MIN_RING ≤ words) × (words ≤ MAX_RING)
+  pub calls : List Call
+  pub frames : AreFramesOf plan sent calls
+  pub last_is : last_stamp plan.first calls ≡ last
+  pub placed : at ≡ Position calls words
+  pub counted : accepted ≡ length calls
+
+-- the ring's room was wanting, and this is said of it
+abbrev pub IfFull : LogRefusal → (Full → Type 0) → Type 0
+IfFull (refusals.Full full) said = said full
+IfFull refusals.TooLong said = ⊤
+
+-- all but what a call changes is as it was: which ring it is, its size and its plan, and whether it is closed
+pub record IsSameEnd {S : Type 0} (pair : S → List ℕ) (words : S → ℕ) (plan : S → Plan) (old new : S) : Type 0 where
+  pub same_pair : pair new ≡ pair old
+  pub same_words : words new ≡ words old
+  pub same_plan : plan new ≡ plan old
+
+-- where the frames before were those of some calls, the frames after are those of these with one call more
+abbrev pub Accepts : Plan → List (List ℕ) → Plan → List (List ℕ) → Call → Type 0
+Accepts plan sent plan_after sent_after call =
+    (calls : List Call) → AreFramesOf plan sent calls → AreFramesOf plan_after sent_after (calls ++ call ∷ [])

@@ -1,0 +1,142 @@
+//! Starting a session by hand: its writers, and the roamer that takes their calls.
+
+ghost use Rattle.std.specs.Prelude.{◌≡◌, ◌⊎◌, ◌↔◌, ◌<◌, ◌≤◌, [], false, IfOk, OnOk, IsErrOf, length};
+ghost use Rattle.std.specs.List.{AllZip};
+ghost use Rattle.printf_grammar.specs.declared.limits.TheConstants.{MAX_ARGUMENTS};
+ghost use Rattle.arg_records.specs.declared.call.TheConstants.{MAX_WRITERS};
+ghost use Rattle.roaming_consumer.specs.declared.making.TheConstants.{MAX_BATCH};
+ghost use Rattle.ring_core.specs.declared.limits.TheConstants.{MIN_RING, MAX_RING};
+ghost use Rattle.ring_core.specs.Plans.{plan_of};
+ghost use Rattle.printf_grammar.specs.Types.{Types};
+ghost use Rattle.log_session.specs.Writers.{IsDictionaryPlan};
+ghost use Rattle.roaming_consumer.specs.Roamers.{ends_of, messages_of, clock_of, batch_of, is_begun, is_faulted, ArePlanned, StandsFor};
+ghost use Rattle.log_session.specs.Starts.{IsNewRing, AllZipMore};
+
+use crate::writer::Writer;
+use log_dictionary::{Clock, Dictionary, Message};
+use ring_core::{MAX_RING, MIN_RING, Stage, StageFault};
+use roaming_consumer::Roamer;
+use std::alloc::{AllocError, Global};
+
+/// The arguments of a message are few.
+fn holds_few(message: &Message)
+    ensures { length (Types message.now.format.pieces) ≤ MAX_ARGUMENTS }
+{
+    let _ = message.format.types();
+}
+
+/// The plan of a dictionary has few ids, each with few types.
+fn hold_plan(dictionary: &Dictionary, first: u64)
+    ensures { IsDictionaryPlan (plan_of dictionary.now first) }
+{
+    let _ = first;
+    for id in 0..dictionary.len() {
+        holds_few(dictionary.message(id));
+    }
+}
+
+/// The ends of a new ring: the writer's, as a writer, and the roamer's.
+fn open_ring<S: Stage>(
+    alloc: Global,
+    ring: u64,
+    dictionary: &Dictionary,
+    first: u64,
+) -> Result<(Writer<S::In>, S::Out), AllocError>
+    requires ring { (MIN_RING ≤ ring) × (ring ≤ MAX_RING) }
+    requires plan { IsDictionaryPlan (plan_of dictionary.now first) }
+    ensures { IfOk result (λ ends. IsNewRing ring (plan_of dictionary.now first)
+        S.In.pair S.In.words S.In.plan S.In.sent S.In.closed S.In.at S.In.seen
+        S.Out.pair S.Out.plan S.Out.got S.Out.ended ends.0 ends.1) }
+{
+    let Ok((end, other)) = S::make(alloc, ring, dictionary, first) else {
+        return Err(AllocError);
+    };
+    Ok((Writer::over(end, first), other))
+}
+
+/// Adds the ends of a new ring.
+fn add_ring<S: Stage>(
+    alloc: Global,
+    ring: u64,
+    dictionary: &Dictionary,
+    first: u64,
+    ours: &mut Vec<Writer<S::In>>,
+    theirs: &mut Vec<S::Out>,
+) -> Result<(), AllocError>
+    requires ring { (MIN_RING ≤ ring) × (ring ≤ MAX_RING) }
+    requires plan { IsDictionaryPlan (plan_of dictionary.now first) }
+    ensures { OnOk result (AllZipMore (IsNewRing ring (plan_of dictionary.now first)
+        S.In.pair S.In.words S.In.plan S.In.sent S.In.closed S.In.at S.In.seen
+        S.Out.pair S.Out.plan S.Out.got S.Out.ended) ours.old.items theirs.old.items ours.new.items theirs.new.items) }
+{
+    let (writer, end) = open_ring::<S>(alloc, ring, dictionary, first)?;
+    ours.push(writer)?;
+    theirs.push(end)?;
+    Ok(())
+}
+
+/// The ends of so many new rings, in the same order.
+fn open_rings<S: Stage>(
+    alloc: Global,
+    ring: u64,
+    writers: u32,
+    dictionary: &Dictionary,
+    first: u64,
+) -> Result<(Vec<Writer<S::In>>, Vec<S::Out>), AllocError>
+    requires ring { (MIN_RING ≤ ring) × (ring ≤ MAX_RING) }
+    ensures { IfOk result (λ ends. (length ends.0.items ≡ writers)
+        × AllZip (IsNewRing ring (plan_of dictionary.now first)
+        S.In.pair S.In.words S.In.plan S.In.sent S.In.closed S.In.at S.In.seen
+        S.Out.pair S.Out.plan S.Out.got S.Out.ended) ends.0.items ends.1.items) }
+{
+    hold_plan(dictionary, first);
+    let mut ours = Vec::new(alloc);
+    let mut theirs = Vec::new(alloc);
+    for _ in 0..writers {
+        add_ring::<S>(alloc, ring, dictionary, first, &mut ours, &mut theirs)?;
+    }
+    Ok((ours, theirs))
+}
+
+/// The writers of a session, each with a ring of its own, and the roamer that takes their calls and writes the log.
+///
+/// # Errors
+///
+/// A ring can't have this size, or there is no memory.
+pub fn start<'d, S: Stage>(
+    alloc: Global,
+    ring: u64,
+    writers: u32,
+    batch: u32,
+    clock: Clock,
+    dictionary: &'d Dictionary,
+) -> Result<(Vec<Writer<S::In>>, Roamer<'d, S::Out>), StageFault>
+    requires writers { (1 ≤ writers) × (writers ≤ MAX_WRITERS) }
+    requires batch { (1 ≤ batch) × (batch ≤ MAX_BATCH) }
+    requires rate { 1 ≤ clock.rate }
+    ensures bad_size { IsErrOf result StageFault.BadSize ↔ ((ring < MIN_RING) ⊎ (MAX_RING < ring)) }
+
+    // Each writer has one of the roamer's ends, in order. Nothing was logged or taken, and nothing is closed.
+    ensures count { IfOk result (λ session. length session.0.items ≡ writers) }
+    ensures rings { IfOk result (λ session. AllZip (IsNewRing ring (plan_of dictionary.now clock.tick)
+        S.In.pair S.In.words S.In.plan S.In.sent S.In.closed S.In.at S.In.seen
+        S.Out.pair S.Out.plan S.Out.got S.Out.ended) session.0.items (ends_of session.1)) }
+
+    // Nothing was written.
+    ensures stands { IfOk result (λ session. StandsFor S.Out.got S.Out.ended session.1 []) }
+    ensures planned { IfOk result (λ session. ArePlanned S.Out.plan session.1) }
+    ensures run { IfOk result (λ session. (messages_of session.1 ≡ dictionary.now) × (clock_of session.1 ≡ clock)
+        × (batch_of session.1 ≡ batch)) }
+    ensures flags { IfOk result (λ session. (is_begun session.1 ≡ false) × (is_faulted session.1 ≡ false)) }
+{
+    if ring < MIN_RING || MAX_RING < ring {
+        return Err(StageFault::BadSize);
+    }
+    let Ok((ours, theirs)) = open_rings::<S>(alloc, ring, writers, dictionary, clock.tick) else {
+        return Err(StageFault::NoMemory);
+    };
+    match Roamer::make(alloc, theirs, dictionary, clock, batch) {
+        Ok(roamer) => Ok((ours, roamer)),
+        Err(_) => Err(StageFault::NoMemory),
+    }
+}
