@@ -1,0 +1,106 @@
+use Rattle.std.proofs.Common.{◌≡◌, ℕ, ◌+◌, List, [], ◌∷◌, ◌++◌, Some, Err, refl, subst, sym, ap, ◌∙◌, arith}
+use Rattle.std.specs.Prelude.{slice_get}
+use Rattle.std.proofs.lemmas.Option.{same_Some}
+use Rattle.printf_grammar.specs.declared.argument.Value.{Value}
+use Rattle.printf_grammar.specs.Types.{values_of}
+use Rattle.arg_records.specs.declared.call.Call.{Call}
+use Rattle.arg_records.specs.Frames.{FrameLen}
+use Rattle.ring_core.specs.Answers.{IsFull}
+use Rattle.ring_core.specs.Plans.{AreFramesOf, call_of}
+use Rattle.ring_core.specs.Positions.{Need}
+use Rattle.trace_text.specs.Recordings.{Recording, IsRecording}
+use Rattle.log_session.specs.declared.refusal.LogRefusal.{LogRefusal}
+use Rattle.log_session.specs.Writers.{IfFull}
+use Rattle.log_session.specs.Levels.{keeps}
+use Rattle.log_session.specs.Workers.{WorkerView, HasWorked, IsNextKept, all_calls, accepted_before}
+use Rattle.log_session.specs.WorkerInside.{task_of, progress_of}
+use Rattle.log_session.proofs.Working.{worked_call, worked_last, worked_position, worked_accepted, worked_seen, worked_same, calls_are}
+use Rattle.log_session.proofs.worker.Worker.log_next.Goals as goal
+
+pub log-requires-clause-not_before : goal.log-requires-clause-not_before
+log-requires-clause-not_before g c =
+    let recorded = subst IsRecording c.deref.ensures c.hold_recorded.ensures in
+    let run = c.behind-self.view_is ∙ c.deref-2.ensures in
+    let known = ap (λ (r : Recording). slice_get r.writers c.self.inside.number) (sym run) ∙ c.calls.ensures in
+    let task = task_of c.self.inside in
+    let is : slice_get (all_calls task) c.self.inside.next ≡ Some c.call-call.result.now = ap (λ (l : List Call). slice_get l c.self.inside.next) (calls_are task.run task.number c.calls.result.now known) ∙ c.call-call.ensures in
+    worked_last recorded c.self.invariant.0 c.call-call.result.now is
+
+pub log-requires-clause-position : goal.log-requires-clause-position
+log-requires-clause-position g c = worked_position (subst IsRecording c.deref.ensures c.hold_recorded.ensures) c.self.invariant.0
+
+pub invariant_of-self : goal.invariant_of-self
+invariant_of-self g c =
+    let recorded = subst IsRecording c.deref.ensures c.hold_recorded.ensures in
+    let run = c.behind-self.view_is ∙ c.deref-2.ensures in
+    let known = ap (λ (r : Recording). slice_get r.writers c.self.inside.number) (sym run) ∙ c.calls.ensures in
+    let task = task_of c.self.inside in
+    let progress = progress_of c.self.inside in
+    let call = c.call-call.result.now in
+    let end = c.self.inside.writer.end in
+    let new_end = c.log.new.self.end in
+    let logged = c.in-Ok.ensures in
+    let is : slice_get (all_calls task) c.self.inside.next ≡ Some call = ap (λ (l : List Call). slice_get l c.self.inside.next) (calls_are task.run task.number c.calls.result.now known) ∙ c.call-call.ensures in
+    let next = subst (λ (w : WorkerView g.row.S.Denot). IsNextKept w.task w.progress) (sym c.self.view_is) c.requires.next in
+    let same : next.0 ≡ call = same_Some next.0 call (sym next.1 ∙ is) in
+    let keeping = ap (λ (x : Call). keeps task.run.dictionary task.level x) (sym same) ∙ next.2 in
+    let still = ap (λ (w : WorkerView g.row.S.Denot). w.progress.closed) c.self.view_is ∙ c.requires.unfinished in
+    let values : values_of c.deref-3.result.now ≡ call.args = ap values_of c.deref-3.ensures.0 ∙ c.args-2.ensures.values in
+    let whole : call_of call.stamp call.id (values_of c.deref-3.result.now) ≡ call = λ i. record { stamp = call.stamp; id = call.id; args = values i } in
+    let frames = subst (λ (x : Call). AreFramesOf (g.S.StageIn.plan new_end) (g.S.StageIn.sent new_end) (accepted_before task progress ++ x ∷ [])) whole (logged.accepted (accepted_before task progress) c.self.invariant.0.frames) in
+    let worked = worked_accepted recorded c.self.invariant.0 still call is keeping (g.S.StageIn.plan new_end) (g.S.StageIn.sent new_end) (g.S.StageIn.seen new_end) logged.seen_never_falls frames logged.same.same_plan in
+    let moved : g.S.StageIn.at new_end ≡ g.S.StageIn.at end + Need (g.S.StageIn.at end) (FrameLen call.args) (g.S.StageIn.words end) =
+    logged.moved ∙ ap (λ (v : List Value). g.S.StageIn.at end + Need (g.S.StageIn.at end) (FrameLen v) (g.S.StageIn.words end)) values in
+    let stays : g.S.StageIn.closed new_end ≡ g.S.StageIn.closed end = logged.stays_open ∙ sym (c.self.invariant.0.closed_is ∙ still) in
+    let done = worked_same worked refl refl moved logged.same.same_words stays in (
+      subst (λ (last : ℕ). HasWorked task (record progress { next = c.self.inside.next + 1 }) (g.S.StageIn.plan new_end) (g.S.StageIn.sent new_end) (g.S.StageIn.at new_end) (g.S.StageIn.words new_end) (g.S.StageIn.seen new_end) (g.S.StageIn.closed new_end) last)
+          (sym logged.counted.0) done,
+      λ shed. let room = c.self.invariant.1 shed in omega (arith, room),
+    )
+
+pub invariant_of-self-in-Err-Full : goal.invariant_of-self-in-Err-Full
+invariant_of-self-in-Err-Full g c =
+    let task = task_of c.self.inside in
+    let progress = progress_of c.self.inside in
+    let new_end = c.log.new.self.end in
+    let refused = c.in-Err-Full.ensures in
+    let still = ap (λ (w : WorkerView g.row.S.Denot). w.progress.closed) c.self.view_is ∙ c.requires.unfinished in
+    let stays = refused.stays_open ∙ sym (c.self.invariant.0.closed_is ∙ still) in
+    let seen = worked_seen c.self.invariant.0 (g.S.StageIn.seen new_end) refused.seen_never_falls in
+    let done = worked_same seen refused.same.same_plan refused.err.0 refused.err.1 refused.same.same_words stays in (
+      subst (λ (last : ℕ). HasWorked task progress (g.S.StageIn.plan new_end) (g.S.StageIn.sent new_end) (g.S.StageIn.at new_end) (g.S.StageIn.words new_end) (g.S.StageIn.seen new_end) (g.S.StageIn.closed new_end) last) (sym refused.err.2) done,
+      c.self.invariant.1,
+    )
+
+pub unreachable-requires : goal.unreachable-requires
+unreachable-requires g c =
+    let recorded = subst IsRecording c.deref.ensures c.hold_recorded.ensures in
+    let run = c.behind-self.view_is ∙ c.deref-2.ensures in
+    let known = ap (λ (r : Recording). slice_get r.writers c.self.inside.number) (sym run) ∙ c.calls.ensures in
+    let task = task_of c.self.inside in
+    let call = c.call-call.result.now in
+    let is : slice_get (all_calls task) c.self.inside.next ≡ Some call = ap (λ (l : List Call). slice_get l c.self.inside.next) (calls_are task.run task.number c.calls.result.now known) ∙ c.call-call.ensures in
+    let values : values_of c.deref-3.result.now ≡ call.args = ap values_of c.deref-3.ensures.0 ∙ c.args-2.ensures.values in
+    let long = c.in-Err-TooLong.ensures.too_long.0 (ap Err c.in-Err-TooLong.field-0-is) in
+    omega (arith, long, ap FrameLen values, (worked_call recorded c.self.invariant.0 call is).short)
+
+pub returns-in-Err-Full-clause-err : goal.returns-in-Err-Full-clause-err
+returns-in-Err-Full-clause-err g c =
+    let run = c.behind-self.view_is ∙ c.deref-2.ensures in
+    let known = ap (λ (r : Recording). slice_get r.writers c.self.inside.number) (sym run) ∙ c.calls.ensures in
+    let task = task_of c.self.inside in
+    let call = c.call-call.result.now in
+    let end = c.self.inside.writer.end in
+    let new_end = c.log.new.self.end in
+    let refused = c.in-Err-Full.ensures in
+    let is : slice_get (all_calls task) c.self.inside.next ≡ Some call = ap (λ (l : List Call). slice_get l c.self.inside.next) (calls_are task.run task.number c.calls.result.now known) ∙ c.call-call.ensures in
+    let values : values_of c.deref-3.result.now ≡ call.args = ap values_of c.deref-3.ensures.0 ∙ c.args-2.ensures.values in (
+      ap (λ (w : WorkerView g.row.S.Denot). w.progress) c.self.view_is,
+      λ other there.
+          let here : slice_get (all_calls task) c.self.inside.next ≡ Some other = ap (λ (w : WorkerView g.row.S.Denot). slice_get (all_calls w.task) w.progress.next) c.self.view_is ∙ there in
+          let same : call ≡ other = same_Some call other (sym is ∙ here) in
+          let args : values_of c.deref-3.result.now ≡ other.args = values ∙ ap (λ (x : Call). x.args) same in
+          let full : IsFull (g.S.StageIn.at end) (FrameLen (values_of c.deref-3.result.now)) (g.S.StageIn.words end) (g.S.StageIn.seen new_end) c.in-Err-Full.full =
+          subst (λ (x : LogRefusal). IfFull x (IsFull (g.S.StageIn.at end) (FrameLen (values_of c.deref-3.result.now)) (g.S.StageIn.words end) (g.S.StageIn.seen new_end))) c.in-Err-Full.field-0-is refused.full in
+          subst (λ (x : ℕ × List Value × ℕ). IsFull x.0 (FrameLen x.1) x.2 (g.S.StageIn.seen new_end) c.in-Err-Full.full) (λ i. (sym refused.err.1 i, args i, sym refused.same.same_words i)) full,
+    )

@@ -1,0 +1,32 @@
+//! How a session ended.
+
+use crate::drops::Drops;
+use thiserror::Error;
+
+/// What a session came to that was run to its end.
+#[derive(Drop)]
+pub struct Outcome<D> {
+    /// The calls that were dropped, by writer and then by ordinal.
+    pub drops: Drops,
+    /// How many calls were logged.
+    pub accepted: u64,
+    /// How many calls the level didn't keep.
+    pub filtered: u64,
+    /// What is left of the rings, by writer.
+    pub settled: Vec<D>,
+}
+
+/// Why a session wasn't run to its end.
+#[derive(Clone, Copy, Debug, PartialEq, Eq, Error)]
+pub enum RunFault {
+    /// A ring would have fewer words than [`MIN_RING`](ring_core::MIN_RING), or more than
+    /// [`MAX_RING`](ring_core::MAX_RING).
+    #[error("a ring has 1,024 to 1,048,576 words")]
+    BadSize,
+    /// Memory was wanting before the session began. Nothing was written.
+    #[error("there is no memory")]
+    NoMemory,
+    /// The log couldn't be written. All writers have ended.
+    #[error("the log could not be written")]
+    SinkFault,
+}

@@ -1,0 +1,363 @@
+//! Workers.
+
+ghost use Rattle.std.specs.Prelude.{◌≡◌, ◌≢◌, ℕ, ◌+◌, ◌-◌, ◌<◌, ◌≤◌, ◌↔◌, ◌++◌, ◌∷◌, [], true, false, length, slice_get, Some, IsTrue, IfOk, IfErr, vec_len};
+ghost use Rattle.std.specs.Option.{option_copied};
+ghost use Rattle.arg_records.specs.Calls.{IsCall};
+ghost use Rattle.ring_core.specs.declared.limits.TheConstants.{MIN_RING, MAX_RING};
+ghost use Rattle.ring_core.specs.Plans.{plan_of};
+ghost use Rattle.log_session.specs.Levels.{keeps};
+ghost use Rattle.log_session.specs.Starts.{IsUnused};
+ghost use Rattle.std.specs.Arc.{arc_value};
+ghost use Rattle.std.specs.Vec.{vec_capacity};
+ghost use Rattle.trace_text.specs.Recordings.{IsRecording};
+
+use crate::drops::Dropped;
+use crate::gate::Gate;
+use crate::level::is_kept;
+use crate::options::{Options, Policy};
+use crate::refusal::LogRefusal;
+use crate::writer::Writer;
+use arg_records::{Call, Calls};
+use crossbeam_utils::Backoff;
+use log_dictionary::Severity;
+use ring_core::{Full, StageIn};
+use std::alloc::{AllocError, Global};
+use std::marker::Model;
+use std::sync::atomic::AtomicBool;
+use std::sync::{Arc, Wait};
+use trace_text::Trace;
+
+/// What came of a turn.
+#[derive(Clone, Copy, Debug, PartialEq, Eq)]
+pub(crate) enum Turn {
+    /// A call was logged or dropped, or the end was closed.
+    Moved,
+    /// There was no room. The same is to be tried again.
+    Stuck,
+    /// There was nothing left to do.
+    Finished,
+}
+
+/// Makes the calls of one writer of a run.
+#[derive(Drop)]
+pub(crate) struct Worker<S: StageIn, G> {
+    pub(crate) trace: Arc<Trace, Global>,
+    pub(crate) gate: Arc<G, Global>,
+    pub(crate) level: Severity,
+    pub(crate) policy: Policy,
+    pub(crate) number: u32,
+    pub(crate) writer: Writer<S>,
+    /// The place of the next call among all calls of the writer.
+    pub(crate) next: usize,
+    /// Whether the gate was told of the next call.
+    pub(crate) announced: bool,
+    pub(crate) drops: Vec<Dropped>,
+    pub(crate) closed: bool,
+    /// Whether no thread could be started for it.
+    pub(crate) stays: Arc<AtomicBool, Global>,
+}
+
+/// Room for so many drops, where calls may be dropped.
+fn room_for(alloc: Global, policy: Policy, count: usize) -> Result<Vec<Dropped>, AllocError>
+    ensures none { IfOk result (λ drops. (drops.items ≡ []) × (vec_len drops ≡ 0)) }
+    ensures room { IfOk result (λ drops. policy ≡ Policy.Shed → count ≤ vec_capacity drops) }
+{
+    let mut drops = Vec::new(alloc);
+    if policy == Policy::Shed {
+        drops.reserve_exact(count)?;
+    }
+    Ok(drops)
+}
+
+/// A trace is a run that can be recorded.
+fn hold_recorded(trace: &Trace)
+    ensures { IsRecording trace.now }
+{
+    let _ = trace.writers.len();
+}
+
+impl<S: StageIn, G> Model for Worker<S, G> {
+    ghost use Rattle.log_session.specs.Workers.{WorkerView, HasWorked};
+    ghost use Rattle.log_session.specs.WorkerInside.{task_of, progress_of, HasRoom};
+
+    ghost Value = { WorkerView S };
+
+    ghost view = { λ w. record { task = task_of w; end = w.writer.end; progress = progress_of w } };
+
+    ghost invariant = { λ w. HasWorked (task_of w) (progress_of w) (S.plan w.writer.end) (S.sent w.writer.end)
+        (S.at w.writer.end) (S.words w.writer.end) (S.seen w.writer.end) (S.closed w.writer.end) w.writer.last
+        × HasRoom w };
+}
+
+impl<S: StageIn + Drop, G: Gate> Worker<S, G> {
+    ghost use Rattle.log_session.specs.Workers.{HasWorked, all_calls, IsSameWork, IsNextFiltered, IsNextKept, WantsRoom};
+
+    /// A worker for a writer of the run, which has logged nothing. Where calls may be dropped, the room for all of them
+    /// is taken here.
+    pub(crate) fn make(
+        alloc: Global,
+        trace: Arc<Trace, Global>,
+        gate: Arc<G, Global>,
+        options: &Options,
+        number: u32,
+        writer: Writer<S>,
+    ) -> Result<Worker<S, G>, AllocError>
+        requires known { number < length (arc_value trace).writers }
+        requires unused { IsUnused (S.sent writer.end) (S.closed writer.end) (S.at writer.end) (S.seen writer.end) }
+        requires new { writer.last ≡ (arc_value trace).clock.tick }
+        requires plan { S.plan writer.end ≡ plan_of (arc_value trace).dictionary (arc_value trace).clock.tick }
+        requires ring { (MIN_RING ≤ S.words writer.end) × (S.words writer.end ≤ MAX_RING) }
+        ensures task { IfOk result (λ worker. worker.task ≡ record {
+          run = arc_value trace;
+          level = options.now.level;
+          policy = options.now.policy;
+          number = number;
+        }) }
+        ensures end { IfOk result (λ worker. worker.end ≡ writer.end) }
+    {
+        let drops = room_for(
+            alloc,
+            options.policy,
+            trace.writers.calls(number as usize).len(),
+        )?;
+        let stays = Arc::new(alloc, AtomicBool::new(false))?;
+        Ok(Worker {
+            trace,
+            gate,
+            level: options.level,
+            policy: options.policy,
+            number,
+            writer,
+            next: 0,
+            announced: false,
+            drops,
+            closed: false,
+            stays,
+        })
+    }
+
+    /// The writer and the drops.
+    pub(crate) fn into_parts(self) -> (Writer<S>, Vec<Dropped>)
+        ensures end { result.0.end ≡ self.end }
+        ensures counted { result.0.accepted ≡ length (S.sent self.end) }
+        ensures drops { result.1.items ≡ self.progress.drops }
+        ensures recorded { IsRecording self.task.run }
+        ensures worked { (last : ℕ) × HasWorked self.task self.progress (S.plan self.end) (S.sent self.end)
+            (S.at self.end) (S.words self.end) (S.seen self.end) (S.closed self.end) last }
+    {
+        hold_recorded(&self.trace);
+        let _ = self.writer.accepted();
+        let Worker {
+            trace: _,
+            gate: _,
+            level: _,
+            policy: _,
+            number: _,
+            writer,
+            next: _,
+            announced: _,
+            drops,
+            closed: _,
+            stays: _,
+        } = self;
+        (writer, drops)
+    }
+
+    /// All calls of the writer.
+    fn calls(&self) -> &Calls
+        ensures { result.now ≡ all_calls self.now.task }
+    {
+        self.trace.writers.calls(self.number as usize)
+    }
+
+    /// Whether all was done.
+    pub(crate) fn is_finished(&self) -> bool
+        ensures { result ≡ self.now.progress.closed }
+    {
+        self.closed
+    }
+
+    /// Whether a call is next that the level doesn't keep.
+    fn is_at_filtered(&self) -> bool
+        ensures { IsTrue result ↔ IsNextFiltered self.now.task self.now.progress }
+    {
+        hold_recorded(&self.trace);
+        match self.calls().get(self.next) {
+            Some(call) => !is_kept(&self.trace.dictionary, self.level, call),
+            None => false,
+        }
+    }
+
+    /// Passes over the next call, which the level doesn't keep.
+    fn pass(&mut self)
+        requires filtered { IsNextFiltered self.old.task self.old.progress }
+        requires unfinished { self.old.progress.closed ≡ false }
+        ensures end { self.new.end ≡ self.old.end }
+        ensures task { self.new.task ≡ self.old.task }
+        ensures unfinished { self.new.progress.closed ≡ false }
+        ensures next { self.new.progress.next ≡ self.old.progress.next + 1 }
+    {
+        hold_recorded(&self.trace);
+        self.next += 1;
+    }
+
+    /// Passes over the next calls that the level doesn't keep.
+    fn pass_filtered(&mut self)
+        requires unfinished { self.old.progress.closed ≡ false }
+        ensures end { self.new.end ≡ self.old.end }
+        ensures task { self.new.task ≡ self.old.task }
+        ensures unfinished { self.new.progress.closed ≡ false }
+        ensures passed { ¬ (IsNextFiltered self.new.task self.new.progress) }
+    {
+        while self.is_at_filtered() {
+            self.pass();
+        }
+    }
+
+    /// Logs the next call, if there is room.
+    fn log_next<R: Wait + Copy>(&mut self, rt: R) -> Result<(), Full>
+        requires unfinished { self.old.progress.closed ≡ false }
+        requires next { IsNextKept self.old.task self.old.progress }
+        ensures same { IsSameWork S.pair S.words self.old self.new }
+        ensures unfinished { self.new.progress.closed ≡ false }
+        ensures err { IfErr result (λ full. (self.new.progress ≡ self.old.progress) × WantsRoom self.old.task
+            self.old.progress (S.at self.new.end) (S.words self.new.end) (S.seen self.new.end) full) }
+    {
+        hold_recorded(&self.trace);
+        let call = self
+            .trace
+            .writers
+            .calls(self.number as usize)
+            .call(self.next);
+        match self.writer.log(rt, call.stamp, call.id, &call.args.args()) {
+            Ok(()) => {
+                self.next += 1;
+                Ok(())
+            }
+            Err(LogRefusal::Full(full)) => Err(full),
+            Err(LogRefusal::TooLong) => unreachable!(),
+        }
+    }
+
+    /// Drops the next call, for which there was no room.
+    fn shed(&mut self, full: Full)
+        requires unfinished { self.old.progress.closed ≡ false }
+        requires next { IsNextKept self.old.task self.old.progress }
+        requires shed { self.old.task.policy ≡ Policy.Shed }
+        requires wanting { WantsRoom self.old.task self.old.progress
+            (S.at self.old.end) (S.words self.old.end) (S.seen self.old.end) full }
+        ensures same { IsSameWork S.pair S.words self.old self.new }
+        ensures unfinished { self.new.progress.closed ≡ false }
+    {
+        hold_recorded(&self.trace);
+        let drop = Dropped {
+            writer: self.number,
+            ordinal: self.next as u64,
+            need: full.need,
+            room: full.room,
+        };
+        self.drops.push_reserved(drop);
+        self.next += 1;
+    }
+
+    /// Logs the next call, or drops it where that is the policy. It answers whether the call was answered.
+    fn log_or_shed<R: Wait + Copy>(&mut self, rt: R) -> bool
+        requires unfinished { self.old.progress.closed ≡ false }
+        requires next { IsNextKept self.old.task self.old.progress }
+        ensures same { IsSameWork S.pair S.words self.old self.new }
+    {
+        let Err(full) = self.log_next(rt) else {
+            return true;
+        };
+        if self.policy == Policy::Wait {
+            return false;
+        }
+        self.shed(full);
+        true
+    }
+
+    /// Tries to close the writer.
+    fn try_close<R: Wait + Copy>(&mut self, rt: R) -> Turn
+        requires unfinished { self.old.progress.closed ≡ false }
+        requires all { self.old.progress.next ≡ length (all_calls self.old.task) }
+        ensures same { IsSameWork S.pair S.words self.old self.new }
+        ensures tried { result ≢ Turn.Finished }
+    {
+        if self.writer.close(rt).is_err() {
+            return Turn::Stuck;
+        }
+        self.closed = true;
+        Turn::Moved
+    }
+}
+
+impl<S: StageIn + Drop, G: Gate> Worker<S, G> {
+    ghost use Rattle.log_session.specs.Workers.{all_calls, IsSameWork, IsNextFiltered, IsNextKept};
+
+    /// Tells the gate, once, that the next call is going to be tried.
+    fn announce(&mut self)
+        ensures { self.new ≡ self.old }
+    {
+        if self.announced {
+            return;
+        }
+        self.announced = true;
+        self.gate.before(self.number, self.next as u64);
+    }
+
+    /// Tells the gate that the call with this ordinal was answered.
+    fn tell(&mut self, ordinal: u64)
+        ensures { self.new ≡ self.old }
+    {
+        self.announced = false;
+        self.gate.after(self.number, ordinal);
+    }
+
+    /// Tries the next call.
+    fn try_call<R: Wait + Copy>(&mut self, rt: R) -> Turn
+        requires unfinished { self.old.progress.closed ≡ false }
+        requires next { IsNextKept self.old.task self.old.progress }
+        ensures same { IsSameWork S.pair S.words self.old self.new }
+        ensures tried { result ≢ Turn.Finished }
+    {
+        let ordinal = self.next as u64;
+        self.announce();
+        if !self.log_or_shed(rt) {
+            return Turn::Stuck;
+        }
+        self.tell(ordinal);
+        Turn::Moved
+    }
+
+    /// Tries the next call that the level keeps, or to close the writer where there is none.
+    pub(crate) fn turn<R: Wait + Copy>(&mut self, rt: R) -> Turn
+        ensures same { IsSameWork S.pair S.words self.old self.new }
+        ensures finished { result ≡ Turn.Finished → self.new.progress.closed ≡ true }
+    {
+        if self.closed {
+            return Turn::Finished;
+        }
+        self.pass_filtered();
+        if self.next < self.calls().len() {
+            self.try_call(rt)
+        } else {
+            self.try_close(rt)
+        }
+    }
+
+    /// Takes turns until all is done. Where there is no room it lets others run before it tries again.
+    pub(crate) fn work<R: Wait + Copy>(&mut self, rt: R)
+        ensures same { IsSameWork S.pair S.words self.old self.new }
+        ensures finished { self.new.progress.closed ≡ true }
+    {
+        let backoff = Backoff::new();
+        for _ in rt.forever() {
+            match self.turn(rt) {
+                Turn::Moved => backoff.reset(),
+                Turn::Stuck => backoff.snooze(),
+                Turn::Finished => return,
+            }
+        }
+        unreachable!()
+    }
+}
