@@ -12,6 +12,8 @@ use std::alloc::Global;
 use std::sync::Wait;
 use std::test::Fail;
 
+mod runs;
+
 const TICK: u64 = 1_000;
 
 fn clock() -> Clock
