@@ -1,5 +1,7 @@
 pub mod Words
 pub mod SeverityNames
+pub mod Numbers
+pub mod Taken
 pub mod Shapes
 pub mod Rows
 pub mod Walks

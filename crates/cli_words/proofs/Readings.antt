@@ -1,67 +1,66 @@
 -- What the reader makes of all the words.
-use Rattle.std.proofs.Common.{◌≡◌, ◌∙◌, Bool, true, false, List, [], ◌∷◌, ◌++◌, Option, Some, None, refl, sym, ap, codes}
-use Rattle.std.specs.Prelude.{option_map, option_and_then, unwrap_or, is_some, if◌then◌else◌}
-use Rattle.std.proofs.lemmas.Bool.{true≢false}
+use Rattle.std.proofs.Common.{◌≡◌, ◌∙◌, Bool, true, false, List, [], ◌∷◌, ◌++◌, Option, Some, None, refl, ap, codes}
+use Rattle.std.specs.Prelude.{option_map, option_and_then, unwrap_or, if◌then◌else◌}
 use Rattle.clap.specs.Walk.{Row, Text, Waiting, Walk, positional, has_row, used, walked}
 use Rattle.clap.specs.Kinds.{Kinds}
 use Rattle.clap.specs.Faults.{settle_fault, turn_fault, walk_fault}
-use Rattle.cli_words.specs.Uses.{Uses, uses_in, used_after, names_after}
-use Rattle.cli_words.specs.Commands.{Given, with_name, with_option}
-use Rattle.cli_words.proofs.Shapes.{rules, shape, level_rule}
-use Rattle.cli_words.proofs.Rows.{name_used, level_used, no_row_there, row_found}
+use Rattle.cli_words.specs.Uses.{Uses, uses_in, used_after, names_after, is_used, with_value}
+use Rattle.cli_words.specs.Commands.{Given, with_name, with_option, is_among}
+use Rattle.cli_words.proofs.Shapes.{IsPlain, rules, shape, option_rule}
+use Rattle.cli_words.proofs.Rows.{name_used, option_used, not_used, was_used}
 use Rattle.cli_words.proofs.Walks as walks
 use Rattle.cli_words.proofs.Walks.{is_right, held, at, no_option, rows_at, named, used_at, ended, ended_step, awaiting, again_fault}
 
-pub ended_nil : (has_level : Bool) (w : Walk) → ended has_level w [] ≡ used_at has_level w.held
+pub ended_nil : (taken : List Text) (w : Walk) → ended taken w [] ≡ used_at taken w.held
 unfolding walk_fault
-ended_nil has_level w = refl
+ended_nil taken w = refl
 
 -- a word that is faulty
-pub ended_faulty : (has_level : Bool) (w : Walk) (word : Text) (words : List Text)
-    → is_right (turn_fault (shape has_level) [] w word) ≡ false → ended has_level w (word ∷ words) ≡ None
-ended_faulty has_level w word words wrong =
-    ended_step has_level w word words (turn_fault (shape has_level) [] w word) (walked (rules has_level) [] w word) refl refl
-    ∙ ap (λ (b : Bool). if b then ended has_level (walked (rules has_level) [] w word) words else None) wrong
+pub ended_faulty : (taken : List Text) (w : Walk) (word : Text) (words : List Text)
+    → is_right (turn_fault (shape taken) [] w word) ≡ false → ended taken w (word ∷ words) ≡ None
+ended_faulty taken w word words wrong =
+    ended_step taken w word words (turn_fault (shape taken) [] w word) (walked (rules taken) [] w word) refl refl
+    ∙ ap (λ (b : Bool). if b then ended taken (walked (rules taken) [] w word) words else None) wrong
 
 -- one name more
 abbrev pub with_used_name : Uses → Text → Uses
-with_used_name uses name = record { level = uses.level; names = Some (unwrap_or uses.names [] ++ name ∷ []) }
+with_used_name uses name = record { values = uses.values; names = Some (unwrap_or uses.names [] ++ name ∷ []) }
 
-pub named_used : (has_level : Bool) (rows : List Row) (name : Text)
-    → used_at has_level (named rows name) ≡ Some (with_used_name (uses_in rows) name)
-named_used has_level rows name = ap (λ (uses : Uses). Some uses) (name_used name rows)
+pub named_used : (taken : List Text) (rows : List Row) (name : Text) → IsPlain taken
+    → used_at taken (named rows name) ≡ Some (with_used_name (uses_in taken rows) name)
+named_used taken rows name plain = ap (λ (uses : Uses). Some uses) (name_used taken name rows plain)
 
 -- further names
 abbrev pub with_names : List Text → Uses → Uses
-with_names names uses = record { level = uses.level; names = names_after uses.names names }
+with_names names uses = record { values = uses.values; names = names_after uses.names names }
 
 same_uses : (uses : Option Uses) → uses ≡ option_map (with_names []) uses
 same_uses None = refl
 same_uses (Some uses) = refl
 
 -- after the options
-pub trailing : (has_level : Bool) (rows : List Row) (pending : Option (Text × List Text)) (waiting : Waiting) (words : List Text)
-    → ended has_level (at (held rows pending) waiting true) words
-    ≡ option_map (with_names words) (used_at has_level (held rows pending))
-trailing has_level rows pending waiting [] =
-    ended_nil has_level (at (held rows pending) waiting true) ∙ same_uses (used_at has_level (held rows pending))
-trailing has_level rows pending waiting (word ∷ words) =
+pub trailing : (taken : List Text) (rows : List Row) (pending : Option (Text × List Text)) (waiting : Waiting) (words : List Text)
+    → IsPlain taken → ended taken (at (held rows pending) waiting true) words
+    ≡ option_map (with_names words) (used_at taken (held rows pending))
+trailing taken rows pending waiting [] plain =
+    ended_nil taken (at (held rows pending) waiting true) ∙ same_uses (used_at taken (held rows pending))
+trailing taken rows pending waiting (word ∷ words) plain =
     let before = held rows pending in
-    let now = rows_at has_level before in
-    ended_step has_level (at before waiting true) word words _ _
-    (walks.trailing_turn has_level before waiting word) (walks.trailing_walked has_level rows pending waiting word)
-    ∙ go (settle_fault (rules has_level) false before)
-    (trailing has_level now (Some (codes "names", word ∷ [])) positional words
-    ∙ ap (option_map (with_names words)) (named_used has_level now word))
+    let now = rows_at taken before in
+    ended_step taken (at before waiting true) word words _ _
+    (walks.trailing_turn taken before waiting word) (walks.trailing_walked taken rows pending waiting word)
+    ∙ go (settle_fault (rules taken) false before)
+    (trailing taken now (Some (codes "names", word ∷ [])) positional words plain
+    ∙ ap (option_map (with_names words)) (named_used taken now word plain))
   where
     go : (fault : Kinds)
-        → ended has_level (at (named (rows_at has_level (held rows pending)) word) positional true) words
-        ≡ Some (with_names words (with_used_name (uses_in (rows_at has_level (held rows pending))) word))
+        → ended taken (at (named (rows_at taken (held rows pending)) word) positional true) words
+        ≡ Some (with_names words (with_used_name (uses_in taken (rows_at taken (held rows pending))) word))
         → (if is_right fault
-        then ended has_level (at (named (rows_at has_level (held rows pending)) word) positional true) words
+        then ended taken (at (named (rows_at taken (held rows pending)) word) positional true) words
         else None)
         ≡ option_map (with_names (word ∷ words))
-        (if is_right fault then Some (uses_in (rows_at has_level (held rows pending))) else None)
+        (if is_right fault then Some (uses_in taken (rows_at taken (held rows pending))) else None)
     go [] rest = rest
     go (kind ∷ kinds) rest = refl
 
@@ -83,49 +82,34 @@ pub end_then : (names : List Text) (uses : Option Uses)
 end_then names None = refl
 end_then names (Some uses) = refl
 
-first_level_then : (names : Option (List Text)) (option value : Text) (given : Option Given)
-    → option_and_then (used_after (record { level = Some (value ∷ []); names = names })) given
-    ≡ option_and_then (used_after (record { level = None; names = names })) (with_option option value given)
-first_level_then names option value None = refl
-first_level_then names option value (Some given) = refl
+-- one option more, which wasn't used
+option_first : (uses : Uses) (option value : Text) (given : Option Given) → is_used option uses.values ≡ false
+    → option_and_then (used_after (record { values = with_value option value uses.values; names = uses.names })) given
+    ≡ option_and_then (used_after uses) (with_option option value given)
+option_first uses option value None unused = refl
+option_first uses option value (Some given) unused = rw unused refl
 
-second_level_then : (values : List Text) (names : Option (List Text)) (option value : Text) (given : Option Given)
-    → None ≡ option_and_then (used_after (record { level = Some values; names = names })) (with_option option value given)
-second_level_then values names option value None = refl
-second_level_then values names option value (Some given) = refl
+-- one that was
+option_again : (uses : Uses) (option value : Text) (given : Option Given) → is_used option uses.values ≡ true
+    → None ≡ option_and_then (used_after uses) (with_option option value given)
+option_again uses option value None used_before = refl
+option_again uses option value (Some given) used_before = rw used_before refl
 
--- what was used of the level, where it was
-level_there : (rows : List Row) → has_row (codes "level") rows ≡ true
-    → (values : List Text) × ((uses_in rows).level ≡ Some values)
-level_there rows there = go (uses_in rows).level (sym (row_found (codes "level") rows) ∙ there)
+-- an option may be used once
+pub option_then : (taken : List Text) (rows : List Row) (option value : Text) (given : Option Given) → IsPlain taken
+    → is_among taken option ≡ true
+    → then_used given
+    (if is_right (again_fault option rows) then Some (uses_in taken (used (option_rule option) (value ∷ []) rows)) else None)
+    ≡ option_and_then (used_after (uses_in taken rows)) (with_option option value given)
+option_then taken rows option value given plain known = go (has_row option rows) refl
   where
-    go : (level : Option (List Text)) → is_some level ≡ true → (values : List Text) × (level ≡ Some values)
-    go None e = absurd (true≢false (sym e))
-    go (Some values) e = (values, refl)
-
--- the level may be used once
-pub level_then : (rows : List Row) (option value : Text) (given : Option Given)
-    → then_used given (if is_right (again_fault rows) then Some (uses_in (used level_rule (value ∷ []) rows)) else None)
-    ≡ option_and_then (used_after (uses_in rows)) (with_option option value given)
-level_then rows option value given = go (has_row (codes "level") rows) refl
-  where
-    go : (b : Bool) → has_row (codes "level") rows ≡ b
-        → then_used given (if is_right (again_fault rows) then Some (uses_in (used level_rule (value ∷ []) rows)) else None)
-        ≡ option_and_then (used_after (uses_in rows)) (with_option option value given)
+    go : (b : Bool) → has_row option rows ≡ b
+        → then_used given
+        (if is_right (again_fault option rows) then Some (uses_in taken (used (option_rule option) (value ∷ []) rows)) else None)
+        ≡ option_and_then (used_after (uses_in taken rows)) (with_option option value given)
     go false none =
-        let first : (uses_in rows).level ≡ None = no_row_there (codes "level") rows none in
         rw none (
-        ap (λ (uses : Uses). option_and_then (used_after uses) given) (level_used value rows none)
-        ∙ first_level_then (uses_in rows).names option value given
-        ∙ ap (λ (level : Option (List Text)). option_and_then (used_after (record {
-          level = level;
-          names = (uses_in rows).names;
-        })) (with_option option value given)) (sym first))
+        ap (λ (uses : Uses). option_and_then (used_after uses) given) (option_used taken option value rows plain known none)
+        ∙ option_first (uses_in taken rows) option value given (not_used taken option rows none))
     go true there =
-        let before = level_there rows there in
-        rw there (
-        second_level_then before.0 (uses_in rows).names option value given
-        ∙ ap (λ (level : Option (List Text)). option_and_then (used_after (record {
-          level = level;
-          names = (uses_in rows).names;
-        })) (with_option option value given)) (sym before.1))
+        rw there (option_again (uses_in taken rows) option value given (was_used taken option rows known there))

@@ -9,8 +9,10 @@ use Rattle.clap.specs.declared.builder.value_parser.Reading.TheVariants.{AsWritt
 use Rattle.clap.specs.Walk.{Row, Text, all_of, at_row, has_row, more_values, used, with_values, without}
 use Rattle.clap.specs.declared.parser.matches.ValueSource.{ValueSource}
 use Rattle.clap.specs.declared.builder.value_parser.Reading.{Reading}
-use Rattle.cli_words.specs.Uses.{uses_in}
-use Rattle.cli_words.proofs.Shapes.{names_rule, level_rule}
+use Rattle.cli_words.specs.Commands.{is_among}
+use Rattle.cli_words.specs.Uses.{uses_in, values_in, is_used, with_value}
+use Rattle.cli_words.proofs.Taken.{Values, turned}
+use Rattle.cli_words.proofs.Shapes.{IsPlain, names_rule, option_rule, apart}
 
 -- the values of an id after a use that adds to them
 more_values_of : (id : Text) (how : Reading) (s : ValueSource) (values : List Text) (rows : List Row)
@@ -87,22 +89,109 @@ no_row_there id rows none = go (all_of id rows) (sym (row_found id rows) ∙ non
     go None e = refl
     go (Some values) e = absurd (true≢false e)
 
+-- ---- what is used
+
+-- one more name leaves the values of the options
+values_left : (taken : List Text) (name : Text) (rows : List Row) → IsPlain taken
+    → values_in taken (used names_rule (name ∷ []) rows) ≡ values_in taken rows
+values_left [] name rows plain = refl
+values_left (option ∷ taken) name rows plain = go (bytes_eq option (codes "names")) refl (values_left taken name rows)
+  where
+    go : (b : Bool) → bytes_eq option (codes "names") ≡ b
+        → (IsPlain taken → values_in taken (used names_rule (name ∷ []) rows) ≡ values_in taken rows)
+        → values_in (option ∷ taken) (used names_rule (name ∷ []) rows) ≡ values_in (option ∷ taken) rows
+    go true e rest = absurd (true≢false (rw e at plain))
+    go false e rest =
+        ap₂ (λ (texts : Option (List Text)) (more : Values). (option, texts) ∷ more)
+        (values_kept (codes "names") option AsWritten CommandLine (name ∷ []) rows (turned (codes "names") option ∙ e))
+        (rest (rw e at plain))
+
 -- after one more name
-pub name_used : (name : Text) (rows : List Row)
-    → uses_in (used names_rule (name ∷ []) rows)
-    ≡ record { level = (uses_in rows).level; names = Some (unwrap_or (uses_in rows).names [] ++ name ∷ []) }
-name_used name rows =
-    ap₂ (λ (l n : Option (List Text)). record { level = l; names = n })
-    (values_kept (codes "names") (codes "level") AsWritten CommandLine (name ∷ []) rows refl)
+pub name_used : (taken : List Text) (name : Text) (rows : List Row) → IsPlain taken
+    → uses_in taken (used names_rule (name ∷ []) rows)
+    ≡ record {
+      values = (uses_in taken rows).values;
+      names = Some (unwrap_or (uses_in taken rows).names [] ++ name ∷ []);
+    }
+name_used taken name rows plain =
+    ap₂ (λ (v : Values) (n : Option (List Text)). record { values = v; names = n })
+    (values_left taken name rows plain)
     (more_values_of (codes "names") AsWritten CommandLine (name ∷ []) rows)
 
--- after the first level
-pub level_used : (value : Text) (rows : List Row) → has_row (codes "level") rows ≡ false
-    → uses_in (used level_rule (value ∷ []) rows) ≡ record { level = Some (value ∷ []); names = (uses_in rows).names }
-level_used value rows none =
-    let empty : all_of (codes "level") rows ≡ None = no_row_there (codes "level") rows none in
-    rw (none_lost (codes "level") rows none)
-    (ap₂ (λ (l n : Option (List Text)). record { level = l; names = n })
-    (more_values_of (codes "level") AsWritten CommandLine (value ∷ []) rows
-    ∙ ap (λ (values : Option (List Text)). Some (unwrap_or values [] ++ value ∷ [])) empty)
-    (values_kept (codes "level") (codes "names") AsWritten CommandLine (value ∷ []) rows refl))
+-- the values after the first use of an option
+values_set : (taken : List Text) (option value : Text) (rows : List Row) → has_row option rows ≡ false
+    → values_in taken (used (option_rule option) (value ∷ []) rows) ≡ with_value option value (values_in taken rows)
+values_set [] option value rows none = refl
+values_set (other ∷ taken) option value rows none = go (bytes_eq other option) refl (values_set taken option value rows none)
+  where
+    empty : all_of option rows ≡ None
+    empty = no_row_there option rows none
+
+    lost : without option rows ≡ rows
+    lost = none_lost option rows none
+
+    set : all_of option (used (option_rule option) (value ∷ []) rows) ≡ Some (value ∷ [])
+    set = rw (none_lost option rows none)
+        (more_values_of option AsWritten CommandLine (value ∷ []) rows
+        ∙ ap (λ (values : Option (List Text)). Some (unwrap_or values [] ++ value ∷ [])) (no_row_there option rows none))
+
+    kept : bytes_eq option other ≡ false → all_of other (used (option_rule option) (value ∷ []) rows) ≡ all_of other rows
+    kept apart_from = rw (none_lost option rows none)
+        (values_kept option other AsWritten CommandLine (value ∷ []) rows apart_from)
+
+    go : (b : Bool) → bytes_eq other option ≡ b
+        → values_in taken (used (option_rule option) (value ∷ []) rows) ≡ with_value option value (values_in taken rows)
+        → values_in (other ∷ taken) (used (option_rule option) (value ∷ []) rows)
+        ≡ with_value option value (values_in (other ∷ taken) rows)
+    go true e rest =
+        let same : other ≡ option = (bytes_eq-Decides other option).0 e in
+        rw e (
+        ap₂ (λ (texts : Option (List Text)) (more : Values). (other, texts) ∷ more)
+        (ap (λ (text : Text). all_of text (used (option_rule option) (value ∷ []) rows)) same ∙ set) rest)
+    go false e rest =
+        rw e (
+        ap₂ (λ (texts : Option (List Text)) (more : Values). (other, texts) ∷ more)
+        (kept (turned option other ∙ e)) rest)
+
+-- after the first use of an option
+pub option_used : (taken : List Text) (option value : Text) (rows : List Row) → IsPlain taken
+    → is_among taken option ≡ true → has_row option rows ≡ false
+    → uses_in taken (used (option_rule option) (value ∷ []) rows)
+    ≡ record { values = with_value option value (values_in taken rows); names = (uses_in taken rows).names }
+option_used taken option value rows plain known none =
+    ap₂ (λ (v : Values) (n : Option (List Text)). record { values = v; names = n })
+    (values_set taken option value rows none)
+    (rw (none_lost option rows none)
+    (values_kept option (codes "names") AsWritten CommandLine (value ∷ []) rows
+    (turned option (codes "names") ∙ apart taken option plain known)))
+
+-- an option that has no row wasn't used
+pub not_used : (taken : List Text) (option : Text) (rows : List Row) → has_row option rows ≡ false
+    → is_used option (values_in taken rows) ≡ false
+not_used [] option rows none = refl
+not_used (other ∷ taken) option rows none = go (bytes_eq other option) refl (not_used taken option rows none)
+  where
+    go : (b : Bool) → bytes_eq other option ≡ b → is_used option (values_in taken rows) ≡ false
+        → is_used option (values_in (other ∷ taken) rows) ≡ false
+    go true e rest =
+        let same : other ≡ option = (bytes_eq-Decides other option).0 e in
+        let empty : all_of other rows ≡ None = ap (λ (text : Text). all_of text rows) same ∙ no_row_there option rows none in
+        rw (e, empty) rest
+    go false e rest = rw e rest
+
+-- one that has a row was
+pub was_used : (taken : List Text) (option : Text) (rows : List Row) → is_among taken option ≡ true
+    → has_row option rows ≡ true → is_used option (values_in taken rows) ≡ true
+was_used [] option rows known there = absurd (true≢false (sym known))
+was_used (other ∷ taken) option rows known there =
+    go (bytes_eq other option) refl (was_used taken option rows)
+  where
+    go : (b : Bool) → bytes_eq other option ≡ b
+        → (is_among taken option ≡ true → has_row option rows ≡ true → is_used option (values_in taken rows) ≡ true)
+        → is_used option (values_in (other ∷ taken) rows) ≡ true
+    go true e rest =
+        let same : other ≡ option = (bytes_eq-Decides other option).0 e in
+        let some : is_some (all_of other rows) ≡ true =
+        ap (λ (text : Text). is_some (all_of text rows)) same ∙ sym (row_found option rows) ∙ there in
+        rw (e, some) refl
+    go false e rest = rw e (rest (rw e at known) there)

@@ -1,6 +1,5 @@
 -- The severity that a name is of, by what is said of each.
 use Rattle.std.proofs.Common.{◌≡◌, ℕ, Bool, true, false, List, Option, Some, None, refl, sym, subst}
-use Rattle.std.proofs.lemmas.Bool.{false≢true}
 use Rattle.std.proofs.lemmas.Slice.Eq.{bytes_eq-Decides}
 use Rattle.std.specs.Prelude.{IfSome, IfNone}
 use Rattle.std.specs.Str.{bytes_eq}

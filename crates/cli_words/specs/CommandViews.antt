@@ -8,5 +8,5 @@ use Rattle.cli_words.specs.Commands.{Command, Preprocess, Direct, Replay, Decomp
 abbrev pub command_is : Asked → Command
 command_is (asked.Preprocess dictionary sources) = Preprocess dictionary.now (map (λ name. name.now) sources.items)
 command_is (asked.Direct trace) = Direct trace.now
-command_is (asked.Replay trace log level) = Replay trace.now log.now level
+command_is (asked.Replay trace log options) = Replay trace.now log.now options
 command_is (asked.Decompress log) = Decompress log.now

@@ -1,13 +1,22 @@
 -- What the words of a command line ask for.
 use Rattle.std.specs.Prelude.{ℕ, Bool, true, false, not, ◌&&◌, ◌==◌, List, [], ◌∷◌, map, find, Option, Some, None}
-use Rattle.std.specs.Prelude.{codes, if◌then◌else◌, String, length, nat_le, nat_lt, option_map, option_and_then}
+use Rattle.std.specs.Prelude.{codes, if◌then◌else◌, String, length, nat_le, nat_lt}
+use Rattle.std.specs.Prelude.{is_some, option_map, option_and_then}
 use Rattle.std.specs.List.{list_all, list_any, before_first, after_first}
 use Rattle.std.specs.String.{string_bytes}
-use Rattle.std.specs.Str.{bytes_eq}
+use Rattle.std.specs.Str.{all_ascii_digits, bytes_eq}
+use Rattle.std.specs.Str.Parse.{digits_value}
 use Rattle.log_dictionary.specs.Severities.{severity_name}
 use Rattle.log_dictionary.specs.declared.severity.Severity.{Severity}
 use Rattle.log_dictionary.specs.declared.severity.Severity.TheVariants.{Error, Warning, Notice, Debug}
+use Rattle.ring_core.specs.declared.limits.TheConstants.{MIN_RING, MAX_RING}
+use Rattle.roaming_consumer.specs.declared.making.TheConstants.{MAX_BATCH}
+use Rattle.log_session.specs.Defaults.{default_options}
+use Rattle.log_session.specs.declared.options.Options.{Options}
+use Rattle.log_session.specs.declared.options.Policy.{Policy}
+use Rattle.log_session.specs.declared.options.Policy.TheVariants.{Wait, Shed}
 use Rattle.cli_words.specs.declared.command.TheConstants.{MAX_SOURCES}
+use Rattle.cli_words.specs.declared.options.TheConstants.{MAX_DIGITS}
 
 -- a word, a name or a value: the bytes of its text
 abbrev pub Text : Type 0
@@ -21,7 +30,7 @@ texts_of words = map string_bytes words
 pub data Command : Type 0 where
   Preprocess : (dictionary : Text) (sources : List Text) → Command
   Direct : (trace : Text) → Command
-  Replay : (trace log : Text) (level : Severity) → Command
+  Replay : (trace log : Text) (options : Options) → Command
   Decompress : (log : Text) → Command
 
 -- ---- what a word is
@@ -93,15 +102,81 @@ given_of = given_from None
 
 -- ---- what that asks for
 
+-- the number that decimal digits spell, where it lies in these bounds. There is one digit at least, and there are not
+-- too many, with the zeros in front
+abbrev pub number_within : ℕ → ℕ → Text → Option ℕ
+number_within least most digits =
+    if all_ascii_digits digits && nat_lt 0 (length digits) && nat_le (length digits) MAX_DIGITS
+    && nat_le least (digits_value 10 digits) && nat_le (digits_value 10 digits) most
+    then Some (digits_value 10 digits) else None
+
 -- the severity of this name
 abbrev pub severity_named : Text → Option Severity
 severity_named name = find (λ severity. bytes_eq (severity_name severity) name) (Error ∷ Warning ∷ Notice ∷ Debug ∷ [])
 
--- the level that the options set, where `--level` is the only one and is given once at most
-abbrev pub level_of : List (Text × Text) → Option Severity
-level_of [] = Some Debug
-level_of ((option, value) ∷ []) = if bytes_eq (codes "level") option then severity_named value else None
-level_of _ = None
+-- what becomes of calls for which there is no room, by its name
+abbrev pub policy_named : Text → Option Policy
+policy_named name =
+    if bytes_eq name (codes "wait") then Some Wait else if bytes_eq name (codes "drop") then Some Shed else None
+
+-- ---- the options of `replay`, each by its value, if it is given
+
+-- the words of a ring
+abbrev pub ring_of : Option Text → Option ℕ
+ring_of None = Some default_options.ring
+ring_of (Some digits) = number_within MIN_RING MAX_RING digits
+
+-- the most records of an extent
+abbrev pub batch_of : Option Text → Option ℕ
+batch_of None = Some default_options.batch
+batch_of (Some digits) = number_within 1 MAX_BATCH digits
+
+-- what becomes of calls for which there is no room
+abbrev pub policy_of : Option Text → Option Policy
+policy_of None = Some default_options.policy
+policy_of (Some name) = policy_named name
+
+-- the level
+abbrev pub level_of : Option Text → Option Severity
+level_of None = Some default_options.level
+level_of (Some name) = severity_named name
+
+-- the names of these options
+abbrev pub replay_options : List Text
+replay_options = codes "ring" ∷ codes "batch" ∷ codes "full" ∷ codes "level" ∷ []
+
+-- the options together, where each is right
+abbrev pub options_with : Option ℕ → Option ℕ → Option Policy → Option Severity → Option Options
+options_with (Some ring) (Some batch) (Some policy) (Some level) =
+    Some (record { ring = ring; batch = batch; policy = policy; level = level })
+options_with _ _ _ _ = None
+
+-- the options by the values that are given
+abbrev pub options_by : (Text → Option Text) → Option Options
+options_by value =
+    options_with (ring_of (value (codes "ring"))) (batch_of (value (codes "batch")))
+    (policy_of (value (codes "full"))) (level_of (value (codes "level")))
+
+-- ---- which options are given
+
+-- the value of the option with this name, if it is given
+abbrev pub value_of : List (Text × Text) → Text → Option Text
+value_of [] name = None
+value_of (option ∷ options) name = if bytes_eq option.0 name then Some option.1 else value_of options name
+
+-- the name is among these
+abbrev pub is_among : List Text → Text → Bool
+is_among names name = list_any (λ known. bytes_eq known name) names
+
+-- each option is one of these, and is given once at most
+abbrev pub are_taken : List Text → List (Text × Text) → Bool
+are_taken names [] = true
+are_taken names (option ∷ options) =
+    is_among names option.0 && not (is_some (value_of options option.0)) && are_taken names options
+
+-- the options that are set
+abbrev pub options_of : List (Text × Text) → Option Options
+options_of options = if are_taken replay_options options then options_by (value_of options) else None
 
 -- a name is not empty
 abbrev pub is_name : Text → Bool
@@ -137,17 +212,17 @@ preprocess_of (dictionary ∷ sources) =
     if is_name dictionary && are_sources dictionary sources then Some (Preprocess dictionary sources) else None
 
 -- the command `replay` with these names: there are two, which differ
-abbrev pub replay_of : List Text → Severity → Option Command
-replay_of (trace ∷ log ∷ []) level =
-    if is_name trace && is_name log && not (bytes_eq trace log) then Some (Replay trace log level) else None
-replay_of _ level = None
+abbrev pub replay_of : List Text → Options → Option Command
+replay_of (trace ∷ log ∷ []) options =
+    if is_name trace && is_name log && not (bytes_eq trace log) then Some (Replay trace log options) else None
+replay_of _ options = None
 
 -- the command that this word and what is given after it ask for
 abbrev pub asked : Text → Given → Option Command
 asked word given =
     if bytes_eq word (codes "preprocess") then option_and_then preprocess_of (bare_names given)
     else if bytes_eq word (codes "direct") then option_map Direct (lone_name given)
-    else if bytes_eq word (codes "replay") then option_and_then (replay_of given.names) (level_of given.options)
+    else if bytes_eq word (codes "replay") then option_and_then (replay_of given.names) (options_of given.options)
     else if bytes_eq word (codes "decompress") then option_map Decompress (lone_name given)
     else None
 

@@ -1,9 +1,16 @@
 -- Worked command lines, and lines for all commands.
-use Rattle.std.specs.Prelude.{◌≡◌, ◌≢◌, ◌==◌, ◌<◌, ◌≤◌, List, [], ◌∷◌, length, Option, true, codes}
+use Rattle.std.specs.Prelude.{◌≡◌, ◌≢◌, ◌==◌, ◌<◌, ◌≤◌, ℕ, List, [], ◌∷◌, length, Option, Some, true, codes}
+use Rattle.std.specs.Fmt.{decimal}
 use Rattle.std.specs.List.{All, slice_split}
 use Rattle.cli_words.specs.Commands.{Text, Command, Preprocess, Direct, Replay, Decompress, command_of, is_name}
 use Rattle.cli_words.specs.declared.command.TheConstants.{MAX_SOURCES}
+use Rattle.ring_core.specs.declared.limits.TheConstants.{MIN_RING, MAX_RING}
+use Rattle.roaming_consumer.specs.declared.making.TheConstants.{MAX_BATCH}
+use Rattle.log_session.specs.declared.options.Options.{Options}
+use Rattle.log_session.specs.declared.options.Policy.{Policy}
+use Rattle.log_session.specs.declared.options.Policy.TheVariants.{Wait, Shed}
 use Rattle.log_dictionary.specs.Severities.{severity_name}
+use Rattle.log_dictionary.specs.declared.severity.Severity.{Severity}
 
 -- the words of a line, which one space each stands between
 abbrev pub words_of : Text → List Text
@@ -13,20 +20,38 @@ words_of = slice_split (λ byte. byte == 32)
 abbrev pub meaning : Text → Option Command
 meaning line = command_of (words_of line)
 
--- the names of the command aren't empty, its trace isn't its log, and its dictionary is none of its sources, of which
--- there are enough and not too many
+-- the command `replay` of the trace `t` into the log `l`
+abbrev pub replays : ℕ → ℕ → Policy → Severity → Option Command
+replays ring batch policy level =
+    Some (Replay (codes "t") (codes "l") (record { ring = ring; batch = batch; policy = policy; level = level }))
+
+-- the numbers of the options lie in their bounds
+abbrev pub AreInBounds : Options → Type 0
+AreInBounds options = (MIN_RING ≤ options.ring) × (options.ring ≤ MAX_RING)
+    × (1 ≤ options.batch) × (options.batch ≤ MAX_BATCH)
+
+-- the names of the command aren't empty, its trace isn't its log, its numbers lie in their bounds, and its dictionary
+-- is none of its sources, of which there are enough and not too many
 abbrev pub IsLawful : Command → Type 0
 IsLawful (Preprocess dictionary sources) =
     (is_name dictionary ≡ true) × (0 < length sources) × (length sources ≤ MAX_SOURCES)
     × All (λ source. (is_name source ≡ true) × (source ≢ dictionary)) sources
 IsLawful (Direct trace) = is_name trace ≡ true
-IsLawful (Replay trace log level) = (is_name trace ≡ true) × (is_name log ≡ true) × (trace ≢ log)
+IsLawful (Replay trace log options) =
+    (is_name trace ≡ true) × (is_name log ≡ true) × (trace ≢ log) × AreInBounds options
 IsLawful (Decompress log) = is_name log ≡ true
+
+-- the name of what becomes of calls for which there is no room
+abbrev pub policy_name : Policy → Text
+policy_name Wait = codes "wait"
+policy_name Shed = codes "drop"
 
 -- a line that asks for the command
 abbrev pub line_of : Command → List Text
 line_of (Preprocess dictionary sources) = codes "preprocess" ∷ codes "--" ∷ dictionary ∷ sources
 line_of (Direct trace) = codes "direct" ∷ codes "--" ∷ trace ∷ []
-line_of (Replay trace log level) =
-    codes "replay" ∷ codes "--level" ∷ severity_name level ∷ codes "--" ∷ trace ∷ log ∷ []
+line_of (Replay trace log options) =
+    codes "replay" ∷ codes "--ring" ∷ decimal options.ring ∷ codes "--batch" ∷ decimal options.batch
+    ∷ codes "--full" ∷ policy_name options.policy ∷ codes "--level" ∷ severity_name options.level
+    ∷ codes "--" ∷ trace ∷ log ∷ []
 line_of (Decompress log) = codes "decompress" ∷ codes "--" ∷ log ∷ []

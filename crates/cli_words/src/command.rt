@@ -1,14 +1,15 @@
 //! The commands of the program, and which one a command line asks for.
 
 ghost use Rattle.std.specs.Prelude.{◌≡◌, IfOk, option_map, map};
-ghost use Rattle.cli_words.specs.Commands.{command_of, texts_of, severity_named, is_name, only_name, replay_of};
+ghost use Rattle.cli_words.specs.Commands.{command_of, texts_of, is_name, only_name, replay_of};
 ghost use Rattle.cli_words.specs.Commands.{is_source, are_sources, preprocess_of, Direct, Decompress};
 ghost use Rattle.cli_words.specs.CommandViews.{command_is};
-ghost use Rattle.cli_words.specs.Uses.{form_named, found_command, found_level, uses_of};
+ghost use Rattle.cli_words.specs.Uses.{form_named, found_command, options_taken, uses_of};
 
-use crate::reading::{Form, LEVEL, NAMES};
+use crate::options::found_options;
+use crate::reading::{Form, NAMES};
 use clap::ArgMatches;
-use log_dictionary::Severity;
+use log_session::Options;
 use std::alloc::{AllocError, Global};
 
 /// The most sources of one dictionary.
@@ -26,11 +27,11 @@ pub enum Command<'a> {
     Direct {
         trace: &'a str,
     },
-    /// To write the log of a trace, of the calls up to a level.
+    /// To write the log of a trace, by a session with these options.
     Replay {
         trace: &'a str,
         log: &'a str,
-        level: Severity,
+        options: Options,
     },
     /// To print the lines of a log.
     Decompress {
@@ -49,13 +50,6 @@ fn form_named(word: &str) -> Option<Form>
         "decompress" => Some(Form::Decompress),
         _ => None,
     }
-}
-
-/// The severity of this name.
-fn severity_named(name: &str) -> Option<Severity>
-    ensures { result ≡ severity_named name.now }
-{
-    log_dictionary::severity_named(name.as_bytes())
 }
 
 /// Whether a word that isn't an option can be a name: it isn't empty.
@@ -109,14 +103,14 @@ fn preprocess_of<'a>(alloc: Global, names: &[&'a str]) -> Result<Option<Command<
 }
 
 /// The command `replay`, where there are two names and they differ.
-fn replay_of<'a>(names: &[&'a str], level: Severity) -> Option<Command<'a>>
-    ensures { option_map command_is result ≡ replay_of (map (λ name. name.now) names.now) level }
+fn replay_of<'a>(names: &[&'a str], options: Options) -> Option<Command<'a>>
+    ensures { option_map command_is result ≡ replay_of (map (λ name. name.now) names.now) options }
 {
     match names {
         [trace, log] if is_name(trace) && is_name(log) && trace != log => Some(Command::Replay {
             trace,
             log,
-            level,
+            options,
         }),
         _ => None,
     }
@@ -140,23 +134,14 @@ fn decompress_of<'a>(names: &[&'a str]) -> Option<Command<'a>>
     })
 }
 
-/// The level that was found, or the default.
-fn found_level(found: &ArgMatches<'_>) -> Option<Severity>
-    ensures { result ≡ found_level (uses_of found.now) }
-{
-    match found.get_str(LEVEL) {
-        Some(name) => severity_named(name),
-        None => Some(Severity::Debug),
-    }
-}
-
 /// The command of this form with what was found.
 fn found_command<'a>(
     alloc: Global,
     form: Form,
     found: &ArgMatches<'a>,
 ) -> Result<Option<Command<'a>>, AllocError>
-    ensures { IfOk result (λ command. option_map command_is command ≡ found_command form (uses_of found.now)) }
+    ensures { IfOk result (λ command.
+        option_map command_is command ≡ found_command form (uses_of (options_taken form) found.now)) }
 {
     let Some(names) = found.get_strs(NAMES) else {
         return Ok(None);
@@ -164,8 +149,8 @@ fn found_command<'a>(
     match form {
         Form::Preprocess => preprocess_of(alloc, names),
         Form::Direct => Ok(direct_of(names)),
-        Form::Replay => match found_level(found) {
-            Some(level) => Ok(replay_of(names, level)),
+        Form::Replay => match found_options(found) {
+            Some(options) => Ok(replay_of(names, options)),
             None => Ok(None),
         },
         Form::Decompress => Ok(decompress_of(names)),
@@ -174,9 +159,9 @@ fn found_command<'a>(
 
 /// The command that the words after the program's name ask for, or None where the line is faulty.
 ///
-/// The first word is the command: `preprocess DICT FILE..`, `direct TRACE`, `replay TRACE LOG [--level S]` or
-/// `decompress LOG`. Options stand anywhere after it, as `--level S` or `--level=S`, until a word `--`, after which
-/// every word is a name.
+/// The first word is the command: `preprocess DICT FILE..`, `direct TRACE`,
+/// `replay TRACE LOG [--ring N] [--batch B] [--full wait|drop] [--level S]` or `decompress LOG`. Options stand
+/// anywhere after it, as `--level S` or `--level=S`, until a word `--`, after which every word is a name.
 pub fn command_of(alloc: Global, words: &[String]) -> Result<Option<Command<'_>>, AllocError>
     ensures { IfOk result (λ command. option_map command_is command ≡ command_of (texts_of words.now)) }
 {

@@ -2,10 +2,12 @@
 //! ensure is proved of the definitions.
 
 ghost use Rattle.std.specs.Prelude.{◌≡◌, Some, None, List, [], ◌∷◌, ◌++◌, codes};
-ghost use Rattle.cli_words.specs.Commands.{Text, Name, word_of, given_of, command_of};
+ghost use Rattle.cli_words.specs.Commands.{Text, Name, Awaits, word_of, given_of, options_of, command_of};
 ghost use Rattle.cli_words.specs.Commands.{Command, Preprocess, Direct, Replay, Decompress};
 ghost use Rattle.cli_words.specs.declared.command.TheConstants.{MAX_SOURCES};
-ghost use Rattle.cli_words.specs.Rows.{meaning, IsLawful, line_of};
+ghost use Rattle.cli_words.specs.Rows.{meaning, replays, IsLawful, line_of};
+ghost use Rattle.log_session.specs.Defaults.{default_options};
+ghost use Rattle.log_session.specs.declared.options.Policy.TheVariants.{Wait, Shed};
 ghost use Rattle.log_dictionary.specs.declared.severity.Severity.TheVariants.{Error, Warning, Notice, Debug};
 
 /// Names may be any words but the empty one, and stand for themselves after `--`.
@@ -21,17 +23,26 @@ pub fn names_are_words()
     ensures log { meaning (codes "decompress l") ≡ Some (Decompress (codes "l")) }
 {}
 
-/// The level stands anywhere before `--`, in two spellings. Without it all calls are kept.
-pub fn levels_stand_anywhere()
-    ensures none { meaning (codes "replay t l") ≡ Some (Replay (codes "t") (codes "l") Debug) }
-    ensures last { meaning (codes "replay t l --level ERROR") ≡ Some (Replay (codes "t") (codes "l") Error) }
-    ensures first { meaning (codes "replay --level WARNING t l") ≡ Some (Replay (codes "t") (codes "l") Warning) }
-    ensures between { meaning (codes "replay t --level NOTICE l") ≡ Some (Replay (codes "t") (codes "l") Notice) }
-    ensures told { meaning (codes "replay t l --level DEBUG") ≡ Some (Replay (codes "t") (codes "l") Debug) }
-    ensures joined { meaning (codes "replay t --level=ERROR l") ≡ Some (Replay (codes "t") (codes "l") Error) }
-    ensures before { meaning (codes "replay --level=ERROR -- -t -l") ≡ Some (Replay (codes "-t") (codes "-l") Error) }
-    ensures name { meaning (codes "replay t -- --level") ≡ Some (Replay (codes "t") (codes "--level") Debug) }
-    ensures dash { meaning (codes "replay - t") ≡ Some (Replay (codes "-") (codes "t") Debug) }
+/// Options stand anywhere before `--`, in any order and in two spellings. Without them the ring has 65,536 words, an
+/// extent has 4,096 records at most, writers wait for room, and all calls are made.
+pub fn options_are_set()
+    ensures none { meaning (codes "replay t l") ≡ replays 65536 4096 Wait Debug }
+    ensures ring { meaning (codes "replay t l --ring 2048") ≡ replays 2048 4096 Wait Debug }
+    ensures batch { meaning (codes "replay t l --batch 128") ≡ replays 65536 128 Wait Debug }
+    ensures wait { meaning (codes "replay t l --full wait") ≡ replays 65536 4096 Wait Debug }
+    ensures drop { meaning (codes "replay t l --full drop") ≡ replays 65536 4096 Shed Debug }
+    ensures level { meaning (codes "replay t l --level WARNING") ≡ replays 65536 4096 Wait Warning }
+    ensures first { meaning (codes "replay --level NOTICE t l") ≡ replays 65536 4096 Wait Notice }
+    ensures between { meaning (codes "replay t --ring 1024 l") ≡ replays 1024 4096 Wait Debug }
+    ensures joined { meaning (codes "replay t --full=drop l") ≡ replays 65536 4096 Shed Debug }
+    ensures all { meaning (codes "replay --batch 1 t --full=drop --ring=4096 l --level ERROR")
+        ≡ replays 4096 1 Shed Error }
+    ensures other { meaning (codes "replay --level=ERROR t l --ring 4096 --full drop --batch=1")
+        ≡ replays 4096 1 Shed Error }
+    ensures ended { meaning (codes "replay --ring=2048 -- t l") ≡ replays 2048 4096 Wait Debug }
+    ensures names { meaning (codes "replay -- -t --ring")
+        ≡ Some (Replay (codes "-t") (codes "--ring") default_options) }
+    ensures dash { meaning (codes "replay - t") ≡ Some (Replay (codes "-") (codes "t") default_options) }
 {}
 
 /// The first word is a command, and nothing else comes in its place.
@@ -44,6 +55,7 @@ pub fn commands_come_first()
     ensures help_option { meaning (codes "--help") ≡ None }
     ensures version { meaning (codes "--version") ≡ None }
     ensures option { meaning (codes "--level ERROR replay t l") ≡ None }
+    ensures ring { meaning (codes "--ring=2048 replay t l") ≡ None }
     ensures end { meaning (codes "-- direct t") ≡ None }
 {}
 
@@ -85,35 +97,78 @@ pub fn options_are_known()
     ensures letter { meaning (codes "direct t -h") ≡ None }
     ensures number { meaning (codes "direct -1") ≡ None }
     ensures not_here { meaning (codes "direct t --level ERROR") ≡ None }
-    ensures not_there { meaning (codes "decompress --level=DEBUG l") ≡ None }
-    ensures ring { meaning (codes "replay t l --ring 2048") ≡ None }
-    ensures short { meaning (codes "replay t l --lev ERROR") ≡ None }
-    ensures one_dash { meaning (codes "replay t l -level ERROR") ≡ None }
-    ensures three_dashes { meaning (codes "replay t l ---level ERROR") ≡ None }
-    ensures nameless { meaning (codes "replay t l --=ERROR") ≡ None }
+    ensures not_there { meaning (codes "decompress --batch=1 l") ≡ None }
+    ensures nowhere { meaning (codes "preprocess d m --full drop") ≡ None }
+    ensures unknown { meaning (codes "replay t l --threads 2") ≡ None }
+    ensures short { meaning (codes "replay t l --rin 2048") ≡ None }
+    ensures long { meaning (codes "replay t l --rings 2048") ≡ None }
+    ensures capital { meaning (codes "replay t l --Ring 2048") ≡ None }
+    ensures one_dash { meaning (codes "replay t l -ring 2048") ≡ None }
+    ensures three_dashes { meaning (codes "replay t l ---ring 2048") ≡ None }
+    ensures nameless { meaning (codes "replay t l --=2048") ≡ None }
+    ensures of_names { meaning (codes "replay t l --names m") ≡ None }
     ensures twice { meaning (codes "replay t l --level ERROR --level ERROR") ≡ None }
-    ensures two_spellings { meaning (codes "replay t l --level=DEBUG --level ERROR") ≡ None }
+    ensures two_spellings { meaning (codes "replay t l --ring=2048 --batch 1 --ring 2048") ≡ None }
+    ensures two_batches { meaning (codes "replay --batch 1 t l --batch 2") ≡ None }
+    ensures two_policies { meaning (codes "replay t l --full wait --full drop") ≡ None }
     ensures no_value { meaning (codes "replay t l --level") ≡ None }
+    ensures no_ring { meaning (codes "replay t l --batch 1 --ring") ≡ None }
 {}
 
-/// A level is the name of a severity. It is the next word, whatever that begins with.
-pub fn levels_are_severities()
+/// A value is the next word, whatever it begins with, or what follows the first `=`.
+pub fn values_follow()
     ensures empty { meaning (codes "replay t l --level=") ≡ None }
+    ensures equals { meaning (codes "replay t l --level==ERROR") ≡ None }
+    ensures dashes { meaning (codes "replay --level -- t l") ≡ None }
+    ensures option { meaning (codes "replay t l --ring --ring 2048") ≡ None }
+    ensures letter { meaning (codes "replay t l --full -d") ≡ None }
+{}
+
+/// A number is 1 to 20 decimal digits, the zeros in front counted, and lies in its bounds.
+pub fn numbers_have_bounds()
+    ensures least_ring { meaning (codes "replay t l --ring 1024") ≡ replays 1024 4096 Wait Debug }
+    ensures below_ring { meaning (codes "replay t l --ring 1023") ≡ None }
+    ensures greatest_ring { meaning (codes "replay t l --ring 1048576") ≡ replays 1048576 4096 Wait Debug }
+    ensures above_ring { meaning (codes "replay t l --ring 1048577") ≡ None }
+    ensures least_batch { meaning (codes "replay t l --batch 1") ≡ replays 65536 1 Wait Debug }
+    ensures below_batch { meaning (codes "replay t l --batch 0") ≡ None }
+    ensures greatest_batch { meaning (codes "replay t l --batch 65536") ≡ replays 65536 65536 Wait Debug }
+    ensures above_batch { meaning (codes "replay t l --batch 65537") ≡ None }
+    ensures zeros { meaning (codes "replay t l --ring 00002048") ≡ replays 2048 4096 Wait Debug }
+    ensures twenty { meaning (codes "replay t l --ring 00000000000000002048") ≡ replays 2048 4096 Wait Debug }
+    ensures too_many { meaning (codes "replay t l --ring 000000000000000002048") ≡ None }
+    ensures beyond { meaning (codes "replay t l --ring 99999999999999999999") ≡ None }
+    ensures wrapped { meaning (codes "replay t l --ring 18446744073709553664") ≡ None }
+    ensures empty { meaning (codes "replay t l --ring=") ≡ None }
+    ensures plus { meaning (codes "replay t l --ring +2048") ≡ None }
+    ensures minus { meaning (codes "replay t l --ring -2048") ≡ None }
+    ensures joined_minus { meaning (codes "replay t l --ring=-2048") ≡ None }
+    ensures letter { meaning (codes "replay t l --ring 2048k") ≡ None }
+    ensures hexadecimal { meaning (codes "replay t l --ring 0x800") ≡ None }
+    ensures comma { meaning (codes "replay t l --ring 2,048") ≡ None }
+    ensures space { command_of (codes "replay" ∷ codes "t" ∷ codes "l" ∷ codes "--ring" ∷ codes " 2048" ∷ []) ≡ None }
+{}
+
+/// A level is the name of a severity, and `--full` says `wait` or `drop`.
+pub fn values_are_names()
     ensures lower_case { meaning (codes "replay t l --level error") ≡ None }
     ensures unknown { meaning (codes "replay t l --level INFO") ≡ None }
     ensures number { meaning (codes "replay t l --level=1") ≡ None }
-    ensures equals { meaning (codes "replay t l --level==ERROR") ≡ None }
-    ensures dashes { meaning (codes "replay --level -- t l") ≡ None }
-    ensures option { meaning (codes "replay t l --level --level ERROR") ≡ None }
-    ensures letter { meaning (codes "replay t l --level -e") ≡ None }
+    ensures no_policy { meaning (codes "replay t l --full shed") ≡ None }
+    ensures capital { meaning (codes "replay t l --full Wait") ≡ None }
+    ensures part { meaning (codes "replay t l --full=dro") ≡ None }
+    ensures no_name { meaning (codes "replay t l --full=") ≡ None }
 {}
 
-/// An option may be moved over a name, and has two spellings of one meaning.
+/// An option may be moved over a name and over another option, and has two spellings of one meaning.
 pub fn options_stand_anywhere()
-    ensures moved { (name value : Text) (words : List Text) → word_of name ≡ Name →
-        given_of (name ∷ codes "--level" ∷ value ∷ words) ≡ given_of (codes "--level" ∷ value ∷ name ∷ words) }
-    ensures spelled { (value : Text) (words : List Text) →
-        given_of (codes "--level" ∷ value ∷ words) ≡ given_of ((codes "--level=" ++ value) ∷ words) }
+    ensures moved { (name word option value : Text) (words : List Text) →
+        word_of name ≡ Name → word_of word ≡ Awaits option →
+        given_of (name ∷ word ∷ value ∷ words) ≡ given_of (word ∷ value ∷ name ∷ words) }
+    ensures turned { (one other : Text × Text) (options : List (Text × Text)) →
+        options_of (one ∷ other ∷ options) ≡ options_of (other ∷ one ∷ options) }
+    ensures spelled { (word option value : Text) (words : List Text) → word_of word ≡ Awaits option →
+        given_of (word ∷ value ∷ words) ≡ given_of ((word ++ (codes "=" ++ value)) ∷ words) }
 {}
 
 /// Each command that keeps the rules has a line, whatever its names begin with.
@@ -121,8 +176,8 @@ pub fn commands_have_lines()
     ensures { (command : Command) → IsLawful command → command_of (line_of command) ≡ Some command }
 {}
 
-/// The names of a command aren't empty, the log of `replay` isn't its trace, and the dictionary of `preprocess` is none
-/// of its sources, of which there are enough and not too many.
+/// The names of a command aren't empty, the log of `replay` isn't its trace, its numbers lie in their bounds, and the
+/// dictionary of `preprocess` is none of its sources, of which there are enough and not too many.
 pub fn commands_are_lawful()
     ensures { (words : List Text) (command : Command) → command_of words ≡ Some command → IsLawful command }
 {}

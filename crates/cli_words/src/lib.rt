@@ -3,8 +3,10 @@
 
 mod command;
 pub mod laws;
+mod options;
 mod reading;
 #[cfg(test)]
 mod tests;
 
 pub use command::{Command, MAX_SOURCES, command_of};
+pub use options::MAX_DIGITS;

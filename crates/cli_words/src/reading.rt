@@ -1,17 +1,23 @@
 //! The words after a command, as `clap` reads them: names, and options with their values.
 
-ghost use Rattle.std.specs.Prelude.{◌≡◌, IfOk, option_map};
+ghost use Rattle.std.specs.Prelude.{◌≡◌, IfOk, map, option_map};
 ghost use Rattle.clap.specs.Words.{app_of};
 ghost use Rattle.cli_words.specs.Commands.{texts_of};
-ghost use Rattle.cli_words.specs.Uses.{uses_of, uses_read, has_level};
+ghost use Rattle.cli_words.specs.Uses.{uses_of, uses_read, options_taken};
 ghost use Rattle.cli_words.specs.Apps.{app};
 
 use clap::error::ErrorKind;
 use clap::{Arg, ArgAction, ArgMatches, Command};
 use std::alloc::{AllocError, Global};
 
-/// What `clap` calls the names, and the option `--level`.
+/// What `clap` calls the names, and the options.
 pub(crate) const NAMES: &str = "names";
+
+pub(crate) const RING: &str = "ring";
+
+pub(crate) const BATCH: &str = "batch";
+
+pub(crate) const FULL: &str = "full";
 
 pub(crate) const LEVEL: &str = "level";
 
@@ -25,31 +31,32 @@ pub(crate) enum Form {
 }
 
 impl Form {
-    /// Whether the command takes the option `--level`.
-    fn has_level(self) -> bool
-        ensures { result ≡ has_level self }
+    /// The options that the command takes, each with a value.
+    fn options(self) -> &'static [&'static str]
+        ensures { map (λ option. option.now) result.now ≡ options_taken self }
     {
         match self {
-            Form::Replay => true,
-            Form::Preprocess | Form::Direct | Form::Decompress => false,
+            Form::Replay => &[RING, BATCH, FULL, LEVEL],
+            Form::Preprocess | Form::Direct | Form::Decompress => &[],
         }
     }
 
-    /// What `clap` is told of the words after the command. How many names there are, and what they and the level are,
-    /// is judged once they are read.
+    /// What `clap` is told of the words after the command. How many names there are, and what they and the values of
+    /// the options are, is judged once they are read.
     fn reader<'a>(self, alloc: Global) -> Result<Command<'a>, AllocError>
-        ensures { IfOk result (λ command. app_of command ≡ app (has_level self)) }
+        ensures { IfOk result (λ command. app_of command ≡ app (options_taken self)) }
     {
         let names = Arg::new(alloc, NAMES).action(ArgAction::Append);
-        let command = Command::new(alloc, "nanolog")
+        let mut command = Command::new(alloc, "nanolog")
             .no_binary_name(true)
             .disable_help_flag(true)
             .arg(names)?;
-        if !self.has_level() {
-            return Ok(command);
+        for option in self.options() {
+            let name: &'a str = option;
+            let argument = Arg::new(alloc, name).long(name).action(ArgAction::Set);
+            command = command.arg(argument)?;
         }
-        let level = Arg::new(alloc, LEVEL).long(LEVEL).action(ArgAction::Set);
-        command.arg(level)
+        Ok(command)
     }
 
     /// What the words after the command hold, if they are right. The texts of `clap` for those that aren't are dropped.
@@ -58,7 +65,8 @@ impl Form {
         alloc: Global,
         words: &'a [String],
     ) -> Result<Option<ArgMatches<'a>>, AllocError>
-        ensures { IfOk result (λ found. option_map uses_of found ≡ uses_read (has_level self) (texts_of words.now)) }
+        ensures { IfOk result (λ found.
+            option_map (uses_of (options_taken self)) found ≡ uses_read (options_taken self) (texts_of words.now)) }
     {
         match self.reader(alloc)?.try_get_matches_from(words) {
             Ok(matches) => Ok(Some(matches)),

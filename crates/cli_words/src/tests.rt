@@ -1,4 +1,5 @@
 use super::*;
+use log_session::Policy;
 use std::alloc::{AllocError, Global};
 use std::test::Fail;
 
@@ -11,7 +12,7 @@ fn words_of(alloc: Global, line: &str) -> Result<Vec<String>, AllocError> {
     Ok(words)
 }
 
-/// What a command is asked to do, in words; the level of `replay` stands last.
+/// What a command is asked to do, in words; the options of `replay` stand last.
 fn told(alloc: Global, command: &Command<'_>) -> Result<String, AllocError> {
     match command {
         Command::Preprocess {
@@ -26,9 +27,19 @@ fn told(alloc: Global, command: &Command<'_>) -> Result<String, AllocError> {
             Ok(text)
         }
         Command::Direct { trace } => format!(in alloc; "direct {trace}"),
-        Command::Replay { trace, log, level } => {
-            let level = level.name();
-            format!(in alloc; "replay {trace} {log} {level}")
+        Command::Replay {
+            trace,
+            log,
+            options,
+        } => {
+            let ring = options.ring;
+            let batch = options.batch;
+            let full = match options.policy {
+                Policy::Wait => "wait",
+                Policy::Shed => "drop",
+            };
+            let level = options.level.name();
+            format!(in alloc; "replay {trace} {log} {ring} {batch} {full} {level}")
         }
         Command::Decompress { log } => format!(in alloc; "decompress {log}"),
     }
@@ -44,13 +55,21 @@ direct -- --level|direct --level
 decompress l|decompress l
 decompress -- -l|decompress -l
 decompress -- --|decompress --
-replay t l|replay t l DEBUG
-replay t l --level ERROR|replay t l ERROR
-replay --level WARNING t l|replay t l WARNING
-replay t --level NOTICE l|replay t l NOTICE
-replay t l --level DEBUG|replay t l DEBUG
-replay t --level=ERROR l|replay t l ERROR
-replay --level=NOTICE -- t l|replay t l NOTICE
+replay t l|replay t l 65536 4096 wait DEBUG
+replay t l --level ERROR|replay t l 65536 4096 wait ERROR
+replay --level WARNING t l|replay t l 65536 4096 wait WARNING
+replay t --level=NOTICE l|replay t l 65536 4096 wait NOTICE
+replay --ring 2048 t l|replay t l 2048 4096 wait DEBUG
+replay t l --ring=1024|replay t l 1024 4096 wait DEBUG
+replay t l --ring 1048576|replay t l 1048576 4096 wait DEBUG
+replay t l --ring 00002048|replay t l 2048 4096 wait DEBUG
+replay t l --ring 00000000000000002048|replay t l 2048 4096 wait DEBUG
+replay t l --batch 1|replay t l 65536 1 wait DEBUG
+replay t l --batch=65536|replay t l 65536 65536 wait DEBUG
+replay t l --full wait|replay t l 65536 4096 wait DEBUG
+replay t --full=drop l|replay t l 65536 4096 drop DEBUG
+replay --full drop --level=ERROR t --batch 7 l --ring 4096|replay t l 4096 7 drop ERROR
+replay --ring=2048 -- t l|replay t l 2048 4096 wait DEBUG
 preprocess d m.cc|preprocess d m.cc
 preprocess d m.cc n.cc|preprocess d m.cc n.cc
 preprocess d m.cc m.cc|preprocess d m.cc m.cc
@@ -133,9 +152,27 @@ fn lines_that_are_faulty(rt: HostRuntime) -> Result<(), Fail> {
         "replay  l",
         "replay t ",
         "replay t l -- --level ERROR",
-        "replay t l --ring 2048",
-        "replay t l --batch=1",
-        "replay t l --full drop",
+        "direct t --ring 2048",
+        "decompress l --batch=1",
+        "preprocess d m.cc --full drop",
+        "replay t l --ring 1023",
+        "replay t l --ring 1048577",
+        "replay t l --ring 000000000000000002048",
+        "replay t l --ring 99999999999999999999",
+        "replay t l --ring +2048",
+        "replay t l --ring -2048",
+        "replay t l --ring=-2048",
+        "replay t l --ring=",
+        "replay t l --ring",
+        "replay t l --ring 2k",
+        "replay t l --ring 2048 --ring 2048",
+        "replay t l --batch 0",
+        "replay t l --batch 65537",
+        "replay t l --batch 1 --batch=1",
+        "replay t l --full shed",
+        "replay t l --full Wait",
+        "replay t l --full wait --full drop",
+        "replay t l --threads 2",
         "replay t l --lev ERROR",
         "replay t l -level ERROR",
         "replay t l ---level ERROR",

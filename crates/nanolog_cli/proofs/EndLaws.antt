@@ -1,31 +1,31 @@
 -- What follows from how a command ends.
-use Rattle.std.proofs.Common.{◌≡◌, ◌≢◌, ℕ, ◌≤◌, List, [], ◌∷◌, length, Option, Some, None, Result, Ok, Err, refl, sym, ap, subst, ◌∙◌, inl, inr, arith}
+use Rattle.std.proofs.Common.{◌≡◌, ◌≢◌, ℕ, List, [], ◌∷◌, Option, Some, None, refl, sym, ap, subst, ◌∙◌, inl, inr, arith}
 use Rattle.std.specs.Prelude.{◌⊎◌, IfSome, Contains}
 use Rattle.std.specs.FinMap as map
 use Rattle.nl_io.specs.Count.{Rose}
 use Rattle.nl_io.specs.Desk.{Desk, Held, OnlyReadFaults, OnlyName, IsAbsent, found_in}
 use Rattle.nl_io.specs.Content.{Told}
-use Rattle.log_dictionary.specs.declared.severity.Severity.{Severity}
+use Rattle.trace_text.specs.declared.cause.TraceCause.{TraceCause}
 use Rattle.checkpoint_io.specs.declared.cause.Cause.{Cause as LogCause}
-use Rattle.checkpoint_io.specs.declared.heads.TheConstants.{MAX_LOG}
-use Rattle.checkpoint_io.specs.Fronts.{Break}
 use Rattle.checkpoint_io.proofs.BreakLaws.{whole_or_break}
 use Rattle.decompressor.specs.Decompressing.{IsDamaged}
-use Rattle.nanolog_cli.specs.declared.refusal.Cause.{Cause}
-use Rattle.nanolog_cli.specs.declared.refusal.Cause.TheVariants.{Trace, NotYet}
 use Rattle.nanolog_cli.specs.declared.status.Status.TheVariants as statuses
 use Rattle.cli_words.specs.Commands.{Command, Preprocess, Direct, Replay, Decompress}
 use Rattle.nanolog_cli.specs.CommandFiles.{input_names, output_name}
-use Rattle.nanolog_cli.specs.Endings.{Ending, Done, StillOpen, Usage, Absent, ReadFault, Refused, RefusedSources, Damaged, WriteFault, NoMemory, status_of}
-use Rattle.nanolog_cli.specs.Inputs.{IsTrace, IsNarrowTrace, IsLog, WrongTrace, UntakenTrace}
-use Rattle.nanolog_cli.specs.HeldFiles.{IsThere, HoldsSuch, Holds}
+use Rattle.nanolog_cli.specs.Endings.{Ending, Done, StillOpen, Absent, ReadFault, Refused, RefusedSources, Damaged, WriteFault, NoMemory, status_of}
+use Rattle.nanolog_cli.specs.Inputs.{IsTrace, IsLog, IsUnread, ReadsNothing}
+use Rattle.nanolog_cli.specs.HeldFiles.{Holds}
 use Rattle.nanolog_cli.specs.Scenes.{Scene, Prints}
 use Rattle.nanolog_cli.specs.Decompressing.{whole_ending, PrintsWhole, PrintsDamaged, FailsToRead, FailsToPrint, WantsMemory, Decodes}
 use Rattle.nanolog_cli.specs.Preprocessing.{GiveNothing, WritesDictionary}
-use Rattle.nanolog_cli.specs.Outcomes.{HasTraceLines, HasWrittenLog, PrintsText, LosesLog, IsUnread, ReadsNothing, IsRight, HidesReadFault, LosesNames, Preprocesses, Directs, Replays, Ends}
+use Rattle.nanolog_cli.specs.Headline.{TraceRead}
+use Rattle.nanolog_cli.specs.Replays.{ReplaysWhole, FailsToTell, LosesLog, LeavesEmpty, Replays}
+use Rattle.nanolog_cli.specs.Outcomes.{HasTraceLines, PrintsText, IsRight, HidesReadFault, LosesNames, Preprocesses, Directs, Ends}
 use Rattle.nanolog_cli.proofs.SourceLaws.{only_reads, reads_told, right_taken, first_absent, first_there}
 use Rattle.trace_text.specs.Traces.{TraceText}
-use Rattle.nanolog_cli.specs.NarrowTraces.{NarrowTrace}
+use Rattle.trace_text.specs.Recordings.{Recording}
+use Rattle.trace_text.specs.Reading.{TraceBreak}
+use Rattle.log_session.specs.declared.options.Options.{Options}
 use Rattle.trace_text.proofs.ToldApart.{not_broken}
 
 -- what a command leaves as it was in any case: all names but that of its log, and which files are open
@@ -102,12 +102,12 @@ record Follows (command : Command) (old new : Scene) (ending : Ending) : Type 0 
 
 -- ---- a file that gives nothing
 
-unread_stays : (refused : List ℕ → ℕ → Cause → Type 0) (input : List ℕ) (output : Option (List ℕ)) (old new : Desk) (ending : Ending) → IsUnread refused input old new ending → Stays output old new
-unread_stays refused input output old new (Absent name) unread = all_stays output old new unread.1
-unread_stays refused input output old new (ReadFault name) unread = read_stays output old new unread.1
-unread_stays refused input output old new (Refused name line cause) unread = all_stays output old new unread.1
-unread_stays refused input output old new NoMemory unread = all_stays output old new unread.0
-unread_stays refused input output old new ending unread = absurd unread
+unread_stays : (input : List ℕ) (output : Option (List ℕ)) (old new : Desk) (ending : Ending) → IsUnread input old new ending → Stays output old new
+unread_stays input output old new (Absent name) unread = all_stays output old new unread.1
+unread_stays input output old new (ReadFault name) unread = read_stays output old new unread.1
+unread_stays input output old new (Refused name line cause) unread = all_stays output old new unread.1
+unread_stays input output old new NoMemory unread = all_stays output old new unread.0
+unread_stays input output old new ending unread = absurd unread
 
 -- the one name of a command
 only_one : (input name : List ℕ) (others : List (List ℕ)) → input ∷ [] ≡ name ∷ others → input ≡ name
@@ -116,59 +116,62 @@ only_one input name others is = cc
 only_name : (name : List ℕ) → Contains (name ∷ []) name
 only_name name = (0, omega arith, refl)
 
-unread_reads : (refused : List ℕ → ℕ → Cause → Type 0) (input : List ℕ) (old new : Desk) (ending : Ending) → IsUnread refused input old new ending → (ending ≡ ReadFault input) ⊎ (new.read_faults ≡ old.read_faults)
-unread_reads refused input old new (Absent name) unread = inr (ap (λ (d : Desk). d.read_faults) unread.1)
-unread_reads refused input old new (ReadFault name) unread = inl (ap ReadFault unread.0)
-unread_reads refused input old new (Refused name line cause) unread = inr (ap (λ (d : Desk). d.read_faults) unread.1)
-unread_reads refused input old new NoMemory unread = inr (ap (λ (d : Desk). d.read_faults) unread.0)
-unread_reads refused input old new ending unread = absurd unread
+unread_reads : (input : List ℕ) (old new : Desk) (ending : Ending) → IsUnread input old new ending → (ending ≡ ReadFault input) ⊎ (new.read_faults ≡ old.read_faults)
+unread_reads input old new (Absent name) unread = inr (ap (λ (d : Desk). d.read_faults) unread.1)
+unread_reads input old new (ReadFault name) unread = inl (ap ReadFault unread.0)
+unread_reads input old new (Refused name line cause) unread = inr (ap (λ (d : Desk). d.read_faults) unread.1)
+unread_reads input old new NoMemory unread = inr (ap (λ (d : Desk). d.read_faults) unread.0)
+unread_reads input old new ending unread = absurd unread
 
 reads_one : (command : Command) (input : List ℕ) (old new : Desk) (ending : Ending) → input_names command ≡ input ∷ [] → (ending ≡ ReadFault input) ⊎ (new.read_faults ≡ old.read_faults) → ReadsCounted command old new ending
 reads_one command input old new ending named told =
     elim told [ inl is ↦ inl (input, subst (λ (names : List (List ℕ)). Contains names input) (sym named) (only_name input), is) | inr same ↦ inr (inl same) ]
 
-unread_writes : (refused : List ℕ → ℕ → Cause → Type 0) (input : List ℕ) (old new : Desk) (ending : Ending) → IsUnread refused input old new ending → new.write_faults ≡ old.write_faults
-unread_writes refused input old new (Absent name) unread = ap (λ (d : Desk). d.write_faults) unread.1
-unread_writes refused input old new (ReadFault name) unread = ap (λ (d : Desk). d.write_faults) unread.1.same
-unread_writes refused input old new (Refused name line cause) unread = ap (λ (d : Desk). d.write_faults) unread.1
-unread_writes refused input old new NoMemory unread = ap (λ (d : Desk). d.write_faults) unread.0
-unread_writes refused input old new ending unread = absurd unread
+unread_writes : (input : List ℕ) (old new : Desk) (ending : Ending) → IsUnread input old new ending → new.write_faults ≡ old.write_faults
+unread_writes input old new (Absent name) unread = ap (λ (d : Desk). d.write_faults) unread.1
+unread_writes input old new (ReadFault name) unread = ap (λ (d : Desk). d.write_faults) unread.1.same
+unread_writes input old new (Refused name line cause) unread = ap (λ (d : Desk). d.write_faults) unread.1
+unread_writes input old new NoMemory unread = ap (λ (d : Desk). d.write_faults) unread.0
+unread_writes input old new ending unread = absurd unread
 
-unread_rose : (refused : List ℕ → ℕ → Cause → Type 0) (input : List ℕ) (old new : Desk) (ending : Ending) (name : List ℕ) → IsUnread refused input old new ending → ending ≡ WriteFault name → ⊥
-unread_rose refused input old new (Absent n) name unread is = cc
-unread_rose refused input old new (ReadFault n) name unread is = cc
-unread_rose refused input old new (Refused n line cause) name unread is = cc
-unread_rose refused input old new NoMemory name unread is = cc
-unread_rose refused input old new ending name unread is = absurd unread
+unread_rose : (input : List ℕ) (old new : Desk) (ending : Ending) (name : List ℕ) → IsUnread input old new ending → ending ≡ WriteFault name → ⊥
+unread_rose input old new (Absent n) name unread is = cc
+unread_rose input old new (ReadFault n) name unread is = cc
+unread_rose input old new (Refused n line cause) name unread is = cc
+unread_rose input old new NoMemory name unread is = cc
+unread_rose input old new ending name unread is = absurd unread
 
-unread_taken : (refused : List ℕ → ℕ → Cause → Type 0) (form : List ℕ → Type 0) (input : List ℕ) (old new : Desk) (ending : Ending) → ((bytes : List ℕ) (line : ℕ) (cause : Cause) → form bytes → refused bytes line cause → ⊥)
-    → IsUnread refused input old new ending → Holds old input form → ¬ (Rose old.read_faults new.read_faults) → ending ≡ NoMemory
-unread_taken refused form input old new (Absent name) fits unread holds r = absurd (not_absent old.held holds.held input holds.bytes holds.told holds.there unread.2)
-unread_taken refused form input old new (ReadFault name) fits unread holds r = absurd (r unread.2)
-unread_taken refused form input old new (Refused name line cause) fits unread holds r =
-    absurd (fits holds.bytes line cause holds.formed (such_is old.held holds.held input holds.bytes (λ bytes. refused bytes line cause) holds.told holds.there unread.2))
-unread_taken refused form input old new NoMemory fits unread holds r = refl
-unread_taken refused form input old new ending fits unread holds r = absurd unread
+-- a right trace isn't refused
+right_trace : (bytes : List ℕ) (line : ℕ) (cause : TraceCause) → IsTrace bytes → TraceBreak bytes line cause → ⊥
+right_trace bytes line cause (run, spelled) breaks = not_broken bytes run line cause spelled breaks
 
-unread_absent : (refused : List ℕ → ℕ → Cause → Type 0) (input : List ℕ) (old new : Desk) (ending : Ending) → IsUnread refused input old new ending → (held : Held) → old.held ≡ Some held → map.get held input ≡ None
+unread_taken : (input : List ℕ) (old new : Desk) (ending : Ending) → IsUnread input old new ending → Holds old input IsTrace → ¬ (Rose old.read_faults new.read_faults) → ending ≡ NoMemory
+unread_taken input old new (Absent name) unread holds r = absurd (not_absent old.held holds.held input holds.bytes holds.told holds.there unread.2)
+unread_taken input old new (ReadFault name) unread holds r = absurd (r unread.2)
+unread_taken input old new (Refused name line cause) unread holds r =
+    absurd (right_trace holds.bytes line cause holds.formed (such_is old.held holds.held input holds.bytes (λ bytes. TraceBreak bytes line cause) holds.told holds.there unread.2))
+unread_taken input old new NoMemory unread holds r = refl
+unread_taken input old new ending unread holds r = absurd unread
+
+unread_absent : (input : List ℕ) (old new : Desk) (ending : Ending) → IsUnread input old new ending → (held : Held) → old.held ≡ Some held → map.get held input ≡ None
     → ¬ (Rose old.read_faults new.read_faults) → ending ≡ Absent input
-unread_absent refused input old new (Absent name) unread held is none r = ap Absent unread.0
-unread_absent refused input old new (ReadFault name) unread held is none r = absurd (r unread.2)
-unread_absent refused input old new (Refused name line cause) unread held is none r = absurd (such_there old.held held input (λ bytes. refused bytes line cause) is none unread.2)
-unread_absent refused input old new NoMemory unread held is none r = absurd (not_there old.held held input is none unread.1)
-unread_absent refused input old new ending unread held is none r = absurd unread
+unread_absent input old new (Absent name) unread held is none r = ap Absent unread.0
+unread_absent input old new (ReadFault name) unread held is none r = absurd (r unread.2)
+unread_absent input old new (Refused name line cause) unread held is none r = absurd (such_there old.held held input (λ bytes. TraceBreak bytes line cause) is none unread.2)
+unread_absent input old new NoMemory unread held is none r = absurd (not_there old.held held input is none unread.1)
+unread_absent input old new ending unread held is none r = absurd unread
 
-nothing_follows : (refused : List ℕ → ℕ → Cause → Type 0) (form : List ℕ → Type 0) (input : List ℕ) (command : Command) (old new : Scene) (ending : Ending) → input_names command ≡ input ∷ []
-    → (IsRight command old.desk → Holds old.desk input form) → ((bytes : List ℕ) (line : ℕ) (cause : Cause) → form bytes → refused bytes line cause → ⊥) → ReadsNothing refused input old new ending → Follows command old new ending
-nothing_follows refused form input command old new ending named holds fits nothing = record {
-  stays = unread_stays refused input (output_name command) old.desk new.desk ending nothing.0;
-  reads = reads_one command input old.desk new.desk ending named (unread_reads refused input old.desk new.desk ending nothing.0);
-  writes = inr (unread_writes refused input old.desk new.desk ending nothing.0, nothing.2);
-  rose = λ name is. absurd (unread_rose refused input old.desk new.desk ending name nothing.0 is);
-  taken = λ right r w o. inr (unread_taken refused form input old.desk new.desk ending fits nothing.0 (holds right) r);
+nothing_follows : (input : List ℕ) (command : Command) (old new : Scene) (ending : Ending) → input_names command ≡ input ∷ []
+    → (IsRight command old.desk → Holds old.desk input IsTrace) → ReadsNothing input old new ending → Follows command old new ending
+nothing_follows input command old new ending named holds nothing = record {
+  stays = unread_stays input (output_name command) old.desk new.desk ending nothing.0;
+  reads = reads_one command input old.desk new.desk ending named (unread_reads input old.desk new.desk ending nothing.0);
+  writes = inr (unread_writes input old.desk new.desk ending nothing.0, nothing.2);
+  rose = λ name is. absurd (unread_rose input old.desk new.desk ending name nothing.0 is);
+  taken = λ right r w o. inr (unread_taken input old.desk new.desk ending nothing.0 (holds right) r);
   absent = λ name others held first is none r.
       let same = only_one input name others (sym named ∙ first) in
-      unread_absent refused input old.desk new.desk ending nothing.0 held is (ap (map.get held) same ∙ none) r ∙ ap Absent same;
+      unread_absent input old.desk new.desk ending nothing.0 held is (ap (map.get held) same ∙ none) r ∙ ap Absent same;
 }
 
 -- ---- a text that is printed
@@ -261,16 +264,18 @@ preprocess_follows dictionary sources old new ending ends = sources_follow dicti
 
 -- ---- `direct`
 
-right_trace : (bytes : List ℕ) (line : ℕ) (cause : Cause) → IsTrace bytes → WrongTrace bytes line cause → ⊥
-right_trace bytes line (Trace cause) (run, spelled) breaks = not_broken bytes run line cause spelled breaks
-right_trace bytes line NotYet formed refused = refused
+-- a trace that was read is there
+trace_there : (trace : List ℕ) (old : Desk) (run : Recording) → TraceRead old trace run → (name : List ℕ) (others : List (List ℕ)) (held : Held) → trace ∷ [] ≡ name ∷ others
+    → old.held ≡ Some held → map.get held name ≡ None → ⊥
+trace_there trace old run read name others held first is none =
+    such_there old.held held trace (λ bytes. TraceText bytes run) is (ap (map.get held) (only_one trace name others first) ∙ none) read
 
 lines_facts : (trace : List ℕ) (old new : Desk) (text : List ℕ) → HasTraceLines trace old new text → HasFacts (Direct trace) old new
 lines_facts trace old new text has = record {
   stays = all_stays None old new has.3;
   reads = ap (λ (d : Desk). d.read_faults) has.3;
   writes = ap (λ (d : Desk). d.write_faults) has.3;
-  there = λ name others held first is none. such_there old.held held trace (λ bytes. TraceText bytes has.0) is (ap (map.get held) (only_one trace name others first) ∙ none) has.1;
+  there = trace_there trace old has.0 has.1;
 }
 
 lines_follow : (trace : List ℕ) (old new : Scene) (ending : Ending) → PrintsText (HasTraceLines trace) old new ending → Follows (Direct trace) old new ending
@@ -280,42 +285,58 @@ direct_follows : (trace : List ℕ) (old new : Scene) (ending : Ending) → Dire
 direct_follows trace old new Done ends = lines_follow trace old new Done ends
 direct_follows trace old new (WriteFault name) ends = lines_follow trace old new (WriteFault name) ends
 direct_follows trace old new NoMemory ends =
-    elim ends [ inl nothing ↦ nothing_follows WrongTrace IsTrace trace (Direct trace) old new NoMemory refl (λ right. right) right_trace nothing | inr part ↦ lines_follow trace old new NoMemory part ]
-direct_follows trace old new ending ends = nothing_follows WrongTrace IsTrace trace (Direct trace) old new ending refl (λ right. right) right_trace ends
+    elim ends [ inl nothing ↦ nothing_follows trace (Direct trace) old new NoMemory refl (λ right. right) nothing | inr part ↦ lines_follow trace old new NoMemory part ]
+direct_follows trace old new ending ends = nothing_follows trace (Direct trace) old new ending refl (λ right. right) ends
 
 -- ---- `replay`
 
-right_narrow : (bytes : List ℕ) (line : ℕ) (cause : Cause) → IsNarrowTrace bytes → UntakenTrace bytes line cause → ⊥
-right_narrow bytes line (Trace cause) (run, narrow) breaks = not_broken bytes run line cause narrow.text breaks
-right_narrow bytes line NotYet formed refused = refused.2 formed
-
-written_facts : (trace log : List ℕ) (level : Severity) (old new : Desk) (text : List ℕ) → HasWrittenLog trace log level old new text → HasFacts (Replay trace log level) old new
-written_facts trace log level old new text has = record {
-  stays = log_stays log old new has.2.only;
-  reads = has.2.only.read_faults;
-  writes = has.2.counted;
-  there = λ name others held first is none. such_there old.held held trace (λ bytes. NarrowTrace bytes has.0) is (ap (map.get held) (only_one trace name others first) ∙ none) has.1;
+replayed_follows : (trace log : List ℕ) (options : Options) (old new : Scene) → ReplaysWhole trace log options old new → Follows (Replay trace log options) old new Done
+replayed_follows trace log options old new whole = record {
+  stays = log_stays log old.desk new.desk whole.only;
+  reads = inr (inl whole.only.read_faults);
+  writes = inr (whole.written, whole.counted);
+  rose = λ name is. absurd cc;
+  taken = λ right r w o. inl refl;
+  absent = λ name others held first is none r. absurd (trace_there trace old.desk whole.run whole.headline.trace_read name others held first is none);
 }
 
-written_follows : (trace log : List ℕ) (level : Severity) (old new : Scene) (ending : Ending) → PrintsText (HasWrittenLog trace log level) old new ending → Follows (Replay trace log level) old new ending
-written_follows trace log level old new ending (text, has, prints) =
-    text_follows (Replay trace log level) old new text ending (written_facts trace log level old.desk new.desk text has) prints
-
-lost_follows : (trace log : List ℕ) (level : Severity) (old new : Scene) (name : List ℕ) → LosesLog trace log level old new name → Follows (Replay trace log level) old new (WriteFault name)
-lost_follows trace log level old new name lost = record {
-  stays = log_stays log old.desk new.desk lost.1.2.only;
-  reads = inr (inl lost.1.2.only.read_faults);
+untold_follows : (trace log : List ℕ) (options : Options) (old new : Scene) (name : List ℕ) → FailsToTell trace log options old new → Follows (Replay trace log options) old new (WriteFault name)
+untold_follows trace log options old new name fails = record {
+  stays = log_stays log old.desk new.desk fails.only;
+  reads = inr (inl fails.only.read_faults);
   writes = inl (name, refl);
-  rose = λ other is. inr lost.1.2.failed;
-  taken = λ right r w o. absurd (w lost.1.2.failed);
-  absent = λ first_name others held first is none r. absurd (such_there old.desk.held held trace (λ bytes. NarrowTrace bytes lost.1.0) is (ap (map.get held) (only_one trace first_name others first) ∙ none) lost.1.1);
+  rose = λ other is. inl fails.rose;
+  taken = λ right r w o. absurd (o fails.rose);
+  absent = λ first_name others held first is none r. absurd (trace_there trace old.desk fails.run fails.headline.trace_read first_name others held first is none);
 }
 
-replay_follows : (trace log : List ℕ) (level : Severity) (old new : Scene) (ending : Ending) → Replays trace log level old new ending → Follows (Replay trace log level) old new ending
-replay_follows trace log level old new Done ends = written_follows trace log level old new Done ends
-replay_follows trace log level old new (WriteFault name) ends =
-    elim ends [ inl part ↦ written_follows trace log level old new (WriteFault name) part | inr lost ↦ lost_follows trace log level old new name lost ]
-replay_follows trace log level old new ending ends = nothing_follows UntakenTrace IsNarrowTrace trace (Replay trace log level) old new ending refl (λ right. right) right_narrow ends
+lost_follows : (trace log : List ℕ) (options : Options) (old new : Scene) (name : List ℕ) → LosesLog trace log old new → Follows (Replay trace log options) old new (WriteFault name)
+lost_follows trace log options old new name loses = record {
+  stays = log_stays log old.desk new.desk loses.only;
+  reads = inr (inl loses.only.read_faults);
+  writes = inl (name, refl);
+  rose = λ other is. inr loses.lost.1;
+  taken = λ right r w o. absurd (w loses.lost.1);
+  absent = λ first_name others held first is none r. absurd (trace_there trace old.desk loses.run loses.trace_read first_name others held first is none);
+}
+
+emptied_follows : (trace log : List ℕ) (options : Options) (old new : Scene) → LeavesEmpty trace log old new → Follows (Replay trace log options) old new NoMemory
+emptied_follows trace log options old new leaves = record {
+  stays = log_stays log old.desk new.desk leaves.only;
+  reads = inr (inl leaves.only.read_faults);
+  writes = inr (leaves.emptied.1, leaves.counted);
+  rose = λ name is. absurd cc;
+  taken = λ right r w o. inr refl;
+  absent = λ name others held first is none r. absurd (trace_there trace old.desk leaves.run leaves.trace_read name others held first is none);
+}
+
+replay_follows : (trace log : List ℕ) (options : Options) (old new : Scene) (ending : Ending) → Replays trace log options old new ending → Follows (Replay trace log options) old new ending
+replay_follows trace log options old new Done ends = replayed_follows trace log options old new ends
+replay_follows trace log options old new (WriteFault name) ends =
+    elim ends [ inl (is, fails) ↦ untold_follows trace log options old new name fails | inr (is, loses) ↦ lost_follows trace log options old new name loses ]
+replay_follows trace log options old new NoMemory ends =
+    elim ends [ inl nothing ↦ nothing_follows trace (Replay trace log options) old new NoMemory refl (λ right. right) nothing | inr leaves ↦ emptied_follows trace log options old new leaves ]
+replay_follows trace log options old new ending ends = nothing_follows trace (Replay trace log options) old new ending refl (λ right. right) ends
 
 -- ---- `decompress`
 
@@ -408,7 +429,7 @@ log_follows log old new ending ends = absurd ends
 follows : (command : Command) (old new : Scene) (ending : Ending) → Ends command old new ending → Follows command old new ending
 follows (Preprocess dictionary sources) old new ending ends = preprocess_follows dictionary sources old new ending ends
 follows (Direct trace) old new ending ends = direct_follows trace old new ending ends
-follows (Replay trace log level) old new ending ends = replay_follows trace log level old new ending ends
+follows (Replay trace log options) old new ending ends = replay_follows trace log options old new ending ends
 follows (Decompress log) old new ending ends = log_follows log old new ending ends
 
 pub others_held : (command : Command) (old new : Scene) (ending : Ending) → Ends command old new ending → (other : List ℕ) → output_name command ≢ Some other → found_in new.desk other ≡ found_in old.desk other

@@ -1,18 +1,23 @@
 -- How a command ends whose file gave nothing, and one whose text was made.
-use Rattle.std.proofs.Common.{◌≡◌, ◌≢◌, ℕ, List, ◌++◌, Result, Ok, Err, refl, sym, ap, subst, ◌∙◌, inl, inr}
+use Rattle.std.proofs.Common.{◌≡◌, ◌≢◌, ℕ, List, ◌++◌, Option, Some, Result, Ok, Err, refl, sym, ap, subst, ◌∙◌, inl, inr}
+use Rattle.std.specs.Prelude.{option_map}
+use Rattle.std.specs.Borrow.{Bor}
 use Rattle.std.specs.Result.{IsErrAnd}
 use Rattle.nl_io.specs.Content.{Told, with_end}
 use Rattle.nl_io.specs.Desk.{Desk}
-use Rattle.log_dictionary.specs.declared.severity.Severity.{Severity}
 use Rattle.trace_text.specs.Recordings.{Recording}
-use Rattle.trace_text.specs.Traces.{TraceText}
+use Rattle.log_session.specs.declared.options.Options.{Options}
+use Rattle.cli_words.specs.declared.command.Command.{Command as Asked}
+use Rattle.cli_words.specs.declared.command.Command.TheVariants as asked
+use Rattle.cli_words.specs.Commands.{Command}
+use Rattle.cli_words.specs.CommandViews.{command_is}
 use Rattle.nanolog_cli.specs.declared.refusal.Refusal.{Refusal}
 use Rattle.nanolog_cli.specs.declared.refusal.Refusal.TheVariants as refusals
 use Rattle.nanolog_cli.specs.Endings.{Ending, Done, Absent, ReadFault, Refused, RefusedSources, WriteFault, NoMemory, refusal_ending, ending_of}
-use Rattle.nanolog_cli.specs.Inputs.{WrongTrace, UntakenTrace}
 use Rattle.nanolog_cli.specs.Scenes.{Scene, scene, Prints}
 use Rattle.nanolog_cli.specs.Preprocessing.{GiveNothing, WritesDictionary}
-use Rattle.nanolog_cli.specs.Outcomes.{HeldRun, HasWrittenLog, IsUnread, Preprocesses, Directs, Replays}
+use Rattle.nanolog_cli.specs.Headline.{TraceRead}
+use Rattle.nanolog_cli.specs.Outcomes.{IsUnread, Preprocesses, Directs, Ends, quick_part, AnswersRead, Answers}
 use Rattle.nanolog_cli.specs.Texts.{direct_text}
 use Rattle.trace_text.proofs.Fronts.{front-first, front-second, with_end-both}
 
@@ -60,7 +65,7 @@ preprocess_nothing dictionary sources old desk ending gives = absurd gives
 -- ---- `direct`
 
 -- no trace was read, and nothing printed
-pub direct_unread : (trace : List ℕ) (old : Scene) (desk : Desk) (ending : Ending) → IsUnread WrongTrace trace old.desk desk ending → Directs trace old (scene desk old.put old.faults) ending
+pub direct_unread : (trace : List ℕ) (old : Scene) (desk : Desk) (ending : Ending) → IsUnread trace old.desk desk ending → Directs trace old (scene desk old.put old.faults) ending
 direct_unread trace old desk (Absent name) unread = (unread, refl, refl)
 direct_unread trace old desk (ReadFault name) unread = (unread, refl, refl)
 direct_unread trace old desk (Refused name line cause) unread = (unread, refl, refl)
@@ -68,31 +73,12 @@ direct_unread trace old desk NoMemory unread = inl (unread, refl, refl)
 direct_unread trace old desk ending unread = absurd unread
 
 -- the trace was read, and its lines printed
-pub direct_printed : (trace : List ℕ) (old : Scene) (desk : Desk) (run : Recording) (put : Told) (faults : ℕ) (ending : Ending) → HeldRun TraceText old.desk trace run → desk ≡ old.desk
+pub direct_printed : (trace : List ℕ) (old : Scene) (desk : Desk) (run : Recording) (put : Told) (faults : ℕ) (ending : Ending) → TraceRead old.desk trace run → desk ≡ old.desk
     → Prints (direct_text run) old.put put old.faults faults ending → Directs trace old (scene desk put faults) ending
 direct_printed trace old desk run put faults Done held same prints = (direct_text run, (run, held, refl, same), prints)
 direct_printed trace old desk run put faults (WriteFault name) held same prints = (direct_text run, (run, held, refl, same), prints)
 direct_printed trace old desk run put faults NoMemory held same prints = inr (direct_text run, (run, held, refl, same), prints)
 direct_printed trace old desk run put faults ending held same prints = absurd prints
-
--- ---- `replay`
-
--- no trace was read, and nothing printed
-pub replay_unread : (trace log : List ℕ) (level : Severity) (old : Scene) (desk : Desk) (ending : Ending) → IsUnread UntakenTrace trace old.desk desk ending
-    → Replays trace log level old (scene desk old.put old.faults) ending
-replay_unread trace log level old desk (Absent name) unread = (unread, refl, refl)
-replay_unread trace log level old desk (ReadFault name) unread = (unread, refl, refl)
-replay_unread trace log level old desk (Refused name line cause) unread = (unread, refl, refl)
-replay_unread trace log level old desk NoMemory unread = (unread, refl, refl)
-replay_unread trace log level old desk ending unread = absurd unread
-
--- the log was written, and the text printed without want of memory
-pub replay_printed : (trace log : List ℕ) (level : Severity) (old : Scene) (desk : Desk) (text : List ℕ) (put : Told) (faults : ℕ) (ending : Ending) → HasWrittenLog trace log level old.desk desk text
-    → Prints text old.put put old.faults faults ending → ending ≢ NoMemory → Replays trace log level old (scene desk put faults) ending
-replay_printed trace log level old desk text put faults Done has prints memory = (text, has, prints)
-replay_printed trace log level old desk text put faults (WriteFault name) has prints memory = inl (text, has, prints)
-replay_printed trace log level old desk text put faults NoMemory has prints memory = absurd (memory refl)
-replay_printed trace log level old desk text put faults ending has prints memory = absurd prints
 
 -- ---- a text that is printed in pieces
 
@@ -109,3 +95,19 @@ prints_second a b was mid is before after Done whole prints = (prints.0 ∙ ap (
 prints_second a b was mid is before after (WriteFault name) whole prints = (prints.0, front-second a b was mid is whole prints.1, prints.2)
 prints_second a b was mid is before after NoMemory whole prints = (front-second a b was mid is whole prints.0, prints.1)
 prints_second a b was mid is before after ending whole prints = absurd prints
+
+-- ---- all commands
+
+-- what a command that doesn't wait for others does is all of what it asks for
+pub quick_is_all : (command : Asked) (old new : Scene) (ending : Ending) → ((trace log : Bor (List ℕ)) (options : Options) → command ≡ asked.Replay trace log options → ⊥)
+    → AnswersRead (quick_part (Some (command_is command))) old new ending → Ends (command_is command) old new ending
+quick_is_all (asked.Preprocess dictionary sources) old new ending other answers = answers
+quick_is_all (asked.Direct trace) old new ending other answers = answers
+quick_is_all (asked.Replay trace log options) old new ending other answers = absurd (other trace log options refl)
+quick_is_all (asked.Decompress log) old new ending other answers = answers
+
+-- the words were read, and what was done is what they ask for, or this part of it
+pub words_read : (part : Option Command → Option Command) (found seen : Option Asked) (words : Option Command) (old new : Scene) (ending : Ending) → found ≡ seen → option_map command_is found ≡ words
+    → AnswersRead (part (option_map command_is seen)) old new ending → Answers (part words) old new ending
+words_read part found seen words old new ending same spelled answers =
+    inr (subst (λ (command : Option Command). AnswersRead (part command) old new ending) (sym (ap (option_map command_is) same) ∙ spelled) answers)

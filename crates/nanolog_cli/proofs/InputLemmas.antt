@@ -1,22 +1,14 @@
 -- What was read is what the name held.
-use Rattle.std.proofs.Common.{◌≡◌, ◌≢◌, ℕ, ◌≤◌, List, take, Option, Some, None, Result, Ok, Err, refl, sym, ap, subst, ◌∙◌}
-use Rattle.std.specs.Prelude.{IfSome, IfOk, IfErr, IsErrOf, Contains, is_some, option_map}
+use Rattle.std.proofs.Common.{◌≡◌, ◌≢◌, ℕ, ◌≤◌, List, take, Option, Some, None, Err, refl, sym, ap, subst, ◌∙◌}
+use Rattle.std.specs.Prelude.{IfSome, IsErrOf, is_some, option_map}
 use Rattle.std.specs.FinMap as map
 use Rattle.nl_io.specs.Content.{Told, PutsFront}
 use Rattle.nl_io.specs.Desk.{Desk, Held, OnlyReadFaults, IsReading, Opens, Creates, Finishes, SameButHeld, put_by}
 use Rattle.nl_io.specs.DeskLaws.{Opens-content, written, written-holds}
-use Rattle.nanolog_cli.specs.declared.refusal.Cause.{Cause}
-use Rattle.nanolog_cli.specs.declared.refusal.Refusal.{Refusal}
-use Rattle.nanolog_cli.specs.Endings.{Ending, Absent, ReadFault, Refused, NoMemory, refusal_ending, fault_ending}
-use Rattle.nanolog_cli.specs.Inputs.{WrongTrace, UntakenTrace, GivesNothing}
-use Rattle.nanolog_cli.specs.declared.refusal.Cause.TheVariants.{NotYet}
+use Rattle.nanolog_cli.specs.Endings.{Ending, Absent, ReadFault, NoMemory, fault_ending}
 use Rattle.trace_text.specs.declared.reading.TraceFault.{TraceFault}
 use Rattle.trace_text.specs.declared.reading.TraceFault.TheVariants as faults
-use Rattle.trace_text.specs.Recordings.{Recording}
-use Rattle.trace_text.specs.Traces.{TraceText}
 use Rattle.trace_text.specs.TraceReading.{IsAnswer}
-use Rattle.nanolog_cli.specs.NarrowTraces.{IsNarrowRun}
-use Rattle.trace_text.proofs.ToldApart.{one_run}
 use Rattle.nl_io.specs.Count.{Rose}
 use Rattle.nanolog_cli.specs.Outcomes.{IsHeld, HoldsFront, HoldsSuch, IsThere, GivesNoBytes, IsUnread}
 use Rattle.nanolog_cli.proofs.Choices.{some_same}
@@ -66,27 +58,11 @@ pub held_such : (desk : Desk) (name bytes : List ℕ) (such : List ℕ → Type 
 held_such desk name bytes such is so = such_there desk.held name bytes such is so
 
 -- a file that gave no bytes gave nothing
-pub unread_never : (refused : List ℕ → ℕ → Cause → Type 0) (input : List ℕ) (old new : Desk) (ending : Ending) → GivesNoBytes input old new ending → IsUnread refused input old new ending
-unread_never refused input old new (Absent name) gives = gives
-unread_never refused input old new (ReadFault name) gives = gives
-unread_never refused input old new NoMemory gives = gives
-unread_never refused input old new ending gives = absurd gives
-
--- a file of which the bytes gave nothing
-pub unread_bytes : (refused : List ℕ → ℕ → Cause → Type 0) (input bytes : List ℕ) (old new : Desk) (ending : Ending) → IsHeld old input bytes → new ≡ old → GivesNothing refused input bytes ending → IsUnread refused input old new ending
-unread_bytes refused input bytes old new (Refused name line cause) held same nothing = (nothing.0, same, held_such old input bytes (λ found. refused found line cause) held nothing.1)
-unread_bytes refused input bytes old new NoMemory held same nothing = (same, held_there old input bytes held)
-unread_bytes refused input bytes old new ending held same nothing = absurd nothing
-
--- the same of what a call answers
-pub unread_given : {T : Type 0} (refused : List ℕ → ℕ → Cause → Type 0) (input bytes : List ℕ) (old new : Desk) (r : Result T Refusal) → IsHeld old input bytes → new ≡ old
-    → IfErr r (λ refusal. GivesNothing refused input bytes (refusal_ending refusal)) → IfErr r (λ refusal. IsUnread refused input old new (refusal_ending refusal))
-unread_given refused input bytes old new (Ok x) held same nothing = tt
-unread_given refused input bytes old new (Err refusal) held same nothing = unread_bytes refused input bytes old new (refusal_ending refusal) held same nothing
-
-pub such_given : {T E : Type 0} (such : List ℕ → T → Type 0) (input bytes : List ℕ) (old : Desk) (r : Result T E) → IsHeld old input bytes → IfOk r (such bytes) → IfOk r (λ x. HoldsSuch old input (λ found. such found x))
-such_given such input bytes old (Ok x) held so = held_such old input bytes (λ found. such found x) held so
-such_given such input bytes old (Err e) held so = tt
+pub unread_never : (input : List ℕ) (old new : Desk) (ending : Ending) → GivesNoBytes input old new ending → IsUnread input old new ending
+unread_never input old new (Absent name) gives = gives
+unread_never input old new (ReadFault name) gives = gives
+unread_never input old new NoMemory gives = gives
+unread_never input old new ending gives = absurd gives
 
 -- what is so of the bytes that a name holds follows from what is known of them
 pub such_then : (desk : Desk) (name : List ℕ) (this that : List ℕ → Type 0) → ((bytes : List ℕ) → this bytes → that bytes) → HoldsSuch desk name this → HoldsSuch desk name that
@@ -116,26 +92,7 @@ front_written old created put new name bytes id creates same count (n, few, is) 
 
 -- a file that was read gave no trace
 pub unread_fault : {T : Type 0} (name : List ℕ) (old new : Desk) (fault : TraceFault) → OnlyReadFaults old new → (¬ (IsErrOf {T = T} (Err fault) faults.ReadFault) → new ≡ old)
-    → (IsErrOf {T = T} (Err fault) faults.ReadFault → Rose old.read_faults new.read_faults) → HoldsSuch old name (λ text. IsAnswer text (Err fault)) → IsThere old name → IsUnread WrongTrace name old new (fault_ending name fault)
+    → (IsErrOf {T = T} (Err fault) faults.ReadFault → Rose old.read_faults new.read_faults) → HoldsSuch old name (λ text. IsAnswer text (Err fault)) → IsThere old name → IsUnread name old new (fault_ending name fault)
 unread_fault name old new faults.ReadFault only same rose such there = (refl, only, rose refl)
 unread_fault name old new (faults.Refused line cause) only same rose such there = (refl, same (λ e. cc), such)
 unread_fault name old new faults.NoMemory only same rose such there = (same (λ e. cc), there)
-
--- a text in memory spells no run
-pub nothing_fault : {T : Type 0} (name text : List ℕ) (fault : TraceFault) → IsAnswer text (Err fault) → ¬ (IsErrOf {T = T} (Err fault) faults.ReadFault) → GivesNothing UntakenTrace name text (fault_ending name fault)
-nothing_fault name text faults.ReadFault answer read = absurd (read refl)
-nothing_fault name text (faults.Refused line cause) answer read = (refl, answer)
-nothing_fault name text faults.NoMemory answer read = tt
-
--- with an escape a right trace isn't narrow
-pub escaped : (text : List ℕ) (run : Recording) → TraceText text run → Contains text 92 → UntakenTrace text 0 NotYet
-escaped text run spelled escape = (refl, (run, spelled), λ narrow. narrow.1.unescaped escape)
-
--- nor is it where its run isn't
-pub wide : (text : List ℕ) (run : Recording) → TraceText text run → ¬ (IsNarrowRun run) → UntakenTrace text 0 NotYet
-wide text run spelled isnt = (refl, (run, spelled), λ narrow. isnt (subst IsNarrowRun (one_run text narrow.0 run narrow.1.text spelled) narrow.1.narrow))
-
--- what is known of a text is so of some text
-pub text_given : {T E : Type 0} (such : List ℕ → T → Type 0) (text : List ℕ) (r : Result T E) → IfOk r (such text) → IfOk r (λ x. (found : List ℕ) × such found x)
-text_given such text (Ok x) so = (text, so)
-text_given such text (Err e) so = tt

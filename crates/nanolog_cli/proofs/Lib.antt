@@ -2,11 +2,6 @@ pub mod Choices
 pub mod Walks
 pub mod InputLemmas
 pub mod LineLemmas
-pub mod RunLogs
-pub mod RunBytes
-pub mod NarrowRecords
-pub mod RunFrames
-pub mod NarrowLemmas
 pub mod Pieces
 pub mod Endings
 pub mod PrintLemmas
@@ -14,6 +9,7 @@ pub mod SourceLemmas
 pub mod SourceLaws
 pub mod EndLaws
 pub mod LogEnds
+pub mod Replaying
+pub mod GatheredTexts
 pub mod ReplayLaws
-pub mod Levels
 pub mod Sayings

@@ -30,12 +30,6 @@ one_line clock calls call =
     flat_map-append (Line clock) calls (call ∷ [])
     ∙ ap (λ (r : List ℕ). flat_map (Line clock) calls ++ r) (flat_map-cons (Line clock) call [] ∙ append-nil (Line clock call))
 
--- one writer's calls are all
-pub single : (writers : List (List Call)) (calls : List Call) → length writers ≡ 1 → Some calls ≡ slice_get writers 0 → writers ≡ calls ∷ []
-single [] calls one e = absurd cc
-single (w ∷ []) calls one e = cc
-single (w ∷ v ∷ writers) calls one e = absurd (omega arith)
-
 -- ---- the calls of a run
 
 call_at_ordinal : (run : Recording) (made : LogCall) (calls : List Call) (found : Option Call) → slice_get run.writers made.writer ≡ Some calls → slice_get calls made.ordinal ≡ found

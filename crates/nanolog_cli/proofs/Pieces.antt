@@ -18,15 +18,19 @@ piece_more pieces i d within =
     ∙ joined (take i pieces) (get_or pieces i d ∷ [])
     ∙ ap (λ (b : List ℕ). concat (contents (take i pieces)) ++ b) (append-nil (get_or pieces i d).now)
 
+-- all pieces, cut behind one
+pub pieces_cut : (pieces : List (Bor (List ℕ))) (i : ℕ) (d : Bor (List ℕ)) → i < length pieces
+    → (concat (contents (take i pieces)) ++ (get_or pieces i d).now) ++ concat (contents (drop (i + 1) pieces)) ≡ concat (contents pieces)
+pieces_cut pieces i d within =
+    ap (λ (b : List ℕ). b ++ concat (contents (drop (i + 1) pieces))) (sym (piece_more pieces i d within))
+    ∙ sym (joined (take (i + 1) pieces) (drop (i + 1) pieces))
+    ∙ ap (λ (ps : List (Bor (List ℕ))). concat (contents ps)) (take-append-drop (i + 1) pieces)
+
 -- a piece of which a front was written, behind those before it
 pub piece_cut_off : (pieces : List (Bor (List ℕ))) (i : ℕ) (d : Bor (List ℕ)) (was mid is : Told) → i < length pieces → mid ≡ with_end (concat (contents (take i pieces))) was → PutsFront (get_or pieces i d).now mid is
     → PutsFront (concat (contents pieces)) was is
 piece_cut_off pieces i d was mid is within whole front =
-    let all : (concat (contents (take i pieces)) ++ (get_or pieces i d).now) ++ concat (contents (drop (i + 1) pieces)) ≡ concat (contents pieces) =
-    ap (λ (b : List ℕ). b ++ concat (contents (drop (i + 1) pieces))) (sym (piece_more pieces i d within))
-    ∙ sym (joined (take (i + 1) pieces) (drop (i + 1) pieces))
-    ∙ ap (λ (ps : List (Bor (List ℕ))). concat (contents ps)) (take-append-drop (i + 1) pieces) in
-    subst (λ (b : List ℕ). PutsFront b was is) all
+    subst (λ (b : List ℕ). PutsFront b was is) (pieces_cut pieces i d within)
     (front-first (concat (contents (take i pieces)) ++ (get_or pieces i d).now) (concat (contents (drop (i + 1) pieces))) was is
     (front-second (concat (contents (take i pieces))) (get_or pieces i d).now was mid is whole front))
 

@@ -6,12 +6,12 @@ use Rattle.cli_words.specs.Commands.{Command, Preprocess, Direct, Replay, Decomp
 abbrev pub input_names : Command → List (List ℕ)
 input_names (Preprocess dictionary sources) = sources
 input_names (Direct trace) = trace ∷ []
-input_names (Replay trace log level) = trace ∷ []
+input_names (Replay trace log options) = trace ∷ []
 input_names (Decompress log) = log ∷ []
 
 -- the name of the file that it writes, if it writes one
 abbrev pub output_name : Command → Option (List ℕ)
 output_name (Preprocess dictionary sources) = Some dictionary
 output_name (Direct trace) = None
-output_name (Replay trace log level) = Some log
+output_name (Replay trace log options) = Some log
 output_name (Decompress log) = None

@@ -1,20 +1,18 @@
 -- How a command ends: all of it is done, or why it isn't.
-use Rattle.std.specs.Prelude.{ℕ, List, Result, Ok, Err, codes}
+use Rattle.std.specs.Prelude.{ℕ, List, Result, Ok, Err}
 use Rattle.std.specs.String.{string_bytes}
 use Rattle.checkpoint_io.specs.declared.cause.Cause.{Cause as LogCause}
-use Rattle.trace_text.specs.Causes.{cause_number, cause_name}
+use Rattle.trace_text.specs.declared.cause.TraceCause.{TraceCause}
 use Rattle.trace_text.specs.declared.reading.TraceFault.{TraceFault}
 use Rattle.trace_text.specs.declared.reading.TraceFault.TheVariants as faults
 use Rattle.nanolog_cli.specs.declared.status.Status.{Status}
 use Rattle.nanolog_cli.specs.declared.status.Status.TheVariants as statuses
-use Rattle.nanolog_cli.specs.declared.refusal.Cause.{Cause}
-use Rattle.nanolog_cli.specs.declared.refusal.Cause.TheVariants.{Trace, NotYet}
 use Rattle.nanolog_cli.specs.declared.refusal.Refusal.{Refusal}
 use Rattle.nanolog_cli.specs.declared.refusal.Refusal.TheVariants as refusals
 use Rattle.nanolog_cli.specs.declared.note.Note.{Note}
 use Rattle.nanolog_cli.specs.declared.note.Note.TheVariants as notes
 
--- an end, with the name that it tells of; a refused file is told with a line, which is 0 where that is none, and a
+-- an end, with the name that it tells of; a refused trace is told with a line, which is 0 where that is none, and a
 -- cause, refused sources with the lines on all that is refused, and a damaged log with an offset and a cause; where all
 -- was done, but writers of a log are still open, their numbers are told
 pub data Ending : Type 0 where
@@ -23,7 +21,7 @@ pub data Ending : Type 0 where
   Usage : Ending
   Absent : (name : List ℕ) → Ending
   ReadFault : (name : List ℕ) → Ending
-  Refused : (name : List ℕ) (line : ℕ) (cause : Cause) → Ending
+  Refused : (name : List ℕ) (line : ℕ) (cause : TraceCause) → Ending
   RefusedSources : (lines : List ℕ) → Ending
   Damaged : (name : List ℕ) (offset : ℕ) (cause : LogCause) → Ending
   WriteFault : (name : List ℕ) → Ending
@@ -41,16 +39,6 @@ status_of (RefusedSources lines) = statuses.Refused
 status_of (Damaged name offset cause) = statuses.Damaged
 status_of (WriteFault name) = statuses.WriteFault
 status_of NoMemory = statuses.NoMemory
-
--- the number of a cause
-abbrev pub number_of : Cause → ℕ
-number_of (Trace cause) = cause_number cause
-number_of NotYet = 99
-
--- the name of a cause
-abbrev pub name_of : Cause → List ℕ
-name_of (Trace cause) = cause_name cause
-name_of NotYet = codes "NotYet"
 
 -- a refusal as an end
 abbrev pub refusal_ending : Refusal → Ending
@@ -81,5 +69,5 @@ answer_ending (Err refusal) = refusal_ending refusal
 -- why the name gave no trace, as an end
 abbrev pub fault_ending : List ℕ → TraceFault → Ending
 fault_ending name faults.ReadFault = ReadFault name
-fault_ending name (faults.Refused line cause) = Refused name line (Trace cause)
+fault_ending name (faults.Refused line cause) = Refused name line cause
 fault_ending name faults.NoMemory = NoMemory

@@ -1,5 +1,7 @@
--- Of which form a file has to be, and why one is refused.
-use Rattle.std.specs.Prelude.{◌≡◌, ℕ, ◌≤◌, List, length, ⊤}
+-- Of which form a file has to be, and why one gives nothing.
+use Rattle.std.specs.Prelude.{◌≡◌, ℕ, ◌≤◌, List, length}
+use Rattle.nl_io.specs.Count.{Rose}
+use Rattle.nl_io.specs.Desk.{Desk, OnlyReadFaults, IsAbsent}
 use Rattle.trace_text.specs.Recordings.{Recording}
 use Rattle.trace_text.specs.Traces.{TraceText}
 use Rattle.trace_text.specs.Reading.{TraceBreak}
@@ -7,18 +9,15 @@ use Rattle.checkpoint_io.specs.declared.heads.TheConstants.{MAX_LOG}
 use Rattle.checkpoint_io.specs.declared.header.Header.{Header}
 use Rattle.checkpoint_io.specs.Blocks.{Block, FileOf}
 use Rattle.checkpoint_io.specs.Validity.{Valid}
-use Rattle.nanolog_cli.specs.declared.refusal.Cause.{Cause}
-use Rattle.nanolog_cli.specs.declared.refusal.Cause.TheVariants.{Trace, NotYet}
-use Rattle.nanolog_cli.specs.Endings.{Ending, Refused, NoMemory}
-use Rattle.nanolog_cli.specs.NarrowTraces.{NarrowTrace}
+use Rattle.nanolog_cli.specs.Endings.{Ending, Absent, ReadFault, Refused, NoMemory}
+use Rattle.nanolog_cli.specs.HeldFiles.{IsThere, HoldsSuch}
+use Rattle.nanolog_cli.specs.Scenes.{Scene}
+
+-- ---- right files
 
 -- the bytes spell a run
 abbrev pub IsTrace : List ℕ → Type 0
 IsTrace bytes = (run : Recording) × TraceText bytes run
-
--- the bytes spell a run that `replay` takes
-abbrev pub IsNarrowTrace : List ℕ → Type 0
-IsNarrowTrace bytes = (run : Recording) × NarrowTrace bytes run
 
 -- the bytes are a log from the first to the last, and no more than are read
 pub record IsLog (bytes : List ℕ) : Type 0 where
@@ -28,18 +27,23 @@ pub record IsLog (bytes : List ℕ) : Type 0 where
   pub valid : Valid header blocks
   pub within : length bytes ≤ MAX_LOG
 
--- a line of the trace is wrong, by this cause
-abbrev pub WrongTrace : List ℕ → ℕ → Cause → Type 0
-WrongTrace bytes line (Trace cause) = TraceBreak bytes line cause
-WrongTrace bytes line NotYet = ⊥
+-- ---- a file that gives nothing
 
--- a line of the trace is wrong, or the trace is right and isn't narrow
-abbrev pub UntakenTrace : List ℕ → ℕ → Cause → Type 0
-UntakenTrace bytes line (Trace cause) = TraceBreak bytes line cause
-UntakenTrace bytes line NotYet = (line ≡ 0) × IsTrace bytes × (¬ (IsNarrowTrace bytes))
+-- why a file gave no bytes: it isn't there, a call failed, or memory was wanting
+abbrev pub GivesNoBytes : List ℕ → Desk → Desk → Ending → Type 0
+GivesNoBytes input old new (Absent name) = (name ≡ input) × (new ≡ old) × IsAbsent old input
+GivesNoBytes input old new (ReadFault name) =
+    (name ≡ input) × OnlyReadFaults old new × Rose old.read_faults new.read_faults
+GivesNoBytes input old new NoMemory = (new ≡ old) × IsThere old input
+GivesNoBytes input old new ending = ⊥
 
--- why the bytes of a file gave nothing: they are refused, or memory was wanting
-abbrev pub GivesNothing : (List ℕ → ℕ → Cause → Type 0) → List ℕ → List ℕ → Ending → Type 0
-GivesNothing refused input bytes (Refused name line cause) = (name ≡ input) × refused bytes line cause
-GivesNothing refused input bytes NoMemory = ⊤
-GivesNothing refused input bytes ending = ⊥
+-- why a file gave no run: it gave no bytes, or a line of its trace is wrong, for a cause that they have
+abbrev pub IsUnread : List ℕ → Desk → Desk → Ending → Type 0
+IsUnread input old new (Refused name line cause) =
+    (name ≡ input) × (new ≡ old) × HoldsSuch old input (λ bytes. TraceBreak bytes line cause)
+IsUnread input old new ending = GivesNoBytes input old new ending
+
+-- the file that is read gave no run, and nothing was printed
+abbrev pub ReadsNothing : List ℕ → Scene → Scene → Ending → Type 0
+ReadsNothing input old new ending =
+    IsUnread input old.desk new.desk ending × (new.put ≡ old.put) × (new.faults ≡ old.faults)

@@ -2,48 +2,20 @@
 use Rattle.std.specs.Prelude.{◌≡◌, ◌⊎◌, ℕ, List, Option, Some, None, ⊤}
 use Rattle.nl_io.specs.Count.{Rose}
 use Rattle.nl_io.specs.Content.{Told, with_end, PutsFront}
-use Rattle.nl_io.specs.Desk.{Desk, OnlyReadFaults, OnlyName, IsAbsent, found_in}
-use Rattle.log_dictionary.specs.declared.severity.Severity.{Severity}
+use Rattle.nl_io.specs.Desk.{Desk}
 use Rattle.trace_text.specs.Recordings.{Recording}
-use Rattle.trace_text.specs.Traces.{TraceText}
-use Rattle.nanolog_cli.specs.declared.refusal.Cause.{Cause}
 use Rattle.cli_words.specs.Commands.{Command, Preprocess, Direct, Replay, Decompress}
-use Rattle.nanolog_cli.specs.Levels.{kept_run}
-use Rattle.nanolog_cli.specs.Endings.{Ending, Done, Usage, Absent, ReadFault, Refused, WriteFault, NoMemory}
-use Rattle.nanolog_cli.specs.Inputs.{IsTrace, IsNarrowTrace, IsLog, WrongTrace, UntakenTrace}
-use Rattle.nanolog_cli.specs.NarrowTraces.{NarrowTrace}
+use Rattle.nanolog_cli.specs.Endings.{Ending, Done, Usage, WriteFault, NoMemory}
+use Rattle.nanolog_cli.specs.Inputs.{IsTrace, IsLog}
+pub use Rattle.nanolog_cli.specs.Inputs.{GivesNoBytes, IsUnread, ReadsNothing}
 pub use Rattle.nanolog_cli.specs.HeldFiles.{IsHeld, HoldsFront, IsThere, HoldsSuch, Holds}
 pub use Rattle.nanolog_cli.specs.Scenes.{Scene, scene, Prints}
 use Rattle.nanolog_cli.specs.Preprocessing.{GiveNothing, AreRefused, AreRight, WritesDictionary, LosesDictionary}
 use Rattle.nanolog_cli.specs.Decompressing.{Decodes}
 use Rattle.nanolog_cli.specs.Texts.{direct_text}
-use Rattle.nanolog_cli.specs.Replays.{LogOfRun, accepted_text}
+use Rattle.nanolog_cli.specs.Headline.{TraceRead}
+pub use Rattle.nanolog_cli.specs.Replays.{Replays}
 use Rattle.nanolog_cli.specs.Words.{words_of}
-
--- ---- a file that gives nothing
-
--- why a file gave no bytes: it isn't there, a call failed, or memory was wanting
-abbrev pub GivesNoBytes : List ℕ → Desk → Desk → Ending → Type 0
-GivesNoBytes input old new (Absent name) = (name ≡ input) × (new ≡ old) × IsAbsent old input
-GivesNoBytes input old new (ReadFault name) =
-    (name ≡ input) × OnlyReadFaults old new × Rose old.read_faults new.read_faults
-GivesNoBytes input old new NoMemory = (new ≡ old) × IsThere old input
-GivesNoBytes input old new ending = ⊥
-
--- why a file gave nothing: it gave no bytes, or it is refused for a cause that they have
-abbrev pub IsUnread : (List ℕ → ℕ → Cause → Type 0) → List ℕ → Desk → Desk → Ending → Type 0
-IsUnread refused input old new (Refused name line cause) =
-    (name ≡ input) × (new ≡ old) × HoldsSuch old input (λ bytes. refused bytes line cause)
-IsUnread refused input old new ending = GivesNoBytes input old new ending
-
--- the file that is read gave nothing, and nothing was printed
-abbrev pub ReadsNothing : (List ℕ → ℕ → Cause → Type 0) → List ℕ → Scene → Scene → Ending → Type 0
-ReadsNothing refused input old new ending =
-    IsUnread refused input old.desk new.desk ending × (new.put ≡ old.put) × (new.faults ≡ old.faults)
-
--- what the name held, where that is told, is such a text of the run
-abbrev pub HeldRun : (List ℕ → Recording → Type 0) → Desk → List ℕ → Recording → Type 0
-HeldRun is_text desk name run = HoldsSuch desk name (λ bytes. is_text bytes run)
 
 -- ---- a text that is printed last
 
@@ -74,55 +46,15 @@ Preprocesses dictionary sources old new ending =
 -- the trace was read to its last byte, and the text is the lines of its calls
 abbrev pub HasTraceLines : List ℕ → Desk → Desk → List ℕ → Type 0
 HasTraceLines trace old new text =
-    (run : Recording) × HeldRun TraceText old trace run × (text ≡ direct_text run) × (new ≡ old)
+    (run : Recording) × TraceRead old trace run × (text ≡ direct_text run) × (new ≡ old)
 
 -- what the answer of `direct` says
 abbrev pub Directs : List ℕ → Scene → Scene → Ending → Type 0
 Directs trace old new Done = PrintsText (HasTraceLines trace) old new Done
 Directs trace old new (WriteFault name) = PrintsText (HasTraceLines trace) old new (WriteFault name)
 Directs trace old new NoMemory =
-    ReadsNothing WrongTrace trace old new NoMemory ⊎ PrintsText (HasTraceLines trace) old new NoMemory
-Directs trace old new ending = ReadsNothing WrongTrace trace old new ending
-
--- ---- `replay`
-
--- The name holds the log of the run. All else of the files is as it was, and no call failed.
-pub record LogWritten (old new : Desk) (log : List ℕ) (run : Recording) : Type 0 where
-  pub bytes : List ℕ
-  pub log_of_run : LogOfRun run bytes
-  pub written : IsHeld new log bytes
-  pub only : OnlyName log old new
-  pub counted : new.write_faults ≡ old.write_faults
-
--- A write of the log failed. Its name holds what it held, or a front of the log of the run. All else of the files is as
--- it was.
-pub record LogCutOff (old new : Desk) (log : List ℕ) (run : Recording) : Type 0 where
-  pub bytes : List ℕ
-  pub log_of_run : LogOfRun run bytes
-  pub holds : (found_in new log ≡ found_in old log) ⊎ HoldsFront new log bytes
-  pub only : OnlyName log old new
-  pub failed : Rose old.write_faults new.write_faults
-
--- the trace was read to its last byte, the log of the calls that are kept is written, and the text is how many they are
-abbrev pub HasWrittenLog : List ℕ → List ℕ → Severity → Desk → Desk → List ℕ → Type 0
-HasWrittenLog trace log level old new text =
-    (run : Recording) × HeldRun NarrowTrace old trace run × LogWritten old new log (kept_run run level)
-    × (text ≡ accepted_text run level)
-
--- the log of the run that was read couldn't be written whole, and nothing was printed
-abbrev pub LosesLog : List ℕ → List ℕ → Severity → Scene → Scene → List ℕ → Type 0
-LosesLog trace log level old new name =
-    (name ≡ log)
-    × ((run : Recording) × HeldRun NarrowTrace old.desk trace run
-    × LogCutOff old.desk new.desk log (kept_run run level))
-    × (new.put ≡ old.put) × (new.faults ≡ old.faults)
-
--- what the answer of `replay` says
-abbrev pub Replays : List ℕ → List ℕ → Severity → Scene → Scene → Ending → Type 0
-Replays trace log level old new Done = PrintsText (HasWrittenLog trace log level) old new Done
-Replays trace log level old new (WriteFault name) =
-    PrintsText (HasWrittenLog trace log level) old new (WriteFault name) ⊎ LosesLog trace log level old new name
-Replays trace log level old new ending = ReadsNothing UntakenTrace trace old new ending
+    ReadsNothing trace old new NoMemory ⊎ PrintsText (HasTraceLines trace) old new NoMemory
+Directs trace old new ending = ReadsNothing trace old new ending
 
 -- ---- all commands
 
@@ -130,14 +62,14 @@ Replays trace log level old new ending = ReadsNothing UntakenTrace trace old new
 abbrev pub Ends : Command → Scene → Scene → Ending → Type 0
 Ends (Preprocess dictionary sources) = Preprocesses dictionary sources
 Ends (Direct trace) = Directs trace
-Ends (Replay trace log level) = Replays trace log level
+Ends (Replay trace log options) = Replays trace log options
 Ends (Decompress log) = Decodes log
 
 -- it is told that what a command reads is there, and is right
 abbrev pub IsRight : Command → Desk → Type 0
 IsRight (Preprocess dictionary sources) desk = AreRight desk sources
 IsRight (Direct trace) desk = Holds desk trace IsTrace
-IsRight (Replay trace log level) desk = Holds desk trace IsNarrowTrace
+IsRight (Replay trace log options) desk = Holds desk trace IsTrace
 IsRight (Decompress log) desk = Holds desk log IsLog
 
 -- Where a read failed, this may be told in its place: with `preprocess` what is refused of the sources before, and with
@@ -147,6 +79,11 @@ HidesReadFault (Preprocess dictionary sources) old new ending = (lines : List �
 HidesReadFault (Decompress log) old new (WriteFault name) = ⊤
 HidesReadFault (Decompress log) old new NoMemory = ⊤
 HidesReadFault command old new ending = ⊥
+
+-- the command of the words, unless that may wait for others
+abbrev pub quick_part : Option Command → Option Command
+quick_part (Some (Replay trace log options)) = None
+quick_part asked = asked
 
 -- what the answer says of words that were read, which spell a command or none
 abbrev pub AnswersRead : Option Command → Scene → Scene → Ending → Type 0

@@ -1,35 +1,82 @@
--- The log of a run, and what `replay` prints.
-use Rattle.std.specs.Prelude.{ℕ, ◌-◌, ◌<◌, ◌≤◌, List, ◌++◌, length, sum_by, codes}
-use Rattle.std.specs.Fmt.{decimal}
-use Rattle.log_dictionary.specs.declared.severity.Severity.{Severity}
-use Rattle.arg_records.specs.declared.call.Call.{Call}
+-- How the command `replay` ends.
+use Rattle.std.specs.Prelude.{◌≡◌, ◌⊎◌, ℕ, List, []}
+use Rattle.nl_io.specs.Count.{Rose}
+use Rattle.nl_io.specs.Desk.{Desk, OnlyName, found_in}
 use Rattle.trace_text.specs.Recordings.{Recording}
-use Rattle.checkpoint_io.specs.declared.heads.TheConstants.{MAX_LOG}
-use Rattle.checkpoint_io.specs.Validity.{IsClosed}
-use Rattle.checkpoint_io.specs.Logs.{LogOf}
-use Rattle.decompressor.specs.Decompression.{Decompressed}
-use Rattle.nanolog_cli.specs.declared.log_of_run.TheConstants.{BATCH}
-use Rattle.nanolog_cli.specs.Levels.{Kept}
-use Rattle.nanolog_cli.specs.Texts.{direct_text}
+use Rattle.log_session.specs.declared.drops.Dropped.{Dropped}
+use Rattle.log_session.specs.declared.options.Options.{Options}
+use Rattle.log_session.specs.declared.outcome.RunFault.{RunFault}
+use Rattle.log_session.specs.declared.outcome.RunFault.TheVariants as faults
+use Rattle.nanolog_cli.specs.Endings.{Ending, Done, WriteFault, NoMemory}
+use Rattle.nanolog_cli.specs.HeldFiles.{IsHeld, IsThere}
+use Rattle.nanolog_cli.specs.Scenes.{Scene}
+use Rattle.nanolog_cli.specs.Inputs.{ReadsNothing}
+use Rattle.nanolog_cli.specs.Headline.{TraceRead, Headline, HeadlineCut}
+use Rattle.nanolog_cli.specs.Words.{standard_output}
 
--- The bytes are the log of all calls of the run, in extents of at most so many records, with a close mark of each
--- writer. They decompress to the lines of these calls, and are no more than are read.
-pub record LogOfRun (run : Recording) (bytes : List ℕ) : Type 0 where
-  pub lawful : LogOf bytes run.writers run.dictionary run.clock BATCH
-  pub closed : (writer : ℕ) → writer < length run.writers → IsClosed writer lawful.blocks
-  pub text_same : Decompressed bytes (direct_text run)
-  pub within : length bytes ≤ MAX_LOG
+-- All was done as the headline says, and no call failed.
+pub record ReplaysWhole (trace log : List ℕ) (options : Options) (old new : Scene) : Type 0 where
+  pub run : Recording
+  pub drops : List Dropped
+  pub bytes : List ℕ
+  pub headline : Headline trace log options old new run drops bytes
+  pub only : OnlyName log old.desk new.desk
+  pub written : new.desk.write_faults ≡ old.desk.write_faults
+  pub counted : new.faults ≡ old.faults
 
--- how many calls there are, of all writers
-abbrev pub call_count : List (List Call) → ℕ
-call_count writers = sum_by length writers
+-- All was done but that a write of the output failed.
+pub record FailsToTell (trace log : List ℕ) (options : Options) (old new : Scene) : Type 0 where
+  pub run : Recording
+  pub drops : List Dropped
+  pub bytes : List ℕ
+  pub headline : HeadlineCut trace log options old new run drops bytes
+  pub only : OnlyName log old.desk new.desk
+  pub written : new.desk.write_faults ≡ old.desk.write_faults
+  pub rose : Rose old.faults new.faults
 
--- what `replay` prints where so many calls were written, so many weren't kept, and none was dropped
-abbrev pub counts_text : ℕ → ℕ → List ℕ
-counts_text accepted filtered =
-    codes "accepted " ++ decimal accepted ++ codes " dropped 0 filtered " ++ decimal filtered ++ codes "\n"
+-- the name couldn't be created, and is as it was, or what was written of the log failed, and the name is there
+abbrev pub IsLost : List ℕ → Desk → Desk → Type 0
+IsLost log old new =
+    ((found_in new log ≡ found_in old log) ⊎ IsThere new log) × Rose old.write_faults new.write_faults
 
--- what `replay` prints of a run at a level, where no call was dropped
-abbrev pub accepted_text : Recording → Severity → List ℕ
-accepted_text run level =
-    counts_text (call_count (Kept run level)) (call_count run.writers - call_count (Kept run level))
+-- the name holds no bytes, and no call failed
+abbrev pub IsEmptied : List ℕ → Desk → Desk → Type 0
+IsEmptied log old new = IsHeld new log [] × (new.write_faults ≡ old.write_faults)
+
+-- why the name was given no log: a call failed, or memory was wanting
+abbrev pub GivesNoLog : List ℕ → Desk → Desk → Ending → Type 0
+GivesNoLog log old new (WriteFault name) = (name ≡ log) × IsLost log old new
+GivesNoLog log old new NoMemory = IsEmptied log old new
+GivesNoLog log old new ending = ⊥
+
+-- why a session wasn't run to its end, as an end; its sizes are right
+abbrev pub fault_ending : List ℕ → RunFault → Ending
+fault_ending log faults.SinkFault = WriteFault log
+fault_ending log fault = NoMemory
+
+-- A call for the log failed: nothing was printed.
+pub record LosesLog (trace log : List ℕ) (old new : Scene) : Type 0 where
+  pub run : Recording
+  pub trace_read : TraceRead old.desk trace run
+  pub lost : IsLost log old.desk new.desk
+  pub only : OnlyName log old.desk new.desk
+  pub unprinted : new.put ≡ old.put
+  pub counted : new.faults ≡ old.faults
+
+-- Memory was wanting for the session: the log's name holds no bytes, no call failed, and nothing was printed.
+pub record LeavesEmpty (trace log : List ℕ) (old new : Scene) : Type 0 where
+  pub run : Recording
+  pub trace_read : TraceRead old.desk trace run
+  pub emptied : IsEmptied log old.desk new.desk
+  pub only : OnlyName log old.desk new.desk
+  pub unprinted : new.put ≡ old.put
+  pub counted : new.faults ≡ old.faults
+
+-- What the answer of `replay` says.
+abbrev pub Replays : List ℕ → List ℕ → Options → Scene → Scene → Ending → Type 0
+Replays trace log options old new Done = ReplaysWhole trace log options old new
+Replays trace log options old new (WriteFault name) =
+    ((name ≡ standard_output) × FailsToTell trace log options old new) ⊎ ((name ≡ log) × LosesLog trace log old new)
+Replays trace log options old new NoMemory =
+    ReadsNothing trace old new NoMemory ⊎ LeavesEmpty trace log old new
+Replays trace log options old new ending = ReadsNothing trace old new ending

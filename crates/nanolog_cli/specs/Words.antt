@@ -2,8 +2,9 @@
 use Rattle.std.specs.Prelude.{ℕ, List, [], ◌++◌, map, codes}
 use Rattle.std.specs.Fmt.{decimal}
 use Rattle.std.specs.Borrow.{Bor}
-use Rattle.checkpoint_io.specs.Causes.{cause_number, cause_name}
-use Rattle.nanolog_cli.specs.Endings.{Ending, Done, StillOpen, Usage, Absent, ReadFault, Refused, RefusedSources, Damaged, WriteFault, NoMemory, number_of, name_of}
+use Rattle.checkpoint_io.specs.Causes as log_causes
+use Rattle.trace_text.specs.Causes as trace_causes
+use Rattle.nanolog_cli.specs.Endings.{Ending, Done, StillOpen, Usage, Absent, ReadFault, Refused, RefusedSources, Damaged, WriteFault, NoMemory}
 
 -- the forms of the command line
 abbrev pub usage_text : List ℕ
@@ -27,11 +28,13 @@ words_of (Absent name) = codes "nanolog: " ++ name ++ codes ": absent\n"
 words_of (ReadFault name) = codes "nanolog: " ++ name ++ codes ": read fault\n"
 words_of (Refused name line cause) =
     codes "nanolog: " ++ name ++ codes ":" ++ decimal line
-    ++ codes ": refused: " ++ decimal (number_of cause) ++ codes " " ++ name_of cause ++ codes "\n"
+    ++ codes ": refused: " ++ decimal (trace_causes.cause_number cause) ++ codes " "
+    ++ trace_causes.cause_name cause ++ codes "\n"
 words_of (RefusedSources lines) = lines
 words_of (Damaged name offset cause) =
     codes "nanolog: " ++ name ++ codes ":" ++ decimal offset
-    ++ codes ": damaged: " ++ decimal (cause_number cause) ++ codes " " ++ cause_name cause ++ codes "\n"
+    ++ codes ": damaged: " ++ decimal (log_causes.cause_number cause) ++ codes " "
+    ++ log_causes.cause_name cause ++ codes "\n"
 words_of (WriteFault name) = codes "nanolog: " ++ name ++ codes ": write fault\n"
 words_of NoMemory = codes "nanolog: want of memory\n"
 

@@ -1,10 +1,11 @@
 //! What the program does, from its words to its answer.
 
-ghost use Rattle.std.specs.Prelude.{◌≡◌};
+ghost use Rattle.std.specs.Prelude.{◌≡◌, Some};
 ghost use Rattle.cli_words.specs.Commands.{command_of as command_spelled, texts_of};
 ghost use Rattle.cli_words.specs.CommandViews.{command_is};
+ghost use Rattle.cli_words.specs.Rows.{IsLawful};
 ghost use Rattle.nanolog_cli.specs.Endings.{Ending, status_of, ending_of, answer_ending};
-ghost use Rattle.nanolog_cli.specs.Outcomes.{scene, Ends, Answers, Tells};
+ghost use Rattle.nanolog_cli.specs.Outcomes.{scene, quick_part, Ends, AnswersRead, Answers, Tells};
 
 use crate::decompress::decompress;
 use crate::direct::direct;
@@ -15,8 +16,12 @@ use crate::replay::replay;
 use crate::report::{say, say_note};
 use crate::status::Status;
 use cli_words::{Command, command_of};
+use log_session::Gate;
 use nl_io::{Files, Sink};
+use staging_ring::QueueStage;
 use std::alloc::Global;
+use std::sync::{Arc, Wait};
+use std::thread::Threads;
 
 /// The answer of a command that has nothing to tell beside its text.
 fn without_note<'a>(answer: Result<(), Refusal<'a>>) -> Result<Note<'a>, Refusal<'a>>
@@ -26,14 +31,15 @@ fn without_note<'a>(answer: Result<(), Refusal<'a>>) -> Result<Note<'a>, Refusal
     Ok(Note::Nothing)
 }
 
-/// Does what the command says.
-fn run<'a, F: Files, O: Sink>(
+/// Does what the command says, unless that may wait for others.
+fn run_quick<'a, F: Files, O: Sink>(
     alloc: Global,
     command: Command<'a>,
     files: &mut F,
     out: &mut O,
 ) -> Result<Note<'a>, Refusal<'a>>
-    ensures ends { Ends (command_is command.entry) (scene (F.desk files.old) (O.put out.old) (O.faults out.old))
+    ensures ends { AnswersRead (quick_part (Some (command_is command.entry)))
+        (scene (F.desk files.old) (O.put out.old) (O.faults out.old))
         (scene (F.desk files.new) (O.put out.new) (O.faults out.new)) (answer_ending result) }
     ensures files_others { F.rest files.old files.new }
     ensures out_others { O.rest out.old out.new }
@@ -44,20 +50,76 @@ fn run<'a, F: Files, O: Sink>(
             sources,
         } => without_note(preprocess(alloc, files, dictionary, &sources, out)),
         Command::Direct { trace } => without_note(direct(alloc, files, trace, out)),
-        Command::Replay { trace, log, level } => {
-            without_note(replay(alloc, files, trace, log, level, out))
-        }
+        Command::Replay { .. } => Err(Refusal::Usage),
         Command::Decompress { log } => decompress(alloc, files, log, out),
     }
 }
 
-/// Does what the words ask for, if they ask for something.
-fn run_words<'a, F: Files, O: Sink>(
+/// Does what the command says.
+fn run<'a, R, F, O, G>(
+    rt: R,
+    alloc: Global,
+    command: Command<'a>,
+    files: &mut F,
+    out: &mut O,
+    gate: &Arc<G, Global>,
+) -> Result<Note<'a>, Refusal<'a>>
+where
+    R: Threads + Wait + Copy + Send + 'static,
+    F: Files,
+    O: Sink,
+    G: Gate + 'static,
+    requires lawful { IsLawful (command_is command) }
+    ensures ends { Ends (command_is command.entry) (scene (F.desk files.old) (O.put out.old) (O.faults out.old))
+        (scene (F.desk files.new) (O.put out.new) (O.faults out.new)) (answer_ending result) }
+    ensures files_others { F.rest files.old files.new }
+    ensures out_others { O.rest out.old out.new }
+{
+    match command {
+        Command::Replay {
+            trace,
+            log,
+            options,
+        } => without_note(replay::<R, QueueStage, F, O, G>(
+            rt, alloc, files, trace, log, &options, out, gate,
+        )),
+        command => run_quick(alloc, command, files, out),
+    }
+}
+
+/// Does what the words ask for, if they ask for something, unless that may wait for others.
+fn run_quick_words<'a, F: Files, O: Sink>(
     alloc: Global,
     words: &'a [String],
     files: &mut F,
     out: &mut O,
 ) -> Result<Note<'a>, Refusal<'a>>
+    ensures ends { Answers (quick_part (command_spelled (texts_of words.now)))
+        (scene (F.desk files.old) (O.put out.old) (O.faults out.old))
+        (scene (F.desk files.new) (O.put out.new) (O.faults out.new)) (answer_ending result) }
+    ensures files_others { F.rest files.old files.new }
+    ensures out_others { O.rest out.old out.new }
+{
+    match command_of(alloc, words)? {
+        Some(command) => run_quick(alloc, command, files, out),
+        None => Err(Refusal::Usage),
+    }
+}
+
+/// Does what the words ask for, if they ask for something.
+fn run_words<'a, R, F, O, G>(
+    rt: R,
+    alloc: Global,
+    words: &'a [String],
+    files: &mut F,
+    out: &mut O,
+    gate: &Arc<G, Global>,
+) -> Result<Note<'a>, Refusal<'a>>
+where
+    R: Threads + Wait + Copy + Send + 'static,
+    F: Files,
+    O: Sink,
+    G: Gate + 'static,
     ensures ends { Answers (command_spelled (texts_of words.now))
         (scene (F.desk files.old) (O.put out.old) (O.faults out.old))
         (scene (F.desk files.new) (O.put out.new) (O.faults out.new)) (answer_ending result) }
@@ -65,26 +127,55 @@ fn run_words<'a, F: Files, O: Sink>(
     ensures out_others { O.rest out.old out.new }
 {
     match command_of(alloc, words)? {
-        Some(command) => run(alloc, command, files, out),
+        Some(command) => run(rt, alloc, command, files, out, gate),
         None => Err(Refusal::Usage),
     }
 }
 
-/// Does what the words after the program's name ask for, and answers how that ended. It waits for nobody.
+/// Says how a command ended, and answers that as a status.
+fn say_end<E: Sink>(err: &mut E, answer: Result<Note<'_>, Refusal<'_>>) -> Status
+    ensures status { result ≡ status_of (answer_ending answer.entry) }
+    ensures told { Tells (answer_ending answer.entry) (E.put err.old) (E.put err.new) (E.faults err.old)
+        (E.faults err.new) }
+    ensures others { E.rest err.old err.new }
+{
+    match answer {
+        Ok(note) => {
+            say_note(err, &note);
+            Status::Done
+        }
+        Err(refusal) => {
+            say(err, &refusal);
+            refusal.status()
+        }
+    }
+}
+
+/// Does what the words after the program's name ask for, and answers how that ended.
 ///
 /// So far there are four commands. `preprocess DICT FILE..` writes the messages of the sources, and prints how many
 /// they are, and how many statements; where something of the sources is refused, all of that is told. `direct TRACE`
-/// prints the lines of all calls of the trace. `replay TRACE LOG [--level S]` writes the log of the calls that the
-/// level keeps, and prints how many it keeps and how many it doesn't. `decompress LOG` prints the lines of the log, up
-/// to where it is damaged, and tells of writers without a close mark. A file that is no trace is refused, and so is a
-/// trace that isn't narrow, with `replay`.
-pub fn quick<F: Files, O: Sink, E: Sink>(
+/// prints the lines of all calls of the trace. `replay TRACE LOG` makes the calls that the level keeps, those of each
+/// writer in a thread of its own, through rings, and writes their log; it prints which calls were dropped, and how many
+/// were accepted, dropped and filtered. It may wait for its threads. `decompress LOG` prints the lines of the log, up
+/// to where it is damaged, and tells of writers without a close mark. A file that is no trace is refused.
+///
+/// The gate is called by the threads of a replay on their way.
+pub fn nanolog<R, F, O, E, G>(
+    rt: R,
     alloc: Global,
     words: &[String],
     files: &mut F,
     out: &mut O,
     err: &mut E,
+    gate: &Arc<G, Global>,
 ) -> Status
+where
+    R: Threads + Wait + Copy + Send + 'static,
+    F: Files,
+    O: Sink,
+    E: Sink,
+    G: Gate + 'static,
     // The answer is the status of an end. What that says of the files and the standard output is so, and it is put into
     // words on the standard error. Where all was done nothing is said, but of writers of a log that are still open.
     ensures ends { (ending : Ending) × (result ≡ status_of ending)
@@ -98,14 +189,29 @@ pub fn quick<F: Files, O: Sink, E: Sink>(
     ensures out_others { O.rest out.old out.new }
     ensures err_others { E.rest err.old err.new }
 {
-    match run_words(alloc, words, files, out) {
-        Ok(note) => {
-            say_note(err, &note);
-            Status::Done
-        }
-        Err(refusal) => {
-            say(err, &refusal);
-            refusal.status()
-        }
-    }
+    say_end(err, run_words(rt, alloc, words, files, out, gate))
+}
+
+/// Does what the words after the program's name ask for, as [`nanolog`] does, but for `replay`: that is answered as a
+/// faulty command line is, and nothing is done. It starts no thread, and waits for nobody.
+pub fn quick<F: Files, O: Sink, E: Sink>(
+    alloc: Global,
+    words: &[String],
+    files: &mut F,
+    out: &mut O,
+    err: &mut E,
+) -> Status
+    // The answer is the status of an end, as that of `nanolog` is.
+    ensures ends { (ending : Ending) × (result ≡ status_of ending)
+        × Answers (quick_part (command_spelled (texts_of words.now)))
+        (scene (F.desk files.old) (O.put out.old) (O.faults out.old))
+        (scene (F.desk files.new) (O.put out.new) (O.faults out.new)) ending
+        × Tells ending (E.put err.old) (E.put err.new) (E.faults err.old) (E.faults err.new) }
+
+    // All else is as it was.
+    ensures files_others { F.rest files.old files.new }
+    ensures out_others { O.rest out.old out.new }
+    ensures err_others { E.rest err.old err.new }
+{
+    say_end(err, run_quick_words(alloc, words, files, out))
 }

@@ -5,19 +5,15 @@ ghost use Rattle.std.specs.FinMap as map;
 ghost use Rattle.nl_io.specs.Count.{Rose};
 ghost use Rattle.nl_io.specs.Content.{Told};
 ghost use Rattle.nl_io.specs.Desk.{IsReading, Opens, SameButLeft};
-ghost use Rattle.trace_text.specs.Traces.{TraceText};
 ghost use Rattle.trace_text.specs.TraceReading.{IsAnswer};
-ghost use Rattle.nanolog_cli.specs.Outcomes.{IsHeld, HoldsSuch, HeldRun, GivesNoBytes, IsUnread};
-ghost use Rattle.nanolog_cli.specs.NarrowTraces.{NarrowTrace};
-ghost use Rattle.nanolog_cli.specs.Inputs.{WrongTrace, UntakenTrace, GivesNothing};
-ghost use Rattle.nanolog_cli.specs.Endings.{refusal_ending, fault_ending, Refused as RefusedFile};
-ghost use Rattle.nanolog_cli.specs.declared.refusal.Cause.TheVariants.{NotYet as NotTakenYet};
+ghost use Rattle.nanolog_cli.specs.Outcomes.{IsHeld, HoldsSuch, GivesNoBytes, IsUnread};
+ghost use Rattle.nanolog_cli.specs.Headline.{TraceRead};
+ghost use Rattle.nanolog_cli.specs.Endings.{refusal_ending, fault_ending};
 
-use crate::narrow::{has_escape, is_narrow_run};
-use crate::refusal::{Cause, Refusal};
+use crate::refusal::Refusal;
 use nl_io::{FileSource, Files, ReadAllFault, read_to_limit};
 use std::alloc::Global;
-use trace_text::{MAX_TRACE, Trace, TraceCause, TraceFault, read_text, read_trace};
+use trace_text::{Trace, TraceFault, read_trace};
 
 /// What the open file has left, where that is at most `limit` bytes.
 fn read_open<F: Files>(
@@ -107,9 +103,9 @@ pub(crate) fn run_of_file<'a, F: Files>(
     files: &mut F,
     name: &'a str,
 ) -> Result<Trace, Refusal<'a>>
-    ensures found { IfOk result (HeldRun TraceText (F.desk files.old) name.now) }
+    ensures found { IfOk result (TraceRead (F.desk files.old) name.now) }
     ensures same { OnOk result (F.desk files.new ≡ F.desk files.old) }
-    ensures unread { IfErr result (λ refusal. IsUnread WrongTrace name.now (F.desk files.old) (F.desk files.new)
+    ensures unread { IfErr result (λ refusal. IsUnread name.now (F.desk files.old) (F.desk files.new)
         (refusal_ending refusal)) }
     ensures others { F.rest files.old files.new }
 {
@@ -128,62 +124,7 @@ fn refusal_of(name: &str, fault: TraceFault) -> Refusal<'_>
 {
     match fault {
         TraceFault::ReadFault => Refusal::ReadFault(name),
-        TraceFault::Refused { line, cause } => Refusal::Refused {
-            name,
-            line,
-            cause: Cause::Trace(cause),
-        },
+        TraceFault::Refused { line, cause } => Refusal::Refused { name, line, cause },
         TraceFault::NoMemory => Refusal::NoMemory,
-    }
-}
-
-/// The refusal of a file that isn't taken yet.
-fn not_yet(name: &str) -> Refusal<'_>
-    ensures { refusal_ending result ≡ RefusedFile name.now 0 NotTakenYet }
-{
-    Refusal::Refused {
-        name,
-        line: 0,
-        cause: Cause::NotYet,
-    }
-}
-
-/// The run that the text of the name spells, where that is a narrow trace.
-fn narrow_run_of<'a>(alloc: Global, name: &'a str, text: &[u8]) -> Result<Trace, Refusal<'a>>
-    ensures found { IfOk result (NarrowTrace text.now) }
-    ensures nothing { IfErr result (λ refusal. GivesNothing UntakenTrace name.now text.now
-        (refusal_ending refusal)) }
-{
-    let run = match read_text(alloc, text) {
-        Ok(run) => run,
-        Err(fault) => return Err(refusal_of(name, fault)),
-    };
-    if has_escape(text) || !is_narrow_run(&run) {
-        return Err(not_yet(name));
-    }
-    Ok(run)
-}
-
-/// The run that the name holds, where that is a narrow trace.
-pub(crate) fn narrow_run_of_file<'a, F: Files>(
-    alloc: Global,
-    files: &mut F,
-    name: &'a str,
-) -> Result<Trace, Refusal<'a>>
-    ensures found { IfOk result (HeldRun NarrowTrace (F.desk files.old) name.now) }
-    ensures narrow { IfOk result (λ run. (text : List ℕ) × NarrowTrace text run) }
-    ensures same { OnOk result (F.desk files.new ≡ F.desk files.old) }
-    ensures unread { IfErr result (λ refusal. IsUnread UntakenTrace name.now (F.desk files.old) (F.desk files.new)
-        (refusal_ending refusal)) }
-    ensures others { F.rest files.old files.new }
-{
-    match read_file(alloc, files, name, MAX_TRACE) {
-        Ok(Some(text)) => narrow_run_of(alloc, name, &text),
-        Ok(None) => Err(Refusal::Refused {
-            name,
-            line: 0,
-            cause: Cause::Trace(TraceCause::TooLarge),
-        }),
-        Err(refusal) => Err(refusal),
     }
 }

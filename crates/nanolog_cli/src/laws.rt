@@ -1,18 +1,23 @@
 //! Laws over the definitions, and a worked example. The functions do nothing: what they ensure is proved of the
 //! definitions.
 
-ghost use Rattle.std.specs.Prelude.{◌≡◌, ◌≢◌, ◌⊎◌, ◌∷◌, ◌++◌, ℕ, List, Some, None, Contains, codes};
+ghost use Rattle.std.specs.Prelude.{◌≡◌, ◌≢◌, ◌≤◌, ◌⊎◌, ◌∷◌, ◌++◌, ℕ, List, length, Some, None, Contains, codes};
 ghost use Rattle.std.specs.FinMap as map;
 ghost use Rattle.nl_io.specs.Count.{Rose};
-ghost use Rattle.nl_io.specs.Desk.{Held, found_in};
+ghost use Rattle.nl_io.specs.Desk.{Desk, Held, found_in};
 ghost use Rattle.nl_io.specs.Content.{with_end};
 ghost use Rattle.trace_text.specs.Recordings.{Recording};
 ghost use Rattle.trace_text.specs.Rows.{three_writers};
-ghost use Rattle.cli_words.specs.Commands.{Command, Decompress};
+ghost use Rattle.log_dictionary.specs.declared.severity.Severity.TheVariants.{Debug};
+ghost use Rattle.checkpoint_io.specs.declared.heads.TheConstants.{MAX_LOG};
+ghost use Rattle.log_session.specs.declared.drops.Dropped.{Dropped};
+ghost use Rattle.log_session.specs.declared.options.Options.{Options};
+ghost use Rattle.log_session.specs.declared.options.Policy.TheVariants.{Wait};
+ghost use Rattle.cli_words.specs.Commands.{Command, Direct, Replay, Decompress};
 ghost use Rattle.nanolog_cli.specs.CommandFiles.{input_names, output_name};
 ghost use Rattle.nanolog_cli.specs.Endings.{Ending, Done, Absent, ReadFault, WriteFault, NoMemory, status_of};
 ghost use Rattle.nanolog_cli.specs.Outcomes.{Scene, IsRight, HidesReadFault, Ends};
-ghost use Rattle.nanolog_cli.specs.Replays.{LogOfRun};
+ghost use Rattle.nanolog_cli.specs.Headline.{taken_text, LogLawful, TextSame};
 ghost use Rattle.nanolog_cli.specs.declared.status.Status.TheVariants.{Done as IsDone};
 ghost use Rattle.nanolog_cli.specs.Texts.{direct_text};
 
@@ -37,14 +42,37 @@ pub fn commands_are_done_where_they_can_be()
         ¬ (Rose old.desk.read_faults new.desk.read_faults) → ending ≡ Absent name }
 {}
 
-/// `decompress` gives back what `replay` wrote: it prints the lines of the calls that were kept, and tells of no writer
-/// that is still open, where no call fails and memory suffices.
+/// A log as the headline has it decompresses to the text that the headline has.
+pub fn lawful_logs_give_the_text()
+    ensures { (new : Desk) (log : List ℕ) (run : Recording) (options : Options) (drops : List Dropped) (bytes : List ℕ)
+        → LogLawful new log run options drops bytes → TextSame run options drops bytes }
+{}
+
+/// `decompress` gives back what `replay` wrote: it prints the lines of the calls that were kept and not dropped, and
+/// tells of no writer that is still open, where the log isn't too long, no call fails and memory suffices.
 pub fn replayed_logs_decompress()
-    ensures { (run : Recording) (bytes log : List ℕ) (old new : Scene) (ending : Ending) (held : Held)
-        → LogOfRun run bytes → old.desk.held ≡ Some held → map.get held log ≡ Some bytes
+    ensures { (log : List ℕ) (options : Options) (run : Recording) (drops : List Dropped) (bytes : List ℕ)
+        (old new : Scene) (ending : Ending) (held : Held)
+        → LogLawful old.desk log run options drops bytes → length bytes ≤ MAX_LOG → old.desk.held ≡ Some held
         → Ends (Decompress log) old new ending
         → ¬ (Rose old.desk.read_faults new.desk.read_faults) → ¬ (Rose old.faults new.faults)
-        → ((ending ≡ Done) × (new.put ≡ with_end (direct_text run) old.put)) ⊎ (ending ≡ NoMemory) }
+        → ((ending ≡ Done) × (new.put ≡ with_end (taken_text run options.level drops) old.put))
+        ⊎ (ending ≡ NoMemory) }
+{}
+
+/// Where writers wait and each level is kept, `decompress` of the log that `replay` wrote prints what `direct` prints
+/// of the same trace, where the log isn't too long, no call fails and memory suffices.
+pub fn replayed_traces_print_as_direct()
+    ensures { (trace log : List ℕ) (options : Options) (before after : Scene)
+        → Ends (Replay trace log options) before after Done → options.policy ≡ Wait → options.level ≡ Debug
+        → (held : Held) (bytes : List ℕ) → after.desk.held ≡ Some held → map.get held log ≡ Some bytes
+        → length bytes ≤ MAX_LOG
+        → (direct_old direct_new : Scene) → direct_old.desk ≡ before.desk
+        → Ends (Direct trace) direct_old direct_new Done
+        → (old new : Scene) (ending : Ending) → old.desk ≡ after.desk → Ends (Decompress log) old new ending
+        → ¬ (Rose old.desk.read_faults new.desk.read_faults) → ¬ (Rose old.faults new.faults)
+        → (text : List ℕ) × (direct_new.put ≡ with_end text direct_old.put)
+        × (((ending ≡ Done) × (new.put ≡ with_end text old.put)) ⊎ (ending ≡ NoMemory)) }
 {}
 
 /// A count of failed calls rises only where the answer says so, but that some answers stand in place of a failed read.

@@ -6,12 +6,9 @@ mod decompress;
 mod direct;
 mod input;
 pub mod laws;
-mod level;
 mod lines;
-mod log_of_run;
 #[cfg(test)]
 mod log_tests;
-mod narrow;
 mod note;
 mod output;
 mod preprocess;
@@ -21,10 +18,13 @@ mod refusal;
 mod replay;
 mod report;
 mod saving;
+#[cfg(test)]
+mod session_tests;
 mod sources;
 mod status;
+mod telling;
 #[cfg(test)]
 mod tests;
 
-pub use commands::quick;
+pub use commands::{nanolog, quick};
 pub use status::Status;

@@ -2,32 +2,33 @@
 
 use super::*;
 use crate::tests::{
-    Failing, LINE, NONE, PIECE, TRACE, counted_lines, counted_trace, owned_words, run, run_over,
-    words_of,
+    Failing, LINE, Machine, NONE, PIECE, TRACE, counted_lines, counted_trace, owned_words, run,
+    run_over, words_of,
 };
+use log_session::FreeGate;
 use nl_io::{MemFiles, MemSink};
 use std::alloc::Global;
 use std::fmt::Write;
-use std::process::Abort;
+use std::sync::Arc;
 use std::test::Fail;
 
-const ACCEPTED: &str = "accepted 1 dropped 0 filtered 0\n";
+pub(crate) const ACCEPTED: &str = "accepted 1 dropped 0 filtered 0\n";
 
 /// The log of [`TRACE`], a line for each part: the magic, the version and the number of writers; the clock; a fragment
 /// with its message; an extent with its record; and the close mark.
-const LOG: &str = "4e 4c 4f 47 01 01
+pub(crate) const LOG: &str = "4e 4c 4f 47 01 01
 e8 03 00 00 00 00 00 00 00 00 44 5e 8f 86 05 15 00 94 35 77 00 00 00 00
 01 00 00 00 00 01 00 03 0c 00 00 00 06 00 73 72 76 2e 63 63 04 00 78 3d 25 64
 02 00 04 00 00 00 10 03 01 07
 04 00";
 
 /// The log of [`TRACE`] without its call.
-const EMPTY_LOG: &str = "4e 4c 4f 47 01 01
+pub(crate) const EMPTY_LOG: &str = "4e 4c 4f 47 01 01
 e8 03 00 00 00 00 00 00 00 00 44 5e 8f 86 05 15 00 94 35 77 00 00 00 00
 04 00";
 
 /// The bytes that are written in hexadecimal digits.
-fn bytes_of(alloc: Global, text: &str) -> Result<Vec<u8>, Fail> {
+pub(crate) fn bytes_of(alloc: Global, text: &str) -> Result<Vec<u8>, Fail> {
     let mut bytes = Vec::new(alloc);
     for field in text.split_whitespace() {
         bytes.push(u8::from_str_radix(field, 16)?)?;
@@ -83,7 +84,7 @@ replay --level=WARNING -- t l"
 
 /// Asserts that a command over one file prints these lines.
 fn expect_lines(
-    rt: &impl Abort,
+    rt: &impl Machine,
     alloc: Global,
     words: &[&str],
     file: (&str, &[u8]),
@@ -97,14 +98,19 @@ fn expect_lines(
 }
 
 /// The log of a trace.
-fn log_of(rt: &impl Abort, alloc: Global, text: &str) -> Result<Vec<u8>, Fail> {
+fn log_of(rt: &impl Machine, alloc: Global, text: &str) -> Result<Vec<u8>, Fail> {
     let ran = run(rt, alloc, &["replay", "t", "l"], text, NONE)?;
     assert_eq!(rt; ran.status, Status::Done);
     Ok(ran.log.as_deref().unwrap_or(&[]).to_vec(alloc)?)
 }
 
 /// Asserts that the trace's log decompresses to the lines, which `direct` prints too.
-fn expect_same_lines(rt: &impl Abort, alloc: Global, text: &str, lines: &str) -> Result<(), Fail> {
+fn expect_same_lines(
+    rt: &impl Machine,
+    alloc: Global,
+    text: &str,
+    lines: &str,
+) -> Result<(), Fail> {
     expect_lines(rt, alloc, &["direct", "t"], ("t", text.as_bytes()), lines)?;
     let log = log_of(rt, alloc, text)?;
     expect_lines(
@@ -135,7 +141,7 @@ end
 
 /// Asserts how many calls the level keeps, and which lines the log has.
 fn expect_kept(
-    rt: &impl Abort,
+    rt: &impl Machine,
     alloc: Global,
     level: &str,
     counts: &str,
@@ -179,8 +185,8 @@ DEBUG|accepted 6 dropped 0 filtered 0|0.000000000 f:4 DEBUG[0]: d1;1.000000000 f
 }
 
 #[test]
-fn the_largest_trace_goes_through_and_back(rt: HostRuntime) -> Result<(), Fail> {
-    for (messages, calls) in [(0, 0), (1, 1), (16, 128)] {
+fn traces_go_through_and_back(rt: HostRuntime) -> Result<(), Fail> {
+    for (messages, calls) in [(0, 0), (1, 1), (17, 5_000)] {
         let text = counted_trace(rt.alloc(), messages, calls)?;
         let lines = counted_lines(rt.alloc(), calls)?;
         expect_same_lines(&rt, rt.alloc(), text.as_str(), lines.as_str())?;
@@ -216,7 +222,7 @@ fn only_messages_up_to_the_last_used_are_kept(rt: HostRuntime) -> Result<(), Fai
 
 /// Asserts how `decompress` of the log ends: it prints the lines, and says this behind the log's name.
 fn expect_decompressed(
-    rt: &impl Abort,
+    rt: &impl Machine,
     alloc: Global,
     log: &[u8],
     lines: &str,
@@ -361,7 +367,7 @@ fn a_failed_write_of_lines_is_told(rt: HostRuntime) -> Result<(), Fail> {
 }
 
 /// Asserts that `replay` of the text is refused with these words behind the name, and creates no log.
-fn expect_refused(rt: &impl Abort, alloc: Global, text: &str, told: &str) -> Result<(), Fail> {
+fn expect_refused(rt: &impl Machine, alloc: Global, text: &str, told: &str) -> Result<(), Fail> {
     let ran = run(rt, alloc, &["replay", "t", "l"], text, NONE)?;
     let err = format!(in alloc; "nanolog: t:{told}\n")?;
     assert_eq!(rt; ran.shown(), (Status::Refused, "", err.as_str()), "{text}");
@@ -371,26 +377,18 @@ fn expect_refused(rt: &impl Abort, alloc: Global, text: &str, told: &str) -> Res
 
 #[test]
 fn a_refused_trace_creates_no_log(rt: HostRuntime) -> Result<(), Fail> {
-    let not_yet = "0: refused: 99 NotYet";
     for (old, new, told) in [
-        ("writers 1", "writers 2", not_yet),
-        ("x=%d", "x=%5d", not_yet),
-        ("x=%d", "\\x41%d", not_yet),
-        // What is wrong is told before that.
         (
             "writers 1\ncall",
             "writers 2\ncalls",
             "5: refused: 17 CallForm",
         ),
         ("%d\"\nclock", "%5d\"\nClock", "3: refused: 3 Clock"),
+        ("1003", "999", "5: refused: 7 BeforeClock"),
         ("end\n", "", "6: refused: 14 NoEnd"),
     ] {
         let text = TRACE.replacen(rt.alloc(), old, new, 1)?;
         expect_refused(&rt, rt.alloc(), text.as_str(), told)?;
-    }
-    for (messages, calls) in [(17, 128), (16, 129)] {
-        let text = counted_trace(rt.alloc(), messages, calls)?;
-        expect_refused(&rt, rt.alloc(), text.as_str(), not_yet)?;
     }
     let ran = run(&rt, rt.alloc(), &["replay", "x", "l"], TRACE, NONE)?;
     assert_eq!(rt; ran.shown(), (Status::Absent, "", "nanolog: x: absent\n"));
@@ -400,31 +398,43 @@ fn a_refused_trace_creates_no_log(rt: HostRuntime) -> Result<(), Fail> {
     Ok(())
 }
 
+/// A failed call is told, whichever it is. Nothing is printed then, and the log's name holds a front of the log, which
+/// ends behind the fragment once.
 #[test]
 fn a_failed_call_of_replay_is_told(rt: HostRuntime) -> Result<(), Fail> {
     let log = bytes_of(rt.alloc(), LOG)?;
-    // One call opens the trace, one takes each piece of it, one finds its end; one creates the log, one puts each piece
-    // of it, and one ends it.
+    // One call opens the trace, one takes each piece of it, and one finds its end.
     let reads = 2 + TRACE.len().div_ceil(PIECE) as u64;
-    let calls = reads + 2 + log.len().div_ceil(PIECE) as u64;
-    for call in 0..=calls {
+    let mut call = 0;
+    let mut fragments = 0u32;
+    for _ in 0..100 {
         let failing = Failing {
             files: &[call],
             ..NONE
         };
         let ran = run(&rt, rt.alloc(), &["replay", "t", "l"], TRACE, failing)?;
-        let (want, kept) = if call < reads {
-            ((Status::ReadFault, "", "nanolog: t: read fault\n"), 0)
-        } else if call == calls {
-            ((Status::Done, ACCEPTED, ""), log.len())
+        let held = ran.log.as_deref().unwrap_or(&[]);
+        if ran.status == Status::Done {
+            break;
+        }
+        let want = if call < reads {
+            (Status::ReadFault, "", "nanolog: t: read fault\n")
         } else {
-            let kept = ((call - reads).saturating_sub(1) as usize * PIECE).min(log.len());
-            ((Status::WriteFault, "", "nanolog: l: write fault\n"), kept)
+            (Status::WriteFault, "", "nanolog: l: write fault\n")
         };
         assert_eq!(rt; ran.shown(), want, "call {call}");
-        let held = ran.log.as_deref().unwrap_or(&[]);
-        assert_eq!(rt; held, &log[..kept], "call {call}");
+        assert!(rt; log.starts_with(held), "call {call}");
+        assert_eq!(rt; ran.log.is_none(), call <= reads, "call {call}");
+        if held.len() == 56 {
+            fragments = fragments.saturating_add(1);
+        }
+        call = call.saturating_add(1);
     }
+    // The log is created, five pieces of it at least are put, and it is ended.
+    assert!(rt; call >= reads + 7);
+    assert_eq!(rt; fragments, 1);
+    let ran = run(&rt, rt.alloc(), &["replay", "t", "l"], TRACE, NONE)?;
+    assert_eq!(rt; ran.shown(), (Status::Done, ACCEPTED, ""));
     Ok(())
 }
 
@@ -442,7 +452,7 @@ fn a_failed_write_of_the_count_leaves_the_log(rt: HostRuntime) -> Result<(), Fai
 /// Runs the words where the file `t` holds [`TRACE`] and `l` holds the log. Where memory is wanting that is told, and
 /// else the text is printed.
 fn expect_told_or_done(
-    rt: &impl Abort,
+    rt: &impl Machine,
     alloc: Global,
     words: &[&str],
     log: &[u8],
@@ -454,7 +464,8 @@ fn expect_told_or_done(
     let words = owned_words(alloc, words)?;
     files.put_file("t", TRACE.as_bytes())?;
     files.put_file("l", log)?;
-    let status = quick(alloc, &words, &mut files, &mut out, &mut err);
+    let gate = Arc::new(alloc, FreeGate)?;
+    let status = nanolog(*rt, alloc, &words, &mut files, &mut out, &mut err, &gate);
     if err.starved() > 0 {
         return Ok(());
     }

@@ -1,37 +1,149 @@
 //! The command `replay`.
 
+ghost use Rattle.std.specs.Prelude.{◌≡◌, ◌≢◌, ◌≤◌, ℕ, List, Err, None, IfOk, IfErr, OnOk, IsErrOf};
+ghost use Rattle.std.specs.Arc.{arc_value};
+ghost use Rattle.std.specs.FinMap as map;
+ghost use Rattle.nl_io.specs.Count.{Rose};
+ghost use Rattle.nl_io.specs.Content.{with_end};
+ghost use Rattle.nl_io.specs.Desk.{OnlyName, SameButHeld, put_by};
 ghost use Rattle.cli_words.specs.Commands.{Replay};
-ghost use Rattle.nanolog_cli.specs.Endings.{ending_of};
+ghost use Rattle.cli_words.specs.Rows.{AreInBounds};
+ghost use Rattle.log_session.specs.Sessions.{IsSession};
+ghost use Rattle.nanolog_cli.specs.Endings.{ending_of, refusal_ending};
+ghost use Rattle.nanolog_cli.specs.HeldFiles.{IsHeld};
 ghost use Rattle.nanolog_cli.specs.Outcomes.{scene, Ends};
+ghost use Rattle.nanolog_cli.specs.Replays.{GivesNoLog, fault_ending};
 
-use crate::input::narrow_run_of_file;
-use crate::log_of_run::{accepted_text, log_of_run};
-use crate::output::print;
+use crate::input::run_of_file;
 use crate::refusal::Refusal;
-use crate::saving::save;
-use log_dictionary::Severity;
-use nl_io::{Files, Sink};
+use crate::telling::tell;
+use log_session::{Gate, Options, Outcome, RunFault};
+use nl_io::{FileSink, Files, Sink};
+use ring_core::Stage;
 use std::alloc::Global;
+use std::sync::{Arc, Wait};
+use std::thread::Threads;
+use trace_text::Trace;
 
-/// Writes the log of the calls that the level keeps of the run that a name holds, and prints how many it keeps.
-pub(crate) fn replay<'a, F: Files, O: Sink>(
+/// Makes the calls of a run, and writes their log to the created file.
+fn log_calls<R, S, F, G>(
+    rt: R,
+    alloc: Global,
+    run: &Arc<Trace, Global>,
+    options: &Options,
+    files: &mut F,
+    id: u32,
+    gate: &Arc<G, Global>,
+) -> Result<Outcome<S::Done>, RunFault>
+where
+    R: Threads + Wait + Copy + Send + 'static,
+    S: Stage,
+    F: Files,
+    G: Gate + 'static,
+    requires made { map.get (F.desk files.old).made id ≢ None }
+    requires bounds { AreInBounds options.now }
+    ensures ok { IfOk result (λ outcome. (bytes : List ℕ)
+        × (put_by (F.desk files.new) id ≡ with_end bytes (put_by (F.desk files.old) id))
+        × IsSession S.Done.sent S.Done.got (arc_value run.now) options.now outcome bytes) }
+    ensures sized { ¬ (IsErrOf result RunFault.BadSize) }
+    ensures unbegun { IsErrOf result RunFault.NoMemory → F.desk files.new ≡ F.desk files.old }
+    ensures counted { OnOk result ((F.desk files.new).write_faults ≡ (F.desk files.old).write_faults) }
+    ensures cause { IsErrOf result RunFault.SinkFault
+        → Rose (F.desk files.old).write_faults (F.desk files.new).write_faults }
+    ensures count { (F.desk files.old).write_faults ≤ (F.desk files.new).write_faults }
+    ensures grew { (bytes : List ℕ)
+        × (put_by (F.desk files.new) id ≡ with_end bytes (put_by (F.desk files.old) id)) }
+    ensures same { SameButHeld id (F.desk files.old) (F.desk files.new) }
+    ensures others { F.rest files.old files.new }
+{
+    log_session::run::<R, S, FileSink<'_, F>, G>(
+        rt,
+        alloc,
+        run,
+        options,
+        &mut FileSink::make(files, id),
+        gate,
+    )
+}
+
+/// The refusal of a log for which a session wasn't run to its end.
+fn refusal_of(log: &str, fault: RunFault) -> Refusal<'_>
+    requires { fault ≢ RunFault.BadSize }
+    ensures { refusal_ending result ≡ fault_ending log.now fault }
+{
+    match fault {
+        RunFault::BadSize => unreachable!(),
+        RunFault::NoMemory => Refusal::NoMemory,
+        RunFault::SinkFault => Refusal::WriteFault(log),
+    }
+}
+
+/// Makes the calls of a run, and writes their log to the name, in place of what it held.
+fn write_log<'a, R, S, F, G>(
+    rt: R,
+    alloc: Global,
+    run: &Arc<Trace, Global>,
+    options: &Options,
+    files: &mut F,
+    log: &'a str,
+    gate: &Arc<G, Global>,
+) -> Result<Outcome<S::Done>, Refusal<'a>>
+where
+    R: Threads + Wait + Copy + Send + 'static,
+    S: Stage,
+    F: Files,
+    G: Gate + 'static,
+    requires bounds { AreInBounds options.now }
+    ensures ok { IfOk result (λ outcome. (bytes : List ℕ) × IsHeld (F.desk files.new) log.now bytes
+        × IsSession S.Done.sent S.Done.got (arc_value run.now) options.now outcome bytes) }
+    ensures counted { OnOk result ((F.desk files.new).write_faults ≡ (F.desk files.old).write_faults) }
+    ensures nothing { IfErr result (λ refusal. GivesNoLog log.now (F.desk files.old) (F.desk files.new)
+        (refusal_ending refusal)) }
+    ensures only { OnlyName log.now (F.desk files.old) (F.desk files.new) }
+    ensures others { F.rest files.old files.new }
+{
+    let Ok(id) = files.create(log) else {
+        return Err(Refusal::WriteFault(log));
+    };
+    let logged = log_calls::<R, S, F, G>(rt, alloc, run, options, files, id, gate);
+    let Ok(()) = files.finish(id) else {
+        return Err(Refusal::WriteFault(log));
+    };
+    match logged {
+        Ok(outcome) => Ok(outcome),
+        Err(fault) => Err(refusal_of(log, fault)),
+    }
+}
+
+/// Reads the run that a name holds, makes its calls through rings, writes their log to another name, and tells which
+/// calls were dropped and how many were accepted, dropped and filtered.
+pub(crate) fn replay<'a, R, S, F, O, G>(
+    rt: R,
     alloc: Global,
     files: &mut F,
     trace: &'a str,
     log: &'a str,
-    level: Severity,
+    options: &Options,
     out: &mut O,
+    gate: &Arc<G, Global>,
 ) -> Result<(), Refusal<'a>>
-    ensures ends { Ends (Replay trace.now log.now level) (scene (F.desk files.old) (O.put out.old) (O.faults out.old))
+where
+    R: Threads + Wait + Copy + Send + 'static,
+    S: Stage,
+    F: Files,
+    O: Sink,
+    G: Gate + 'static,
+    requires bounds { AreInBounds options.now }
+    ensures ends { Ends (Replay trace.now log.now options.now)
+        (scene (F.desk files.old) (O.put out.old) (O.faults out.old))
         (scene (F.desk files.new) (O.put out.new) (O.faults out.new)) (ending_of result) }
     ensures files_others { F.rest files.old files.new }
     ensures out_others { O.rest out.old out.new }
 {
-    let run = narrow_run_of_file(alloc, files, trace)?;
-    let bytes = log_of_run(alloc, &run, level)?;
-    let text = accepted_text(alloc, &run, level)?;
-    match save(files, log, &bytes) {
-        Ok(()) => print(out, &text),
-        Err(_) => Err(Refusal::WriteFault(log)),
-    }
+    let run = run_of_file(alloc, files, trace)?;
+    let Ok(run) = Arc::new(alloc, run) else {
+        return Err(Refusal::NoMemory);
+    };
+    let outcome = write_log::<R, S, F, G>(rt, alloc, &run, options, files, log, gate)?;
+    tell(out, &outcome.drops, outcome.accepted, outcome.filtered)
 }

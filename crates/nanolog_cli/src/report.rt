@@ -7,10 +7,11 @@ ghost use Rattle.nanolog_cli.specs.Words.{words_of, contents};
 ghost use Rattle.nanolog_cli.specs.Outcomes.{Says, Tells};
 
 use crate::note::Note;
-use crate::refusal::{Cause, Refusal};
+use crate::refusal::Refusal;
 use checkpoint_io::Cause as LogCause;
 use itoa::Buffer;
 use nl_io::{Sink, write_all};
+use trace_text::TraceCause;
 
 const USAGE: &str = "usage:
   nanolog preprocess DICT FILE..
@@ -67,7 +68,7 @@ fn say_cause<'a, E: Sink>(
 }
 
 /// Writes that what a file holds is refused.
-fn say_refused<E: Sink>(err: &mut E, name: &str, line: u64, cause: Cause)
+fn say_refused<E: Sink>(err: &mut E, name: &str, line: u64, cause: TraceCause)
     ensures said { Says (words_of (RefusedFile name.now line cause)) (E.put err.old) (E.put err.new)
         (E.faults err.old) (E.faults err.new) }
     ensures others { E.rest err.old err.new }

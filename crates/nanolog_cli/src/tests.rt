@@ -1,11 +1,19 @@
 //! Whole runs over files and sinks in memory.
 
 use super::*;
+use log_session::{FreeGate, Gate};
 use nl_io::{MemFiles, MemSink};
 use std::alloc::{AllocError, Global};
 use std::fmt::Write;
 use std::process::Abort;
+use std::sync::{Arc, Wait};
 use std::test::Fail;
+use std::thread::Threads;
+
+/// What a run needs of the machine that it runs on.
+pub(crate) trait Machine: Abort + Threads + Wait + Copy + Send + 'static {}
+
+impl<R: Abort + Threads + Wait + Copy + Send + 'static> Machine for R {}
 
 /// A trace of one call, and its line.
 pub(crate) const TRACE: &str = "nanolog-trace 1
@@ -62,7 +70,7 @@ pub(crate) const NONE: Failing<'static> = Failing {
 #[derive(Drop)]
 pub(crate) struct Ran {
     pub(crate) status: Status,
-    out: String,
+    pub(crate) out: String,
     err: String,
     pub(crate) log: Option<Vec<u8>>,
 }
@@ -102,13 +110,14 @@ fn copy_of(alloc: Global, files: &MemFiles, name: &str) -> Result<Option<Vec<u8>
     }
 }
 
-/// Runs the words where one file holds these bytes.
-pub(crate) fn run_over(
-    rt: &impl Abort,
+/// Runs the words where one file holds these bytes, with this gate.
+pub(crate) fn run_gated<R: Machine, G: Gate + 'static>(
+    rt: &R,
     alloc: Global,
     words: &[&str],
     file: (&str, &[u8]),
     failing: Failing<'_>,
+    gate: &Arc<G, Global>,
 ) -> Result<Ran, Fail> {
     let piece = failing.piece.max(1);
     let mut files = MemFiles::make(alloc, piece, failing.files)?;
@@ -116,7 +125,7 @@ pub(crate) fn run_over(
     let mut out = MemSink::make(alloc, piece, failing.out)?;
     let mut err = MemSink::make(alloc, piece, failing.err)?;
     let owned = owned_words(alloc, words)?;
-    let status = quick(alloc, &owned, &mut files, &mut out, &mut err);
+    let status = nanolog(*rt, alloc, &owned, &mut files, &mut out, &mut err, gate);
     assert_eq!(rt; files.starved(), 0);
     assert_eq!(rt; out.starved(), 0);
     assert_eq!(rt; err.starved(), 0);
@@ -128,9 +137,21 @@ pub(crate) fn run_over(
     })
 }
 
+/// Runs the words where one file holds these bytes.
+pub(crate) fn run_over(
+    rt: &impl Machine,
+    alloc: Global,
+    words: &[&str],
+    file: (&str, &[u8]),
+    failing: Failing<'_>,
+) -> Result<Ran, Fail> {
+    let gate = Arc::new(alloc, FreeGate)?;
+    run_gated(rt, alloc, words, file, failing, &gate)
+}
+
 /// Runs the words where the file `t` holds the text.
 pub(crate) fn run(
-    rt: &impl Abort,
+    rt: &impl Machine,
     alloc: Global,
     words: &[&str],
     text: &str,
@@ -141,7 +162,7 @@ pub(crate) fn run(
 
 /// Asserts how `direct` of the text ends: with these lines, or refused with these words behind the name.
 fn expect_by(
-    rt: &impl Abort,
+    rt: &impl Machine,
     alloc: Global,
     text: &str,
     lines: &str,
@@ -164,7 +185,7 @@ fn expect_by(
 /// Asserts how `direct` of the text ends: with these lines, where they are none or end with a line feed, and else
 /// refused at the line that stands first, by the number and the name behind it. It ends so whatever one call moves at
 /// most.
-fn expect_end(rt: &impl Abort, alloc: Global, text: &str, want: &str) -> Result<(), Fail> {
+fn expect_end(rt: &impl Machine, alloc: Global, text: &str, want: &str) -> Result<(), Fail> {
     if want.is_empty() || want.ends_with('\n') {
         expect_by(rt, alloc, text, want, "", 1)?;
         return expect_by(rt, alloc, text, want, "", PIECE);
@@ -178,7 +199,7 @@ fn expect_end(rt: &impl Abort, alloc: Global, text: &str, want: &str) -> Result<
 /// Asserts this of the trace with one piece of its text in place of another. Each row has the piece that is left out, a
 /// `|`, the piece that stands in its place, a `|` and how that ends. A `;` is a line feed, and `@` the time and the
 /// place of the first call.
-fn expect_edited(rt: &impl Abort, alloc: Global, trace: &str, table: &str) -> Result<(), Fail> {
+fn expect_edited(rt: &impl Machine, alloc: Global, trace: &str, table: &str) -> Result<(), Fail> {
     for row in table.lines() {
         let row = row.replace(alloc, ";", "\n")?;
         let row = row
@@ -322,6 +343,11 @@ replay t -l
 replay  l
 replay t l m
 replay t l --ring 1000
+replay t l --ring 1048577
+replay t l --batch 0
+replay t l --batch 65537
+replay t l --full shed
+replay t l --full
 replay t l --level
 replay t l --level error
 replay t l --level ERROR --level ERROR
@@ -587,4 +613,27 @@ clock|message 1 DEBUG 12 \"srv.cc\" \"x=%d\";clock|@ NOTICE[0]: x=7;",
 \"a\"|\"a b\"|@ NOTICE[0]: a bb;
 \"a\"|\"\\x41\\n\"|@ NOTICE[0]: A;b;",
     )
+}
+
+/// What waits for nobody does all but `replay`, which it answers as words that are no command.
+#[test]
+fn quick_does_all_but_replay(rt: HostRuntime) -> Result<(), Fail> {
+    for (line, want, printed, told) in [
+        ("direct t", Status::Done, LINE, ""),
+        ("replay t l", Status::Usage, "", USAGE),
+        ("replay t", Status::Usage, "", USAGE),
+    ] {
+        let mut files = MemFiles::make(rt.alloc(), PIECE, &[])?;
+        files.put_file("t", TRACE.as_bytes())?;
+        let mut out = MemSink::make(rt.alloc(), PIECE, &[])?;
+        let mut err = MemSink::make(rt.alloc(), PIECE, &[])?;
+        let words = words_of(rt.alloc(), line)?;
+        let owned = owned_words(rt.alloc(), &words)?;
+        let status = quick(rt.alloc(), &owned, &mut files, &mut out, &mut err);
+        assert_eq!(rt; status, want, "{line}");
+        assert_eq!(rt; out.bytes(), printed.as_bytes());
+        assert_eq!(rt; err.bytes(), told.as_bytes());
+        assert!(rt; files.get_file("l").is_none());
+    }
+    Ok(())
 }

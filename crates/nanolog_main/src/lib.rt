@@ -5,18 +5,22 @@
 
 ghost use Rattle.std.specs.Prelude.{◌≡◌, Option};
 ghost use Rattle.std.specs.Process.{exit_status};
-ghost use Rattle.nanolog_cli.specs.Commands.{Command};
-ghost use Rattle.nanolog_cli.specs.Endings.{Ending, status_of};
+ghost use Rattle.cli_words.specs.Commands.{Command};
+ghost use Rattle.nanolog_cli.specs.Endings.{Ending, NoMemory, status_of};
+ghost use Rattle.nanolog_cli.specs.declared.status.Status.TheVariants.{NoMemory as IsNoMemory};
 ghost use Rattle.nanolog_cli.specs.Outcomes.{scene, Answers, Tells};
 ghost use Rattle.nanolog_cli.specs.Statuses.{status_number};
 
-use nanolog_cli::{Status, quick};
+use log_session::FreeGate;
+use nanolog_cli::{Status, nanolog};
 use nl_io::{Files, Sink, StdFiles, StdSink, write_all};
 use std::env;
 use std::io::{self, Eprint, ErrorKind};
 use std::marker::Model;
 use std::process::{ExitCode, Termination};
 use std::rt::{self, Env, Stderr, Stdout};
+use std::sync::{Arc, Wait};
+use std::thread::Threads;
 
 #[cfg(test)]
 mod tests;
@@ -52,36 +56,47 @@ fn words_of(rt: &(impl Env + AllocGlobal)) -> io::Result<Vec<String>> {
     }
 }
 
+/// Says that memory is wanting.
+fn want_memory<E: Sink>(err: &mut E) -> Status
+    ensures status { result ≡ IsNoMemory }
+    ensures told { Tells NoMemory (E.put err.old) (E.put err.new) (E.faults err.old) (E.faults err.new) }
+{
+    let _ = write_all(err, b"nanolog: want of memory\n");
+    Status::NoMemory
+}
+
 /// Does what the words after the program's name ask for. Which words these are is told to no contract.
-fn run_words<R: Env + AllocGlobal, F: Files, O: Sink, E: Sink>(
-    rt: &R,
-    files: &mut F,
-    out: &mut O,
-    err: &mut E,
-) -> Status
+fn run_words<P, R, F, O, E>(process: &P, rt: R, files: &mut F, out: &mut O, err: &mut E) -> Status
+where
+    P: Env + AllocGlobal,
+    R: Threads + Wait + Copy + Send + 'static,
+    F: Files,
+    O: Sink,
+    E: Sink,
     // It ends as a command does, or as words that spell none, or memory was wanting for the words.
     ensures ends { (command : Option Command) × (ending : Ending) × (result ≡ status_of ending)
         × Answers command (scene (F.desk files.old) (O.put out.old) (O.faults out.old))
         (scene (F.desk files.new) (O.put out.new) (O.faults out.new)) ending
         × Tells ending (E.put err.old) (E.put err.new) (E.faults err.old) (E.faults err.new) }
 {
-    let Ok(words) = words_of(rt) else {
-        let _ = write_all(err, b"nanolog: want of memory\n");
-        return Status::NoMemory;
+    let Ok(words) = words_of(process) else {
+        return want_memory(err);
     };
-    quick(rt.alloc(), &words, files, out, err)
+    let Ok(gate) = Arc::new(process.alloc(), FreeGate) else {
+        return want_memory(err);
+    };
+    nanolog(rt, process.alloc(), &words, files, out, err, &gate)
 }
 
 /// Runs the program over the files of the system. What these hold, and what the outputs get, is told to no contract.
-pub fn run<R: rt::Files + Env + AllocGlobal + Copy + Drop>(
-    rt: R,
-    out: Stdout,
-    err: Stderr,
-) -> Ended {
+pub fn run<R>(rt: R, out: Stdout, err: Stderr) -> Ended
+where
+    R: rt::Files + Env + AllocGlobal + Threads + Wait + Copy + Send + Drop + 'static,
+{
     let mut files = StdFiles::make(rt, rt.alloc());
     let mut out = StdSink::make(out);
     let mut err = StdSink::make(err);
     Ended {
-        status: run_words(&rt, &mut files, &mut out, &mut err),
+        status: run_words(&rt, rt, &mut files, &mut out, &mut err),
     }
 }

@@ -52,7 +52,7 @@ impl Env for Words<'_> {
 /// Asserts how a process ends that is started with these words where the file `t` holds [`TRACE`], and what it writes
 /// to its standard output and its standard error.
 fn expect(
-    rt: &impl Abort,
+    rt: &(impl Abort + Threads + Wait + Copy + Send + 'static),
     alloc: Global,
     words: &[&[u8]],
     want: (Status, &str, &str),
@@ -61,7 +61,7 @@ fn expect(
     files.put_file("t", TRACE)?;
     let mut out = MemSink::make(alloc, 16, &[])?;
     let mut err = MemSink::make(alloc, 16, &[])?;
-    let status = run_words(&(Words(words), alloc), &mut files, &mut out, &mut err);
+    let status = run_words(&(Words(words), alloc), *rt, &mut files, &mut out, &mut err);
     let out = String::from_utf8(out.bytes().to_vec(alloc)?)?;
     let err = String::from_utf8(err.bytes().to_vec(alloc)?)?;
     assert_eq!(rt; (status, out.as_str(), err.as_str()), want);
@@ -73,7 +73,14 @@ fn words_reach_their_command(rt: HostRuntime) -> Result<(), Fail> {
     let lines = (Status::Done, LINE, "");
     expect(&rt, rt.alloc(), &[b"nanolog", b"direct", b"t"], lines)?;
     let absent = (Status::Absent, "", "nanolog: nofile: absent\n");
-    expect(&rt, rt.alloc(), &[b"nanolog", b"direct", b"nofile"], absent)
+    expect(&rt, rt.alloc(), &[b"nanolog", b"direct", b"nofile"], absent)?;
+    let counts = (Status::Done, "accepted 1 dropped 0 filtered 0\n", "");
+    expect(
+        &rt,
+        rt.alloc(),
+        &[b"nanolog", b"replay", b"t", b"l"],
+        counts,
+    )
 }
 
 #[test]

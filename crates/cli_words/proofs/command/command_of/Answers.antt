@@ -2,14 +2,14 @@ use Rattle.std.proofs.Common.{◌∙◌, ap, sym}
 use Rattle.std.specs.Prelude.{option_and_then, option_map}
 use Rattle.std.proofs.lemmas.Result.{IfOk-weaker}
 use Rattle.cli_words.specs.Commands.{command_of, texts_of}
-use Rattle.cli_words.specs.Uses.{uses_of, found_command}
+use Rattle.cli_words.specs.Uses.{uses_of, found_command, options_taken}
 use Rattle.cli_words.proofs.Commands.{command_from, none_asked, whole_line}
 use Rattle.cli_words.proofs.command.command_of.Goals as goal
 
 pub returns-in-Some-2 : goal.returns-in-Some-2
 returns-in-Some-2 c =
     IfOk-weaker c.found_command.result _ _ (λ command is. is
-    ∙ ap (option_and_then (found_command c.in-Some-form_named.form)) (ap (option_map uses_of) (sym c.in-Some-2.is))
+    ∙ ap (option_and_then (found_command c.in-Some-form_named.form)) (ap (option_map (uses_of (options_taken c.in-Some-form_named.form))) (sym c.in-Some-2.is))
     ∙ command_from c.as_str.result.now (texts_of c.in-Some.rest.now) c.in-Some-form_named.form _
     c.in-Some-form_named.ensures c.in_ok-found.ensures
     ∙ ap command_of (whole_line c.args.words.now c.in-Some.rest.now c.in-Some.word.now c.as_str.result.now
@@ -17,7 +17,7 @@ returns-in-Some-2 c =
 
 pub returns-in-None : goal.returns-in-None
 returns-in-None c =
-    ap (option_and_then (found_command c.in-Some-form_named.form)) (ap (option_map uses_of) (sym c.in-None.is))
+    ap (option_and_then (found_command c.in-Some-form_named.form)) (ap (option_map (uses_of (options_taken c.in-Some-form_named.form))) (sym c.in-None.is))
     ∙ command_from c.as_str.result.now (texts_of c.in-Some.rest.now) c.in-Some-form_named.form _
     c.in-Some-form_named.ensures c.in_ok-found.ensures
     ∙ ap command_of (whole_line c.args.words.now c.in-Some.rest.now c.in-Some.word.now c.as_str.result.now

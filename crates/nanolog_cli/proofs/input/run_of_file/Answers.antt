@@ -2,7 +2,6 @@ use Rattle.std.proofs.Common.{rules, sym, subst}
 use Rattle.nl_io.specs.DeskLaws.{visited, visited-whole, Opens-reading}
 use Rattle.nanolog_cli.proofs.InputLemmas.{such_held, opened_there, unread_fault}
 use Rattle.nanolog_cli.specs.Endings.{Ending}
-use Rattle.nanolog_cli.specs.Inputs.{WrongTrace}
 use Rattle.nanolog_cli.specs.Outcomes.{IsUnread}
 use Rattle.nanolog_cli.proofs.input.run_of_file.Goals as goal
 
@@ -18,7 +17,7 @@ returns-in-Ok-clause-same g c =
 
 pub returns-in-Err-clause-unread : goal.returns-in-Err-clause-unread
 returns-in-Err-clause-unread g c =
-    let unread : Ending → Type 0 = λ ending. IsUnread WrongTrace c.args.name.now (g.F.Files.desk c.args.files.now) (g.F.Files.desk c.leave.new.self) ending in
+    let unread : Ending → Type 0 = λ ending. IsUnread c.args.name.now (g.F.Files.desk c.args.files.now) (g.F.Files.desk c.leave.new.self) ending in
     subst unread (sym c.refusal_of.ensures)
     (unread_fault _ _ _ _ (visited _ _ _ _ _ _ c.in_ok-id.ensures.opened c.trace_of_open-read.ensures.same c.trace_of_open-read.ensures.count c.leave.ensures.left)
     (λ other. visited-whole _ _ _ _ _ _ c.in_ok-id.ensures.opened c.trace_of_open-read.ensures.same (c.in-Err.ensures.counted other) c.leave.ensures.left)

@@ -1,43 +1,37 @@
-use Rattle.std.proofs.Common.{refl, inr, ap, ◌∙◌}
+use Rattle.std.proofs.Common.{sym, ap, subst, ◌∙◌}
 use Rattle.nl_io.specs.Desk.{Desk}
-use Rattle.nanolog_cli.proofs.Endings.{replay_printed}
+use Rattle.nanolog_cli.specs.Endings.{Ending}
+use Rattle.nanolog_cli.specs.Scenes.{Scene, scene}
+use Rattle.nanolog_cli.specs.Replays.{Replays}
+use Rattle.nanolog_cli.proofs.Endings.{ended_as}
+use Rattle.nanolog_cli.proofs.Replaying.{replay_lacked, replay_lost, replay_told}
 use Rattle.nanolog_cli.proofs.replay.replay.Goals as goal
 
-pub returns-in-Ok-clause-ends : goal.returns-in-Ok-clause-ends
-returns-in-Ok-clause-ends g c = replay_printed c.args.trace.now c.args.log.now c.args.level _ _ c.in_ok-text.text.items _ _ _ (
-  c.in_ok-run.run',
-  c.in_ok-run.ensures.found,
-  record {
-    bytes = c.in_ok-bytes.bytes.items;
-    log_of_run = c.in_ok-bytes.ensures;
-    written = (rw c.deref.ensures.value at c.in-Ok.ensures.ok);
-    only = (rw c.in_ok-run.ensures.same at c.save.ensures.only);
-    counted = c.in-Ok.ensures.counted ∙ ap (λ (d : Desk). d.write_faults) c.in_ok-run.ensures.same;
-  },
-  c.in_ok-text.ensures,
-)
-    (rw c.deref-in-Ok.ensures.value at c.print.ensures.printed) c.print.ensures.memory
+pub returns-in_default-clause-ends : goal.returns-in_default-clause-ends
+returns-in_default-clause-ends g c =
+    let old : Scene = scene (g.F.Files.desk c.args.files.now) (g.O.Sink.put c.args.out.now) (g.O.Sink.faults c.args.out.now) in
+    replay_lacked c.args.trace.now c.args.log.now c.args.options.now old _ c.in_ok-run.run' c.in_ok-run.ensures.found c.in_ok-run.ensures.same
+
+pub returns-in_err-outcome-clause-ends : goal.returns-in_err-outcome-clause-ends
+returns-in_err-outcome-clause-ends g c =
+    let old : Scene = scene (g.F.Files.desk c.args.files.now) (g.O.Sink.put c.args.out.now) (g.O.Sink.faults c.args.out.now) in
+    let ends : Ending → Type 0 = λ ending. Replays c.args.trace.now c.args.log.now c.args.options.now old (scene (g.F.Files.desk c.write_log.new.files) old.put old.faults) ending in
+    subst ends (sym (ended_as _ c.in_err-outcome.field-0.0 c.from_residual-in_err-outcome.ensures.1))
+    (replay_lost c.args.trace.now c.args.log.now c.args.options.now old _ c.in_ok-run.run' _ c.in_ok-run.ensures.found
+    (rw c.in_ok-run.ensures.same at c.in_err-outcome.ensures.nothing)
+    (rw c.in_ok-run.ensures.same at c.write_log.ensures.only))
 
 pub returns-clause-ends : goal.returns-clause-ends
-returns-clause-ends g c = inr (
-  refl,
-  (
-    c.in_ok-run.run',
-    c.in_ok-run.ensures.found,
-    record {
-      bytes = c.in_ok-bytes.bytes.items;
-      log_of_run = c.in_ok-bytes.ensures;
-      holds = (rw (c.in_ok-run.ensures.same, c.deref.ensures.value) at c.in-Err.ensures.front);
-      only = (rw c.in_ok-run.ensures.same at c.save.ensures.only);
-      failed = (rw c.in_ok-run.ensures.same at c.in-Err.ensures.cause);
-    },
-  ),
-  refl,
-  refl,
-)
+returns-clause-ends g c =
+    let logged = c.in_ok-outcome.ensures.ok in
+    replay_told _ _ c.args.trace.now c.args.log.now c.args.options.now _ _ c.in_ok-run.run' c.in_ok-outcome.outcome logged.0 _ _ _ c.in_ok-run.ensures.found logged.1
+    (rw c.in-Ok.ensures.ok at logged.2)
+    (rw c.in_ok-run.ensures.same at c.write_log.ensures.only)
+    (c.in_ok-outcome.ensures.counted ∙ ap (λ (d : Desk). d.write_faults) c.in_ok-run.ensures.same)
+    c.tell.ensures.printed c.tell.ensures.memory
 
-pub returns-in-Ok-clause-files_others : goal.returns-in-Ok-clause-files_others
-returns-in-Ok-clause-files_others g c = g.met.F.Files.rest_then _ _ _ c.narrow_run_of_file.ensures.others c.save.ensures.others
+pub returns-in_err-outcome-clause-files_others : goal.returns-in_err-outcome-clause-files_others
+returns-in_err-outcome-clause-files_others g c = g.met.F.Files.rest_then _ _ _ c.run_of_file.ensures.others c.write_log.ensures.others
 
 pub returns-clause-files_others : goal.returns-clause-files_others
-returns-clause-files_others g c = g.met.F.Files.rest_then _ _ _ c.narrow_run_of_file.ensures.others c.save.ensures.others
+returns-clause-files_others g c = g.met.F.Files.rest_then _ _ _ c.run_of_file.ensures.others c.write_log.ensures.others

@@ -1,20 +1,28 @@
-use Rattle.std.proofs.Common.{◌≡◌, ◌∙◌, rules, true, refl, ap₂}
-use Rattle.std.proofs.lemmas.Result.{IfOk-weaker}
+use Rattle.std.proofs.Common.{◌≡◌, ◌∙◌, Bor, [], get_or, rules, ap}
 use Rattle.clap.specs.Words.{app_of, rule_of, with_rule}
-use Rattle.cli_words.specs.Apps.{plain_app, names_argument, level_argument}
-use Rattle.cli_words.specs.Uses.{has_level}
-use Rattle.cli_words.proofs.Answers.{plain_is}
+use Rattle.cli_words.specs.Apps.{names_argument, option_argument}
+use Rattle.cli_words.specs.Commands.{Text}
+use Rattle.cli_words.proofs.Answers.{all_taken, one_more_taken, plain_is}
 use Rattle.cli_words.proofs.reading.Form.reader.Goals as goal
+
+pub loop-option-init : goal.loop-option-init
+loop-option-init c =
+    let names : rule_of c.action-names.result ≡ names_argument = search rules in
+    c.in_ok-command.ensures.shape (search rules)
+    ∙ ap (with_rule (app_of c.disable_help_flag.result)) names
+    ∙ plain_is c.new-2.result c.no_binary_name.result c.disable_help_flag.result
+    c.new-2.ensures.app c.no_binary_name.ensures c.disable_help_flag.ensures
+
+pub loop-option-preserved : goal.loop-option-preserved
+loop-option-preserved c =
+    let options = c.options-option-items.result.now in
+    let d : Bor Text = record { ref_ptr = (0, 0); now = [] } in
+    let rule : rule_of c.action-argument.result ≡ option_argument (get_or options c.loop-option.option-index d).now = search rules in
+    one_more_taken options c.loop-option.option-index d (app_of c.loop-option.command) (app_of c.in_ok-command-2.command)
+    (rule_of c.action-argument.result) c.loop-option-test.true (c.in_ok-command-2.ensures.shape (search rules))
+    c.loop-option.invariant rule
 
 pub returns : goal.returns
 returns c =
-    let names : rule_of c.action-names.result ≡ names_argument = search rules in
-    let level : rule_of c.action-level.result ≡ level_argument = search rules in
-    let plain : app_of c.disable_help_flag.result ≡ plain_app =
-    plain_is c.new-2.result c.no_binary_name.result c.disable_help_flag.result
-    c.new-2.ensures.app c.no_binary_name.ensures c.disable_help_flag.ensures in
-    let with_names : app_of c.in_ok-command.command ≡ with_rule plain_app names_argument =
-    c.in_ok-command.ensures.shape (search rules) ∙ ap₂ with_rule plain names in
-    let has : has_level c.args.self ≡ true = search rules in
-    IfOk-weaker c.arg-2.result _ _ (λ r added.
-    added.shape (search rules) ∙ ap₂ with_rule with_names level ∙ rw has refl) c.arg-2.ensures
+    all_taken c.options-option-items.result.now c.loop-option.option-index _ (app_of c.loop-option.command)
+    c.loop-option.invariant c.loop-option.auto.option-index-end c.loop-option-test.false c.options-option-items.ensures

@@ -1,0 +1,5 @@
+use Rattle.nanolog_cli.specs.Endings.{answer_ending}
+use Rattle.nanolog_cli.proofs.commands.nanolog.Goals as goal
+
+pub returns-clause-ends : goal.returns-clause-ends
+returns-clause-ends g c = (answer_ending c.run_words.result, c.say_end.ensures.status, c.run_words.ensures.ends, c.say_end.ensures.told)
