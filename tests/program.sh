@@ -1,5 +1,5 @@
 #!/bin/bash
-# Runs the built program over files of the system, and the commands that README.md shows. It prints what is wrong, and
+# Runs the built program over files of the system, and the commands that the pages show. It prints what is wrong, and
 # then ends with status 1.
 top=$(readlink -f -- "$(dirname -- "$(readlink -f -- "$0")")/..")
 [ -x "$top/nanolog" ] || exit 1
@@ -75,11 +75,23 @@ expect 1 '' "$usage" replay t t
 expect 1 '' "$usage" replay t l --level
 expect 1 '' "$usage" replay t l --level notice
 expect 1 '' "$usage" replay t l --level ERROR --level ERROR
-expect 1 '' "$usage" replay t l --ring 2048
+expect 1 '' "$usage" replay t l --ring
+expect 1 '' "$usage" replay t l --ring 1000
+expect 1 '' "$usage" replay t l --ring 1048577
+expect 1 '' "$usage" replay t l --ring +2048
+expect 1 '' "$usage" replay t l --ring 2048 --ring=2048
+expect 1 '' "$usage" replay t l --batch 0
+expect 1 '' "$usage" replay t l --batch 65537
+expect 1 '' "$usage" replay t l --full
+expect 1 '' "$usage" replay t l --full shed
+expect 1 '' "$usage" replay t l --threads 2
 expect 1 '' "$usage" direct t --level ERROR
+expect 1 '' "$usage" direct t --ring 2048
 expect 1 '' "$usage" direct -t
 expect 1 '' "$usage" decompress
+expect 1 '' "$usage" decompress l --full drop
 expect 1 '' "$usage" direct $'\xff'
+[ -e l ] && fail "words that are no command created a log"
 
 # ---- lines and logs
 
@@ -107,20 +119,96 @@ expect 0 "$accepted" '' replay t l
 expect 0 "$line" '' direct <(cat t)
 expect 0 "$line" '' decompress <(cat l)
 
-# As many calls as replay takes.
-{
-    sed '/^call/,$d' t
-    for ((at = 0; at < 128; at++)); do
-        echo "call 0 $((1000 + at)) 0 $((at - 64))"
+# ---- sessions
+
+# same_lines LOG TRACE WHAT compares the lines of a log with those of a trace.
+same_lines() {
+    cmp -s <(./nanolog decompress "$1" 2>&1) <(./nanolog direct "$2" 2>&1) || fail "$3: the log has other lines"
+}
+
+# Whatever the options, a call for which there is room is logged.
+cp l one
+for options in '--full drop --ring 1024' '--full=wait --ring=1048576 --batch=1' '--batch 65536 --level DEBUG'; do
+    # shellcheck disable=SC2086 # These are several words.
+    expect 0 "$accepted" '' replay t l $options
+    cmp -s one l || fail "replay t l $options: another log"
+done
+
+expect 0 $'accepted 9 dropped 0 filtered 0\n' '' replay examples/first.trace first.log
+same_lines first.log examples/first.trace first.trace
+expect 0 $'accepted 3 dropped 0 filtered 6\n' '' replay examples/first.trace first.log --level WARNING
+
+# Calls of one stamp are printed by writer, whichever thread came first. A writer without calls is closed too.
+sed -e 's/^writers 1/writers 3/' -e '/^call/c\call 1 1003 0 2\ncall 0 1003 0 1\ncall 1 1003 0 3' t >equal
+later=$'1514764800.000000001 srv.cc:12 NOTICE[1]: x=2\n1514764800.000000001 srv.cc:12 NOTICE[1]: x=3\n'
+all=$'1514764800.000000001 srv.cc:12 NOTICE[0]: x=1\n'$later
+expect 0 "$all" '' direct equal
+for ((turn = 0; turn < 10; turn++)); do
+    expect 0 $'accepted 3 dropped 0 filtered 0\n' '' replay equal equal.log
+    expect 0 "$all" '' decompress equal.log
+done
+
+# made WRITERS CALLS prints a trace of so many calls, of which every third is an error with a text.
+made() {
+    printf '%s\n' 'nanolog-trace 1' 'message 0 NOTICE 12 "srv.cc" "x=%d"' 'message 1 ERROR 13 "srv.cc" "%s=%08x"' \
+        'clock 1000 1514764800000000000 2000000000' "writers $1"
+    awk -v writers="$1" -v calls="$2" 'BEGIN {
+        for (at = 0; at < calls; at++) {
+            print "call", (at + int(at / 7)) % writers, 1000 + int(at / 5), at % 3 ? "0 " at : "1 \"y\" " at
+        }
+        print "end"
+    }'
+}
+
+# not_listed TRACE prints the trace without the calls that lines on the standard input list as dropped.
+not_listed() {
+    awk 'NR == FNR { if ($1 == "drop") listed[$2 " " $3]; next }
+        $1 != "call" || !(($2 " " ordinals[$2]++) in listed)' - "$1"
+}
+
+# Rings that are full at times, extents of few calls and of many, and more writers than processors.
+calls=20000
+for writers in 1 3 64; do
+    made "$writers" "$calls" >many
+    for batch in 1 100 65536; do
+        expect 0 "accepted $calls dropped 0 filtered 0"$'\n' '' replay many many.log --ring 1024 --batch "$batch"
+        same_lines many.log many "$writers writers, batch $batch"
+        # The log has all calls but those that are told as dropped.
+        ./nanolog replay many many.log --ring 1024 --batch "$batch" --full drop >told 2>err
+        judge "nanolog replay many many.log --full drop" $? 0 ''
+        drops=$(grep -c '^drop [0-9]* [0-9]* need [0-9]* room [0-9]*$' told)
+        not_listed many <told >others
+        cmp -s <(tail -n +$((drops + 1)) told) <(echo "accepted $((calls - drops)) dropped $drops filtered 0") ||
+            fail "nanolog replay many many.log --full drop: it told: $(tail -n 3 told)"
+        same_lines many.log others "$writers writers, batch $batch, $drops drops"
     done
-    echo end
-} >many
-expect 0 $'accepted 128 dropped 0 filtered 0\n' '' replay many many.log
-./nanolog direct many >many.lines
-[ "$(wc -l <many.lines)" = 128 ] || fail "of 128 calls it printed $(wc -l <many.lines)"
-cmp -s many.lines <(./nanolog decompress many.log) || fail "the log of 128 calls has other lines"
-expect 0 $'accepted 6 dropped 0 filtered 0\n' '' replay examples/first.trace first.log
-cmp -s <(./nanolog direct examples/first.trace) <(./nanolog decompress first.log) || fail "first.log has other lines"
+    errors=$(grep -c '^call [0-9]* [0-9]* 1 ' many)
+    expect 0 "accepted $errors dropped 0 filtered $((calls - errors))"$'\n' '' replay many many.log --level WARNING
+    grep -v '^call [0-9]* [0-9]* 0 ' many >others
+    same_lines many.log others "$writers writers, level WARNING"
+done
+
+# Where no thread can be started, or only a few can, the calls are made all the same: stacks as large as these have no
+# room, or room for a few.
+for size in 37 35; do
+    (ulimit -s $((1 << size))) 2>/dev/null || continue
+    (ulimit -s $((1 << size)) && ./nanolog replay many many.log --ring 1024) >out 2>err
+    judge "nanolog replay many, without threads" $? 0 ''
+    holds out "accepted $calls dropped 0 filtered 0"$'\n'
+    same_lines many.log many "without threads"
+done
+
+# Where memory is wanting for the rings, the log is there and holds no bytes.
+(ulimit -v 262144 && ./nanolog replay many many.log --ring 1048576) >out 2>err
+judge "nanolog replay many, in little memory" $? 6 $'nanolog: want of memory\n'
+holds out ''
+[ "$(stat -c %s many.log)" = 0 ] || fail "a replay in little memory left a log"
+
+# A reader of the log that goes: all writers end, though their rings are full.
+mkfifo pipe
+timeout 100 head -c 100 pipe >/dev/null &
+expect 5 '' $'nanolog: pipe: write fault\n' replay many pipe --ring 1024
+wait $!
 
 # ---- logs of several writers, and what is left of one that is cut
 
@@ -132,8 +220,6 @@ blocks=(4e4c4f470103e8030000000000000000445e8f8605150094357700000000
     02000400000010030101
     0400 0401 0402)
 ends=(30 56 69 79 81 83 85)
-later=$'1514764800.000000001 srv.cc:12 NOTICE[1]: x=2\n1514764800.000000001 srv.cc:12 NOTICE[1]: x=3\n'
-all=$'1514764800.000000001 srv.cc:12 NOTICE[0]: x=1\n'$later
 lines=('' '' "$later" "$all" "$all" "$all" "$all")
 open=('0 1 2' '0 1 2' '0 1 2' '0 1 2' '1 2' 2 '')
 printf "$(printf %s "${blocks[@]}" | sed 's/../\\x&/g')" >three
@@ -185,7 +271,8 @@ expect 2 '' $'nanolog: empty:1: refused: 14 NoEnd\n' direct empty
 expect 2 '' $'nanolog: early:5: refused: 7 BeforeClock\n' direct early
 expect 2 '' $'nanolog: early:5: refused: 7 BeforeClock\n' replay early m
 expect 0 $'1514764800.000000001 srv.cc:12 NOTICE[0]: x=    7\n' '' direct wide
-expect 2 '' $'nanolog: wide:0: refused: 99 NotYet\n' replay wide m
+expect 0 "$accepted" '' replay wide wide.log
+same_lines wide.log wide wide
 expect 3 '' $'nanolog: t:0: damaged: 1 BadMagic\n' decompress t
 expect 3 '' $'nanolog: empty:0: damaged: 4 Cut\n' decompress empty
 expect 2 '' $'nanolog: l:1: refused: 14 NoEnd\n' replay l m
@@ -350,6 +437,7 @@ try_page() {
 try_page README.md 'Try it'
 try_page docs/log-statements.md 'An example'
 try_page docs/log-statements.md 'What is refused'
+try_page docs/sessions.md 'Replaying and reading it'
 
 [ "$failures" = 0 ] && echo "program.sh: all is well"
 [ "$failures" = 0 ]
