@@ -1,0 +1,5 @@
+use Rattle.aggregation.proofs.TotalsLaws.{reached}
+use Rattle.aggregation.proofs.laws.ranges_are_reached.Goals as goal
+
+pub returns : goal.returns
+returns c = reached

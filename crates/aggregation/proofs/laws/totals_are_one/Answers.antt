@@ -1,0 +1,5 @@
+use Rattle.aggregation.proofs.TotalsLaws.{one_totals}
+use Rattle.aggregation.proofs.laws.totals_are_one.Goals as goal
+
+pub returns : goal.returns
+returns c = one_totals

@@ -1,0 +1,4 @@
+pub mod Totals
+pub mod Reading
+pub mod Answers
+pub mod Rows

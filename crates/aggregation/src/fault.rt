@@ -1,0 +1,21 @@
+use crate::totals::Totals;
+use checkpoint_io::Cause;
+
+/// Why there are no totals of an argument over a whole log.
+#[derive(Clone, Copy, Debug, PartialEq, Eq)]
+pub enum AggregateFault {
+    /// A read failed, and the bytes that came before it are whole blocks or end inside one.
+    ReadFault,
+    /// The file is no log from this offset on, from this cause. The whole blocks in front have these totals, where they
+    /// define such an argument.
+    Damaged {
+        offset: u64,
+        cause: Cause,
+        front: Option<Totals>,
+    },
+    /// The log defines no message with this id.
+    NoSuchMessage,
+    /// The message has no argument there, or one that is a text.
+    NoSuchArgument,
+    NoMemory,
+}

@@ -1,0 +1,15 @@
+//! Totals of an argument over the records of a log.
+#![tactic(auto)]
+
+mod aggregating;
+mod counting;
+mod fault;
+pub mod laws;
+mod reading;
+#[cfg(test)]
+mod tests;
+mod totals;
+
+pub use aggregating::aggregate;
+pub use fault::AggregateFault;
+pub use totals::Totals;
