@@ -40,8 +40,8 @@ pub data IsFrontWithin (bytes : List ℕ) (blocks : List Block) : ℕ → Type 0
       → IsFrontWithin bytes blocks offset
   of_nothing : HasNoHeader bytes → blocks ≡ [] → IsFrontWithin bytes blocks 0
 
--- The bytes break at this offset, or the block there ends past the most bytes that are read, and these are the blocks in
--- front of it. Where the bytes aren't more, they break there, and these are all blocks of the front.
+-- The bytes break at this offset, or the block there ends past the most bytes that are read, and these are the blocks
+-- in front of it. Where the bytes aren't more, they break there, and these are all blocks of the front.
 pub record IsDamaged (bytes : List ℕ) (blocks : List Block) (offset : ℕ) (cause : Cause) : Type 0 where
   pub stops : StopsAt bytes offset cause
   pub before : IsFrontWithin bytes blocks offset

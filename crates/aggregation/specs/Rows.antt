@@ -28,7 +28,8 @@ starred_message =
 abbrev pub total_blocks : List Block
 total_blocks =
     Fragment 0 (row_message ∷ starred_message ∷ [])
-    ∷ Extent 1 (entry_of 0 (Signed (pos 7) ∷ []) ∷ entry_of 1 (Signed (negsuc 4) ∷ Signed (pos 300) ∷ Text [] ∷ []) ∷ [])
+    ∷ Extent 1
+    (entry_of 0 (Signed (pos 7) ∷ []) ∷ entry_of 1 (Signed (negsuc 4) ∷ Signed (pos 300) ∷ Text [] ∷ []) ∷ [])
     ∷ Close 1
     ∷ Extent 0 (entry_of 0 (Signed (negsuc 2) ∷ []) ∷ entry_of 0 (Signed (pos 7) ∷ []) ∷ []) ∷ []
 
@@ -52,4 +53,8 @@ long_numbers = pos 18446744073709551615 ∷ negsuc 9223372036854775807 ∷ pos 1
 
 abbrev pub long_number_totals : Totals
 long_number_totals =
-    record { count = 3; range = Some (negsuc 9223372036854775807, pos 18446744073709551615); sum = pos 27670116110564327422 }
+    record {
+      count = 3;
+      range = Some (negsuc 9223372036854775807, pos 18446744073709551615);
+      sum = pos 27670116110564327422;
+    }

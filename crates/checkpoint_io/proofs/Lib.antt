@@ -18,3 +18,4 @@ pub mod Worked
 pub mod LimitLaws
 mod SomeOutcome
 pub mod Wholeness
+pub mod FileLaws

@@ -1,10 +1,10 @@
 -- Blocks that are read one after the other, and their records by writer.
-use Rattle.std.proofs.Common.{◌≡◌, ◌≢◌, ℕ, zero, suc, ◌+◌, ◌-◌, ◌<◌, ◌≤◌, List, [], ◌∷◌, ◌++◌, map, length, get_or, set, take, drop, replicate, Option, Some, None, refl, ap, sym, ◌∙◌, subst, append_assoc, arith}
+use Rattle.std.proofs.Common.{◌≡◌, ◌≢◌, ℕ, zero, suc, ◌+◌, ◌-◌, ◌<◌, ◌≤◌, List, [], ◌∷◌, ◌++◌, map, length, get_or, set, take, drop, replicate, Option, Some, None, refl, ap, sym, ◌∙◌, subst, arith}
 use Rattle.std.specs.Prelude.{IfSome}
 use Rattle.std.specs.List.{range_with_len}
-use Rattle.std.proofs.lemmas.List.{append-nil, length-append, take-append-drop}
+use Rattle.std.proofs.lemmas.List.{append-nil, take-append-drop}
 use Rattle.std.proofs.lemmas.List.FromFn.{length-map-range_with_len}
-use Rattle.nl_io.specs.Content.{Told, IsAtEnd}
+use Rattle.nl_io.specs.Content.{Told}
 use Rattle.log_dictionary.specs.declared.message.Message.{Message}
 use Rattle.arg_records.specs.declared.call.Call.{Call}
 use Rattle.checkpoint_io.specs.declared.cause.Cause.{Cause}
@@ -16,11 +16,10 @@ use Rattle.checkpoint_io.specs.Validity.{block_records, records_of, Valid}
 use Rattle.checkpoint_io.specs.Places.{with_front}
 use Rattle.checkpoint_io.specs.Readers.{ReaderState, StandsFor}
 use Rattle.checkpoint_io.specs.NextBlocks.{Tells, TakesNext, EndsThere, AnswersNext, StopsAt}
-use Rattle.checkpoint_io.proofs.FrontLaws.{whole_is_front, one_front}
+use Rattle.checkpoint_io.proofs.FileLaws.{file_on, file_begins, file_ends, is_extent, offset_rises, offset_within}
 use Rattle.checkpoint_io.proofs.ValidityLaws.{records-push, AreRightAfter-split, own_records, other_records}
-use Rattle.decompressor.specs.declared.reading.Ending.{Ending}
 use Rattle.decompressor.specs.declared.reading.Ending.TheVariants.{Whole, Damaged, ReadFault}
-use Rattle.decompressor.specs.Gathering.{records_by_writer, Gathers, HasRead, EndsSo, EndsReading}
+use Rattle.decompressor.specs.Gathering.{records_by_writer, Gathers, HasRead, EndsReading}
 
 -- ---- a list by number
 
@@ -85,44 +84,7 @@ gathers_none reader writers taken read none are = record {
   gathered = are ∙ sym (no_records 0 reader.header.writers) ∙ ap (records_by_writer reader.header) (sym none);
 }
 
--- ---- the bytes of the file
-
-with_front-both : (a b : List ℕ) (told : Told) → with_front (a ++ b) told ≡ with_front a (with_front b told)
-with_front-both a b None = refl
-with_front-both a b (Some content) = ap Some (append_assoc a b content)
-
-file_on : (taken front waiting more : List ℕ) (left behind : Told) → with_front waiting left ≡ with_front (front ++ more) behind
-    → with_front (taken ++ waiting) left ≡ with_front ((taken ++ front) ++ more) behind
-file_on taken front waiting more left behind joined =
-    with_front-both taken waiting left
-    ∙ ap (with_front taken) joined
-    ∙ sym (with_front-both taken (front ++ more) behind)
-    ∙ ap (λ (bytes : List ℕ). with_front bytes behind) (sym (append_assoc taken front more))
-
--- the file begins with what was taken
-file_begins : (taken waiting : List ℕ) (left : Told) → IfSome (with_front (taken ++ waiting) left) (λ bytes. (rest : List ℕ) × (bytes ≡ taken ++ rest))
-file_begins taken waiting None = tt
-file_begins taken waiting (Some content) = (waiting ++ content, append_assoc taken waiting content)
-
-file_ends : (taken waiting : List ℕ) (left : Told) → IsAtEnd (with_front waiting left) → IfSome (with_front (taken ++ waiting) left) (λ bytes. bytes ≡ taken)
-file_ends taken waiting None ended = tt
-file_ends taken waiting (Some content) ended = append_assoc taken waiting content ∙ ap (λ (bytes : List ℕ). taken ++ bytes) ended ∙ append-nil taken
-
--- ---- one log
-
--- bytes are one log
-pub one_log : (header other : Header) (blocks others : List Block) (bytes : List ℕ) → FileOf header blocks bytes → Valid header blocks → FileOf other others bytes → Valid other others → (header ≡ other) × (blocks ≡ others)
-one_log header other blocks others bytes file valid file_too valid_too =
-    let one = one_front bytes header other blocks others (length bytes) (length bytes) (whole_is_front header blocks bytes file valid) (whole_is_front other others bytes file_too valid_too) in
-    (one.0, one.1)
-
-longer : (blocks : List Block) (block : Block) → blocks ≡ blocks ++ block ∷ [] → ⊥
-longer blocks block same = omega (arith, ap length same, length-append blocks (block ∷ []))
-
-is_extent : (writer : ℕ) (entries : List Call) (block : Block) → Tells (read.Extent writer entries) block → block ≡ Extent writer entries
-is_extent writer entries (Fragment first messages) tells = cc
-is_extent writer entries (Extent w es) tells = cc
-is_extent writer entries (Close w) tells = cc
+-- ---- what a block adds
 
 none_in_fragment : (first count : ℕ) (block : Block) → Tells (read.Fragment first count) block → (writer : ℕ) → block_records writer block ≡ []
 none_in_fragment first count (Fragment id messages) tells writer = refl
@@ -145,21 +107,6 @@ pub record IsOn (file : Told) (reader : ReaderState) (writers : List (List Call)
 module _ (file : Told) (old new : ReaderState) (writers : List (List Call)) (left behind : Told) (same_header : new.header ≡ old.header) (on : IsOn file old writers left) where
   abbrev stood : StandsFor old on.taken
   stood = on.gathered.stands
-
-  -- each block takes a byte at least
-  pub offset_rises : (told : ReadBlock) → TakesNext old new on.taken stood told left behind → old.offset < new.offset
-  offset_rises told next = at_front next.front refl
-    where
-      at_front : (front : List ℕ) → front ≡ next.front → old.offset < new.offset
-      at_front [] is =
-          let bytes : on.taken ++ next.front ≡ on.taken = ap (λ (f : List ℕ). on.taken ++ f) (sym is) ∙ append-nil on.taken in
-          let file_too : FileOf new.header next.stands.blocks on.taken = subst (FileOf new.header next.stands.blocks) bytes next.stands.file in
-          let one = one_log old.header new.header stood.blocks next.stands.blocks on.taken stood.file stood.valid file_too next.stands.valid in
-          absurd (longer stood.blocks next.block (one.1 ∙ next.blocks))
-      at_front (byte ∷ rest) is = omega (arith, next.stands.offset, stood.offset, length-append on.taken next.front, ap length is)
-
-  pub offset_within : (told : ReadBlock) → TakesNext old new on.taken stood told left behind → new.offset ≤ 134217728
-  offset_within told next = omega (arith, next.stands.offset, next.stands.within)
 
   -- the file goes on behind the block
   file_behind : (told : ReadBlock) → (next : TakesNext old new on.taken stood told left behind) → file ≡ with_front ((on.taken ++ next.front) ++ new.waiting.bytes) behind
@@ -227,7 +174,7 @@ module _ (file : Told) (old new : ReaderState) (writers : List (List Call)) (lef
 
   -- fewer bytes are left to the most that are read
   pub falls : (answer : Option ReadBlock) (told : ReadBlock) → answer ≡ Some told → Answer answer → 134217728 - new.offset < 134217728 - old.offset
-  falls answer told is next = let taken = some_next answer told is next in omega (arith, offset_rises told taken, offset_within told taken)
+  falls answer told is next = let taken = some_next answer told is next in omega (arith, offset_rises old new on.taken stood told left behind taken, offset_within old new on.taken stood told left behind taken)
 
   -- ---- how reading ends
 

@@ -1,9 +1,9 @@
 -- What the answer says of a log that was read and printed.
-use Rattle.std.proofs.Common.{◌≡◌, ℕ, ◌≤◌, List, [], ◌++◌, length, Option, Some, None, Result, Ok, Err, refl, ap, sym, ◌∙◌, subst, inl, inr, ◌⊎◌, arith}
+use Rattle.std.proofs.Common.{◌≡◌, ℕ, ◌≤◌, List, [], ◌++◌, length, Some, None, Result, Ok, Err, refl, ap, sym, ◌∙◌, subst, inl, inr, arith}
 use Rattle.std.specs.Prelude.{IfSome}
 use Rattle.std.specs.Result.{IsErrAnd}
 use Rattle.nl_io.specs.Count.{Rose}
-use Rattle.nl_io.specs.Content.{Told, with_end, PutsFront}
+use Rattle.nl_io.specs.Content.{Told, with_end}
 use Rattle.arg_records.specs.declared.call.Call.{Call}
 use Rattle.arg_records.specs.Calls.{calls_by_writer}
 use Rattle.direct_printf.specs.Lines.{Direct}
@@ -13,16 +13,16 @@ use Rattle.checkpoint_io.specs.declared.fault.BlockFault.{BlockFault}
 use Rattle.checkpoint_io.specs.declared.fault.BlockFault.TheVariants as reading
 use Rattle.checkpoint_io.specs.Fronts.{Break}
 use Rattle.checkpoint_io.specs.Readers.{ReaderState, StandsFor}
+use Rattle.checkpoint_io.proofs.FileLaws.{one_log}
 use Rattle.decompressor.specs.declared.fault.DecodeFault.{DecodeFault}
 use Rattle.decompressor.specs.declared.fault.DecodeFault.TheVariants as faults
 use Rattle.decompressor.specs.declared.reading.Ending.{Ending}
 use Rattle.decompressor.specs.declared.reading.Ending.TheVariants.{Whole, Damaged, ReadFault}
 use Rattle.decompressor.specs.declared.report.Report.{Report}
-use Rattle.decompressor.specs.Decompressing.{open_writers, LinesTo, IsWhole, IsDamaged, HasLines, CutOff, fault_at, Decompresses, Says}
+use Rattle.decompressor.specs.Decompressing.{open_writers, LinesTo, IsWhole, IsDamaged, HasLines, fault_at, Decompresses, Says}
 use Rattle.decompressor.specs.Decompressing.LinesTo.{of_none}
-use Rattle.decompressor.specs.Gathering.{Gathers, HasRead, EndsReading, AnswersFor}
-use Rattle.decompressor.specs.Printing.{Counts, Prints}
-use Rattle.decompressor.proofs.Gathering.{one_log}
+use Rattle.decompressor.specs.Gathering.{EndsReading, AnswersFor}
+use Rattle.decompressor.specs.Printing.{Prints}
 use Rattle.decompressor.proofs.Endings.{is_whole, whole_lines, is_damaged, damaged_lines, lines_to, header_damaged, nothing_put}
 
 -- ---- what is told

@@ -32,17 +32,20 @@ pub numbered : {X Y : Type 0} (f : ℕ × X → List Y) (g : ℕ → X) (from n 
 numbered f g from zero = refl
 numbered f g from (suc n) = ap (λ l. f (from, g from) ++ l) (numbered f g (from + 1) n)
 
--- the log stands for the lines of the calls that were taken
-pub log_is_text : (bytes : List ℕ) (taken : List (List Call)) (dictionary : List Message) (clock : Clock) (batch : ℕ) → LogOf bytes taken dictionary clock batch → Decompressed bytes (Direct clock (calls_by_writer dictionary taken))
-log_is_text bytes taken dictionary clock batch log =
+-- the calls of the log are those that were taken
+pub taken_are : (bytes : List ℕ) (taken : List (List Call)) (dictionary : List Message) (clock : Clock) (batch : ℕ) → (log : LogOf bytes taken dictionary clock batch) → all_calls log.header log.blocks ≡ calls_by_writer dictionary taken
+taken_are bytes taken dictionary clock batch log =
     let own : (writer : ℕ) → CallsOf log.blocks writer ≡ writer_calls dictionary (writer, records_of writer log.blocks) =
     λ writer. same_calls (messages_of log.blocks) log.undefined writer 0 (records_of writer log.blocks) (records_fit log.header log.blocks writer log.valid)
     ∙ ap (λ (m : List Message). writer_calls m (writer, records_of writer log.blocks)) (sym log.messages_are) in
-    let lists = map (λ (writer : ℕ). records_of writer log.blocks) (range_with_len 0 (length taken)) in
-    let calls : all_calls log.header log.blocks ≡ calls_by_writer dictionary taken =
     ap (λ (n : ℕ). flat_map (CallsOf log.blocks) (range_with_len 0 n)) log.writers_are
     ∙ same_flat (CallsOf log.blocks) (λ (writer : ℕ). writer_calls dictionary (writer, records_of writer log.blocks)) (range_with_len 0 (length taken)) own
     ∙ sym (numbered (writer_calls dictionary) (λ (writer : ℕ). records_of writer log.blocks) 0 (length taken))
-    ∙ ap (λ (t : List (List Call)). flat_map (writer_calls dictionary) (enumerate_from 0 t)) (sym log.records_are) in
+    ∙ ap (λ (t : List (List Call)). flat_map (writer_calls dictionary) (enumerate_from 0 t)) (sym log.records_are)
+
+-- the log stands for the lines of the calls that were taken
+pub log_is_text : (bytes : List ℕ) (taken : List (List Call)) (dictionary : List Message) (clock : Clock) (batch : ℕ) → LogOf bytes taken dictionary clock batch → Decompressed bytes (Direct clock (calls_by_writer dictionary taken))
+log_is_text bytes taken dictionary clock batch log =
+    let calls = taken_are bytes taken dictionary clock batch log in
     let text : Direct log.header.clock (all_calls log.header log.blocks) ≡ Direct clock (calls_by_writer dictionary taken) = λ i. Direct (log.clock_is i) (calls i) in
     subst (Decompressed bytes) text (whole_is_text log.header log.blocks bytes log.file log.valid)
