@@ -23,7 +23,7 @@ use Rattle.log_session.specs.declared.options.Options.{Options}
 use Rattle.log_session.specs.Levels.{keeps, Kept}
 use Rattle.log_session.specs.Drops.{taken_of, Taken, LawfulDrops, call_count}
 use Rattle.log_session.specs.declared.outcome.Outcome.{Outcome}
-use Rattle.log_session.specs.Finishing.{work_at, works_of, taken_front, HasSent, AreDone}
+use Rattle.log_session.specs.Finishing.{work_at, works_of, taken_front, HasSent, FinishedView, AreDone}
 use Rattle.log_session.proofs.NewWorkers.{works_count}
 use Rattle.log_session.specs.Rounds.{Roams, IsOverUpTo}
 use Rattle.log_session.specs.Running.{AreReady}
@@ -226,6 +226,17 @@ accepted_counted plan sent closed (w ∷ writers) [] has = absurd has
 accepted_counted plan sent closed (w ∷ writers) (calls ∷ taken) has =
     omega (arith, sum_by-cons (λ (x : WriterView _). x.accepted) w writers, sum_by-cons length calls taken, has.0.counted, accepted_counted plan sent closed writers taken has.1)
 
+-- The workers of a run's writers are all done: what was kept of them was begun for the run, and here are its parts.
+pub all_done : {S : Type 0} (sent : S → List (List ℕ)) (closed : S → Bool) (begun kept : FinishedView S) (run : Recording) (options : Options) (drops : List Dropped) (writers : List (WriterView S))
+    → begun ≡ (record { run = run; options = options; drops = []; writers = [] }) → (kept.run ≡ begun.run) × (kept.options ≡ begun.options) → drops ≡ kept.drops → writers ≡ kept.writers
+    → AreDone sent closed kept → length kept.writers ≡ length kept.run.writers
+    → AreDone sent closed (record { run = run; options = options; drops = drops; writers = writers }) × (length writers ≡ length run.writers)
+all_done {S} sent closed begun kept run options drops writers free same drops_are writers_are done all =
+    let run_is = same.0 ∙ ap (λ (v : FinishedView S). v.run) free in
+    let options_are = same.1 ∙ ap (λ (v : FinishedView S). v.options) free in
+    let view : kept ≡ record { run = run; options = options; drops = drops; writers = writers } = λ i. record { run = run_is i; options = options_are i; drops = sym drops_are i; writers = sym writers_are i } in
+    subst (λ (v : FinishedView S). AreDone sent closed v × (length v.writers ≡ length v.run.writers)) view (done, all)
+
 module _ {S : Type 0} (sent : S → List (List ℕ)) (closed : S → Bool) (run : Recording) (options : Options) (drops : List Dropped) (writers : List (WriterView S))
     (done : AreDone sent closed (record { run = run; options = options; drops = drops; writers = writers })) (all : length writers ≡ length run.writers) where
   pub all_sent : AllZip (HasSent (plan_of run.dictionary run.clock.tick) sent closed) writers (Taken run options.level drops)
@@ -257,6 +268,10 @@ module _ {S O D : Type 0} (sent : S → List (List ℕ)) (closed : S → Bool) (
       frames_counted got_left left (Taken run options.level drops)
       (got_frames (plan_of run.dictionary run.clock.tick) sent closed got ended sent_left got_left closed_left ended_left writers (ends_of new) left (Taken run options.level drops)
       joined (all_sent sent closed run options drops writers done all) (all_ended ended new over))
+
+  -- with the drops these are no more than the calls of the run
+  pub taken_few : sum_by (λ (d : D). length (got_left d)) left + length drops ≤ call_count run.writers
+  taken_few = omega (arith, taken_counted, taken_within sent closed run options drops writers done all)
 
   pub session_is : (pair : O → List ℕ) (plan : O → Plan) (works : List Work) (old : Roamer O) (put put_after : Told) (faults faults_after : ℕ) (bytes : List ℕ) (outcome : Outcome D)
       → AreReady pair plan run options works old → Roams got ended pair plan old new put put_after faults faults_after → is_faulted new ≡ false → StandsFor got ended new bytes

@@ -1,6 +1,6 @@
 -- Steps of a worker.
 use Rattle.std.proofs.Common.{◌≡◌, ℕ, zero, suc, ◌+◌, ◌-◌, ◌*◌, ◌<◌, ◌≤◌, Bool, true, false, cond, not, ◌&&◌, List, [], ◌∷◌, ◌++◌, length, get_or, take, Some, None, if◌then◌else◌, refl, sym, ap, ◌∙◌, subst, subst₂, arith}
-use Rattle.std.specs.Prelude.{All, filter, slice_get, sum_by}
+use Rattle.std.specs.Prelude.{All, Option, filter, slice_get, sum_by}
 use Rattle.std.specs.List.{AllByRecursion, cons_option, filter_map, enumerate_from}
 use Rattle.std.proofs.lemmas.List.{append-nil, length-take, length-take-le, length_push, take_more, take_all}
 use Rattle.std.proofs.lemmas.List.Elements.{All-nil, All-push, All-weaker, filter-append}
@@ -46,6 +46,13 @@ calls_known run writer known = slice_get-get_or run.writers writer [] known
 -- the calls at a known writer's place
 pub calls_are : (run : Recording) (writer : ℕ) (calls : List Call) → slice_get run.writers writer ≡ Some calls → calls_at run writer ≡ calls
 calls_are run writer calls known = get_or_from_slice_get run.writers writer calls [] known
+
+-- what stands at a place of the calls that were found of a task's writer stands there of all its calls
+pub next_found : (task : Task) (run : Recording) (calls : List Call) (next : ℕ) (found : Option Call) → task.run ≡ run → slice_get run.writers task.number ≡ Some calls → slice_get calls next ≡ found
+    → slice_get (all_calls task) next ≡ found
+next_found task run calls next found same known is =
+    let there : slice_get task.run.writers task.number ≡ Some calls = ap (λ (r : Recording). slice_get r.writers task.number) same ∙ known in
+    ap (λ (l : List Call). slice_get l next) (calls_are task.run task.number calls there) ∙ is
 
 -- the calls of a writer, and their stamps
 all_called : (run : Recording) (writer : ℕ) → IsRecording run → writer < length run.writers → AllByRecursion (IsCall run.dictionary) (calls_at run writer)

@@ -61,7 +61,8 @@ pub record LacksRoom (at frame words : ℕ) (drop : Dropped) : Type 0 where
   pub taken : words - drop.room ≤ at
 
 -- the drop names a call that the level keeps, for which its writer's ring lacked room
-pub record IsDrop (run : Recording) (level : Severity) (words : ℕ) (drops : List Dropped) (drop : Dropped) : Type 0 where
+pub record IsDrop (run : Recording) (level : Severity) (words : ℕ) (drops : List Dropped) (drop : Dropped)
+    : Type 0 where
   pub call : Call
   pub named : slice_get (calls_at run drop.writer) drop.ordinal ≡ Some call
   pub kept : keeps run.dictionary level call ≡ true

@@ -1,11 +1,11 @@
-use Rattle.std.proofs.Common.{◌≡◌, false, true, List, ◌++◌, map, length, refl, sym, ap, ◌∙◌, subst, ⊎_elim, arith}
+use Rattle.std.proofs.Common.{◌≡◌, false, true, List, ◌++◌, map, length, refl, sym, ap, ◌∙◌, ⊎_elim, arith}
 use Rattle.std.proofs.lemmas.List.{length-map}
 use Rattle.trace_text.specs.Recordings.{Recording}
 use Rattle.log_session.specs.Drops.{call_count}
-use Rattle.log_session.specs.Finishing.{FinishedView, AreDone, works_of}
+use Rattle.log_session.specs.Finishing.{FinishedView, works_of}
 use Rattle.log_session.specs.Workers.{Work}
 use Rattle.log_session.specs.Writers.{WriterView}
-use Rattle.log_session.proofs.Sessions.{pairs_are, rebuilt, ends_count, zip_from_maps, works_kept, taken_within, few_accepted, taken_counted, session_is}
+use Rattle.log_session.proofs.Sessions.{pairs_are, rebuilt, ends_count, zip_from_maps, works_kept, all_done, few_accepted, taken_few, session_is}
 use Rattle.log_session.proofs.session.run_begun.Goals as goal
 
 pub consume-requires-clause-known : goal.consume-requires-clause-known
@@ -54,10 +54,7 @@ settle-accepted-requires-clause-rings g c κs within =
 pub settle-accepted-requires-clause-few : goal.settle-accepted-requires-clause-few
 settle-accepted-requires-clause-few g c κs within =
     let parts = c.into_parts-drops.ensures in
-    let run = c.add_all.ensures.same.0 ∙ ap (λ (v : FinishedView g.row.S-In.Denot). v.run) c.requires.free.finished in
-    let options = c.add_all.ensures.same.1 ∙ ap (λ (v : FinishedView g.row.S-In.Denot). v.options) c.requires.free.finished in
-    let done = subst (AreDone g.S.In.StageIn.sent g.S.In.StageIn.closed) (λ i. record { run = run i; options = options i; drops = sym parts.drops i; writers = sym parts.writers i }) parts.done in
-    let all = ap length parts.writers ∙ c.add_all.ensures.all ∙ ap (λ (r : Recording). length r.writers) run in
+    let (done, all) = all_done _ _ _ _ c.args.trace.now c.args.options.now _ _ c.requires.free.finished c.add_all.ensures.same parts.drops parts.writers parts.done c.add_all.ensures.all in
     let few = few_accepted g.S.In.StageIn.sent g.S.In.StageIn.closed c.args.trace.now c.args.options.now _ _ done all in
     omega (arith, few, ap (λ (r : Recording). call_count r.writers) c.trace.view_is, c.trace.invariant.few_calls)
 
@@ -67,34 +64,23 @@ returns-clause-counted g c = (c.consume.ensures.roams.unfaulted (sym c.faulted.e
 pub overflow_sub-others : goal.overflow_sub-others
 overflow_sub-others g c =
     let parts = c.into_parts-drops.ensures in
-    let run = c.add_all.ensures.same.0 ∙ ap (λ (v : FinishedView g.row.S-In.Denot). v.run) c.requires.free.finished in
-    let options = c.add_all.ensures.same.1 ∙ ap (λ (v : FinishedView g.row.S-In.Denot). v.options) c.requires.free.finished in
-    let done = subst (AreDone g.S.In.StageIn.sent g.S.In.StageIn.closed) (λ i. record { run = run i; options = options i; drops = sym parts.drops i; writers = sym parts.writers i }) parts.done in
-    let all = ap length parts.writers ∙ c.add_all.ensures.all ∙ ap (λ (r : Recording). length r.writers) run in
+    let (done, all) = all_done _ _ _ _ c.args.trace.now c.args.options.now _ _ c.requires.free.finished c.add_all.ensures.same parts.drops parts.writers parts.done c.add_all.ensures.all in
     let (left, into, joined, counted) = c.settle-accepted.ensures in
-    let taken = taken_counted _ _ _ _ _ _ _ _ c.args.trace.now c.args.options.now c.consume.new.roamer _ _ left c.consume.ensures.over done all joined in
-    let within = taken_within g.S.In.StageIn.sent g.S.In.StageIn.closed c.args.trace.now c.args.options.now _ _ done all in
-    omega (arith, counted, taken, within, c.count_calls-calls.ensures, ap (λ (r : Recording). call_count r.writers) c.trace.view_is)
+    let few = taken_few _ _ _ _ _ _ _ _ c.args.trace.now c.args.options.now c.consume.new.roamer _ _ left c.consume.ensures.over done all joined in
+    omega (arith, counted, few, c.count_calls-calls.ensures, ap (λ (r : Recording). call_count r.writers) c.trace.view_is)
 
 pub overflow_sub-result : goal.overflow_sub-result
 overflow_sub-result g c =
     let parts = c.into_parts-drops.ensures in
-    let run = c.add_all.ensures.same.0 ∙ ap (λ (v : FinishedView g.row.S-In.Denot). v.run) c.requires.free.finished in
-    let options = c.add_all.ensures.same.1 ∙ ap (λ (v : FinishedView g.row.S-In.Denot). v.options) c.requires.free.finished in
-    let done = subst (AreDone g.S.In.StageIn.sent g.S.In.StageIn.closed) (λ i. record { run = run i; options = options i; drops = sym parts.drops i; writers = sym parts.writers i }) parts.done in
-    let all = ap length parts.writers ∙ c.add_all.ensures.all ∙ ap (λ (r : Recording). length r.writers) run in
+    let (done, all) = all_done _ _ _ _ c.args.trace.now c.args.options.now _ _ c.requires.free.finished c.add_all.ensures.same parts.drops parts.writers parts.done c.add_all.ensures.all in
     let (left, into, joined, counted) = c.settle-accepted.ensures in
-    let taken = taken_counted _ _ _ _ _ _ _ _ c.args.trace.now c.args.options.now c.consume.new.roamer _ _ left c.consume.ensures.over done all joined in
-    let within = taken_within g.S.In.StageIn.sent g.S.In.StageIn.closed c.args.trace.now c.args.options.now _ _ done all in
-    omega (arith, counted, taken, within, c.len.ensures, c.count_calls-calls.ensures, ap (λ (r : Recording). call_count r.writers) c.trace.view_is)
+    let few = taken_few _ _ _ _ _ _ _ _ c.args.trace.now c.args.options.now c.consume.new.roamer _ _ left c.consume.ensures.over done all joined in
+    omega (arith, counted, few, c.len.ensures, c.count_calls-calls.ensures, ap (λ (r : Recording). call_count r.writers) c.trace.view_is)
 
 pub returns-clause-ok : goal.returns-clause-ok
 returns-clause-ok g c =
     let parts = c.into_parts-drops.ensures in
-    let run = c.add_all.ensures.same.0 ∙ ap (λ (v : FinishedView g.row.S-In.Denot). v.run) c.requires.free.finished in
-    let options = c.add_all.ensures.same.1 ∙ ap (λ (v : FinishedView g.row.S-In.Denot). v.options) c.requires.free.finished in
-    let done = subst (AreDone g.S.In.StageIn.sent g.S.In.StageIn.closed) (λ i. record { run = run i; options = options i; drops = sym parts.drops i; writers = sym parts.writers i }) parts.done in
-    let all = ap length parts.writers ∙ c.add_all.ensures.all ∙ ap (λ (r : Recording). length r.writers) run in
+    let (done, all) = all_done _ _ _ _ c.args.trace.now c.args.options.now _ _ c.requires.free.finished c.add_all.ensures.same parts.drops parts.writers parts.done c.add_all.ensures.all in
     let (left, into, joined, counted) = c.settle-accepted.ensures in
     let roams = c.consume.ensures.roams in
     let right = sym c.faulted.ensures ∙ c.if-faulted.false in

@@ -8,22 +8,20 @@ use Rattle.arg_records.specs.Frames.{FrameLen}
 use Rattle.ring_core.specs.Answers.{IsFull}
 use Rattle.ring_core.specs.Plans.{AreFramesOf, call_of}
 use Rattle.ring_core.specs.Positions.{Need}
-use Rattle.trace_text.specs.Recordings.{Recording, IsRecording}
+use Rattle.trace_text.specs.Recordings.{IsRecording}
 use Rattle.log_session.specs.declared.refusal.LogRefusal.{LogRefusal}
 use Rattle.log_session.specs.Writers.{IfFull}
 use Rattle.log_session.specs.Levels.{keeps}
 use Rattle.log_session.specs.Workers.{WorkerView, HasWorked, IsNextKept, all_calls, accepted_before}
 use Rattle.log_session.specs.WorkerInside.{task_of, progress_of}
-use Rattle.log_session.proofs.Working.{worked_call, worked_last, worked_position, worked_accepted, worked_seen, worked_same, calls_are}
+use Rattle.log_session.proofs.Working.{worked_call, worked_last, worked_position, worked_accepted, worked_seen, worked_same, next_found}
 use Rattle.log_session.proofs.worker.Worker.log_next.Goals as goal
 
 pub log-requires-clause-not_before : goal.log-requires-clause-not_before
 log-requires-clause-not_before g c =
     let recorded = subst IsRecording c.deref.ensures c.hold_recorded.ensures in
-    let run = c.behind-self.view_is ∙ c.deref-2.ensures in
-    let known = ap (λ (r : Recording). slice_get r.writers c.self.inside.number) (sym run) ∙ c.calls.ensures in
     let task = task_of c.self.inside in
-    let is : slice_get (all_calls task) c.self.inside.next ≡ Some c.call-call.result.now = ap (λ (l : List Call). slice_get l c.self.inside.next) (calls_are task.run task.number c.calls.result.now known) ∙ c.call-call.ensures in
+    let is : slice_get (all_calls task) c.self.inside.next ≡ Some c.call-call.result.now = next_found task _ _ _ _ (sym (c.behind-self.view_is ∙ c.deref-2.ensures)) c.calls.ensures c.call-call.ensures in
     worked_last recorded c.self.invariant.0 c.call-call.result.now is
 
 pub log-requires-clause-position : goal.log-requires-clause-position
@@ -32,15 +30,13 @@ log-requires-clause-position g c = worked_position (subst IsRecording c.deref.en
 pub invariant_of-self : goal.invariant_of-self
 invariant_of-self g c =
     let recorded = subst IsRecording c.deref.ensures c.hold_recorded.ensures in
-    let run = c.behind-self.view_is ∙ c.deref-2.ensures in
-    let known = ap (λ (r : Recording). slice_get r.writers c.self.inside.number) (sym run) ∙ c.calls.ensures in
     let task = task_of c.self.inside in
     let progress = progress_of c.self.inside in
     let call = c.call-call.result.now in
     let end = c.self.inside.writer.end in
     let new_end = c.log.new.self.end in
     let logged = c.in-Ok.ensures in
-    let is : slice_get (all_calls task) c.self.inside.next ≡ Some call = ap (λ (l : List Call). slice_get l c.self.inside.next) (calls_are task.run task.number c.calls.result.now known) ∙ c.call-call.ensures in
+    let is : slice_get (all_calls task) c.self.inside.next ≡ Some call = next_found task _ _ _ _ (sym (c.behind-self.view_is ∙ c.deref-2.ensures)) c.calls.ensures c.call-call.ensures in
     let next = subst (λ (w : WorkerView g.row.S.Denot). IsNextKept w.task w.progress) (sym c.self.view_is) c.requires.next in
     let same : next.0 ≡ call = same_Some next.0 call (sym next.1 ∙ is) in
     let keeping = ap (λ (x : Call). keeps task.run.dictionary task.level x) (sym same) ∙ next.2 in
@@ -75,25 +71,21 @@ invariant_of-self-in-Err-Full g c =
 pub unreachable-requires : goal.unreachable-requires
 unreachable-requires g c =
     let recorded = subst IsRecording c.deref.ensures c.hold_recorded.ensures in
-    let run = c.behind-self.view_is ∙ c.deref-2.ensures in
-    let known = ap (λ (r : Recording). slice_get r.writers c.self.inside.number) (sym run) ∙ c.calls.ensures in
     let task = task_of c.self.inside in
     let call = c.call-call.result.now in
-    let is : slice_get (all_calls task) c.self.inside.next ≡ Some call = ap (λ (l : List Call). slice_get l c.self.inside.next) (calls_are task.run task.number c.calls.result.now known) ∙ c.call-call.ensures in
+    let is : slice_get (all_calls task) c.self.inside.next ≡ Some call = next_found task _ _ _ _ (sym (c.behind-self.view_is ∙ c.deref-2.ensures)) c.calls.ensures c.call-call.ensures in
     let values : values_of c.deref-3.result.now ≡ call.args = ap values_of c.deref-3.ensures.0 ∙ c.args-2.ensures.values in
     let long = c.in-Err-TooLong.ensures.too_long.0 (ap Err c.in-Err-TooLong.field-0-is) in
     omega (arith, long, ap FrameLen values, (worked_call recorded c.self.invariant.0 call is).short)
 
 pub returns-in-Err-Full-clause-err : goal.returns-in-Err-Full-clause-err
 returns-in-Err-Full-clause-err g c =
-    let run = c.behind-self.view_is ∙ c.deref-2.ensures in
-    let known = ap (λ (r : Recording). slice_get r.writers c.self.inside.number) (sym run) ∙ c.calls.ensures in
     let task = task_of c.self.inside in
     let call = c.call-call.result.now in
     let end = c.self.inside.writer.end in
     let new_end = c.log.new.self.end in
     let refused = c.in-Err-Full.ensures in
-    let is : slice_get (all_calls task) c.self.inside.next ≡ Some call = ap (λ (l : List Call). slice_get l c.self.inside.next) (calls_are task.run task.number c.calls.result.now known) ∙ c.call-call.ensures in
+    let is : slice_get (all_calls task) c.self.inside.next ≡ Some call = next_found task _ _ _ _ (sym (c.behind-self.view_is ∙ c.deref-2.ensures)) c.calls.ensures c.call-call.ensures in
     let values : values_of c.deref-3.result.now ≡ call.args = ap values_of c.deref-3.ensures.0 ∙ c.args-2.ensures.values in (
       ap (λ (w : WorkerView g.row.S.Denot). w.progress) c.self.view_is,
       λ other there.

@@ -1,20 +1,13 @@
-use Rattle.std.proofs.Common.{rules, ◌≡◌, ◌+◌, ◌<◌, ◌≤◌, inl, inr, ◌++◌, length, ◌∷◌, [], ℕ, List, sym, subst, ap, ◌∙◌, arith}
+use Rattle.std.proofs.Common.{rules, ◌≡◌, ◌+◌, ◌≤◌, ◌++◌, length, ◌∷◌, [], ℕ, List, sym, subst, ap, ◌∙◌, arith}
 use Rattle.std.specs.Prelude.{take}
-use Rattle.std.proofs.lemmas.Bool.{cases_lt}
 use Rattle.printf_grammar.specs.Types.{values_of}
 use Rattle.arg_records.specs.Frames.{Frame, FrameLen}
 use Rattle.arg_records.proofs.Lengths.{length-Frame}
 use Rattle.ring_core.specs.Plans.{AreFramesOf, Lawful}
 use Rattle.ring_core.specs.Positions.{Need}
 use Rattle.log_session.specs.Writers.{WriterView, Knows}
-use Rattle.log_session.proofs.Logging.{calls-Position, known_arguments, may_follow, logged_more, logged_same, lawful_more, accepts_more}
+use Rattle.log_session.proofs.Logging.{calls-Position, known_arguments, may_log, logged_more, logged_same, lawful_more, accepts_more}
 use Rattle.log_session.proofs.writer.Writer.log.Goals as goal
-
-short_enough : (n : ℕ) → ¬ (512 < n) → n ≤ 512
-short_enough n never = elim (cases_lt 512 n) [
-  | inl long ↦ absurd (never long)
-  | inr within ↦ within
-]
 
 pub frame_words-requires-clause-arguments : goal.frame_words-requires-clause-arguments
 frame_words-requires-clause-arguments g c =
@@ -25,10 +18,7 @@ pub offer-requires-clause-lawful : goal.offer-requires-clause-lawful
 offer-requires-clause-lawful g c =
     let plan = g.S.StageIn.plan c.self.inside.end in
     let args = values_of c.args.args.now in
-    let known : Knows plan c.args.id args = let e = c.self.view_is in let k = c.requires.known in search rules in
-    let later : c.self.inside.last ≤ c.args.stamp = let e = c.self.view_is in let k = c.requires.not_before in search rules in
-    let short = short_enough (FrameLen args) (λ (long : 512 < FrameLen args). let no = c.in-Ok.ensures.too_long.1 long in absurd cc) in
-    let may = may_follow plan c.args.stamp c.args.id c.self.inside.last args c.self.invariant.planned known c.hold_bytes.ensures c.ranges.stamp.fits short later in
+    let may = may_log g.S.StageIn.plan _ _ c.args.stamp c.args.id args c.self.view_is c.self.invariant.planned c.requires.known c.requires.not_before c.hold_bytes.ensures c.ranges.stamp.fits c.in-Ok.ensures.too_long.1 in
     subst (λ (frame : List ℕ). Lawful plan (g.S.StageIn.sent c.self.inside.end ++ frame ∷ [])) (sym c.in-Ok.ensures.ok.1)
     (lawful_more plan (g.S.StageIn.sent c.self.inside.end) (g.S.StageIn.at c.self.inside.end) (g.S.StageIn.words c.self.inside.end) c.self.inside.last c.self.inside.accepted c.args.stamp c.args.id args c.self.invariant may)
 
@@ -41,10 +31,7 @@ pub invariant_of-self-2 : goal.invariant_of-self-2
 invariant_of-self-2 g c =
     let plan = g.S.StageIn.plan c.self.inside.end in
     let args = values_of c.args.args.now in
-    let known : Knows plan c.args.id args = let e = c.self.view_is in let k = c.requires.known in search rules in
-    let later : c.self.inside.last ≤ c.args.stamp = let e = c.self.view_is in let k = c.requires.not_before in search rules in
-    let short = short_enough (FrameLen args) (λ (long : 512 < FrameLen args). let no = c.in-Ok.ensures.too_long.1 long in absurd cc) in
-    let may = may_follow plan c.args.stamp c.args.id c.self.inside.last args c.self.invariant.planned known c.hold_bytes.ensures c.ranges.stamp.fits short later in
+    let may = may_log g.S.StageIn.plan _ _ c.args.stamp c.args.id args c.self.view_is c.self.invariant.planned c.requires.known c.requires.not_before c.hold_bytes.ensures c.ranges.stamp.fits c.in-Ok.ensures.too_long.1 in
     let more = logged_more plan (g.S.StageIn.sent c.self.inside.end) (g.S.StageIn.at c.self.inside.end) (g.S.StageIn.words c.self.inside.end) c.self.inside.last c.self.inside.accepted c.args.stamp c.args.id args c.self.invariant may in
     let offered = c.in_default-offer.ensures in
     let frame = c.in-Ok.ensures.ok.1 in
@@ -62,10 +49,7 @@ pub returns-clause-accepted : goal.returns-clause-accepted
 returns-clause-accepted g c =
     let plan = g.S.StageIn.plan c.self.inside.end in
     let args = values_of c.args.args.now in
-    let known : Knows plan c.args.id args = let e = c.self.view_is in let k = c.requires.known in search rules in
-    let later : c.self.inside.last ≤ c.args.stamp = let e = c.self.view_is in let k = c.requires.not_before in search rules in
-    let short = short_enough (FrameLen args) (λ (long : 512 < FrameLen args). let no = c.in-Ok.ensures.too_long.1 long in absurd cc) in
-    let may = may_follow plan c.args.stamp c.args.id c.self.inside.last args c.self.invariant.planned known c.hold_bytes.ensures c.ranges.stamp.fits short later in
+    let may = may_log g.S.StageIn.plan _ _ c.args.stamp c.args.id args c.self.view_is c.self.invariant.planned c.requires.known c.requires.not_before c.hold_bytes.ensures c.ranges.stamp.fits c.in-Ok.ensures.too_long.1 in
     let same : c.args.self.now.end ≡ c.self.inside.end = sym (ap (λ (w : WriterView g.row.S.Denot). w.end) c.self.view_is) in
     let offered = c.in_default-offer.ensures in
     λ calls frames. accepts_more plan (g.S.StageIn.plan c.offer.new.self) (g.S.StageIn.sent c.self.inside.end) (g.S.StageIn.sent c.offer.new.self)
