@@ -58,7 +58,7 @@ module _ (P : List Call → Type 0) where
       ((all.0, others.0), others.1)
 
   -- and the other way round
-  all_after : (writers : List (List Call)) (writer : ℕ) (call : Call) (calls : List Call) → slice_get writers writer ≡ Some calls → P (calls ++ call ∷ []) → AllByRecursion P writers → AllByRecursion P (with_call_of writers writer call)
+  pub all_after : (writers : List (List Call)) (writer : ℕ) (call : Call) (calls : List Call) → slice_get writers writer ≡ Some calls → P (calls ++ call ∷ []) → AllByRecursion P writers → AllByRecursion P (with_call_of writers writer call)
   all_after [] writer call calls known longer all = absurd cc
   all_after (first ∷ writers) zero call calls known longer all =
       let same : calls ≡ first = cc in

@@ -29,3 +29,6 @@ pub mod CallTexts
 pub mod OwnCalls
 pub mod CanonicalLaws
 pub mod SpelledRuns
+pub mod GeneratedFormats
+pub mod GeneratedCalls
+pub mod GeneratedTexts

@@ -14,3 +14,4 @@ pub mod Rows
 pub mod Order
 pub mod Canonical
 pub mod Writing
+pub mod Generated

@@ -1,7 +1,7 @@
 //! Laws and worked examples of the definitions. The functions do nothing: what they ensure is
 //! proved of the definitions.
 
-ghost use Rattle.std.specs.Prelude.{◌≡◌, ◌⊎◌, Result, ℕ, ◌<◌, ◌≤◌, List, [], ◌∷◌, length, replicate, map, sum_by, Some, Ok, codes, negsuc};
+ghost use Rattle.std.specs.Prelude.{◌≡◌, ◌⊎◌, Result, ℕ, ◌%◌, ◌<◌, ◌≤◌, List, [], ◌∷◌, length, replicate, map, sum_by, Some, Ok, codes, negsuc};
 ghost use Rattle.std.specs.List.{AllByRecursion};
 ghost use Rattle.log_dictionary.specs.Messages.{AreDistinct};
 ghost use Rattle.arg_records.specs.Rows.{row_call};
@@ -18,6 +18,11 @@ ghost use Rattle.trace_text.specs.CallReading.{call_at};
 ghost use Rattle.trace_text.specs.declared.cause.TraceCause.{TraceCause};
 ghost use Rattle.trace_text.specs.declared.cause.TraceCause.TheVariants.{TooLarge, NoEnd, Header, Message, Clock, Writers, CallForm, Writer, BeforeClock, StampFalls, Id, ArgCount, ArgKind, ArgRange, NulInText, AfterEnd};
 ghost use Rattle.printf_grammar.specs.declared.argument.Value.TheVariants.{Signed, Text};
+ghost use Rattle.std.specs.List.{range_with_len};
+ghost use Rattle.arg_records.specs.declared.call.TheConstants.{MAX_WRITERS};
+ghost use Rattle.trace_text.specs.declared.generating.TheConstants.{MAX_GENERATED};
+ghost use Rattle.trace_text.specs.Generated.{state_after, Generated};
+ghost use Rattle.trace_text.specs.Rows.{first_states, two_calls_text, turns_text, no_calls_text};
 
 use crate::order::Place;
 use crate::reading::TraceFault;
@@ -148,6 +153,23 @@ pub fn texts_are_told_apart()
         → (outcome : Result Recording Broken) × Gives part n bytes outcome }
     ensures one_outcome { (part : Part) (n : ℕ) (bytes : List ℕ) (a b : Result Recording Broken)
         → Gives part n bytes a → Gives part n bytes b → a ≡ b }
+{}
+
+/// The states of the generator behind the seed 1, and the traces of two calls of one writer, of the same calls of two
+/// writers, which take turns, and of no calls.
+pub fn traces_are_generated()
+    ensures states { map (λ draws. state_after draws 1) (range_with_len 1 7) ≡ first_states }
+    ensures two_calls { Canonical (Generated 1 2 1) ≡ two_calls_text }
+    ensures turns { Canonical (Generated 1 2 2) ≡ turns_text }
+    ensures no_calls { Canonical (Generated 1 0 3) ≡ no_calls_text }
+    ensures large_seeds { (seed other calls writers : ℕ) → seed % 2147483648 ≡ other % 2147483648
+        → Generated seed calls writers ≡ Generated other calls writers }
+{}
+
+/// Each generated trace has a text: it can be written, and reading that gives it again.
+pub fn generated_traces_have_texts()
+    ensures { (seed calls writers : ℕ) → calls ≤ MAX_GENERATED → 1 ≤ writers → writers ≤ MAX_WRITERS
+        → HasText (Generated seed calls writers) }
 {}
 
 /// Runs, their parts and faults go from thread to thread, and threads share them.

@@ -4,6 +4,8 @@
 mod call_fields;
 mod call_line;
 mod cause;
+mod generating;
+mod generator;
 mod head_lines;
 pub mod laws;
 mod lines;
@@ -15,6 +17,7 @@ mod writing;
 
 pub use arg_records::{Call, Calls};
 pub use cause::TraceCause;
+pub use generating::{MAX_GENERATED, generate};
 pub use order::{Place, call_count, places_in_order};
 pub use reading::{TraceFault, read_text, read_trace};
 pub use trace::{MAX_CALLS, MAX_TRACE, Trace};
