@@ -2,11 +2,11 @@
 use Rattle.std.proofs.Math.Bool.{or-true}
 use Rattle.std.specs.Prelude.{find, String}
 use Rattle.std.specs.String.{string_bytes}
-use Rattle.clap.specs.Matches.{first_value, found_of}
+use Rattle.clap.specs.Matches.{first_value, found_of, matched_of, raw_values}
 use Rattle.clap.specs.declared.parser.matches.ArgMatches.{ArgMatches}
 use Rattle.clap.specs.Walk.{Row, all_of, rows_of}
 use Rattle.clap.specs.declared.parser.matches.Found.{Found}
-use Rattle.clap.proofs.WalkLemmas.{first_value-rows}
+use Rattle.clap.proofs.WalkLemmas.{first_value-rows, raw_values-rows}
 use Rattle.log_dictionary.specs.declared.severity.Severity.{Severity}
 use Rattle.ring_core.specs.declared.limits.TheConstants.{MIN_RING, MAX_RING}
 use Rattle.roaming_consumer.specs.declared.making.TheConstants.{MAX_BATCH}
@@ -21,6 +21,7 @@ use Rattle.std.proofs.lemmas.Slice.Eq.{bytes_eq-Decides}
 use Rattle.std.proofs.lemmas.List.{append_assoc, append-nil}
 use Rattle.cli_words.specs.Commands.{Text, Given, Word, Name, End, Awaits, Sets, Unknown, word_of, with_name, with_option}
 use Rattle.cli_words.specs.Commands.{Command, Direct, Decompress, given_from, given_of, options_of, options_by, options_with, lone_name, only_name, replay_of, asked, command_of, severity_named, texts_of}
+use Rattle.cli_words.specs.Commands.{Generate, Selftest, aggregate_of, generated_of}
 use Rattle.cli_words.specs.Commands.{bare_names, preprocess_of, number_within, policy_named, is_among, are_taken, value_of}
 use Rattle.cli_words.specs.Commands.{ring_of, batch_of, policy_of, level_of, replay_options}
 use Rattle.cli_words.specs.Uses.{Uses, no_uses, used_after, names_after, uses_read, read_from, values_after}
@@ -180,27 +181,24 @@ no_options values name value known given other =
         (no_fourth (ring_of (values (codes "ring"))) (batch_of (values (codes "batch"))) (policy_of (values (codes "full"))))
     go false e false f false g false h = absurd (true≢false (sym (rw (e, f, g, h) at known)))
 
+-- an option that is taken has such a value
+abbrev HasBad : List Text → List (Text × Text) → Type 0
+HasBad taken options =
+    (name : Text) × (value : Text) × (is_among taken name ≡ true) × (value_of options name ≡ Some value)
+    × (is_option (word_of value) ≡ true)
+
 -- an option with such a value, where all are taken
 bad_option : (taken : List Text) (options : List (Text × Text)) → list_any (is_bad taken) options ≡ true
-    → are_taken taken options ≡ true
-    → (name : Text) × (value : Text) × (is_among taken name ≡ true) × (value_of options name ≡ Some value)
-    × (is_option (word_of value) ≡ true)
+    → are_taken taken options ≡ true → HasBad taken options
 bad_option taken [] bad all = absurd (true≢false (sym bad))
 bad_option taken (option ∷ options) bad all =
     go (is_among taken option.0) refl (value_of options option.0) refl (is_option (word_of option.1)) refl
     (bad_option taken options)
   where
-    Found : List (Text × Text) → Type 0
-    Found all = (name : Text) × (value : Text) × (is_among taken name ≡ true) × (value_of all name ≡ Some value)
-        × (is_option (word_of value) ≡ true)
-
     go : (k : Bool) → is_among taken option.0 ≡ k → (v : Option Text) → value_of options option.0 ≡ v
         → (b : Bool) → is_option (word_of option.1) ≡ b
-        → (list_any (is_bad taken) options ≡ true → are_taken taken options ≡ true
-        → (name : Text) × (value : Text) × (is_among taken name ≡ true) × (value_of options name ≡ Some value)
-        × (is_option (word_of value) ≡ true))
-        → (name : Text) × (value : Text) × (is_among taken name ≡ true) × (value_of (option ∷ options) name ≡ Some value)
-        × (is_option (word_of value) ≡ true)
+        → (list_any (is_bad taken) options ≡ true → are_taken taken options ≡ true → HasBad taken options)
+        → HasBad taken (option ∷ options)
     go false k v is b e rest = absurd (true≢false (sym (rw k at all)))
     go true k (Some value) is b e rest = absurd (true≢false (sym (rw (k, is) at all)))
     go true k None is true e rest = (option.0, option.1, k, rw (same_text option.0) refl, e)
@@ -260,11 +258,14 @@ names_all before (name ∷ names) =
     names_all (Some (unwrap_or before [] ++ name ∷ [])) names ∙ append_assoc (unwrap_or before []) (name ∷ []) names
 
 -- the command of a form, by what is given
-abbrev asked_as : Form → Given → Option Command
+abbrev pub asked_as : Form → Given → Option Command
 asked_as forms.Preprocess given = option_and_then preprocess_of (bare_names given)
 asked_as forms.Direct given = option_map Direct (lone_name given)
 asked_as forms.Replay given = option_and_then (replay_of given.names) (options_of given.options)
 asked_as forms.Decompress given = option_map Decompress (lone_name given)
+asked_as forms.Aggregate given = option_and_then aggregate_of (bare_names given)
+asked_as forms.Generate given = option_and_then (generated_of Generate) (bare_names given)
+asked_as forms.Selftest given = option_and_then (generated_of Selftest) (bare_names given)
 
 -- no command takes an option with the id of the names
 pub are_plain : (form : Form) → IsPlain (options_taken form)
@@ -272,6 +273,9 @@ are_plain forms.Preprocess = refl
 are_plain forms.Direct = refl
 are_plain forms.Replay = refl
 are_plain forms.Decompress = refl
+are_plain forms.Aggregate = refl
+are_plain forms.Generate = refl
+are_plain forms.Selftest = refl
 
 -- what is given, by its parts
 abbrev parts : List (Text × Text) → List Text → Given
@@ -285,6 +289,12 @@ no_command forms.Direct [] names bad = absurd (true≢false (sym bad))
 no_command forms.Direct (option ∷ options) names bad = refl
 no_command forms.Decompress [] names bad = absurd (true≢false (sym bad))
 no_command forms.Decompress (option ∷ options) names bad = refl
+no_command forms.Aggregate [] names bad = absurd (true≢false (sym bad))
+no_command forms.Aggregate (option ∷ options) names bad = refl
+no_command forms.Generate [] names bad = absurd (true≢false (sym bad))
+no_command forms.Generate (option ∷ options) names bad = refl
+no_command forms.Selftest [] names bad = absurd (true≢false (sym bad))
+no_command forms.Selftest (option ∷ options) names bad = refl
 no_command forms.Replay options names bad = rw (no_replay options bad) refl
 
 same_command : (form : Form) (options : List (Text × Text)) (names : List Text)
@@ -296,6 +306,12 @@ same_command forms.Direct [] names good = ap (λ (all : List Text). option_map D
 same_command forms.Direct (option ∷ options) names good = absurd (true≢false good)
 same_command forms.Decompress [] names good = ap (λ (all : List Text). option_map Decompress (only_name all)) (names_all None names)
 same_command forms.Decompress (option ∷ options) names good = absurd (true≢false good)
+same_command forms.Aggregate [] names good = ap aggregate_of (names_all None names)
+same_command forms.Aggregate (option ∷ options) names good = absurd (true≢false good)
+same_command forms.Generate [] names good = ap (generated_of Generate) (names_all None names)
+same_command forms.Generate (option ∷ options) names good = absurd (true≢false good)
+same_command forms.Selftest [] names good = ap (generated_of Selftest) (names_all None names)
+same_command forms.Selftest (option ∷ options) names good = absurd (true≢false good)
 same_command forms.Replay options names good =
     go (values_after (unset replay_options) options) (same_replay options (names_after None names) good)
   where
@@ -315,72 +331,66 @@ command_agrees form _ _ neither = refl
 command_agrees form _ _ (same given good) = same_command form given.options given.names good
 command_agrees form _ _ (refused given bad) = no_command form given.options given.names bad
 
+-- the command of a word is that of its form
+pub asked_by : (word : Text) (given : Given)
+    → asked word given ≡ option_and_then (λ (form : Form). asked_as form given) (form_named word)
+asked_by word given =
+    go (bytes_eq word (codes "preprocess")) refl (bytes_eq word (codes "direct")) refl
+    (bytes_eq word (codes "replay")) refl (bytes_eq word (codes "decompress")) refl
+    (bytes_eq word (codes "aggregate")) refl (bytes_eq word (codes "generate")) refl
+    (bytes_eq word (codes "selftest")) refl
+  where
+    go : (a : Bool) → bytes_eq word (codes "preprocess") ≡ a → (b : Bool) → bytes_eq word (codes "direct") ≡ b
+        → (c : Bool) → bytes_eq word (codes "replay") ≡ c → (d : Bool) → bytes_eq word (codes "decompress") ≡ d
+        → (e : Bool) → bytes_eq word (codes "aggregate") ≡ e → (f : Bool) → bytes_eq word (codes "generate") ≡ f
+        → (g : Bool) → bytes_eq word (codes "selftest") ≡ g
+        → asked word given ≡ option_and_then (λ (form : Form). asked_as form given) (form_named word)
+    go true p b q c r d s e t f u g v = rw p refl
+    go false p true q c r d s e t f u g v = rw (p, q) refl
+    go false p false q true r d s e t f u g v = rw (p, q, r) refl
+    go false p false q false r true s e t f u g v = rw (p, q, r, s) refl
+    go false p false q false r false s true t f u g v = rw (p, q, r, s, t) refl
+    go false p false q false r false s false t true u g v = rw (p, q, r, s, t, u) refl
+    go false p false q false r false s false t false u true v = rw (p, q, r, s, t, u, v) refl
+    go false p false q false r false s false t false u false v = rw (p, q, r, s, t, u, v) refl
+
 -- the word of a form
 asked_is : (word : Text) (form : Form) (given : Option Given) → Some form ≡ form_named word
     → option_and_then (asked_as form) given ≡ option_and_then (asked word) given
 asked_is word form None is = refl
 asked_is word form (Some given) is =
-    go (bytes_eq word (codes "preprocess")) refl (bytes_eq word (codes "direct")) refl
-    (bytes_eq word (codes "replay")) refl (bytes_eq word (codes "decompress")) refl
-  where
-    go : (p : Bool) → bytes_eq word (codes "preprocess") ≡ p → (a : Bool) → bytes_eq word (codes "direct") ≡ a
-        → (b : Bool) → bytes_eq word (codes "replay") ≡ b → (c : Bool) → bytes_eq word (codes "decompress") ≡ c
-        → asked_as form given ≡ asked word given
-    go true d a e b f c g =
-        let named : Some form ≡ Some forms.Preprocess = rw d at is in
-        let named_form : form ≡ forms.Preprocess = cc in
-        rw (named_form, d) refl
-    go false d true e b f c g =
-        let named : Some form ≡ Some forms.Direct = rw (d, e) at is in
-        let named_form : form ≡ forms.Direct = cc in
-        rw (named_form, d, e) refl
-    go false d false e true f c g =
-        let named : Some form ≡ Some forms.Replay = rw (d, e, f) at is in
-        let named_form : form ≡ forms.Replay = cc in
-        rw (named_form, d, e, f) refl
-    go false d false e false f true g =
-        let named : Some form ≡ Some forms.Decompress = rw (d, e, f, g) at is in
-        let named_form : form ≡ forms.Decompress = cc in
-        rw (named_form, d, e, f, g) refl
-    go false d false e false f false g =
-        let named : Some form ≡ None = rw (d, e, f, g) at is in
-        cc
+    ap (option_and_then (λ (f : Form). asked_as f given)) is ∙ sym (asked_by word given)
 
 -- a word of no form
-pub none_asked : (word : Text) (words : List Text) → None ≡ form_named word → None ≡ command_of (word ∷ words)
-none_asked word words is = nothing (given_of words)
+none_asked : (word : Text) (words : List Text) → None ≡ form_named word → None ≡ command_of (word ∷ words)
+none_asked word words is = go (given_of words)
   where
-    go : (given : Given) (p : Bool) → bytes_eq word (codes "preprocess") ≡ p
-        → (a : Bool) → bytes_eq word (codes "direct") ≡ a
-        → (b : Bool) → bytes_eq word (codes "replay") ≡ b → (c : Bool) → bytes_eq word (codes "decompress") ≡ c
-        → None ≡ asked word given
-    go given true d a e b f c g =
-        let named : None ≡ Some forms.Preprocess = rw d at is in
-        cc
-    go given false d true e b f c g =
-        let named : None ≡ Some forms.Direct = rw (d, e) at is in
-        cc
-    go given false d false e true f c g =
-        let named : None ≡ Some forms.Replay = rw (d, e, f) at is in
-        cc
-    go given false d false e false f true g =
-        let named : None ≡ Some forms.Decompress = rw (d, e, f, g) at is in
-        cc
-    go given false d false e false f false g = rw (d, e, f, g) refl
+    go : (given : Option Given) → None ≡ option_and_then (asked word) given
+    go None = refl
+    go (Some given) = ap (option_and_then (λ (f : Form). asked_as f given)) is ∙ sym (asked_by word given)
 
-    nothing : (given : Option Given) → None ≡ option_and_then (asked word) given
-    nothing None = refl
-    nothing (Some given) =
-        go given (bytes_eq word (codes "preprocess")) refl (bytes_eq word (codes "direct")) refl
-        (bytes_eq word (codes "replay")) refl (bytes_eq word (codes "decompress")) refl
+-- the texts of the first word and of those after it
+whole_line : {A : Type 0} (words rest : List (String A)) (word : String A) (text : Text) → words ≡ word ∷ rest
+    → text ≡ string_bytes word → text ∷ texts_of rest ≡ texts_of words
+whole_line words rest word text cut is =
+    ap (λ (first : Text). first ∷ texts_of rest) is ∙ sym (ap texts_of cut)
 
--- the command that is found is the one that the words ask for
-pub command_from : (word : Text) (words : List Text) (form : Form) (uses : Option Uses) → Some form ≡ form_named word
-    → uses ≡ uses_read (options_taken form) words → option_and_then (found_command form) uses ≡ command_of (word ∷ words)
-command_from word words form uses is found =
-    ap (option_and_then (found_command form)) found
-    ∙ command_agrees form _ _ (agree (options_taken form) words).0
-    ∙ asked_is word form (given_of words) is
+-- words of the program whose first is of no form
+pub none_from : {A : Type 0} (words rest : List (String A)) (word : String A) (text : Text) → words ≡ word ∷ rest
+    → text ≡ string_bytes word → None ≡ form_named text → None ≡ command_of (texts_of words)
+none_from words rest word text cut is named =
+    none_asked text (texts_of rest) named ∙ ap command_of (whole_line words rest word text cut is)
+
+-- the command that is found is the one that the words of the program ask for
+pub command_from : {A : Type 0} (words rest : List (String A)) (word : String A) (text : Text) (form : Form)
+    (found read : Option ArgMatches) → words ≡ word ∷ rest → text ≡ string_bytes word → Some form ≡ form_named text
+    → read ≡ found → option_map (uses_of (options_taken form)) read ≡ uses_read (options_taken form) (texts_of rest)
+    → option_and_then (found_command form) (option_map (uses_of (options_taken form)) found) ≡ command_of (texts_of words)
+command_from words rest word text form found read cut is named told uses =
+    ap (option_and_then (found_command form)) (ap (option_map (uses_of (options_taken form))) (sym told) ∙ uses)
+    ∙ command_agrees form _ _ (agree (options_taken form) (texts_of rest)).0
+    ∙ asked_is text form (given_of (texts_of rest)) named
+    ∙ ap command_of (whole_line words rest word text cut is)
 
 -- ---- what is found
 
@@ -403,33 +413,56 @@ found_are matches =
     (first_found found (codes "ring")) (first_found found (codes "batch")) (first_found found (codes "full"))
     (first_found found (codes "level"))
 
-pub no_ring : (values : Text → Option Text) → None ≡ ring_of (values (codes "ring")) → None ≡ options_by values
-no_ring values none = rw (sym none) refl
+-- what is found of an option
+abbrev pub text_of : ArgMatches → Text → Option Text
+text_of matches = first_value (found_of matches)
 
-pub no_batch : (values : Text → Option Text) → None ≡ batch_of (values (codes "batch")) → None ≡ options_by values
-no_batch values none =
-    rw (sym none) (sym (no_second (ring_of (values (codes "ring"))) (policy_of (values (codes "full"))) (level_of (values (codes "level")))))
+-- what is found of the names
+abbrev pub names_in : ArgMatches → Option (List Text)
+names_in matches = option_map raw_values (matched_of (found_of matches) (codes "names"))
 
-pub no_policy : (values : Text → Option Text) → None ≡ policy_of (values (codes "full")) → None ≡ options_by values
-no_policy values none =
-    rw (sym none) (sym (no_third (ring_of (values (codes "ring"))) (batch_of (values (codes "batch"))) (level_of (values (codes "level")))))
+names_are : (matches : ArgMatches) (taken : List Text) → names_in matches ≡ (uses_of taken matches).names
+names_are matches taken = raw_values-rows (found_of matches) (codes "names")
 
-pub no_level : (values : Text → Option Text) → None ≡ level_of (values (codes "level")) → None ≡ options_by values
-no_level values none =
-    rw (sym none) (sym (no_fourth (ring_of (values (codes "ring"))) (batch_of (values (codes "batch"))) (policy_of (values (codes "full")))))
+-- the options by what is found of each
+pub options_found : (matches : ArgMatches) (ring batch : Option ℕ) (policy : Option Policy) (level : Option Severity)
+    → ring ≡ ring_of (text_of matches (codes "ring")) → batch ≡ batch_of (text_of matches (codes "batch"))
+    → policy ≡ policy_of (text_of matches (codes "full")) → level ≡ level_of (text_of matches (codes "level"))
+    → options_with ring batch policy level ≡ found_options (uses_of replay_options matches)
+options_found matches ring batch policy level a b c d = rw (a, b, c, d) (found_are matches)
 
-pub all_options : (values : Text → Option Text) (ring batch : ℕ) (policy : Policy) (level : Severity)
-    → Some ring ≡ ring_of (values (codes "ring")) → Some batch ≡ batch_of (values (codes "batch"))
-    → Some policy ≡ policy_of (values (codes "full")) → Some level ≡ level_of (values (codes "level"))
-    → Some (record { ring = ring; batch = batch; policy = policy; level = level }) ≡ options_by values
-all_options values ring batch policy level a b c d = rw (sym a, sym b, sym c, sym d) refl
+-- no options, where what is found of one is wrong
+pub no_ring : (matches : ArgMatches) (text : Option Text) → text ≡ text_of matches (codes "ring")
+    → None ≡ ring_of text → None ≡ found_options (uses_of replay_options matches)
+no_ring matches text is wrong = options_found matches None _ _ _ (wrong ∙ ap ring_of is) refl refl refl
 
-pub no_names_command : (form : Form) (uses : Uses) → None ≡ uses.names → None ≡ found_command form uses
+pub no_batch : (matches : ArgMatches) (text : Option Text) → text ≡ text_of matches (codes "batch")
+    → None ≡ batch_of text → None ≡ found_options (uses_of replay_options matches)
+no_batch matches text is wrong =
+    sym (no_second _ _ _) ∙ options_found matches _ None _ _ refl (wrong ∙ ap batch_of is) refl refl
+
+pub no_policy : (matches : ArgMatches) (text : Option Text) → text ≡ text_of matches (codes "full")
+    → None ≡ policy_of text → None ≡ found_options (uses_of replay_options matches)
+no_policy matches text is wrong =
+    sym (no_third _ _ _) ∙ options_found matches _ _ None _ refl refl (wrong ∙ ap policy_of is) refl
+
+pub no_level : (matches : ArgMatches) (text : Option Text) → text ≡ text_of matches (codes "level")
+    → None ≡ level_of text → None ≡ found_options (uses_of replay_options matches)
+no_level matches text is wrong =
+    sym (no_fourth _ _ _) ∙ options_found matches _ _ _ None refl refl refl (wrong ∙ ap level_of is)
+
+no_names_command : (form : Form) (uses : Uses) → None ≡ uses.names → None ≡ found_command form uses
 no_names_command forms.Preprocess uses none =
     ap (λ (names : Option (List Text)). preprocess_of (unwrap_or names [])) none
 no_names_command forms.Direct uses none = ap (λ (names : Option (List Text)). option_map Direct (only_name (unwrap_or names []))) none
 no_names_command forms.Decompress uses none =
     ap (λ (names : Option (List Text)). option_map Decompress (only_name (unwrap_or names []))) none
+no_names_command forms.Aggregate uses none =
+    ap (λ (names : Option (List Text)). aggregate_of (unwrap_or names [])) none
+no_names_command forms.Generate uses none =
+    ap (λ (names : Option (List Text)). generated_of Generate (unwrap_or names [])) none
+no_names_command forms.Selftest uses none =
+    ap (λ (names : Option (List Text)). generated_of Selftest (unwrap_or names [])) none
 no_names_command forms.Replay uses none =
     go (found_options uses)
     ∙ ap (λ (names : Option (List Text)). option_and_then (replay_of (unwrap_or names [])) (found_options uses)) none
@@ -438,23 +471,29 @@ no_names_command forms.Replay uses none =
     go None = refl
     go (Some options) = refl
 
+-- no command, where no names are found
+pub nameless_command : (form : Form) (matches : ArgMatches) → None ≡ names_in matches
+    → None ≡ found_command form (uses_of (options_taken form) matches)
+nameless_command form matches none =
+    no_names_command form (uses_of (options_taken form) matches) (none ∙ names_are matches (options_taken form))
+
 -- the command of these names is the form's, where they are found
-pub names_command : (form named : Form) (uses : Uses) (texts : List Text) → form ≡ named → Some texts ≡ uses.names
-    → found_command named (record uses { names = Some texts }) ≡ found_command form uses
-names_command form named uses texts is all =
-    rw is (ap (λ (names : Option (List Text)). found_command named (record uses { names = names })) all)
+pub names_command : (form named : Form) (matches : ArgMatches) (texts : List Text) → form ≡ named
+    → Some texts ≡ names_in matches
+    → found_command named (record (uses_of (options_taken form) matches) { names = Some texts })
+    ≡ found_command form (uses_of (options_taken form) matches)
+names_command form named matches texts is all =
+    let uses = uses_of (options_taken form) matches in
+    ap (λ (names : Option (List Text)). found_command named (record uses { names = names }))
+    (all ∙ names_are matches (options_taken form))
+    ∙ ap (λ (f : Form). found_command f uses) (sym is)
 
 -- the same of `replay` with the options that are found
 pub replay_command : (form : Form) (matches : ArgMatches) (texts : List Text) → form ≡ forms.Replay
-    → Some texts ≡ (uses_of (options_taken form) matches).names
+    → Some texts ≡ names_in matches
     → option_and_then (replay_of texts) (found_options (uses_of replay_options matches))
     ≡ found_command form (uses_of (options_taken form) matches)
 replay_command form matches texts is all =
     rw is (ap (λ (names : Option (List Text)). option_and_then (replay_of (unwrap_or names []))
-    (found_options (uses_of replay_options matches))) all)
-
--- the texts of the first word and of those after it
-pub whole_line : {A : Type 0} (words rest : List (String A)) (word : String A) (text : Text) → words ≡ word ∷ rest
-    → text ≡ string_bytes word → text ∷ texts_of rest ≡ texts_of words
-whole_line words rest word text cut is =
-    ap (λ (first : Text). first ∷ texts_of rest) is ∙ sym (ap texts_of cut)
+    (found_options (uses_of replay_options matches)))
+    (all ∙ names_are matches (options_taken form)))

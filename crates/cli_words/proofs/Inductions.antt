@@ -1,13 +1,14 @@
 -- What the reader makes of all the words, by one word after another.
 use Rattle.std.proofs.Common.{◌≡◌, ◌∙◌, Bool, true, false, List, [], ◌∷◌, Option, Some, None, refl, ap, codes}
 use Rattle.std.specs.Prelude.{option_and_then, option_map, if◌then◌else◌}
-use Rattle.std.specs.Str.{IsUtf8}
+use Rattle.std.specs.Str.{IsUtf8, bytes_eq}
+use Rattle.clap.specs.Lexer.{long_of}
 use Rattle.clap.specs.Walk.{Row, Text, idle, option as waiting_for, positional, used}
 use Rattle.clap.specs.Kinds.{Kinds, or_else}
 use Rattle.clap.specs.Faults.{settle_fault, turn_fault}
 use Rattle.cli_words.specs.Uses.{Uses, uses_in, used_after, read_from}
 use Rattle.cli_words.specs.Commands.{Given, Word, Name, End, Awaits, Sets, Unknown, word_of, with_name, with_option, is_among}
-use Rattle.cli_words.proofs.Words.{Tells, tells as told}
+use Rattle.cli_words.proofs.Words.{Tells, dashes, tells as told}
 use Rattle.cli_words.proofs.Shapes.{IsPlain, rules, shape, option_rule}
 use Rattle.cli_words.proofs.Walks as walks
 use Rattle.cli_words.proofs.Walks.{is_right, held, at, no_option, rows_at, named, used_at, ended, ended_step, awaiting, again_fault}
@@ -66,26 +67,39 @@ idle_unknown word words utf8 tells e taken b rows pending plain =
     turn true = walks.letters_turn taken rows pending positional word refl utf8 tells
     turn false = walks.letters_turn taken rows pending idle word refl utf8 tells
 
-idle_awaits : (word option : Text) (words : List Text) → Tells word (Awaits option) → word_of word ≡ Awaits option
-    → Waits words → Idle (word ∷ words)
-idle_awaits word option words tells e rest taken b rows pending plain =
-    rw (e, read_from) (go (is_among taken option) refl)
+-- what follows an option: nothing, where it isn't taken
+option_step : (taken : List Text) (b : Bool) (rows : List Row) (pending : Option (Text × List Text)) (word option : Text)
+    (value : Option Text) (words : List Text) (read : Option Given) → bytes_eq word dashes ≡ false
+    → long_of word ≡ Some (option, value)
+    → (is_among taken option ≡ true → ended taken (at (held rows pending) (no_option b) false) (word ∷ words)
+    ≡ then_used read (used_at taken (held rows pending)))
+    → ended taken (at (held rows pending) (no_option b) false) (word ∷ words)
+    ≡ then_used (if is_among taken option then read else None) (used_at taken (held rows pending))
+option_step taken b rows pending word option value words read no_end long where_known =
+    go (is_among taken option) refl
   where
     go : (known : Bool) → is_among taken option ≡ known
         → ended taken (at (held rows pending) (no_option b) false) (word ∷ words)
-        ≡ then_used (if known then read_from taken (Some option) words else None) (used_at taken (held rows pending))
+        ≡ then_used (if known then read else None) (used_at taken (held rows pending))
     go false known =
         ended_faulty taken (at (held rows pending) (no_option b) false) word words
-        (walks.unknown_turn taken b (held rows pending) word option None tells.0 tells.1 known)
+        (walks.unknown_turn taken b (held rows pending) word option value no_end long known)
         ∙ none_then (used_at taken (held rows pending))
-    go true known =
-        let before = held rows pending in
-        let now = rows_at taken before in
-        ended_step taken (at before (no_option b) false) word words _ _
-        (walks.awaits_turn taken b before word option tells known)
-        (walks.awaits_walked taken b rows pending word option tells known)
-        ∙ stops taken (settle_fault (rules taken) false before) now (read_from taken (Some option) words)
-        (ended taken (awaiting option now) words) (rest taken now option plain known)
+    go true known = where_known known
+
+idle_awaits : (word option : Text) (words : List Text) → Tells word (Awaits option) → word_of word ≡ Awaits option
+    → Waits words → Idle (word ∷ words)
+idle_awaits word option words tells e rest taken b rows pending plain =
+    let before = held rows pending in
+    let now = rows_at taken before in
+    let read = read_from taken (Some option) words in
+    rw (e, read_from) (
+    option_step taken b rows pending word option None words read tells.0 tells.1 (λ known.
+    ended_step taken (at before (no_option b) false) word words _ _
+    (walks.awaits_turn taken b before word option tells known)
+    (walks.awaits_walked taken b rows pending word option tells known)
+    ∙ stops taken (settle_fault (rules taken) false before) now read
+    (ended taken (awaiting option now) words) (rest taken now option plain known)))
 
 -- what follows an option with its value
 then_option : (taken : List Text) (option value : Text) (given : Option Given) (fault : Kinds) (now : List Row)
@@ -109,25 +123,17 @@ then_option taken option value given [] now next plain known same =
 idle_sets : (word option value : Text) (words : List Text) → Tells word (Sets option value) → word_of word ≡ Sets option value
     → Idle words → Idle (word ∷ words)
 idle_sets word option value words tells e rest taken b rows pending plain =
-    rw (e, read_from) (go (is_among taken option) refl)
-  where
-    go : (known : Bool) → is_among taken option ≡ known
-        → ended taken (at (held rows pending) (no_option b) false) (word ∷ words)
-        ≡ then_used (if known then with_option option value (read_from taken None words) else None)
-        (used_at taken (held rows pending))
-    go false known =
-        ended_faulty taken (at (held rows pending) (no_option b) false) word words
-        (walks.unknown_turn taken b (held rows pending) word option (Some value) tells.0 tells.1 known)
-        ∙ none_then (used_at taken (held rows pending))
-    go true known =
-        let before = held rows pending in
-        let now = rows_at taken before in
-        ended_step taken (at before (no_option b) false) word words _ _
-        (walks.sets_turn taken b before word option value tells known)
-        (walks.sets_walked taken b rows pending word option value tells known)
-        ∙ then_option taken option value (read_from taken None words) (settle_fault (rules taken) false before) now
-        (ended taken (at (held (used (option_rule option) (value ∷ []) now) None) idle false) words) plain known
-        (rest taken false (used (option_rule option) (value ∷ []) now) None plain)
+    let before = held rows pending in
+    let now = rows_at taken before in
+    let more = used (option_rule option) (value ∷ []) now in
+    let read = read_from taken None words in
+    rw (e, read_from) (
+    option_step taken b rows pending word option (Some value) words (with_option option value read) tells.0 tells.1 (λ known.
+    ended_step taken (at before (no_option b) false) word words _ _
+    (walks.sets_turn taken b before word option value tells known)
+    (walks.sets_walked taken b rows pending word option value tells known)
+    ∙ then_option taken option value read (settle_fault (rules taken) false before) now
+    (ended taken (at (held more None) idle false) words) plain known (rest taken false more None plain)))
 
 waits_name : (word : Text) (words : List Text) → Tells word Name → word_of word ≡ Name → Idle words → Waits (word ∷ words)
 waits_name word words tells e rest taken rows option plain known =

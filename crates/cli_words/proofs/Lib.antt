@@ -1,6 +1,6 @@
 pub mod Words
 pub mod SeverityNames
-pub mod Numbers
+pub mod Spelled
 pub mod Taken
 pub mod Shapes
 pub mod Rows

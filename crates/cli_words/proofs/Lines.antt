@@ -1,6 +1,6 @@
 -- The laws of lines.
 use Rattle.std.proofs.Common.{◌≡◌, ◌∙◌, ◌≢◌, ◌<◌, ◌≤◌, ◌++◌, Bool, true, false, List, [], ◌∷◌, length}
-use Rattle.std.proofs.Common.{ℕ, get_or, map, Option, Some, None, refl, sym, ap, ap₂, ◌&&◌, not, codes, arith}
+use Rattle.std.proofs.Common.{ℕ, get_or, map, Option, Some, None, refl, sym, ap, ap₂, subst, ◌&&◌, not, codes, arith}
 use Rattle.std.specs.Prelude.{◌==◌, if◌then◌else◌, is_some, nat_le, nat_lt, option_map, option_and_then}
 use Rattle.std.specs.List.{All, list_all, list_any, before_first, after_first}
 use Rattle.std.proofs.Math.Numerals.{add-one, one-add}
@@ -8,25 +8,33 @@ use Rattle.std.proofs.Math.Bool.{or-true}
 use Rattle.std.proofs.lemmas.Bool.{true≢false, leb-true, le-leb, ltb-true, lt-ltb}
 use Rattle.std.proofs.lemmas.List.Sums.{AllPass-from_list_all, list_all-from_AllPass}
 use Rattle.std.specs.Str.{bytes_eq}
+use Rattle.std.specs.Fmt.{decimal}
 use Rattle.std.proofs.lemmas.Slice.Eq.{bytes_eq-Decides}
 use Rattle.std.proofs.lemmas.Bool.Decides.{nat_tests, not_from_Decides}
 use Rattle.std.proofs.lemmas.List.{length-map}
 use Rattle.std.proofs.lemmas.List.Folds.{list_all-map}
+use Rattle.arg_records.specs.declared.call.TheConstants.{MAX_WRITERS}
 use Rattle.log_dictionary.specs.declared.severity.Severity.{Severity}
 use Rattle.log_session.specs.declared.options.Options.{Options}
 use Rattle.log_session.specs.declared.options.Policy.{Policy}
 use Rattle.ring_core.specs.declared.limits.TheConstants.{MIN_RING, MAX_RING}
 use Rattle.roaming_consumer.specs.declared.making.TheConstants.{MAX_BATCH}
+use Rattle.trace_text.specs.declared.generating.TheConstants.{MAX_GENERATED}
 use Rattle.cli_words.specs.Commands.{Text, Given, Name, Awaits, Sets, Unknown, word_of, after_dashes, is_equals, is_among, with_name, with_option, given_of, given_from}
 use Rattle.cli_words.specs.Commands.{Command, Preprocess, Direct, Replay, Decompress}
 use Rattle.cli_words.specs.Commands.{command_of, asked, bare_names, lone_name, replay_options, options_of, options_with, are_taken, value_of, options_by}
 use Rattle.cli_words.specs.Commands.{ring_of, batch_of, policy_of, level_of}
 use Rattle.cli_words.specs.Commands.{are_sources, is_name, is_source, only_name, preprocess_of, replay_of}
-use Rattle.cli_words.specs.Rows.{AreInBounds, IsLawful, line_of}
-use Rattle.cli_words.proofs.Taken.{turned}
-use Rattle.cli_words.proofs.Commands.{same_options}
-use Rattle.cli_words.proofs.Numbers.{LiesIn, number_lies, number_spelled, policy_is, named_severity}
+use Rattle.cli_words.specs.Commands.{Aggregate, Generate, Selftest, aggregate_of, aggregate_with, generated_of, generated_with, number_within}
+use Rattle.cli_words.specs.Rows.{AreGenerated, AreInBounds, IsLawful, line_of}
+use Rattle.cli_words.specs.Uses.{form_named}
 use Rattle.cli_words.specs.declared.command.TheConstants.{MAX_SOURCES}
+use Rattle.cli_words.specs.declared.numbers.TheConstants.{MAX_ID, MAX_SEED}
+use Rattle.cli_words.specs.declared.reading.Form.{Form}
+use Rattle.cli_words.specs.declared.reading.Form.TheVariants as forms
+use Rattle.cli_words.proofs.Taken.{turned}
+use Rattle.cli_words.proofs.Commands.{asked_as, asked_by, same_options}
+use Rattle.cli_words.proofs.Spelled.{LiesIn, number_lies, number_spelled, policy_is, named_severity}
 
 moved_name : (name option value : Text) (given : Option Given)
     → with_name name (with_option option value given) ≡ with_option option value (with_name name given)
@@ -237,11 +245,30 @@ sources_fit dictionary sources fit =
           (AllPass-from_list_all (is_source dictionary) sources g k d below),
     )
 
+generated_asked : (make : ℕ → ℕ → ℕ → Command) (seed calls writers : ℕ) → AreGenerated seed calls writers
+    → generated_of make (decimal seed ∷ decimal calls ∷ decimal writers ∷ []) ≡ Some (make seed calls writers)
+generated_asked make seed calls writers lawful =
+    let fit_seed : number_within 0 MAX_SEED (decimal seed) ≡ Some seed =
+    number_spelled 0 MAX_SEED seed (omega arith) lawful.0 (omega (arith, lawful.0)) in
+    let fit_calls : number_within 0 MAX_GENERATED (decimal calls) ≡ Some calls =
+    number_spelled 0 MAX_GENERATED calls (omega arith) lawful.1 (omega (arith, lawful.1)) in
+    let fit_writers : number_within 1 MAX_WRITERS (decimal writers) ≡ Some writers =
+    number_spelled 1 MAX_WRITERS writers lawful.2 lawful.3 (omega (arith, lawful.3)) in
+    rw (fit_seed, fit_calls, fit_writers) refl
+
 pub line_asks : (command : Command) → IsLawful command → command_of (line_of command) ≡ Some command
 line_asks (Preprocess dictionary sources) lawful =
     rw (lawful.0, sources_pass dictionary sources lawful.1 lawful.2 lawful.3) refl
 line_asks (Direct trace) lawful = rw lawful refl
 line_asks (Decompress log) lawful = rw lawful refl
+line_asks (Aggregate log id nth) lawful =
+    rw (
+      lawful.0,
+      number_spelled 0 MAX_ID id (omega arith) lawful.1 (omega (arith, lawful.1)),
+      number_spelled 0 MAX_ID nth (omega arith) lawful.2 (omega (arith, lawful.2)),
+    ) refl
+line_asks (Generate seed calls writers) lawful = generated_asked Generate seed calls writers lawful
+line_asks (Selftest seed calls writers) lawful = generated_asked Selftest seed calls writers lawful
 line_asks (Replay trace log options) lawful =
     rw (
       number_spelled MIN_RING MAX_RING options.ring lawful.3.0 lawful.3.1 (omega (arith, lawful.3.1)),
@@ -274,11 +301,15 @@ lone_lawful : (make : Text → Command) → ((name : Text) → is_name name ≡ 
 lone_lawful make lawful [] names = only_lawful make lawful names
 lone_lawful make lawful (option ∷ options) names = tt
 
-bare_lawful : (options : List (Text × Text)) (names : List Text)
-    → AreLawful (option_and_then preprocess_of (bare_names (record { options = options; names = names })))
-bare_lawful (option ∷ options) names = tt
-bare_lawful [] [] = tt
-bare_lawful [] (dictionary ∷ sources) = go (is_name dictionary) refl (are_sources dictionary sources) refl
+bare_lawful : (make : List Text → Option Command) → ((names : List Text) → AreLawful (make names))
+    → (options : List (Text × Text)) (names : List Text)
+    → AreLawful (option_and_then make (bare_names (record { options = options; names = names })))
+bare_lawful make lawful (option ∷ options) names = tt
+bare_lawful make lawful [] names = lawful names
+
+preprocess_lawful : (names : List Text) → AreLawful (preprocess_of names)
+preprocess_lawful [] = tt
+preprocess_lawful (dictionary ∷ sources) = go (is_name dictionary) refl (are_sources dictionary sources) refl
   where
     go : (a : Bool) → is_name dictionary ≡ a → (b : Bool) → are_sources dictionary sources ≡ b
         → AreLawful (preprocess_of (dictionary ∷ sources))
@@ -287,6 +318,46 @@ bare_lawful [] (dictionary ∷ sources) = go (is_name dictionary) refl (are_sour
     go true e true f =
         let fit = sources_fit dictionary sources f in
         rw (e, f) (e, fit.0, fit.1, fit.2)
+
+aggregate_lies : (log : Text) (id nth : Option ℕ) → is_name log ≡ true → LiesIn 0 MAX_ID id → LiesIn 0 MAX_ID nth
+    → AreLawful (aggregate_with log id nth)
+aggregate_lies log None nth named a b = tt
+aggregate_lies log (Some id) None named a b = tt
+aggregate_lies log (Some id) (Some nth) named a b = (named, a.1, b.1)
+
+aggregate_lawful : (names : List Text) → AreLawful (aggregate_of names)
+aggregate_lawful [] = tt
+aggregate_lawful (log ∷ []) = tt
+aggregate_lawful (log ∷ id ∷ []) = tt
+aggregate_lawful (log ∷ id ∷ nth ∷ other ∷ names) = tt
+aggregate_lawful (log ∷ id ∷ nth ∷ []) = go (is_name log) refl
+  where
+    go : (b : Bool) → is_name log ≡ b → AreLawful (aggregate_of (log ∷ id ∷ nth ∷ []))
+    go false e = rw e tt
+    go true e =
+        rw e (aggregate_lies log (number_within 0 MAX_ID id) (number_within 0 MAX_ID nth) e
+        (number_lies 0 MAX_ID id) (number_lies 0 MAX_ID nth))
+
+generated_lie : (make : ℕ → ℕ → ℕ → Command)
+    → ((seed calls writers : ℕ) → AreGenerated seed calls writers → IsLawful (make seed calls writers))
+    → (seed calls writers : Option ℕ) → LiesIn 0 MAX_SEED seed → LiesIn 0 MAX_GENERATED calls → LiesIn 1 MAX_WRITERS writers
+    → AreLawful (generated_with make seed calls writers)
+generated_lie make lawful None calls writers a b c = tt
+generated_lie make lawful (Some seed) None writers a b c = tt
+generated_lie make lawful (Some seed) (Some calls) None a b c = tt
+generated_lie make lawful (Some seed) (Some calls) (Some writers) a b c = lawful seed calls writers (a.1, b.1, c.0, c.1)
+
+generated_lawful : (make : ℕ → ℕ → ℕ → Command)
+    → ((seed calls writers : ℕ) → AreGenerated seed calls writers → IsLawful (make seed calls writers))
+    → (names : List Text) → AreLawful (generated_of make names)
+generated_lawful make lawful [] = tt
+generated_lawful make lawful (seed ∷ []) = tt
+generated_lawful make lawful (seed ∷ calls ∷ []) = tt
+generated_lawful make lawful (seed ∷ calls ∷ writers ∷ other ∷ names) = tt
+generated_lawful make lawful (seed ∷ calls ∷ writers ∷ []) =
+    generated_lie make lawful (number_within 0 MAX_SEED seed) (number_within 0 MAX_GENERATED calls)
+    (number_within 1 MAX_WRITERS writers)
+    (number_lies 0 MAX_SEED seed) (number_lies 0 MAX_GENERATED calls) (number_lies 1 MAX_WRITERS writers)
 
 -- the options that are set lie in their bounds
 abbrev AreOptions : Option Options → Type 0
@@ -337,20 +408,24 @@ replay_lawful (trace ∷ log ∷ []) (Some options) lie =
     go true e true f false g =
         rw (e, f, g) (e, f, not_from_Decides (bytes_eq trace log) (bytes_eq-Decides trace log) g, lie)
 
+-- what a command of this form asks for keeps the rules
+form_lawful : (form : Form) (given : Given) → AreLawful (asked_as form given)
+form_lawful forms.Preprocess given = bare_lawful preprocess_of preprocess_lawful given.options given.names
+form_lawful forms.Direct given = lone_lawful Direct (λ name is. is) given.options given.names
+form_lawful forms.Replay given = replay_lawful given.names (options_of given.options) (set_lie given.options)
+form_lawful forms.Decompress given = lone_lawful Decompress (λ name is. is) given.options given.names
+form_lawful forms.Aggregate given = bare_lawful aggregate_of aggregate_lawful given.options given.names
+form_lawful forms.Generate given =
+    bare_lawful (generated_of Generate) (generated_lawful Generate (λ seed calls writers are. are)) given.options given.names
+form_lawful forms.Selftest given =
+    bare_lawful (generated_of Selftest) (generated_lawful Selftest (λ seed calls writers are. are)) given.options given.names
+
 asked_lawful : (word : Text) (given : Given) → AreLawful (asked word given)
-asked_lawful word given =
-    go (bytes_eq word (codes "preprocess")) refl (bytes_eq word (codes "direct")) refl
-    (bytes_eq word (codes "replay")) refl (bytes_eq word (codes "decompress")) refl
+asked_lawful word given = subst AreLawful (sym (asked_by word given)) (go (form_named word))
   where
-    go : (p : Bool) → bytes_eq word (codes "preprocess") ≡ p → (a : Bool) → bytes_eq word (codes "direct") ≡ a
-        → (b : Bool) → bytes_eq word (codes "replay") ≡ b → (c : Bool) → bytes_eq word (codes "decompress") ≡ c
-        → AreLawful (asked word given)
-    go true d a e b f c g = rw d (bare_lawful given.options given.names)
-    go false d true e b f c g = rw (d, e) (lone_lawful Direct (λ name is. is) given.options given.names)
-    go false d false e true f c g = rw (d, e, f) (replay_lawful given.names (options_of given.options) (set_lie given.options))
-    go false d false e false f true g =
-        rw (d, e, f, g) (lone_lawful Decompress (λ name is. is) given.options given.names)
-    go false d false e false f false g = rw (d, e, f, g) tt
+    go : (form : Option Form) → AreLawful (option_and_then (λ (f : Form). asked_as f given) form)
+    go None = tt
+    go (Some form) = form_lawful form given
 
 words_lawful : (words : List Text) → AreLawful (command_of words)
 words_lawful [] = tt

@@ -9,7 +9,7 @@ use Rattle.cli_words.specs.Commands.{Given, with_name, with_option, is_among}
 use Rattle.cli_words.proofs.Shapes.{IsPlain, rules, shape, option_rule}
 use Rattle.cli_words.proofs.Rows.{name_used, option_used, not_used, was_used}
 use Rattle.cli_words.proofs.Walks as walks
-use Rattle.cli_words.proofs.Walks.{is_right, held, at, no_option, rows_at, named, used_at, ended, ended_step, awaiting, again_fault}
+use Rattle.cli_words.proofs.Walks.{is_right, held, at, rows_at, named, used_at, ended, ended_step, again_fault}
 
 pub ended_nil : (taken : List Text) (w : Walk) → ended taken w [] ≡ used_at taken w.held
 unfolding walk_fault

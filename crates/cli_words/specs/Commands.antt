@@ -15,8 +15,10 @@ use Rattle.log_session.specs.Defaults.{default_options}
 use Rattle.log_session.specs.declared.options.Options.{Options}
 use Rattle.log_session.specs.declared.options.Policy.{Policy}
 use Rattle.log_session.specs.declared.options.Policy.TheVariants.{Wait, Shed}
+use Rattle.arg_records.specs.declared.call.TheConstants.{MAX_WRITERS}
+use Rattle.trace_text.specs.declared.generating.TheConstants.{MAX_GENERATED}
 use Rattle.cli_words.specs.declared.command.TheConstants.{MAX_SOURCES}
-use Rattle.cli_words.specs.declared.options.TheConstants.{MAX_DIGITS}
+use Rattle.cli_words.specs.declared.numbers.TheConstants.{MAX_DIGITS, MAX_ID, MAX_SEED}
 
 -- a word, a name or a value: the bytes of its text
 abbrev pub Text : Type 0
@@ -32,6 +34,9 @@ pub data Command : Type 0 where
   Direct : (trace : Text) → Command
   Replay : (trace log : Text) (options : Options) → Command
   Decompress : (log : Text) → Command
+  Aggregate : (log : Text) (id nth : ℕ) → Command
+  Generate : (seed calls writers : ℕ) → Command
+  Selftest : (seed calls writers : ℕ) → Command
 
 -- ---- what a word is
 
@@ -217,6 +222,29 @@ replay_of (trace ∷ log ∷ []) options =
     if is_name trace && is_name log && not (bytes_eq trace log) then Some (Replay trace log options) else None
 replay_of _ options = None
 
+-- the command `aggregate` of these numbers, where they are right
+abbrev pub aggregate_with : Text → Option ℕ → Option ℕ → Option Command
+aggregate_with log (Some id) (Some nth) = Some (Aggregate log id nth)
+aggregate_with log _ _ = None
+
+-- the command `aggregate` with these names: the log's, and two numbers of 32 bits
+abbrev pub aggregate_of : List Text → Option Command
+aggregate_of (log ∷ id ∷ nth ∷ []) =
+    if is_name log then aggregate_with log (number_within 0 MAX_ID id) (number_within 0 MAX_ID nth) else None
+aggregate_of _ = None
+
+-- a command of these numbers, where they are right
+abbrev pub generated_with : (ℕ → ℕ → ℕ → Command) → Option ℕ → Option ℕ → Option ℕ → Option Command
+generated_with make (Some seed) (Some calls) (Some writers) = Some (make seed calls writers)
+generated_with make _ _ _ = None
+
+-- a command with these words: a seed of 64 bits, and how many calls and writers there are
+abbrev pub generated_of : (ℕ → ℕ → ℕ → Command) → List Text → Option Command
+generated_of make (seed ∷ calls ∷ writers ∷ []) =
+    generated_with make (number_within 0 MAX_SEED seed) (number_within 0 MAX_GENERATED calls)
+    (number_within 1 MAX_WRITERS writers)
+generated_of make _ = None
+
 -- the command that this word and what is given after it ask for
 abbrev pub asked : Text → Given → Option Command
 asked word given =
@@ -224,6 +252,9 @@ asked word given =
     else if bytes_eq word (codes "direct") then option_map Direct (lone_name given)
     else if bytes_eq word (codes "replay") then option_and_then (replay_of given.names) (options_of given.options)
     else if bytes_eq word (codes "decompress") then option_map Decompress (lone_name given)
+    else if bytes_eq word (codes "aggregate") then option_and_then aggregate_of (bare_names given)
+    else if bytes_eq word (codes "generate") then option_and_then (generated_of Generate) (bare_names given)
+    else if bytes_eq word (codes "selftest") then option_and_then (generated_of Selftest) (bare_names given)
     else None
 
 -- the command that the words after the program's name ask for, if they ask for one

@@ -2,8 +2,13 @@
 use Rattle.std.specs.Prelude.{◌≡◌, ◌≢◌, ◌==◌, ◌<◌, ◌≤◌, ℕ, List, [], ◌∷◌, length, Option, Some, true, codes}
 use Rattle.std.specs.Fmt.{decimal}
 use Rattle.std.specs.List.{All, slice_split}
-use Rattle.cli_words.specs.Commands.{Text, Command, Preprocess, Direct, Replay, Decompress, command_of, is_name}
+use Rattle.cli_words.specs.Commands.{Text, Command, Preprocess, Direct, Replay, Decompress}
+use Rattle.cli_words.specs.Commands.{Aggregate, Generate, Selftest}
+use Rattle.cli_words.specs.Commands.{command_of, is_name}
+use Rattle.arg_records.specs.declared.call.TheConstants.{MAX_WRITERS}
+use Rattle.trace_text.specs.declared.generating.TheConstants.{MAX_GENERATED}
 use Rattle.cli_words.specs.declared.command.TheConstants.{MAX_SOURCES}
+use Rattle.cli_words.specs.declared.numbers.TheConstants.{MAX_ID, MAX_SEED}
 use Rattle.ring_core.specs.declared.limits.TheConstants.{MIN_RING, MAX_RING}
 use Rattle.roaming_consumer.specs.declared.making.TheConstants.{MAX_BATCH}
 use Rattle.log_session.specs.declared.options.Options.{Options}
@@ -30,6 +35,11 @@ abbrev pub AreInBounds : Options → Type 0
 AreInBounds options = (MIN_RING ≤ options.ring) × (options.ring ≤ MAX_RING)
     × (1 ≤ options.batch) × (options.batch ≤ MAX_BATCH)
 
+-- the numbers of a generated trace lie in their bounds
+abbrev pub AreGenerated : ℕ → ℕ → ℕ → Type 0
+AreGenerated seed calls writers =
+    (seed ≤ MAX_SEED) × (calls ≤ MAX_GENERATED) × (1 ≤ writers) × (writers ≤ MAX_WRITERS)
+
 -- the names of the command aren't empty, its trace isn't its log, its numbers lie in their bounds, and its dictionary
 -- is none of its sources, of which there are enough and not too many
 abbrev pub IsLawful : Command → Type 0
@@ -40,6 +50,9 @@ IsLawful (Direct trace) = is_name trace ≡ true
 IsLawful (Replay trace log options) =
     (is_name trace ≡ true) × (is_name log ≡ true) × (trace ≢ log) × AreInBounds options
 IsLawful (Decompress log) = is_name log ≡ true
+IsLawful (Aggregate log id nth) = (is_name log ≡ true) × (id ≤ MAX_ID) × (nth ≤ MAX_ID)
+IsLawful (Generate seed calls writers) = AreGenerated seed calls writers
+IsLawful (Selftest seed calls writers) = AreGenerated seed calls writers
 
 -- the name of what becomes of calls for which there is no room
 abbrev pub policy_name : Policy → Text
@@ -55,3 +68,8 @@ line_of (Replay trace log options) =
     ∷ codes "--full" ∷ policy_name options.policy ∷ codes "--level" ∷ severity_name options.level
     ∷ codes "--" ∷ trace ∷ log ∷ []
 line_of (Decompress log) = codes "decompress" ∷ codes "--" ∷ log ∷ []
+line_of (Aggregate log id nth) = codes "aggregate" ∷ codes "--" ∷ log ∷ decimal id ∷ decimal nth ∷ []
+line_of (Generate seed calls writers) =
+    codes "generate" ∷ codes "--" ∷ decimal seed ∷ decimal calls ∷ decimal writers ∷ []
+line_of (Selftest seed calls writers) =
+    codes "selftest" ∷ codes "--" ∷ decimal seed ∷ decimal calls ∷ decimal writers ∷ []

@@ -8,6 +8,7 @@ use Rattle.clap.specs.Walk.{Row, rows_of, all_of}
 use Rattle.clap.specs.declared.parser.matches.ArgMatches.{ArgMatches}
 use Rattle.cli_words.specs.Commands.{Text, Command, Direct, Decompress, Word, Name, End, Awaits, Sets, Unknown, word_of}
 use Rattle.cli_words.specs.Commands.{Given, with_name, with_option, preprocess_of, replay_of, only_name}
+use Rattle.cli_words.specs.Commands.{Generate, Selftest, aggregate_of, generated_of}
 use Rattle.cli_words.specs.Commands.{is_among, options_by, replay_options}
 use Rattle.log_session.specs.declared.options.Options.{Options}
 use Rattle.cli_words.specs.declared.reading.Form.{Form}
@@ -106,6 +107,9 @@ options_taken form.Preprocess = []
 options_taken form.Direct = []
 options_taken form.Replay = replay_options
 options_taken form.Decompress = []
+options_taken form.Aggregate = []
+options_taken form.Generate = []
+options_taken form.Selftest = []
 
 -- the command of this form with what was found
 abbrev pub found_command : Form → Uses → Option Command
@@ -113,6 +117,9 @@ found_command form.Preprocess uses = preprocess_of (found_names uses)
 found_command form.Direct uses = option_map Direct (only_name (found_names uses))
 found_command form.Replay uses = option_and_then (replay_of (found_names uses)) (found_options uses)
 found_command form.Decompress uses = option_map Decompress (only_name (found_names uses))
+found_command form.Aggregate uses = aggregate_of (found_names uses)
+found_command form.Generate uses = generated_of Generate (found_names uses)
+found_command form.Selftest uses = generated_of Selftest (found_names uses)
 
 -- the form of the command that a word names
 abbrev pub form_named : Text → Option Form
@@ -121,4 +128,7 @@ form_named word =
     else if bytes_eq word (codes "direct") then Some form.Direct
     else if bytes_eq word (codes "replay") then Some form.Replay
     else if bytes_eq word (codes "decompress") then Some form.Decompress
+    else if bytes_eq word (codes "aggregate") then Some form.Aggregate
+    else if bytes_eq word (codes "generate") then Some form.Generate
+    else if bytes_eq word (codes "selftest") then Some form.Selftest
     else None

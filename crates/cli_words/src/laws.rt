@@ -4,6 +4,7 @@
 ghost use Rattle.std.specs.Prelude.{◌≡◌, Some, None, List, [], ◌∷◌, ◌++◌, codes};
 ghost use Rattle.cli_words.specs.Commands.{Text, Name, Awaits, word_of, given_of, options_of, command_of};
 ghost use Rattle.cli_words.specs.Commands.{Command, Preprocess, Direct, Replay, Decompress};
+ghost use Rattle.cli_words.specs.Commands.{Aggregate, Generate, Selftest};
 ghost use Rattle.cli_words.specs.declared.command.TheConstants.{MAX_SOURCES};
 ghost use Rattle.cli_words.specs.Rows.{meaning, replays, IsLawful, line_of};
 ghost use Rattle.log_session.specs.Defaults.{default_options};
@@ -147,6 +148,31 @@ pub fn numbers_have_bounds()
     ensures hexadecimal { meaning (codes "replay t l --ring 0x800") ≡ None }
     ensures comma { meaning (codes "replay t l --ring 2,048") ≡ None }
     ensures space { command_of (codes "replay" ∷ codes "t" ∷ codes "l" ∷ codes "--ring" ∷ codes " 2048" ∷ []) ≡ None }
+{}
+
+/// `aggregate` has a log and two numbers of 32 bits. `generate` and `selftest` have a seed of 64 bits, 1,000,000 calls
+/// at most, and 1 to 64 writers.
+pub fn numbers_stand_in_line()
+    ensures aggregate { meaning (codes "aggregate l 0 4294967295") ≡ Some (Aggregate (codes "l") 0 4294967295) }
+    ensures ids { meaning (codes "aggregate l 4294967296 0") ≡ None }
+    ensures places { meaning (codes "aggregate l 0 4294967296") ≡ None }
+    ensures no_place { meaning (codes "aggregate l 0") ≡ None }
+    ensures more { meaning (codes "aggregate l 0 0 0") ≡ None }
+    ensures no_log { meaning (codes "aggregate  0 0") ≡ None }
+    ensures option { meaning (codes "aggregate l 0 0 --level ERROR") ≡ None }
+    ensures generate { meaning (codes "generate 1 2 1") ≡ Some (Generate 1 2 1) }
+    ensures greatest { meaning (codes "generate 18446744073709551615 1000000 64")
+        ≡ Some (Generate 18446744073709551615 1000000 64) }
+    ensures least { meaning (codes "generate 00 0 01") ≡ Some (Generate 0 0 1) }
+    ensures beyond { meaning (codes "generate 18446744073709551616 2 1") ≡ None }
+    ensures calls { meaning (codes "generate 1 1000001 1") ≡ None }
+    ensures no_writer { meaning (codes "generate 1 2 0") ≡ None }
+    ensures writers { meaning (codes "generate 1 2 65") ≡ None }
+    ensures minus { meaning (codes "generate 1 2 -1") ≡ None }
+    ensures empty { meaning (codes "generate 1  1") ≡ None }
+    ensures selftest { meaning (codes "selftest 7 100000 8") ≡ Some (Selftest 7 100000 8) }
+    ensures few { meaning (codes "selftest 7 100000") ≡ None }
+    ensures ring { meaning (codes "selftest 7 100000 8 --ring 2048") ≡ None }
 {}
 
 /// A level is the name of a severity, and `--full` says `wait` or `drop`.

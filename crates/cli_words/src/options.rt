@@ -1,33 +1,17 @@
 //! The options of `replay`, and what their values say.
 
 ghost use Rattle.std.specs.Prelude.{◌≡◌, option_map};
-ghost use Rattle.cli_words.specs.Commands.{number_within, severity_named, policy_named};
+ghost use Rattle.cli_words.specs.Commands.{severity_named, policy_named};
 ghost use Rattle.cli_words.specs.Commands.{ring_of, batch_of, policy_of, level_of, replay_options};
 ghost use Rattle.cli_words.specs.Uses.{found_options, uses_of};
 
+use crate::numbers::{number_within, small_within};
 use crate::reading::{BATCH, FULL, LEVEL, RING};
 use clap::ArgMatches;
 use log_dictionary::Severity;
 use log_session::{Options, Policy};
 use ring_core::{MAX_RING, MIN_RING};
 use roaming_consumer::MAX_BATCH;
-
-/// The most digits of a number, with the zeros in front.
-pub const MAX_DIGITS: usize = 20;
-
-/// The number that decimal digits spell, where it lies in these bounds.
-fn number_within(digits: &str, least: u64, most: u64) -> Option<u64>
-    ensures { result ≡ number_within least most digits.now }
-{
-    // A number may have no sign, which `parse` would take.
-    if digits.len() > MAX_DIGITS || digits.starts_with('+') {
-        return None;
-    }
-    match digits.parse::<u64>() {
-        Ok(number) if least <= number && number <= most => Some(number),
-        _ => None,
-    }
-}
 
 /// The severity of this name.
 fn severity_named(name: &str) -> Option<Severity>
@@ -62,10 +46,7 @@ fn batch_of(value: Option<&str>) -> Option<u32>
     ensures { result ≡ batch_of (option_map (λ text. text.now) value.entry) }
 {
     match value {
-        Some(digits) => {
-            let number = number_within(digits, 1, u64::from(MAX_BATCH))?;
-            Some(number as u32)
-        }
+        Some(digits) => small_within(digits, 1, MAX_BATCH),
         None => Some(Options::default().batch),
     }
 }

@@ -28,6 +28,9 @@ pub(crate) enum Form {
     Direct,
     Replay,
     Decompress,
+    Aggregate,
+    Generate,
+    Selftest,
 }
 
 impl Form {
@@ -37,7 +40,7 @@ impl Form {
     {
         match self {
             Form::Replay => &[RING, BATCH, FULL, LEVEL],
-            Form::Preprocess | Form::Direct | Form::Decompress => &[],
+            _ => &[],
         }
     }
 

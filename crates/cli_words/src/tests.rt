@@ -42,6 +42,17 @@ fn told(alloc: Global, command: &Command<'_>) -> Result<String, AllocError> {
             format!(in alloc; "replay {trace} {log} {ring} {batch} {full} {level}")
         }
         Command::Decompress { log } => format!(in alloc; "decompress {log}"),
+        Command::Aggregate { log, id, nth } => format!(in alloc; "aggregate {log} {id} {nth}"),
+        Command::Generate {
+            seed,
+            calls,
+            writers,
+        } => format!(in alloc; "generate {seed} {calls} {writers}"),
+        Command::Selftest {
+            seed,
+            calls,
+            writers,
+        } => format!(in alloc; "selftest {seed} {calls} {writers}"),
     }
 }
 
@@ -70,6 +81,9 @@ replay t l --full wait|replay t l 65536 4096 wait DEBUG
 replay t --full=drop l|replay t l 65536 4096 drop DEBUG
 replay --full drop --level=ERROR t --batch 7 l --ring 4096|replay t l 4096 7 drop ERROR
 replay --ring=2048 -- t l|replay t l 2048 4096 wait DEBUG
+aggregate l 0 4294967295|aggregate l 0 4294967295
+generate 18446744073709551615 1000000 64|generate 18446744073709551615 1000000 64
+selftest 7 100000 8|selftest 7 100000 8
 preprocess d m.cc|preprocess d m.cc
 preprocess d m.cc n.cc|preprocess d m.cc n.cc
 preprocess d m.cc m.cc|preprocess d m.cc m.cc
@@ -146,6 +160,16 @@ fn lines_that_are_faulty(rt: HostRuntime) -> Result<(), Fail> {
         "decompress",
         "decompress l m",
         "decompress --level=DEBUG l",
+        "aggregate l 0",
+        "aggregate l 4294967296 0",
+        "aggregate l 0 4294967296",
+        "aggregate  0 0",
+        "generate 18446744073709551616 2 1",
+        "generate 1 1000001 1",
+        "generate 1 2 0",
+        "generate 1 2 65",
+        "selftest 1 2",
+        "selftest 1 2 1 --ring 2048",
         "replay t",
         "replay t l m",
         "replay t t",

@@ -1,6 +1,6 @@
 -- What follows from how a command ends.
-use Rattle.std.proofs.Common.{◌≡◌, ◌≢◌, ℕ, List, [], ◌∷◌, Option, Some, None, refl, sym, ap, subst, ◌∙◌, inl, inr, arith}
-use Rattle.std.specs.Prelude.{◌⊎◌, IfSome, Contains}
+use Rattle.std.proofs.Common.{◌≡◌, ◌≢◌, ℕ, Bool, List, [], ◌∷◌, length, Option, Some, None, Ok, Err, refl, sym, ap, subst, ◌∙◌, inl, inr, arith}
+use Rattle.std.specs.Prelude.{◌⊎◌, IfSome, IsErrOf, Contains, nat_lt, if◌then◌else◌}
 use Rattle.std.specs.FinMap as map
 use Rattle.nl_io.specs.Count.{Rose}
 use Rattle.nl_io.specs.Desk.{Desk, Held, OnlyReadFaults, OnlyName, IsAbsent, found_in}
@@ -8,19 +8,28 @@ use Rattle.nl_io.specs.Content.{Told}
 use Rattle.trace_text.specs.declared.cause.TraceCause.{TraceCause}
 use Rattle.checkpoint_io.specs.declared.cause.Cause.{Cause as LogCause}
 use Rattle.checkpoint_io.proofs.BreakLaws.{whole_or_break}
+use Rattle.checkpoint_io.specs.Blocks.{messages_of}
+use Rattle.aggregation.specs.declared.totals.Totals.{Totals}
+use Rattle.aggregation.specs.declared.fault.AggregateFault.{AggregateFault}
+use Rattle.aggregation.specs.declared.fault.AggregateFault.TheVariants as totals_faults
+use Rattle.aggregation.specs.Totals.{argument_totals}
+use Rattle.aggregation.specs.Answers.{answer_for}
+use Rattle.aggregation.proofs.TotalsLaws.{one_answer}
 use Rattle.decompressor.specs.Decompressing.{IsDamaged}
 use Rattle.nanolog_cli.specs.declared.status.Status.TheVariants as statuses
-use Rattle.cli_words.specs.Commands.{Command, Preprocess, Direct, Replay, Decompress}
+use Rattle.cli_words.specs.Commands.{Command, Preprocess, Direct, Replay, Decompress, Aggregate, Generate, Selftest}
 use Rattle.nanolog_cli.specs.CommandFiles.{input_names, output_name}
-use Rattle.nanolog_cli.specs.Endings.{Ending, Done, StillOpen, Absent, ReadFault, Refused, RefusedSources, Damaged, WriteFault, NoMemory, status_of}
-use Rattle.nanolog_cli.specs.Inputs.{IsTrace, IsLog, IsUnread, ReadsNothing}
-use Rattle.nanolog_cli.specs.HeldFiles.{Holds}
+use Rattle.nanolog_cli.specs.Endings.{Ending, Done, StillOpen, Absent, ReadFault, Refused, RefusedSources, NoSuchMessage, NoSuchArgument, Damaged, WriteFault, NoMemory, status_of}
+use Rattle.nanolog_cli.specs.Inputs.{IsTrace, IsLog, HasNumber, IsUnread, ReadsNothing}
+use Rattle.nanolog_cli.specs.HeldFiles.{Holds, HoldsSuch}
 use Rattle.nanolog_cli.specs.Scenes.{Scene, Prints}
 use Rattle.nanolog_cli.specs.Decompressing.{whole_ending, PrintsWhole, PrintsDamaged, FailsToRead, FailsToPrint, WantsMemory, Decodes}
+use Rattle.nanolog_cli.specs.Aggregating.{HaveAnswer, HaveTotals, HaveFront, PrintsTotals, FailsToTotal, CutsTotals, LacksArgument, Aggregates}
 use Rattle.nanolog_cli.specs.Preprocessing.{GiveNothing, WritesDictionary}
 use Rattle.nanolog_cli.specs.Headline.{TraceRead}
 use Rattle.nanolog_cli.specs.Replays.{ReplaysWhole, FailsToTell, LosesLog, LeavesEmpty, Replays}
-use Rattle.nanolog_cli.specs.Outcomes.{HasTraceLines, PrintsText, IsRight, HidesReadFault, LosesNames, Preprocesses, Directs, Ends}
+use Rattle.nanolog_cli.specs.Outcomes.{HasTraceLines, PrintsText, IsRight, HidesReadFault, LosesNames, Preprocesses, Directs, Selftests, Ends}
+use Rattle.nanolog_cli.proofs.PrintLemmas.{put_nothing}
 use Rattle.nanolog_cli.proofs.SourceLaws.{only_reads, reads_told, right_taken, first_absent, first_there}
 use Rattle.trace_text.specs.Traces.{TraceText}
 use Rattle.trace_text.specs.Recordings.{Recording}
@@ -424,6 +433,122 @@ log_follows log old new (WriteFault name) ends = unprinted_follows log old new n
 log_follows log old new NoMemory ends = wanting_follows log old new ends
 log_follows log old new ending ends = absurd ends
 
+-- ---- `aggregate`
+
+-- a whole log that has the number has no other answer than its totals
+right_answer : (id nth : ℕ) (bytes : List ℕ) (fault : AggregateFault) → HasNumber id nth bytes → HaveAnswer id nth (Err fault) bytes → ¬ (IsErrOf {T = Totals} (Err fault) totals_faults.ReadFault) → ¬ (IsErrOf {T = Totals} (Err fault) totals_faults.NoMemory) → ⊥
+right_answer id nth bytes fault is said read memory =
+    let log = is.log in
+    let totals = argument_totals log.blocks id nth in
+    let one = one_answer log.header log.blocks bytes id nth log.file log.valid log.within (Err fault) said read memory in
+    let right : answer_for (messages_of log.blocks) id nth totals ≡ Ok totals =
+    ap (λ (b : Bool). if b then Ok totals else (if nat_lt id (length (messages_of log.blocks)) then Err totals_faults.NoSuchArgument else Err totals_faults.NoSuchMessage)) is.has in
+    let both : Err fault ≡ Ok totals = one ∙ right in
+    cc
+
+-- so the command isn't answered so of a right log
+right_log : (log : List ℕ) (id nth : ℕ) (old : Desk) (fault : AggregateFault) → Holds old log (HasNumber id nth) → HoldsSuch old log (HaveAnswer id nth (Err fault)) → ¬ (IsErrOf {T = Totals} (Err fault) totals_faults.ReadFault) → ¬ (IsErrOf {T = Totals} (Err fault) totals_faults.NoMemory) → ⊥
+right_log log id nth old fault holds such read memory =
+    right_answer id nth holds.bytes fault holds.formed (such_is old.held holds.held log holds.bytes (HaveAnswer id nth (Err fault)) holds.told holds.there such) read memory
+
+totals_follow : (log : List ℕ) (id nth : ℕ) (old new : Scene) → PrintsTotals log old new (HaveTotals id nth) → Follows (Aggregate log id nth) old new Done
+totals_follow log id nth old new prints = record {
+  stays = all_stays None old.desk new.desk prints.same;
+  reads = inr (inl (ap (λ (d : Desk). d.read_faults) prints.same));
+  writes = inr (ap (λ (d : Desk). d.write_faults) prints.same, prints.counted);
+  rose = λ name is. absurd cc;
+  taken = λ holds r w o. inl refl;
+  absent = λ name others held first is none r. absurd (such_there old.desk.held held log _ is (ap (map.get held) (only_one log name others first) ∙ none) prints.printed.2);
+}
+
+front_follows : (log : List ℕ) (id nth : ℕ) (old new : Scene) (offset : ℕ) (cause : LogCause) → PrintsTotals log old new (HaveFront id nth offset cause) → Follows (Aggregate log id nth) old new (Damaged log offset cause)
+front_follows log id nth old new offset cause prints = record {
+  stays = all_stays None old.desk new.desk prints.same;
+  reads = inr (inl (ap (λ (d : Desk). d.read_faults) prints.same));
+  writes = inr (ap (λ (d : Desk). d.write_faults) prints.same, prints.counted);
+  rose = λ name is. absurd cc;
+  taken = λ holds r w o.
+      let has = such_is old.desk.held holds.held log holds.bytes (λ bytes. HaveFront id nth offset cause bytes prints.printed.0) holds.told holds.there prints.printed.2 in
+      absurd (right_answer id nth holds.bytes (totals_faults.Damaged offset cause has.0) holds.formed has.1 (λ e. cc) (λ e. cc));
+  absent = λ name others held first is none r. absurd (such_there old.desk.held held log _ is (ap (map.get held) (only_one log name others first) ∙ none) prints.printed.2);
+}
+
+untold_totals_follow : (log : List ℕ) (id nth : ℕ) (old new : Scene) → FailsToTotal old new → Follows (Aggregate log id nth) old new (ReadFault log)
+untold_totals_follow log id nth old new fails = record {
+  stays = read_stays None old.desk new.desk fails.only;
+  reads = inl (log, only_name log, refl);
+  writes = inr (ap (λ (d : Desk). d.write_faults) fails.only.same, fails.counted);
+  rose = λ name is. absurd cc;
+  taken = λ holds r w o. absurd (r fails.rose);
+  absent = λ name others held first is none r. absurd (r fails.rose);
+}
+
+cut_totals_follow : (log : List ℕ) (id nth : ℕ) (old new : Scene) (name : List ℕ) → CutsTotals log old new id nth → Follows (Aggregate log id nth) old new (WriteFault name)
+cut_totals_follow log id nth old new name cuts = record {
+  stays = all_stays None old.desk new.desk cuts.same;
+  reads = inr (inl (ap (λ (d : Desk). d.read_faults) cuts.same));
+  writes = inl (name, refl);
+  rose = λ other is. inl cuts.rose;
+  taken = λ holds r w o. absurd (o cuts.rose);
+  absent = λ first_name others held first is none r. absurd (such_there old.desk.held held log _ is (ap (map.get held) (only_one log first_name others first) ∙ none) cuts.printed.2);
+}
+
+-- all is as it was, which is no write fault
+nothing_follows_of : (log : List ℕ) (id nth : ℕ) (old new : Scene) (ending : Ending) → new ≡ old → ((name : List ℕ) → ending ≡ WriteFault name → ⊥) → (IsRight (Aggregate log id nth) old.desk → IsDone ending)
+    → ((held : Held) → old.desk.held ≡ Some held → map.get held log ≡ None → ending ≡ Absent log) → Follows (Aggregate log id nth) old new ending
+nothing_follows_of log id nth old new ending same unlike done missing = record {
+  stays = all_stays None old.desk new.desk (ap (λ (s : Scene). s.desk) same);
+  reads = inr (inl (ap (λ (s : Scene). s.desk.read_faults) same));
+  writes = inr (ap (λ (s : Scene). s.desk.write_faults) same, ap (λ (s : Scene). s.faults) same);
+  rose = λ name is. absurd (unlike name is);
+  taken = λ holds r w o. done holds;
+  absent = λ name others held first is none r.
+      let one = only_one log name others first in
+      missing held is (ap (map.get held) one ∙ none) ∙ ap Absent one;
+}
+
+lacking_follows : (log : List ℕ) (id nth : ℕ) (old new : Scene) (fault : AggregateFault) (ending : Ending) → LacksArgument log old new id nth fault → ((name : List ℕ) → ending ≡ WriteFault name → ⊥)
+    → ¬ (IsErrOf {T = Totals} (Err fault) totals_faults.ReadFault) → ¬ (IsErrOf {T = Totals} (Err fault) totals_faults.NoMemory) → Follows (Aggregate log id nth) old new ending
+lacking_follows log id nth old new fault ending (such, same) unlike read memory =
+    nothing_follows_of log id nth old new ending same unlike
+    (λ holds. absurd (right_log log id nth old.desk fault holds such read memory))
+    (λ held is none. absurd (such_there old.desk.held held log _ is none such))
+
+aggregate_follows : (log : List ℕ) (id nth : ℕ) (old new : Scene) (ending : Ending) → Aggregates log id nth old new ending → Follows (Aggregate log id nth) old new ending
+aggregate_follows log id nth old new Done ends = totals_follow log id nth old new ends
+aggregate_follows log id nth old new (Absent name) ends =
+    subst (λ (n : List ℕ). Follows (Aggregate log id nth) old new (Absent n)) (sym ends.0)
+    (nothing_follows_of log id nth old new (Absent log) ends.1.1 (λ name is. cc)
+    (λ holds. absurd (not_absent old.desk.held holds.held log holds.bytes holds.told holds.there ends.1.0)) (λ held is none. refl))
+aggregate_follows log id nth old new (ReadFault name) ends = subst (λ (n : List ℕ). Follows (Aggregate log id nth) old new (ReadFault n)) (sym ends.0) (untold_totals_follow log id nth old new ends.1)
+aggregate_follows log id nth old new (NoSuchMessage name) ends = lacking_follows log id nth old new totals_faults.NoSuchMessage (NoSuchMessage name) ends.1 (λ name is. cc) (λ e. cc) (λ e. cc)
+aggregate_follows log id nth old new (NoSuchArgument name) ends = lacking_follows log id nth old new totals_faults.NoSuchArgument (NoSuchArgument name) ends.1 (λ name is. cc) (λ e. cc) (λ e. cc)
+aggregate_follows log id nth old new (Damaged name offset cause) ends =
+    subst (λ (n : List ℕ). Follows (Aggregate log id nth) old new (Damaged n offset cause)) (sym ends.0) (front_follows log id nth old new offset cause ends.1)
+aggregate_follows log id nth old new (WriteFault name) ends = cut_totals_follow log id nth old new name ends.1
+aggregate_follows log id nth old new NoMemory ends =
+    nothing_follows_of log id nth old new NoMemory ends.1 (λ name is. cc) (λ holds. inr refl) (λ held is none. absurd (not_there old.desk.held held log is none ends.0))
+aggregate_follows log id nth old new ending ends = absurd ends
+
+-- ---- `generate` and `selftest`
+
+-- a command that reads no file and leaves all of them as they were
+no_file : (command : Command) (old new : Desk) → input_names command ≡ [] → new ≡ old → HasFacts command old new
+no_file command old new none same = record {
+  stays = all_stays (output_name command) old new same;
+  reads = ap (λ (d : Desk). d.read_faults) same;
+  writes = ap (λ (d : Desk). d.write_faults) same;
+  there = λ name others held first is missing. let no : [] ≡ name ∷ others = sym none ∙ first in cc;
+}
+
+tested_follows : (seed calls writers : ℕ) (old new : Scene) (ending : Ending) → Selftests seed calls writers old new ending → Follows (Selftest seed calls writers) old new ending
+tested_follows seed calls writers old new Done ends = text_follows (Selftest seed calls writers) old new _ Done (no_file (Selftest seed calls writers) old.desk new.desk refl ends.0) ends.1
+tested_follows seed calls writers old new (WriteFault name) ends =
+    text_follows (Selftest seed calls writers) old new _ (WriteFault name) (no_file (Selftest seed calls writers) old.desk new.desk refl ends.0) ends.1
+tested_follows seed calls writers old new NoMemory ends =
+    text_follows (Selftest seed calls writers) old new [] NoMemory (no_file (Selftest seed calls writers) old.desk new.desk refl ends.0) ((0, omega arith, ends.1.0 ∙ put_nothing old.put), ends.1.1)
+tested_follows seed calls writers old new ending ends = absurd ends.1
+
 -- ---- all commands
 
 follows : (command : Command) (old new : Scene) (ending : Ending) → Ends command old new ending → Follows command old new ending
@@ -431,6 +556,10 @@ follows (Preprocess dictionary sources) old new ending ends = preprocess_follows
 follows (Direct trace) old new ending ends = direct_follows trace old new ending ends
 follows (Replay trace log options) old new ending ends = replay_follows trace log options old new ending ends
 follows (Decompress log) old new ending ends = log_follows log old new ending ends
+follows (Aggregate log id nth) old new ending ends = aggregate_follows log id nth old new ending ends
+follows (Generate seed calls writers) old new ending (text, has, prints) =
+    text_follows (Generate seed calls writers) old new text ending (no_file (Generate seed calls writers) old.desk new.desk refl has.1) prints
+follows (Selftest seed calls writers) old new ending ends = tested_follows seed calls writers old new ending ends
 
 pub others_held : (command : Command) (old new : Scene) (ending : Ending) → Ends command old new ending → (other : List ℕ) → output_name command ≢ Some other → found_in new.desk other ≡ found_in old.desk other
 others_held command old new ending ends = (follows command old new ending ends).stays.held

@@ -33,6 +33,8 @@ not_done (refusals.Absent name) e = cc
 not_done (refusals.ReadFault name) e = cc
 not_done (refusals.Refused name line cause) e = cc
 not_done (refusals.RefusedSources lines) e = cc
+not_done (refusals.NoSuchMessage name) e = cc
+not_done (refusals.NoSuchArgument name) e = cc
 not_done (refusals.Damaged name offset cause) e = cc
 not_done (refusals.WriteFault name) e = cc
 not_done refusals.NoMemory e = cc
@@ -100,11 +102,15 @@ prints_second a b was mid is before after ending whole prints = absurd prints
 
 -- what a command that doesn't wait for others does is all of what it asks for
 pub quick_is_all : (command : Asked) (old new : Scene) (ending : Ending) → ((trace log : Bor (List ℕ)) (options : Options) → command ≡ asked.Replay trace log options → ⊥)
+    → ((seed calls writers : ℕ) → command ≡ asked.Selftest seed calls writers → ⊥)
     → AnswersRead (quick_part (Some (command_is command))) old new ending → Ends (command_is command) old new ending
-quick_is_all (asked.Preprocess dictionary sources) old new ending other answers = answers
-quick_is_all (asked.Direct trace) old new ending other answers = answers
-quick_is_all (asked.Replay trace log options) old new ending other answers = absurd (other trace log options refl)
-quick_is_all (asked.Decompress log) old new ending other answers = answers
+quick_is_all (asked.Preprocess dictionary sources) old new ending other test answers = answers
+quick_is_all (asked.Direct trace) old new ending other test answers = answers
+quick_is_all (asked.Replay trace log options) old new ending other test answers = absurd (other trace log options refl)
+quick_is_all (asked.Decompress log) old new ending other test answers = answers
+quick_is_all (asked.Aggregate log id nth) old new ending other test answers = answers
+quick_is_all (asked.Generate seed calls writers) old new ending other test answers = answers
+quick_is_all (asked.Selftest seed calls writers) old new ending other test answers = absurd (test seed calls writers refl)
 
 -- the words were read, and what was done is what they ask for, or this part of it
 pub words_read : (part : Option Command → Option Command) (found seen : Option Asked) (words : Option Command) (old new : Scene) (ending : Ending) → found ≡ seen → option_map command_is found ≡ words

@@ -13,3 +13,6 @@ pub mod Replaying
 pub mod GatheredTexts
 pub mod ReplayLaws
 pub mod Sayings
+mod TotalsEnds
+mod LogLengths
+mod SelftestLemmas

@@ -1,27 +1,22 @@
 -- The lines of calls, of one writer and of a run.
-use Rattle.std.proofs.Common.{◌≡◌, ℕ, zero, suc, ◌+◌, ◌<◌, ◌≤◌, Bool, true, false, List, [], ◌∷◌, ◌++◌, length, map, take, drop, get_or, take-append-drop, Option, Some, None, refl, sym, ap, subst, ◌∙◌, add-zero, arith}
+use Rattle.std.proofs.Common.{◌≡◌, ℕ, zero, suc, ◌+◌, ◌<◌, ◌≤◌, List, [], ◌∷◌, ◌++◌, length, map, take, drop, get_or, take-append-drop, Option, Some, None, refl, sym, ap, subst, ◌∙◌, arith}
 use Rattle.std.specs.Prelude.{slice_get, option_and_then}
-use Rattle.std.specs.List.{flat_map, filter_map, enumerate_from, AllByRecursion, cons_option}
-use Rattle.std.specs.Option.{option_map}
+use Rattle.std.specs.List.{flat_map, AllByRecursion}
 use Rattle.std.proofs.lemmas.Grind.{flat_map-append}
 use Rattle.std.proofs.lemmas.List.{append-nil, length-map}
 use Rattle.std.proofs.lemmas.List.Concat.{flat_map-cons}
-use Rattle.std.proofs.lemmas.List.Elements.{filter_map-append}
 use Rattle.std.proofs.lemmas.Option.{slice_get_within}
 use Rattle.log_dictionary.specs.declared.clock.Clock.{Clock}
-use Rattle.log_dictionary.specs.declared.message.Message.{Message}
 use Rattle.log_dictionary.specs.Calls.{LogCall}
-use Rattle.direct_printf.specs.Lines.{Line, comes_before, insert_call, in_order, Direct}
-use Rattle.direct_printf.specs.InOrder.{IsNotAfter, IsInOrder, Direct-sorted, comes_before-later}
+use Rattle.direct_printf.specs.Lines.{Line, in_order, Direct}
 use Rattle.arg_records.specs.declared.call.Call.{Call}
-use Rattle.arg_records.specs.Calls.{IsCall, NeverFalls, log_call, writer_calls}
+use Rattle.arg_records.specs.Calls.{IsCall, NeverFalls, log_call}
 use Rattle.trace_text.specs.declared.order.Place.{Place}
 use Rattle.trace_text.specs.Recordings.{Recording, IsRecording, calls_of}
 use Rattle.trace_text.specs.Order.{place_of, places_in_order}
 use Rattle.trace_text.proofs.CallPlaces.{IsAtPlace, all_at_places}
 use Rattle.nanolog_cli.specs.Texts.{direct_text, HasCall}
 use Rattle.nanolog_cli.proofs.Choices.{some_same}
-use Rattle.nanolog_cli.proofs.Walks.{seen_next}
 
 -- ---- lines
 

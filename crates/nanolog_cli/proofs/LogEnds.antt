@@ -1,16 +1,15 @@
 -- How `decompress` ends, by what the decompression of the opened log answered.
-use Rattle.std.proofs.Common.{◌≡◌, ℕ, ◌<◌, ◌≤◌, Bool, true, false, List, [], ◌∷◌, ◌++◌, length, Option, Some, None, Result, Ok, Err, codes, refl, sym, ap, subst, ◌∙◌, inl, inr, append_assoc, arith}
+use Rattle.std.proofs.Common.{◌≡◌, ℕ, ◌≤◌, List, [], ◌∷◌, ◌++◌, length, Some, None, Result, Ok, Err, codes, refl, sym, ap, subst, ◌∙◌, inl, inr, append_assoc, arith}
 use Rattle.std.specs.Prelude.{IfSome, IsErrOf}
 use Rattle.std.specs.Fmt.{decimal}
 use Rattle.std.specs.Result.{IsErrAnd}
-use Rattle.std.specs.List.{flat_map}
 use Rattle.std.proofs.lemmas.List.{append-nil}
 use Rattle.std.proofs.lemmas.List.Concat.{flat_map-cons}
 use Rattle.std.specs.FinMap as map
 use Rattle.std.proofs.lemmas.Grind.{flat_map-append}
 use Rattle.nl_io.specs.Count.{Rose}
-use Rattle.nl_io.specs.Content.{Told, with_end, PutsFront}
-use Rattle.nl_io.specs.Desk.{Desk, Held, OnlyReadFaults, Opens, SameButLeft, Leaves}
+use Rattle.nl_io.specs.Content.{Told}
+use Rattle.nl_io.specs.Desk.{Desk, OnlyReadFaults, Opens, SameButLeft, Leaves}
 use Rattle.nl_io.specs.DeskLaws.{visited}
 use Rattle.decompressor.specs.declared.report.Report.{Report}
 use Rattle.decompressor.specs.declared.fault.DecodeFault.{DecodeFault}
@@ -24,7 +23,7 @@ use Rattle.nanolog_cli.specs.declared.refusal.Refusal.{Refusal}
 use Rattle.nanolog_cli.specs.Endings.{Ending, Absent, ReadFault, NoMemory, refusal_ending, answer_ending}
 use Rattle.nanolog_cli.specs.HeldFiles.{IsThere, HoldsSuch}
 use Rattle.nanolog_cli.specs.Scenes.{Scene, scene}
-use Rattle.nanolog_cli.specs.Decompressing.{numbers_text, whole_ending, fault_ending, PrintsWhole, PrintsDamaged, FailsToRead, FailsToPrint, WantsMemory, Decodes}
+use Rattle.nanolog_cli.specs.Decompressing.{numbers_text, whole_ending, fault_ending, PrintsWhole, Decodes}
 use Rattle.nanolog_cli.specs.Outcomes.{GivesNoBytes}
 use Rattle.nanolog_cli.proofs.InputLemmas.{of_held, there_held}
 
@@ -40,10 +39,10 @@ pub was_read : (old : Desk) (log : List ℕ) (id : ℕ) (opened read new : Desk)
 was_read old log id opened read new opens same count leaves = record { holds = opens.holds; only = visited old log id opened read new opens same count leaves }
 
 -- what is said of the content is said of what the log held
-such_read : (log : List ℕ) (old new : Desk) (content : Told) (such : List ℕ → Type 0) → WasRead log old new content → IfSome content such → HoldsSuch old log such
+pub such_read : (log : List ℕ) (old new : Desk) (content : Told) (such : List ℕ → Type 0) → WasRead log old new content → IfSome content such → HoldsSuch old log such
 such_read log old new content such was so = of_held old.held log content such was.holds so
 
-there_read : (log : List ℕ) (old new : Desk) (content : Told) → WasRead log old new content → IsThere old log
+pub there_read : (log : List ℕ) (old new : Desk) (content : Told) → WasRead log old new content → IsThere old log
 there_read log old new content was = there_held old.held log content was.holds
 
 -- what is said of the counts while the log was open is said of those before and after
@@ -54,7 +53,7 @@ counts_by P old log id opened read new opens leaves so =
     (subst (λ (n : ℕ). P n read.read_faults) (ap (λ (d : Desk). d.read_faults) opens.opened) so)
 
 -- where no read failed the files are as they were
-same_desk : (old new : Desk) → OnlyReadFaults old new → new.read_faults ≡ old.read_faults → new ≡ old
+pub same_desk : (old new : Desk) → OnlyReadFaults old new → new.read_faults ≡ old.read_faults → new ≡ old
 same_desk old new only counted = only.same ∙ ap (λ (n : ℕ). record old { read_faults = n }) counted
 
 -- ---- a whole log
@@ -68,7 +67,7 @@ whole_within bytes text report is =
 whole_lines : (before after : ℕ) (bytes text : List ℕ) (report : Report) → IsWhole bytes text report → HasLines bytes before after text
 whole_lines before after bytes text report is = inl (length bytes, whole_within bytes text report is, λ few. is.decompressed)
 
-such_then : (content : Told) (this that : List ℕ → Type 0) → ((bytes : List ℕ) → this bytes → that bytes) → IfSome content this → IfSome content that
+pub such_then : (content : Told) (this that : List ℕ → Type 0) → ((bytes : List ℕ) → this bytes → that bytes) → IfSome content this → IfSome content that
 such_then None this that then so = tt
 such_then (Some bytes) this that then so = then bytes so
 

@@ -117,7 +117,7 @@ taken_all dictionary writer from (call ∷ calls) named =
     ap (λ (b : Bool). cons_option (if b && not (is_listed [] writer from) then Some call else None) rest) (kept_all dictionary call named.0)
     ∙ ap (λ (cs : List Call). call ∷ cs) (taken_all dictionary writer (from + 1) calls named.1)
 
-taken_writers : (run : Recording) (from : ℕ) (writers : List (List Call)) → AllByRecursion (AllByRecursion (IsCall run.dictionary)) writers
+pub taken_writers : (run : Recording) (from : ℕ) (writers : List (List Call)) → AllByRecursion (AllByRecursion (IsCall run.dictionary)) writers
     → map_list (taken_of run severities.Debug []) (enumerate_from from writers) ≡ writers
 taken_writers run from [] named = refl
 taken_writers run from (calls ∷ writers) named = λ i. taken_all run.dictionary from 0 calls named.0 i ∷ taken_writers run (from + 1) writers named.1 i

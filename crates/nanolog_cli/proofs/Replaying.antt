@@ -1,6 +1,6 @@
 -- How `replay` ends, by what was read, written and told.
-use Rattle.std.proofs.Common.{◌≡◌, ◌≢◌, ℕ, ◌+◌, ◌-◌, ◌≤◌, List, [], ◌++◌, length, Option, Some, None, Result, Ok, Err, refl, sym, ap, subst, ◌∙◌, inl, inr, arith}
-use Rattle.std.specs.Prelude.{◌⊎◌, ◌^◌, min, IfSome, OnErr, IsErrOf}
+use Rattle.std.proofs.Common.{◌≡◌, ◌≢◌, ℕ, ◌+◌, ◌-◌, ◌≤◌, List, [], Option, Some, None, Result, Ok, Err, refl, sym, ap, subst, ◌∙◌, inl, inr, arith}
+use Rattle.std.specs.Prelude.{◌^◌, min, IfSome, OnErr, IsErrOf}
 use Rattle.std.specs.FinMap as map
 use Rattle.nl_io.specs.Count.{Rose}
 use Rattle.nl_io.specs.Content.{Told, with_end, PutsFront}
@@ -16,7 +16,7 @@ use Rattle.log_session.specs.Drops.{Taken}
 use Rattle.log_session.specs.Sessions.{AreCounted, IsSession}
 use Rattle.decompressor.proofs.TextLaws.{log_is_text}
 use Rattle.nanolog_cli.specs.Endings.{Ending, Done, Absent, ReadFault, Refused, WriteFault, NoMemory}
-use Rattle.nanolog_cli.specs.HeldFiles.{IsHeld, IsThere, HoldsSuch}
+use Rattle.nanolog_cli.specs.HeldFiles.{IsHeld}
 use Rattle.nanolog_cli.specs.Scenes.{Scene, scene, Prints}
 use Rattle.nanolog_cli.specs.Inputs.{IsUnread}
 use Rattle.nanolog_cli.specs.Headline.{outcome_text, accepted_count, filtered_count, told_text, TraceRead, LogLawful, TextSame}

@@ -1,5 +1,5 @@
 -- What follows from how `preprocess` ends.
-use Rattle.std.proofs.Common.{◌≡◌, ◌≢◌, ℕ, ◌+◌, ◌<◌, ◌≤◌, List, [], ◌∷◌, ◌++◌, length, map, Option, Some, None, refl, sym, ap, subst, ◌∙◌, append_assoc, append-nil, length-append, inl, inr, arith}
+use Rattle.std.proofs.Common.{◌≡◌, ◌≢◌, ℕ, ◌≤◌, List, [], ◌∷◌, ◌++◌, length, map, Option, Some, None, refl, sym, ap, subst, ◌∙◌, append_assoc, append-nil, length-append, inl, inr, arith}
 use Rattle.std.specs.Prelude.{◌⊎◌, IfSome, Contains}
 use Rattle.std.specs.FinMap as map
 use Rattle.std.specs.List.{AllByRecursion}
@@ -10,12 +10,12 @@ use Rattle.nl_io.specs.Desk.{Desk, Held, OnlyReadFaults, IsAbsent}
 use Rattle.log_dictionary.specs.declared.message.Message.{Message}
 use Rattle.log_dictionary.specs.declared.dictionary.TheConstants.{MAX_MESSAGES}
 use Rattle.preprocessor.specs.declared.refusal.Refusal.{Refusal}
-use Rattle.preprocessor.specs.Findings.{SourceFile, Finding, HasFindings, AllHave}
+use Rattle.preprocessor.specs.Findings.{SourceFile, Finding, AllHave}
 use Rattle.preprocessor.specs.Numbering.{finding_messages, messages_of, finding_refusals, refusals_of, firsts, numbered, excess_refusal, Refusals}
 use Rattle.preprocessor.proofs.Behind.{grown_behind}
 use Rattle.preprocessor.proofs.Once.{refusals_once}
-use Rattle.nanolog_cli.specs.Endings.{Ending, Done, StillOpen, Usage, Absent, ReadFault, Refused, RefusedSources, Damaged, WriteFault, NoMemory}
-use Rattle.nanolog_cli.specs.HeldFiles.{IsHeld, IsThere}
+use Rattle.nanolog_cli.specs.Endings.{Ending, Done, StillOpen, Usage, Absent, ReadFault, Refused, RefusedSources, NoSuchMessage, NoSuchArgument, Damaged, WriteFault, NoMemory}
+use Rattle.nanolog_cli.specs.HeldFiles.{IsHeld}
 use Rattle.nanolog_cli.specs.Preprocessing.{source_name, AreRead, EndsReading, AreRight, AreRefused, IsReached, GiveNothing, AreNumbered}
 use Rattle.nanolog_cli.specs.Preprocessing.EndsReading.{all_read, too_many, absent, failed}
 use Rattle.nanolog_cli.proofs.Choices.{some_same}
@@ -118,6 +118,8 @@ ends_reading old new sources unread (failed name others is few only rose) = inr 
 pub only_reads : (names : List (List ℕ)) (old new : Desk) (ending : Ending) → GiveNothing names old new ending → (new ≡ old) ⊎ OnlyReadFaults old new
 only_reads names old new Done nothing = absurd nothing
 only_reads names old new (StillOpen said numbers) nothing = absurd nothing
+only_reads names old new (NoSuchMessage said) nothing = absurd nothing
+only_reads names old new (NoSuchArgument said) nothing = absurd nothing
 only_reads names old new (Damaged said offset cause) nothing = absurd nothing
 only_reads names old new Usage nothing = absurd nothing
 only_reads names old new (Absent name) nothing = inl nothing.2
@@ -137,6 +139,8 @@ pub reads_told : (names : List (List ℕ)) (old new : Desk) (ending : Ending) �
     → ((name : List ℕ) × Contains names name × (ending ≡ ReadFault name)) ⊎ (new.read_faults ≡ old.read_faults) ⊎ ((lines : List ℕ) × AreRefused names old new lines)
 reads_told names old new Done nothing = absurd nothing
 reads_told names old new (StillOpen said numbers) nothing = absurd nothing
+reads_told names old new (NoSuchMessage said) nothing = absurd nothing
+reads_told names old new (NoSuchArgument said) nothing = absurd nothing
 reads_told names old new (Damaged said offset cause) nothing = absurd nothing
 reads_told names old new Usage nothing = absurd nothing
 reads_told names old new (Absent name) nothing = inr (inl (ap (λ (d : Desk). d.read_faults) nothing.2))
@@ -164,6 +168,8 @@ right_there names old name right reached gone =
 pub right_taken : (names : List (List ℕ)) (old new : Desk) (ending : Ending) → GiveNothing names old new ending → AreRight old names → ¬ (Rose old.read_faults new.read_faults) → ending ≡ NoMemory
 right_taken names old new Done nothing right r = absurd nothing
 right_taken names old new (StillOpen said numbers) nothing right r = absurd nothing
+right_taken names old new (NoSuchMessage said) nothing right r = absurd nothing
+right_taken names old new (NoSuchArgument said) nothing right r = absurd nothing
 right_taken names old new (Damaged said offset cause) nothing right r = absurd nothing
 right_taken names old new Usage nothing right r = absurd nothing
 right_taken names old new (Absent name) nothing right r = absurd (right_there names old name right nothing.0 nothing.1)
@@ -199,6 +205,8 @@ pub first_absent : (names : List (List ℕ)) (old new : Desk) (ending : Ending) 
     → map.get held name ≡ None → ¬ (Rose old.read_faults new.read_faults) → ending ≡ Absent name
 first_absent names old new Done name others held nothing is told none r = absurd nothing
 first_absent names old new (StillOpen said numbers) name others held nothing is told none r = absurd nothing
+first_absent names old new (NoSuchMessage said) name others held nothing is told none r = absurd nothing
+first_absent names old new (NoSuchArgument said) name others held nothing is told none r = absurd nothing
 first_absent names old new (Damaged said offset cause) name others held nothing is told none r = absurd nothing
 first_absent names old new Usage name others held nothing is told none r = absurd nothing
 first_absent names old new (Absent found) name others held nothing is told none r = ap Absent (first_reached names old found name others held nothing.0 is told none)

@@ -1,5 +1,5 @@
 -- Sources that are read one by one, and what their answer is.
-use Rattle.std.proofs.Common.{◌≡◌, ◌≢◌, ℕ, ◌+◌, ◌<◌, ◌≤◌, Bool, true, false, List, [], ◌∷◌, ◌++◌, length, map, take, drop, get_or, Option, Some, None, Result, Ok, Err, refl, sym, ap, subst, ◌∙◌, append_assoc, inl, inr, arith, add-one, drop-cons}
+use Rattle.std.proofs.Common.{◌≡◌, ◌≢◌, ℕ, ◌+◌, ◌<◌, ◌≤◌, true, false, List, [], ◌∷◌, ◌++◌, length, map, take, drop, get_or, Option, Some, None, Result, Ok, Err, refl, sym, ap, subst, ◌∙◌, inl, arith, add-one, drop-cons}
 use Rattle.std.specs.Prelude.{IfSome, IfNone, IfOk, IfErr, replicate}
 use Rattle.std.specs.FinMap as map
 use Rattle.std.specs.Borrow.{Bor}
@@ -20,13 +20,12 @@ use Rattle.preprocessor.specs.Numbering.{refusals_of, excess_refusal, Refusals, 
 use Rattle.preprocessor.proofs.Told.{numbering_refuses, numbering_numbers}
 use Rattle.nanolog_cli.specs.declared.refusal.Refusal.{Refusal}
 use Rattle.nanolog_cli.specs.declared.refusal.Refusal.TheVariants.{NoMemory as WantsMemory}
-use Rattle.nanolog_cli.specs.Endings.{Ending, Done, StillOpen, Usage, Absent, ReadFault, Refused, RefusedSources, Damaged, WriteFault, NoMemory, refusal_ending}
+use Rattle.nanolog_cli.specs.Endings.{Ending, Done, StillOpen, Usage, Absent, ReadFault, Refused, RefusedSources, NoSuchMessage, NoSuchArgument, Damaged, WriteFault, NoMemory, refusal_ending}
 use Rattle.nanolog_cli.specs.HeldFiles.{IsHeld, IsThere, HoldsSuch}
 use Rattle.nanolog_cli.specs.Outcomes.{GivesNoBytes}
 use Rattle.nanolog_cli.specs.Preprocessing.{source_name, AreRead, HaveExcess, HaveNoExcess, EndsReading, IsNumbered, IsMissing, AreRefused, IsReached, GiveNothing, AreNumbered}
 use Rattle.nanolog_cli.specs.Preprocessing.EndsReading.{all_read, too_many, absent, failed}
 use Rattle.nanolog_cli.specs.Words.{contents}
-use Rattle.nanolog_cli.proofs.InputLemmas.{held_there}
 use Rattle.nanolog_cli.proofs.Walks.{all_more}
 
 -- ---- what a numbering tells
@@ -154,6 +153,8 @@ missing_ends : (old new : Desk) (sources : List SourceFile) (name : List ℕ) (o
 missing_ends old new sources name others Done few gives missing = absurd gives
 missing_ends old new sources name others (StillOpen said numbers) few gives missing = absurd gives
 missing_ends old new sources name others (Damaged said offset cause) few gives missing = absurd gives
+missing_ends old new sources name others (NoSuchMessage said) few gives missing = absurd gives
+missing_ends old new sources name others (NoSuchArgument said) few gives missing = absurd gives
 missing_ends old new sources name others Usage few gives missing = absurd gives
 missing_ends old new sources name others (Absent said) few gives missing = absent name others refl few gives.2 gives.1
 missing_ends old new sources name others (ReadFault said) few gives missing = failed name others refl few gives.1 gives.2
@@ -182,6 +183,8 @@ missing_gives : (names : List (List ℕ)) (old new : Desk) (sources : List Sourc
 missing_gives names old new sources numbering name others Done read numbers gives none = absurd gives
 missing_gives names old new sources numbering name others (StillOpen said writers) read numbers gives none = absurd gives
 missing_gives names old new sources numbering name others (Damaged said offset cause) read numbers gives none = absurd gives
+missing_gives names old new sources numbering name others (NoSuchMessage said) read numbers gives none = absurd gives
+missing_gives names old new sources numbering name others (NoSuchArgument said) read numbers gives none = absurd gives
 missing_gives names old new sources numbering name others Usage read numbers gives none = absurd gives
 missing_gives names old new sources numbering name others (Absent said) read numbers gives none =
     subst (λ (n : List ℕ). IsReached old names n × IsAbsent old n × (new ≡ old)) (sym gives.0)

@@ -13,8 +13,9 @@ use Rattle.nanolog_cli.specs.declared.note.Note.{Note}
 use Rattle.nanolog_cli.specs.declared.note.Note.TheVariants as notes
 
 -- an end, with the name that it tells of; a refused trace is told with a line, which is 0 where that is none, and a
--- cause, refused sources with the lines on all that is refused, and a damaged log with an offset and a cause; where all
--- was done, but writers of a log are still open, their numbers are told
+-- cause, refused sources with the lines on all that is refused, and a damaged log with an offset and a cause; a log may
+-- also have no message or no number of which totals are wanted; where all was done, but writers of a log are still
+-- open, their numbers are told
 pub data Ending : Type 0 where
   Done : Ending
   StillOpen : (name numbers : List ℕ) → Ending
@@ -23,6 +24,8 @@ pub data Ending : Type 0 where
   ReadFault : (name : List ℕ) → Ending
   Refused : (name : List ℕ) (line : ℕ) (cause : TraceCause) → Ending
   RefusedSources : (lines : List ℕ) → Ending
+  NoSuchMessage : (name : List ℕ) → Ending
+  NoSuchArgument : (name : List ℕ) → Ending
   Damaged : (name : List ℕ) (offset : ℕ) (cause : LogCause) → Ending
   WriteFault : (name : List ℕ) → Ending
   NoMemory : Ending
@@ -36,6 +39,8 @@ status_of (Absent name) = statuses.Absent
 status_of (ReadFault name) = statuses.ReadFault
 status_of (Refused name line cause) = statuses.Refused
 status_of (RefusedSources lines) = statuses.Refused
+status_of (NoSuchMessage name) = statuses.Refused
+status_of (NoSuchArgument name) = statuses.Refused
 status_of (Damaged name offset cause) = statuses.Damaged
 status_of (WriteFault name) = statuses.WriteFault
 status_of NoMemory = statuses.NoMemory
@@ -47,6 +52,8 @@ refusal_ending (refusals.Absent name) = Absent name.now
 refusal_ending (refusals.ReadFault name) = ReadFault name.now
 refusal_ending (refusals.Refused name line cause) = Refused name.now line cause
 refusal_ending (refusals.RefusedSources lines) = RefusedSources lines.items
+refusal_ending (refusals.NoSuchMessage name) = NoSuchMessage name.now
+refusal_ending (refusals.NoSuchArgument name) = NoSuchArgument name.now
 refusal_ending (refusals.Damaged name offset cause) = Damaged name.now offset cause
 refusal_ending (refusals.WriteFault name) = WriteFault name.now
 refusal_ending refusals.NoMemory = NoMemory

@@ -1,5 +1,5 @@
 -- Of which form a file has to be, and why one gives nothing.
-use Rattle.std.specs.Prelude.{◌≡◌, ℕ, ◌≤◌, List, length}
+use Rattle.std.specs.Prelude.{◌≡◌, ℕ, ◌≤◌, true, List, length}
 use Rattle.nl_io.specs.Count.{Rose}
 use Rattle.nl_io.specs.Desk.{Desk, OnlyReadFaults, IsAbsent}
 use Rattle.trace_text.specs.Recordings.{Recording}
@@ -7,8 +7,9 @@ use Rattle.trace_text.specs.Traces.{TraceText}
 use Rattle.trace_text.specs.Reading.{TraceBreak}
 use Rattle.checkpoint_io.specs.declared.heads.TheConstants.{MAX_LOG}
 use Rattle.checkpoint_io.specs.declared.header.Header.{Header}
-use Rattle.checkpoint_io.specs.Blocks.{Block, FileOf}
+use Rattle.checkpoint_io.specs.Blocks.{Block, messages_of, FileOf}
 use Rattle.checkpoint_io.specs.Validity.{Valid}
+use Rattle.aggregation.specs.Totals.{has_number}
 use Rattle.nanolog_cli.specs.Endings.{Ending, Absent, ReadFault, Refused, NoMemory}
 use Rattle.nanolog_cli.specs.HeldFiles.{IsThere, HoldsSuch}
 use Rattle.nanolog_cli.specs.Scenes.{Scene}
@@ -26,6 +27,11 @@ pub record IsLog (bytes : List ℕ) : Type 0 where
   pub file : FileOf header blocks bytes
   pub valid : Valid header blocks
   pub within : length bytes ≤ MAX_LOG
+
+-- they are so, and their message with this id has a number as its argument there
+pub record HasNumber (id nth : ℕ) (bytes : List ℕ) : Type 0 where
+  pub log : IsLog bytes
+  pub has : has_number (messages_of log.blocks) id nth ≡ true
 
 -- ---- a file that gives nothing
 

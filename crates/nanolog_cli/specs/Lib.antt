@@ -12,4 +12,6 @@ pub mod Headline
 pub mod Replays
 pub mod Preprocessing
 pub mod Decompressing
+pub mod Aggregating
+pub mod Selftests
 pub mod Outcomes

@@ -4,14 +4,18 @@ use Rattle.nl_io.specs.Count.{Rose}
 use Rattle.nl_io.specs.Content.{Told, with_end, PutsFront}
 use Rattle.nl_io.specs.Desk.{Desk}
 use Rattle.trace_text.specs.Recordings.{Recording}
-use Rattle.cli_words.specs.Commands.{Command, Preprocess, Direct, Replay, Decompress}
+use Rattle.trace_text.specs.Canonical.{Canonical}
+use Rattle.trace_text.specs.Generated.{Generated}
+use Rattle.cli_words.specs.Commands.{Command, Preprocess, Direct, Replay, Decompress, Aggregate, Generate, Selftest}
 use Rattle.nanolog_cli.specs.Endings.{Ending, Done, Usage, WriteFault, NoMemory}
-use Rattle.nanolog_cli.specs.Inputs.{IsTrace, IsLog}
+use Rattle.nanolog_cli.specs.Inputs.{IsTrace, IsLog, HasNumber}
 pub use Rattle.nanolog_cli.specs.Inputs.{GivesNoBytes, IsUnread, ReadsNothing}
 pub use Rattle.nanolog_cli.specs.HeldFiles.{IsHeld, HoldsFront, IsThere, HoldsSuch, Holds}
-pub use Rattle.nanolog_cli.specs.Scenes.{Scene, scene, Prints}
+pub use Rattle.nanolog_cli.specs.Scenes.{Scene, scene, Prints, PrintsAtOnce}
 use Rattle.nanolog_cli.specs.Preprocessing.{GiveNothing, AreRefused, AreRight, WritesDictionary, LosesDictionary}
 use Rattle.nanolog_cli.specs.Decompressing.{Decodes}
+use Rattle.nanolog_cli.specs.Aggregating.{Aggregates}
+use Rattle.nanolog_cli.specs.Selftests.{selftest_line}
 use Rattle.nanolog_cli.specs.Texts.{direct_text}
 use Rattle.nanolog_cli.specs.Headline.{TraceRead}
 pub use Rattle.nanolog_cli.specs.Replays.{Replays}
@@ -56,6 +60,24 @@ Directs trace old new NoMemory =
     ReadsNothing trace old new NoMemory ⊎ PrintsText (HasTraceLines trace) old new NoMemory
 Directs trace old new ending = ReadsNothing trace old new ending
 
+-- ---- `generate`
+
+-- the text is that of the generated trace; the files are as they were
+abbrev pub IsGenerated : ℕ → ℕ → ℕ → Desk → Desk → List ℕ → Type 0
+IsGenerated seed calls writers old new text = (text ≡ Canonical (Generated seed calls writers)) × (new ≡ old)
+
+-- what the answer of `generate` says
+abbrev pub Generates : ℕ → ℕ → ℕ → Scene → Scene → Ending → Type 0
+Generates seed calls writers old new ending = PrintsText (IsGenerated seed calls writers) old new ending
+
+-- ---- `selftest`
+
+-- what the answer of `selftest` says: the line on the generated trace is printed, and the files are as they were
+abbrev pub Selftests : ℕ → ℕ → ℕ → Scene → Scene → Ending → Type 0
+Selftests seed calls writers old new ending =
+    (new.desk ≡ old.desk)
+    × PrintsAtOnce (selftest_line (Generated seed calls writers)) old.put new.put old.faults new.faults ending
+
 -- ---- all commands
 
 -- What the answer of a command says.
@@ -64,6 +86,9 @@ Ends (Preprocess dictionary sources) = Preprocesses dictionary sources
 Ends (Direct trace) = Directs trace
 Ends (Replay trace log options) = Replays trace log options
 Ends (Decompress log) = Decodes log
+Ends (Aggregate log id nth) = Aggregates log id nth
+Ends (Generate seed calls writers) = Generates seed calls writers
+Ends (Selftest seed calls writers) = Selftests seed calls writers
 
 -- it is told that what a command reads is there, and is right
 abbrev pub IsRight : Command → Desk → Type 0
@@ -71,6 +96,9 @@ IsRight (Preprocess dictionary sources) desk = AreRight desk sources
 IsRight (Direct trace) desk = Holds desk trace IsTrace
 IsRight (Replay trace log options) desk = Holds desk trace IsTrace
 IsRight (Decompress log) desk = Holds desk log IsLog
+IsRight (Aggregate log id nth) desk = Holds desk log (HasNumber id nth)
+IsRight (Generate seed calls writers) desk = ⊤
+IsRight (Selftest seed calls writers) desk = ⊤
 
 -- Where a read failed, this may be told in its place: with `preprocess` what is refused of the sources before, and with
 -- `decompress` that a write failed, or that memory was wanting, behind the lines of what was read before.
@@ -83,6 +111,7 @@ HidesReadFault command old new ending = ⊥
 -- the command of the words, unless that may wait for others
 abbrev pub quick_part : Option Command → Option Command
 quick_part (Some (Replay trace log options)) = None
+quick_part (Some (Selftest seed calls writers)) = None
 quick_part asked = asked
 
 -- what the answer says of words that were read, which spell a command or none

@@ -21,3 +21,8 @@ Prints text was is before after Done = (is ≡ with_end text was) × (after ≡ 
 Prints text was is before after (WriteFault name) = (name ≡ standard_output) × PutsFront text was is × Rose before after
 Prints text was is before after NoMemory = PutsFront text was is × (after ≡ before)
 Prints text was is before after ending = ⊥
+
+-- the same of a text of which nothing is printed where memory is wanting
+abbrev pub PrintsAtOnce : List ℕ → Told → Told → ℕ → ℕ → Ending → Type 0
+PrintsAtOnce text was is before after NoMemory = (is ≡ was) × (after ≡ before)
+PrintsAtOnce text was is before after ending = Prints text was is before after ending

@@ -4,7 +4,7 @@ use Rattle.std.specs.Fmt.{decimal}
 use Rattle.std.specs.Borrow.{Bor}
 use Rattle.checkpoint_io.specs.Causes as log_causes
 use Rattle.trace_text.specs.Causes as trace_causes
-use Rattle.nanolog_cli.specs.Endings.{Ending, Done, StillOpen, Usage, Absent, ReadFault, Refused, RefusedSources, Damaged, WriteFault, NoMemory}
+use Rattle.nanolog_cli.specs.Endings.{Ending, Done, StillOpen, Usage, Absent, ReadFault, Refused, RefusedSources, NoSuchMessage, NoSuchArgument, Damaged, WriteFault, NoMemory}
 
 -- the forms of the command line
 abbrev pub usage_text : List ℕ
@@ -31,6 +31,8 @@ words_of (Refused name line cause) =
     ++ codes ": refused: " ++ decimal (trace_causes.cause_number cause) ++ codes " "
     ++ trace_causes.cause_name cause ++ codes "\n"
 words_of (RefusedSources lines) = lines
+words_of (NoSuchMessage name) = codes "nanolog: " ++ name ++ codes ": refused: 1 NoSuchMessage\n"
+words_of (NoSuchArgument name) = codes "nanolog: " ++ name ++ codes ": refused: 2 NoSuchArgument\n"
 words_of (Damaged name offset cause) =
     codes "nanolog: " ++ name ++ codes ":" ++ decimal offset
     ++ codes ": damaged: " ++ decimal (log_causes.cause_number cause) ++ codes " "

@@ -7,13 +7,16 @@ ghost use Rattle.cli_words.specs.Rows.{IsLawful};
 ghost use Rattle.nanolog_cli.specs.Endings.{Ending, status_of, ending_of, answer_ending};
 ghost use Rattle.nanolog_cli.specs.Outcomes.{scene, quick_part, Ends, AnswersRead, Answers, Tells};
 
+use crate::aggregate::aggregate;
 use crate::decompress::decompress;
 use crate::direct::direct;
+use crate::generate::generate;
 use crate::note::Note;
 use crate::preprocess::preprocess;
 use crate::refusal::Refusal;
 use crate::replay::replay;
 use crate::report::{say, say_note};
+use crate::selftest::selftest;
 use crate::status::Status;
 use cli_words::{Command, command_of};
 use log_session::Gate;
@@ -38,6 +41,7 @@ fn run_quick<'a, F: Files, O: Sink>(
     files: &mut F,
     out: &mut O,
 ) -> Result<Note<'a>, Refusal<'a>>
+    requires lawful { IsLawful (command_is command) }
     ensures ends { AnswersRead (quick_part (Some (command_is command.entry)))
         (scene (F.desk files.old) (O.put out.old) (O.faults out.old))
         (scene (F.desk files.new) (O.put out.new) (O.faults out.new)) (answer_ending result) }
@@ -50,8 +54,16 @@ fn run_quick<'a, F: Files, O: Sink>(
             sources,
         } => without_note(preprocess(alloc, files, dictionary, &sources, out)),
         Command::Direct { trace } => without_note(direct(alloc, files, trace, out)),
-        Command::Replay { .. } => Err(Refusal::Usage),
+        Command::Replay { .. } | Command::Selftest { .. } => Err(Refusal::Usage),
         Command::Decompress { log } => decompress(alloc, files, log, out),
+        Command::Aggregate { log, id, nth } => {
+            without_note(aggregate(alloc, files, log, id, nth, out))
+        }
+        Command::Generate {
+            seed,
+            calls,
+            writers,
+        } => without_note(generate(alloc, seed, calls, writers, out)),
     }
 }
 
@@ -82,6 +94,13 @@ where
             options,
         } => without_note(replay::<R, QueueStage, F, O, G>(
             rt, alloc, files, trace, log, &options, out, gate,
+        )),
+        Command::Selftest {
+            seed,
+            calls,
+            writers,
+        } => without_note(selftest::<R, QueueStage, O, G>(
+            rt, alloc, seed, calls, writers, out, gate,
         )),
         command => run_quick(alloc, command, files, out),
     }
@@ -153,14 +172,18 @@ fn say_end<E: Sink>(err: &mut E, answer: Result<Note<'_>, Refusal<'_>>) -> Statu
 
 /// Does what the words after the program's name ask for, and answers how that ended.
 ///
-/// So far there are four commands. `preprocess DICT FILE..` writes the messages of the sources, and prints how many
-/// they are, and how many statements; where something of the sources is refused, all of that is told. `direct TRACE`
-/// prints the lines of all calls of the trace. `replay TRACE LOG` makes the calls that the level keeps, those of each
-/// writer in a thread of its own, through rings, and writes their log; it prints which calls were dropped, and how many
-/// were accepted, dropped and filtered. It may wait for its threads. `decompress LOG` prints the lines of the log, up
-/// to where it is damaged, and tells of writers without a close mark. A file that is no trace is refused.
+/// `preprocess DICT FILE..` writes the messages of the sources, and prints how many they are, and how many statements;
+/// where something of the sources is refused, all of that is told. `direct TRACE` prints the lines of all calls of the
+/// trace. `replay TRACE LOG` makes the calls that the level keeps, those of each writer in a thread of its own, through
+/// rings, and writes their log; it prints which calls were dropped, and how many were accepted, dropped and filtered.
+/// It may wait for its threads. `decompress LOG` prints the lines of the log, up to where it is damaged, and tells of
+/// writers without a close mark. `aggregate LOG ID NTH` prints how many numbers an argument of a message has in the
+/// log, the least, the greatest and the sum of them, also of what stands in front of a damage. `generate SEED CALLS
+/// WRITERS` prints a trace that is drawn from the seed. `selftest SEED CALLS WRITERS` makes the calls of that trace by
+/// a session in memory, decompresses its log, and prints how many calls there were; it may wait for its threads too. A
+/// file that is no trace is refused, and so is a log that has no such argument.
 ///
-/// The gate is called by the threads of a replay on their way.
+/// The gate is called by the threads of a session on their way.
 pub fn nanolog<R, F, O, E, G>(
     rt: R,
     alloc: Global,
@@ -192,8 +215,8 @@ where
     say_end(err, run_words(rt, alloc, words, files, out, gate))
 }
 
-/// Does what the words after the program's name ask for, as [`nanolog`] does, but for `replay`: that is answered as a
-/// faulty command line is, and nothing is done. It starts no thread, and waits for nobody.
+/// Does what the words after the program's name ask for, as [`nanolog`] does, but for `replay` and `selftest`: these
+/// are answered as a faulty command line is, and nothing is done. It starts no thread, and waits for nobody.
 pub fn quick<F: Files, O: Sink, E: Sink>(
     alloc: Global,
     words: &[String],

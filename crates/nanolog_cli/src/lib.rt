@@ -1,9 +1,13 @@
 //! The commands of the program `nanolog`.
 #![tactic(auto)]
 
+mod aggregate;
 mod commands;
 mod decompress;
 mod direct;
+mod generate;
+#[cfg(test)]
+mod generated_tests;
 mod input;
 pub mod laws;
 mod lines;
@@ -18,6 +22,7 @@ mod refusal;
 mod replay;
 mod report;
 mod saving;
+mod selftest;
 #[cfg(test)]
 mod session_tests;
 mod sources;
@@ -25,6 +30,8 @@ mod status;
 mod telling;
 #[cfg(test)]
 mod tests;
+#[cfg(test)]
+mod totals_tests;
 
 pub use commands::{nanolog, quick};
 pub use status::Status;

@@ -27,6 +27,10 @@ pub(crate) enum Refusal<'a> {
         /// What is said of all that is refused, a line for each.
         lines: Vec<u8>,
     },
+    /// A log defines no message of which totals are wanted.
+    NoSuchMessage(&'a str),
+    /// The message of a log has no number there, of which totals are wanted.
+    NoSuchArgument(&'a str),
     Damaged {
         name: &'a str,
         /// Where the block begins that is broken, or that isn't read any more.
@@ -54,7 +58,10 @@ impl Refusal<'_> {
             Refusal::Usage => Status::Usage,
             Refusal::Absent(_) => Status::Absent,
             Refusal::ReadFault(_) => Status::ReadFault,
-            Refusal::Refused { .. } | Refusal::RefusedSources { .. } => Status::Refused,
+            Refusal::Refused { .. }
+            | Refusal::RefusedSources { .. }
+            | Refusal::NoSuchMessage(_)
+            | Refusal::NoSuchArgument(_) => Status::Refused,
             Refusal::Damaged { .. } => Status::Damaged,
             Refusal::WriteFault(_) => Status::WriteFault,
             Refusal::NoMemory => Status::NoMemory,

@@ -126,6 +126,14 @@ pub(crate) fn say<E: Sink>(err: &mut E, refusal: &Refusal<'_>)
         Refusal::ReadFault(name) => say_pieces(err, &["nanolog: ", name, ": read fault\n"]),
         Refusal::Refused { name, line, cause } => say_refused(err, name, *line, *cause),
         Refusal::RefusedSources { lines } => say_lines(err, lines),
+        Refusal::NoSuchMessage(name) => say_pieces(
+            err,
+            &["nanolog: ", name, ": refused: 1 NoSuchMessage\n"],
+        ),
+        Refusal::NoSuchArgument(name) => say_pieces(
+            err,
+            &["nanolog: ", name, ": refused: 2 NoSuchArgument\n"],
+        ),
         Refusal::Damaged {
             name,
             offset,

@@ -78,6 +78,18 @@ fn gather_pieces<O: Sink>(
     Ok(())
 }
 
+/// Prints the pieces, one behind the other. It takes no memory.
+pub(crate) fn print_pieces<O: Sink>(out: &mut O, pieces: &[&str]) -> Result<(), Refusal<'static>>
+    ensures printed { Prints (concat (contents pieces.now)) (O.put out.old) (O.put out.new)
+        (O.faults out.old) (O.faults out.new) (ending_of result) }
+    ensures memory { ending_of result ≢ WantsMemory }
+    ensures others { O.rest out.old out.new }
+{
+    let mut gathered = ArrayVec::new();
+    gather_pieces(out, &mut gathered, pieces)?;
+    print(out, gathered.as_slice())
+}
+
 /// Gathers the line on a dropped call.
 fn gather_drop<O: Sink>(
     out: &mut O,

@@ -615,13 +615,14 @@ clock|message 1 DEBUG 12 \"srv.cc\" \"x=%d\";clock|@ NOTICE[0]: x=7;",
     )
 }
 
-/// What waits for nobody does all but `replay`, which it answers as words that are no command.
+/// What waits for nobody does all but `replay` and `selftest`, which it answers as words that are no command.
 #[test]
-fn quick_does_all_but_replay(rt: HostRuntime) -> Result<(), Fail> {
+fn quick_does_what_waits_for_nobody(rt: HostRuntime) -> Result<(), Fail> {
     for (line, want, printed, told) in [
         ("direct t", Status::Done, LINE, ""),
         ("replay t l", Status::Usage, "", USAGE),
         ("replay t", Status::Usage, "", USAGE),
+        ("selftest 1 2 1", Status::Usage, "", USAGE),
     ] {
         let mut files = MemFiles::make(rt.alloc(), PIECE, &[])?;
         files.put_file("t", TRACE.as_bytes())?;

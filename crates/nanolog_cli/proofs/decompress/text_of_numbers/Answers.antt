@@ -1,5 +1,5 @@
-use Rattle.std.proofs.Common.{[], ◌∷◌, ◌++◌, refl}
-use Rattle.nanolog_cli.proofs.Walks.{seen_more, seen_all}
+use Rattle.std.proofs.Common.{[], ◌∷◌, ◌++◌}
+use Rattle.nanolog_cli.proofs.Walks.{seen_more}
 use Rattle.nanolog_cli.proofs.LogEnds.{numbers_more}
 use Rattle.nanolog_cli.proofs.decompress.text_of_numbers.Goals as goal
 

@@ -1,5 +1,4 @@
-use Rattle.std.proofs.Common.{sym, ap, subst, ◌∙◌}
-use Rattle.nl_io.specs.Desk.{Desk}
+use Rattle.std.proofs.Common.{sym, subst}
 use Rattle.nl_io.specs.DeskLaws.{Creates-made, SameButHeld-made, written}
 use Rattle.nanolog_cli.specs.Endings.{Ending}
 use Rattle.nanolog_cli.specs.Replays.{GivesNoLog}

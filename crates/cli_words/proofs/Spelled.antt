@@ -14,7 +14,7 @@ use Rattle.log_session.specs.declared.options.Policy.{Policy}
 use Rattle.log_session.specs.declared.options.Policy.TheVariants.{Wait, Shed}
 use Rattle.cli_words.specs.Commands.{Text, number_within, policy_named, severity_named}
 use Rattle.cli_words.specs.Rows.{policy_name}
-use Rattle.cli_words.specs.declared.options.TheConstants.{MAX_DIGITS}
+use Rattle.cli_words.specs.declared.numbers.TheConstants.{MAX_DIGITS}
 
 -- digits and their number
 pub numerals : IsNumeralModel (λ digits. all_ascii_digits digits ≡ true) (digits_value 10)
@@ -35,6 +35,47 @@ number_spelled least most n low high small =
       le-leb least n low,
       le-leb n most high,
     ) refl
+
+-- what is true of digits, where they spell a number within these bounds
+abbrev Spells : ℕ → ℕ → Text → Option ℕ → Type 0
+Spells least most digits None = Unit {0}
+Spells least most digits (Some n) =
+    (all_ascii_digits digits ≡ true) × (0 < length digits) × (digits_value 10 digits ≡ n) × (least ≤ n) × (n ≤ most)
+
+number_spells : (least most : ℕ) (digits : Text) → Spells least most digits (number_within least most digits)
+number_spells least most digits =
+    go (all_ascii_digits digits) refl (nat_lt 0 (length digits)) refl (nat_le (length digits) MAX_DIGITS) refl
+    (nat_le least (digits_value 10 digits)) refl (nat_le (digits_value 10 digits) most) refl
+  where
+    go : (a : Bool) → all_ascii_digits digits ≡ a → (b : Bool) → nat_lt 0 (length digits) ≡ b
+        → (c : Bool) → nat_le (length digits) MAX_DIGITS ≡ c → (d : Bool) → nat_le least (digits_value 10 digits) ≡ d
+        → (e : Bool) → nat_le (digits_value 10 digits) most ≡ e
+        → Spells least most digits (number_within least most digits)
+    go false p b q c r d s e t = rw p tt
+    go true p false q c r d s e t = rw (p, q) tt
+    go true p true q false r d s e t = rw (p, q, r) tt
+    go true p true q true r false s e t = rw (p, q, r, s) tt
+    go true p true q true r true s false t = rw (p, q, r, s, t) tt
+    go true p true q true r true s true t =
+        rw (p, q, r, s, t) (
+          p,
+          ltb-true 0 (length digits) q,
+          refl,
+          leb-true least (digits_value 10 digits) s,
+          leb-true (digits_value 10 digits) most t,
+        )
+
+-- such a number lies in its bounds
+abbrev pub LiesIn : ℕ → ℕ → Option ℕ → Type 0
+LiesIn least most None = Unit {0}
+LiesIn least most (Some n) = (least ≤ n) × (n ≤ most)
+
+pub number_lies : (least most : ℕ) (digits : Text) → LiesIn least most (number_within least most digits)
+number_lies least most digits = go (number_within least most digits) (number_spells least most digits)
+  where
+    go : (found : Option ℕ) → Spells least most digits found → LiesIn least most found
+    go None spells = tt
+    go (Some n) spells = (spells.3, spells.4)
 
 -- digits that don't begin with `+`
 pub unsigned_start : (digits : Text) (plus : Bool) → plus ≡ (slice_index digits 0 == 43) → plus ≡ false
@@ -64,43 +105,13 @@ pub number_refused : {E : Type 0} (least most : ℕ) (error : E) (digits : Text)
     → get_or digits 0 0 ≢ 43 → r ≡ Err error → most < 2 ^ 64 → None ≡ number_within least most digits
 number_refused least most error digits r parses unsigned is small =
     let refused = rw is at (parse_plain numerals 64 digits r parses unsigned) in
-    go refused (all_ascii_digits digits) refl (nat_lt 0 (length digits)) refl (nat_le (length digits) MAX_DIGITS) refl
-    (nat_le least (digits_value 10 digits)) refl (nat_le (digits_value 10 digits) most) refl
+    go refused (number_within least most digits) (number_spells least most digits)
   where
     go : ((all_ascii_digits digits ≡ true) × (0 < length digits) × (digits_value 10 digits < 2 ^ 64) → ⊥)
-        → (a : Bool) → all_ascii_digits digits ≡ a → (b : Bool) → nat_lt 0 (length digits) ≡ b
-        → (c : Bool) → nat_le (length digits) MAX_DIGITS ≡ c → (d : Bool) → nat_le least (digits_value 10 digits) ≡ d
-        → (e : Bool) → nat_le (digits_value 10 digits) most ≡ e → None ≡ number_within least most digits
-    go refused false p b q c r d s e t = rw p refl
-    go refused true p false q c r d s e t = rw (p, q) refl
-    go refused true p true q false r d s e t = rw (p, q, r) refl
-    go refused true p true q true r false s e t = rw (p, q, r, s) refl
-    go refused true p true q true r true s false t = rw (p, q, r, s, t) refl
-    go refused true p true q true r true s true t =
-        let below : digits_value 10 digits ≤ most = leb-true (digits_value 10 digits) most t in
-        absurd (refused (p, ltb-true 0 (length digits) q, omega arith))
-
--- a number that is read lies in its bounds
-abbrev pub LiesIn : ℕ → ℕ → Option ℕ → Type 0
-LiesIn least most None = Unit {0}
-LiesIn least most (Some n) = (least ≤ n) × (n ≤ most)
-
-pub number_lies : (least most : ℕ) (digits : Text) → LiesIn least most (number_within least most digits)
-number_lies least most digits =
-    go (all_ascii_digits digits) refl (nat_lt 0 (length digits)) refl (nat_le (length digits) MAX_DIGITS) refl
-    (nat_le least (digits_value 10 digits)) refl (nat_le (digits_value 10 digits) most) refl
-  where
-    go : (a : Bool) → all_ascii_digits digits ≡ a → (b : Bool) → nat_lt 0 (length digits) ≡ b
-        → (c : Bool) → nat_le (length digits) MAX_DIGITS ≡ c → (d : Bool) → nat_le least (digits_value 10 digits) ≡ d
-        → (e : Bool) → nat_le (digits_value 10 digits) most ≡ e → LiesIn least most (number_within least most digits)
-    go false p b q c r d s e t = rw p tt
-    go true p false q c r d s e t = rw (p, q) tt
-    go true p true q false r d s e t = rw (p, q, r) tt
-    go true p true q true r false s e t = rw (p, q, r, s) tt
-    go true p true q true r true s false t = rw (p, q, r, s, t) tt
-    go true p true q true r true s true t =
-        rw (p, q, r, s, t)
-        (leb-true least (digits_value 10 digits) s, leb-true (digits_value 10 digits) most t)
+        → (found : Option ℕ) → Spells least most digits found → None ≡ found
+    go refused None spells = refl
+    go refused (Some n) spells =
+        absurd (refused (spells.0, spells.1, omega (arith, spells.2, spells.4)))
 
 pub policy_is : (policy : Policy) → policy_named (policy_name policy) ≡ Some policy
 policy_is Wait = refl

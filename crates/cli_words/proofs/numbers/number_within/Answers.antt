@@ -1,6 +1,6 @@
 use Rattle.std.proofs.Common.{arith}
-use Rattle.cli_words.proofs.Numbers.{number_read, number_refused, unsigned_start}
-use Rattle.cli_words.proofs.options.number_within.Goals as goal
+use Rattle.cli_words.proofs.Spelled.{number_read, number_refused, unsigned_start}
+use Rattle.cli_words.proofs.numbers.number_within.Goals as goal
 
 pub returns-in-Ok : goal.returns-in-Ok
 returns-in-Ok c =
