@@ -90,6 +90,15 @@ expect 1 '' "$usage" direct t --ring 2048
 expect 1 '' "$usage" direct -t
 expect 1 '' "$usage" decompress
 expect 1 '' "$usage" decompress l --full drop
+expect 1 '' "$usage" aggregate l 0
+expect 1 '' "$usage" aggregate l 0 4294967296
+expect 1 '' "$usage" aggregate '' 0 0
+expect 1 '' "$usage" generate 1 2
+expect 1 '' "$usage" generate 1 1000001 1
+expect 1 '' "$usage" generate 18446744073709551616 2 1
+expect 1 '' "$usage" selftest 1 2 0
+expect 1 '' "$usage" selftest 1 2 65
+expect 1 '' "$usage" schedule t
 expect 1 '' "$usage" direct $'\xff'
 [ -e l ] && fail "words that are no command created a log"
 
@@ -136,6 +145,13 @@ done
 
 expect 0 $'accepted 9 dropped 0 filtered 0\n' '' replay examples/first.trace first.log
 same_lines first.log examples/first.trace first.trace
+expect 0 $'count 4 least 9 greatest 1207 sum 1611\n' '' aggregate first.log 1 2
+expect 0 $'count 1 least -28 greatest -28 sum -28\n' '' aggregate first.log 3 1
+expect 2 '' $'nanolog: first.log: refused: 2 NoSuchArgument\n' aggregate first.log 1 0
+expect 2 '' $'nanolog: first.log: refused: 1 NoSuchMessage\n' aggregate first.log 5 0
+expect 7 '' $'nanolog: none: absent\n' aggregate none 0 0
+head -c 60 l >cut
+expect 3 $'count 0\n' $'nanolog: cut:56: damaged: 4 Cut\n' aggregate cut 0 0
 expect 0 $'accepted 3 dropped 0 filtered 6\n' '' replay examples/first.trace first.log --level WARNING
 
 # Calls of one stamp are printed by writer, whichever thread came first. A writer without calls is closed too.
@@ -209,6 +225,21 @@ mkfifo pipe
 timeout 100 head -c 100 pipe >/dev/null &
 expect 5 '' $'nanolog: pipe: write fault\n' replay many pipe --ring 1024
 wait $!
+
+# ---- generated traces
+
+expect 0 $'calls 2 errors 0 warnings 0 notices 1 debugs 1 text 119\n' '' selftest 1 2 1
+for writers in 1 8 64; do
+    ./nanolog generate 7 20000 "$writers" >generated 2>err
+    judge "nanolog generate 7 20000 $writers" $? 0 ''
+    expect 0 $'accepted 20000 dropped 0 filtered 0\n' '' replay generated generated.log
+    same_lines generated.log generated "a generated trace of $writers writers"
+    ./nanolog direct generated >lines
+    severities=$(for name in ERROR WARNING NOTICE DEBUG; do grep -c " $name\[" lines; done | paste -sd' ')
+    # shellcheck disable=SC2086 # These are four words.
+    told=$(printf 'calls 20000 errors %s warnings %s notices %s debugs %s text %s' $severities "$(wc -c <lines)")
+    expect 0 "$told"$'\n' '' selftest 7 20000 "$writers"
+done
 
 # ---- logs of several writers, and what is left of one that is cut
 

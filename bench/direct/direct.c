@@ -1,4 +1,4 @@
-/* Prints the lines of a trace of make_trace, by stamp, then writer, then ordinal: direct TRACE. It checks nothing. */
+/* Prints the lines of a trace of `nanolog generate` by stamp, writer and ordinal: direct TRACE. It checks nothing. */
 #include <stdio.h>
 #include <stdlib.h>
 #include <string.h>
