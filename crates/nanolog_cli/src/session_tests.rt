@@ -361,8 +361,8 @@ fn made_traces_go_through_and_back(rt: HostRuntime) -> Result<(), Fail> {
     for (writers, count, drops) in [
         (1, 700, true),
         (2, 1_200, true),
-        (8, 4_000, true),
-        (64, 3_000, false),
+        (8, 3_200, true),
+        (64, 1_280, false),
     ] {
         let calls = made_calls(rt.alloc(), writers, count)?;
         for batch in [1, 4_096] {
