@@ -35,30 +35,6 @@ fn times(rt: HostRuntime) {
 }
 
 #[test]
-fn numbers(rt: HostRuntime) {
-    for (field, want) in [
-        (b"0".as_slice(), Some(0)),
-        (b"18446744073709551615".as_slice(), Some(u64::MAX)),
-        (b"18446744073709551616".as_slice(), None),
-        (b"007".as_slice(), None),
-        (b"".as_slice(), None),
-        (b"+1".as_slice(), None),
-    ] {
-        assert_eq!(rt; read_number(field), want);
-    }
-    for (field, want) in [
-        (b"-9223372036854775808".as_slice(), Some(i64::MIN)),
-        (b"9223372036854775807".as_slice(), Some(i64::MAX)),
-        (b"9223372036854775808".as_slice(), None),
-        (b"-0".as_slice(), None),
-        (b"-".as_slice(), None),
-        (b"--1".as_slice(), None),
-    ] {
-        assert_eq!(rt; read_signed(field), want);
-    }
-}
-
-#[test]
 fn fields(rt: HostRuntime) {
     assert!(rt; matches!(split_at_byte(b"a  b", b' '), Some((b"a", b" b"))));
     assert!(rt; split_at_byte(b"ab", b' ').is_none());
@@ -117,78 +93,47 @@ fn escapes_are_read(rt: HostRuntime) -> Result<(), Fail> {
     Ok(())
 }
 
+/// Lines that spell no message, or one with another id than 0, and what is answered of each.
+const OTHER_LINES: &str = "\
+BadEntry|
+BadEntry|message  0 NOTICE 12 \"a\" \"b\"
+BadEntry|message 00 NOTICE 12 \"a\" \"b\"
+BadEntry|message 0 FATAL 12 \"a\" \"b\"
+BadEntry|message 0 NOTICE 4294967296 \"a\" \"b\"
+BadEntry|message 0 NOTICE 12 \"\" \"b\"
+BadEntry|message 0 NOTICE 12 \"a\\q\" \"b\"
+BadEntry|message 0 NOTICE 12 \"a\\x4\" \"b\"
+BadEntry|message 0 NOTICE 12 \"a\"\"b\"
+BadEntry|message 1 NOTICE 12 \"a\" \"\\x00\"
+BadEntry|message 0 NOTICE 12 \"a\" \"b
+BadEntry|message 0 NOTICE 12 \"a\" \"b\" \n\
+BadEntry|message 0 NOTICE 12 \"a\" \"%5f\"
+Order|message 1 NOTICE 12 \"a\" \"b\"";
+
 #[test]
-fn other_lines_are_refused(rt: HostRuntime) {
+fn other_lines_are_refused(rt: HostRuntime) -> Result<(), Fail> {
     let mut dictionary = Dictionary::make(rt.alloc());
-    for (line, fault) in [
-        (b"".as_slice(), LineFault::BadEntry),
-        (
-            b"message  0 NOTICE 12 \"a\" \"b\"".as_slice(),
-            LineFault::BadEntry,
-        ),
-        (
-            b"message 00 NOTICE 12 \"a\" \"b\"".as_slice(),
-            LineFault::BadEntry,
-        ),
-        (
-            b"message 0 FATAL 12 \"a\" \"b\"".as_slice(),
-            LineFault::BadEntry,
-        ),
-        (
-            b"message 0 NOTICE 4294967296 \"a\" \"b\"".as_slice(),
-            LineFault::BadEntry,
-        ),
-        (
-            b"message 0 NOTICE 12 \"\" \"b\"".as_slice(),
-            LineFault::BadEntry,
-        ),
-        (
-            b"message 0 NOTICE 12 \"a\\q\" \"b\"".as_slice(),
-            LineFault::BadEntry,
-        ),
-        (
-            b"message 0 NOTICE 12 \"a\\x4\" \"b\"".as_slice(),
-            LineFault::BadEntry,
-        ),
-        (
-            b"message 0 NOTICE 12 \"a\"\"b\"".as_slice(),
-            LineFault::BadEntry,
-        ),
-        (
-            b"message 1 NOTICE 12 \"a\" \"\\x00\"".as_slice(),
-            LineFault::BadEntry,
-        ),
-        (
-            b"message 0 NOTICE 12 \"a\" \"b".as_slice(),
-            LineFault::BadEntry,
-        ),
-        (
-            b"message 0 NOTICE 12 \"a\" \"b\" ".as_slice(),
-            LineFault::BadEntry,
-        ),
-        (
-            b"message 0 NOTICE 12 \"a\" \"%5f\"".as_slice(),
-            LineFault::BadEntry,
-        ),
-        (
-            b"message 1 NOTICE 12 \"a\" \"b\"".as_slice(),
-            LineFault::Order,
-        ),
-    ] {
-        assert_eq!(rt; dictionary.read_line(line), Err(fault));
+    for row in OTHER_LINES.lines() {
+        let (want, line) = row.split_once('|').ok_or("a row without a line")?;
+        let told = format!(in rt.alloc(); "{:?}", dictionary.read_line(line.as_bytes()))?;
+        let want = format!(in rt.alloc(); "Err({want})")?;
+        assert_eq!(rt; told.as_str(), want.as_str(), "{row}");
     }
     assert_eq!(rt; dictionary.read_line(LINE), Ok(()));
-    for again in [
-        b"message 1 NOTICE 12 \"srv.cc\" \"x=%d\"".as_slice(),
-        // that it is there comes before its id
-        b"message 7 NOTICE 12 \"srv.cc\" \"\\x78=%d\"".as_slice(),
-    ] {
-        assert_eq!(rt; dictionary.read_line(again), Err(LineFault::BadEntry));
+    // That it is there comes before its id.
+    for again in "message 1 NOTICE 12 \"srv.cc\" \"x=%d\"
+message 7 NOTICE 12 \"srv.cc\" \"\\x78=%d\""
+        .lines()
+    {
+        assert_eq!(rt;
+            dictionary.read_line(again.as_bytes()),
+            Err(LineFault::BadEntry)
+        );
     }
     assert_eq!(rt; dictionary.len(), 1);
+    Ok(())
 }
 
-// `LINE`'s message as an entry.
 const ENTRY: &[u8] = b"\x03\x0c\x00\x00\x00\x06\x00srv.cc\x04\x00x=%d";
 
 #[test]
@@ -239,47 +184,35 @@ fn an_entry_may_be_cut_anywhere(rt: HostRuntime) {
     }
 }
 
+/// The bytes of an entry in hexadecimal, and what is answered of them. Half of a length isn't judged, and the format is
+/// judged once all of it is there.
+const BAD_ENTRIES: &str = "\
+00|BadEntry
+05|BadEntry
+05 0c 00|BadEntry
+03 0c 00 00 00 00|Cut
+03 0c 00 00 00 00 00|BadEntry
+03 0c 00 00 00 00 01|BadEntry
+03 0c 00 00 00 ff 00|Cut
+03 0c 00 00 00 01 00 61 00 10|BadEntry
+03 0c 00 00 00 01 00 61 ff 0f|Cut
+03 0c 00 00 00 01 00 61 03 00 25 6e|Cut
+03 0c 00 00 00 01 00 61 02 00 25 6e|BadEntry
+03 0c 00 00 00 01 00 61 01 00 25 64|BadEntry";
+
 #[test]
-fn fields_out_of_range_are_refused(rt: HostRuntime) {
-    for (bytes, fault) in [
-        (b"\x00".as_slice(), EntryFault::BadEntry),
-        (b"\x05".as_slice(), EntryFault::BadEntry),
-        (b"\x05\x0c\x00".as_slice(), EntryFault::BadEntry),
-        // half of a length isn't judged
-        (b"\x03\x0c\x00\x00\x00\x00".as_slice(), EntryFault::Cut),
-        (
-            b"\x03\x0c\x00\x00\x00\x00\x00".as_slice(),
-            EntryFault::BadEntry,
-        ),
-        (
-            b"\x03\x0c\x00\x00\x00\x00\x01".as_slice(),
-            EntryFault::BadEntry,
-        ),
-        (b"\x03\x0c\x00\x00\x00\xff\x00".as_slice(), EntryFault::Cut),
-        (
-            b"\x03\x0c\x00\x00\x00\x01\x00a\x00\x10".as_slice(),
-            EntryFault::BadEntry,
-        ),
-        (
-            b"\x03\x0c\x00\x00\x00\x01\x00a\xff\x0f".as_slice(),
-            EntryFault::Cut,
-        ),
-        // the format is judged once all of it is there
-        (
-            b"\x03\x0c\x00\x00\x00\x01\x00a\x03\x00%n".as_slice(),
-            EntryFault::Cut,
-        ),
-        (
-            b"\x03\x0c\x00\x00\x00\x01\x00a\x02\x00%n".as_slice(),
-            EntryFault::BadEntry,
-        ),
-        (
-            b"\x03\x0c\x00\x00\x00\x01\x00a\x01\x00%d".as_slice(),
-            EntryFault::BadEntry,
-        ),
-    ] {
-        assert_eq!(rt; read_entry(rt.alloc(), bytes).err(), Some(fault));
+fn fields_out_of_range_are_refused(rt: HostRuntime) -> Result<(), Fail> {
+    for row in BAD_ENTRIES.lines() {
+        let (digits, want) = row.split_once('|').ok_or("a row without an end")?;
+        let mut bytes = Vec::new(rt.alloc());
+        for byte in digits.split_whitespace() {
+            bytes.push(u8::from_str_radix(byte, 16)?)?;
+        }
+        let told = format!(in rt.alloc(); "{:?}", read_entry(rt.alloc(), &bytes).err())?;
+        let want = format!(in rt.alloc(); "Some({want})")?;
+        assert_eq!(rt; told.as_str(), want.as_str(), "{row}");
     }
+    Ok(())
 }
 
 #[test]
