@@ -6,8 +6,6 @@ mod counting;
 mod fault;
 pub mod laws;
 mod reading;
-#[cfg(test)]
-mod tests;
 mod totals;
 
 pub use aggregating::aggregate;

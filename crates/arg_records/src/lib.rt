@@ -11,8 +11,3 @@ pub use call::{Call, Calls, MAX_WRITERS};
 pub use frame::{MAX_FRAME_WORDS, TooLong, frame_id, frame_len, frame_stamp, frame_words};
 pub use read::{FrameFault, read_frame};
 pub use words::text_words;
-
-#[cfg(test)]
-mod read_tests;
-#[cfg(test)]
-mod tests;

@@ -18,6 +18,3 @@ pub use laws::{
     bodies_are_told_apart, body_or_break, no_record_begins_another, three_codes_in_two_bytes,
 };
 pub use put::{RECORD_ROOM, put_record};
-
-#[cfg(test)]
-mod tests;

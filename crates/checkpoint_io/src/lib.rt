@@ -26,6 +26,3 @@ pub use heads::{
     put_header,
 };
 pub use reader::Reader;
-
-#[cfg(test)]
-mod tests;

@@ -6,8 +6,6 @@ pub mod laws;
 mod numbers;
 mod options;
 mod reading;
-#[cfg(test)]
-mod tests;
 
 pub use command::{Command, MAX_SOURCES, command_of};
 pub use numbers::{MAX_DIGITS, MAX_ID, MAX_SEED};

@@ -10,8 +10,6 @@ mod printing;
 mod reading;
 mod records;
 mod report;
-#[cfg(test)]
-mod tests;
 
 pub use decompressing::decompress;
 pub use fault::DecodeFault;

@@ -11,6 +11,3 @@ mod text;
 
 pub use log_line::line;
 pub use text::render;
-
-#[cfg(test)]
-mod tests;

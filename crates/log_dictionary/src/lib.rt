@@ -23,8 +23,3 @@ pub use numbers::{Integer, read_integer, read_number, read_signed};
 pub use severity::{Severity, severity_named};
 pub use text::{SpelledText, split_text};
 pub use writing::push_text;
-
-#[cfg(test)]
-mod tests;
-#[cfg(test)]
-mod text_tests;

@@ -27,6 +27,3 @@ pub use session::run;
 pub use settling::settle;
 pub use starting::start;
 pub use writer::Writer;
-
-#[cfg(test)]
-mod tests;

@@ -22,9 +22,6 @@ use std::rt::{self, Env, Stderr, Stdout};
 use std::sync::{Arc, Wait};
 use std::thread::Threads;
 
-#[cfg(test)]
-mod tests;
-
 /// How the program ended. Only [`run`] makes one, and it can't be let go, so that `main` ends with what `run` answers.
 pub struct Ended {
     status: Status,

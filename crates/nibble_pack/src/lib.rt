@@ -3,8 +3,6 @@
 
 mod laws;
 mod pack;
-#[cfg(test)]
-mod tests;
 mod unpack;
 
 pub use laws::{

@@ -20,8 +20,6 @@ mod std_files;
 mod std_sink;
 mod std_source;
 mod std_tables;
-#[cfg(test)]
-mod tests;
 mod titles;
 
 pub use failed::Failed;

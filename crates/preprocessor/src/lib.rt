@@ -11,6 +11,3 @@ pub use numbering::Numbering;
 pub use refusal::{Refusal, RefusalCause};
 pub use source_scan::MAX_SOURCE;
 pub use words::push_refusal;
-
-#[cfg(test)]
-mod tests;

@@ -19,6 +19,3 @@ pub use fault::{FormatCause, ParseFault};
 pub use format::{Format, parse};
 pub use limits::{MAX_ARGUMENTS, MAX_FORMAT, MAX_SIZE, MAX_TEXT};
 pub use piece::{Conversion, Length, Piece, Size, Spec};
-
-#[cfg(test)]
-mod tests;

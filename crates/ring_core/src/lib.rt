@@ -19,6 +19,3 @@ pub use stage::{Stage, StageDone};
 pub use stage_in::StageIn;
 pub use stage_out::StageOut;
 pub use stored_out::{StoreFault, StoredOut};
-
-#[cfg(test)]
-mod tests;

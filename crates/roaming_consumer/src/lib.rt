@@ -17,6 +17,3 @@ mod visiting;
 pub use making::MAX_BATCH;
 pub use roamer::Roamer;
 pub use visit::{SinkFault, Visit};
-
-#[cfg(test)]
-mod tests;

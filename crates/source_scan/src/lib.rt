@@ -33,8 +33,3 @@ pub use severity::named_severity;
 pub use statement::{MAX_SOURCE, Source, scan};
 pub use text::{bytes_of, is_text, is_word, unspliced};
 pub use unescape::literal_bytes;
-
-#[cfg(test)]
-mod scan_tests;
-#[cfg(test)]
-mod tests;

@@ -21,6 +21,3 @@ pub use raw_string::delimiter_length;
 pub use source::{parts, tokens};
 pub use splice::past_splices;
 pub use token::{Token, TokenList};
-
-#[cfg(test)]
-mod tests;

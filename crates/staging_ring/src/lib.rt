@@ -15,6 +15,3 @@ pub use queue_done::QueueDone;
 pub use queue_in::QueueIn;
 pub use queue_out::QueueOut;
 pub use queue_stage::QueueStage;
-
-#[cfg(test)]
-mod tests;

@@ -3,8 +3,6 @@
 
 mod laws;
 mod merge;
-#[cfg(test)]
-mod tests;
 
 pub use laws::{orders_are_merged, orders_take_each_stamp_once, worked_order};
 pub use merge::merge_order;

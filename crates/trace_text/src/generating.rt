@@ -118,6 +118,3 @@ pub fn generate(alloc: Global, seed: u64, calls: u32, writers: u32) -> Result<Tr
     }
     Ok(trace)
 }
-
-#[cfg(test)]
-mod tests;

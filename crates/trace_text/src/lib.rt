@@ -23,8 +23,3 @@ pub use reading::{TraceFault, read_text, read_trace};
 pub use trace::{MAX_CALLS, MAX_TRACE, Trace};
 pub use writer_calls::WriterCalls;
 pub use writing::{WriteTraceFault, write_trace};
-
-#[cfg(test)]
-mod call_tests;
-#[cfg(test)]
-mod tests;

@@ -206,6 +206,3 @@ pub fn read_trace<S: Source>(alloc: Global, source: &mut S) -> Result<Trace, Tra
         Err(ReadAllFault::NoMemory) => Err(TraceFault::NoMemory),
     }
 }
-
-#[cfg(test)]
-mod tests;

@@ -177,6 +177,3 @@ pub fn write_trace<K: Sink>(
     };
     Ok(())
 }
-
-#[cfg(test)]
-mod tests;
