@@ -5,6 +5,7 @@ mod failed;
 mod file_sink;
 mod file_source;
 mod files;
+pub mod laws;
 mod mem_files;
 mod mem_sink;
 mod mem_source;
