@@ -5,7 +5,7 @@ use crate::cause::Cause;
 pub enum BlockFault {
     /// The file is broken there.
     Damaged(Cause),
-    /// A read failed, and the bytes that came before are whole blocks or end inside one.
+    /// A read failed.
     ReadFault,
     NoMemory,
 }

@@ -39,7 +39,7 @@ pub(crate) const EXTENT: u8 = 2;
 
 pub(crate) const CLOSE: u8 = 4;
 
-/// Writes the header of a log to the front, and gives its length, which is 30. It takes no memory.
+/// Writes the header of a log to the front, and gives its length, which is 30.
 pub fn put_header(header: &Header, into: &mut [u8]) -> usize
     requires some_writer { 1 ≤ header.now.writers }
     requires few_writers { header.now.writers ≤ MAX_WRITERS }
@@ -56,7 +56,7 @@ pub fn put_header(header: &Header, into: &mut [u8]) -> usize
 }
 
 /// Writes what stands in front of a fragment's entries to the front, and gives its length, which is
-/// 7: the id of the first message, and the number of messages, from 1 to 16. It takes no memory.
+/// 7: the id of the first message, and the number of messages, from 1 to 16.
 pub fn put_fragment_head(first: u32, count: u16, into: &mut [u8]) -> usize
     requires some { 1 ≤ count }
     requires few { count ≤ MAX_FRAGMENT_MESSAGES }
@@ -70,7 +70,7 @@ pub fn put_fragment_head(first: u32, count: u16, into: &mut [u8]) -> usize
 }
 
 /// Writes what stands in front of an extent's body to the front, and gives its length, which is 6:
-/// the writer, and the length of the body, from 1 to 65,536. It takes no memory.
+/// the writer, and the length of the body, from 1 to 65,536.
 pub fn put_extent_head(writer: u32, len: u32, into: &mut [u8]) -> usize
     requires known { writer < MAX_WRITERS }
     requires some { 1 ≤ len }
@@ -83,8 +83,7 @@ pub fn put_extent_head(writer: u32, len: u32, into: &mut [u8]) -> usize
     put(into, at, &len.to_le_bytes())
 }
 
-/// Writes the close mark of a writer to the front, and gives its length, which is 2. It takes no
-/// memory.
+/// Writes the close mark of a writer to the front, and gives its length, which is 2.
 pub fn put_close(writer: u32, into: &mut [u8]) -> usize
     requires known { writer < MAX_WRITERS }
     requires room { 2 ≤ length into.now }

@@ -1,6 +1,6 @@
 //! Laws over the definitions of logs. The functions do nothing: what they ensure is proved of the definitions.
 
-ghost use Rattle.std.specs.Prelude.{◌≡◌, ◌≢◌, ◌⊎◌, ℕ, ◌+◌, ◌<◌, ◌≤◌, ◌^◌, List, [], ◌∷◌, ◌++◌, length, map, take, slice_set, All};
+ghost use Rattle.std.specs.Prelude.{◌≡◌, ◌≢◌, ◌⊎◌, ℕ, ◌+◌, ◌<◌, ◌≤◌, ◌^◌, List, [], ◌∷◌, ◌++◌, length, map, take, slice_set, All, Contains, codes};
 ghost use Rattle.std.specs.List.{AllByRecursion, range_with_len};
 ghost use Rattle.log_dictionary.specs.declared.clock.Clock.{Clock};
 ghost use Rattle.log_dictionary.specs.declared.message.Message.{Message};
@@ -12,11 +12,13 @@ ghost use Rattle.arg_records.specs.Calls.{IsCall, NeverFalls};
 ghost use Rattle.checkpoint_io.specs.declared.cause.Cause.{Cause};
 ghost use Rattle.checkpoint_io.specs.declared.cause.Cause.TheVariants.{BadMagic, BadVersion, BadHeader, Cut, BadBlock, FragmentOrder, BadEntry, UnknownWriter, AfterClose, BadLength};
 ghost use Rattle.checkpoint_io.specs.declared.header.Header.{Header};
+ghost use Rattle.checkpoint_io.specs.declared.heads.TheConstants.{MAX_FRAGMENT_MESSAGES, MAX_BODY, MAX_LOG};
 ghost use Rattle.checkpoint_io.specs.Blocks.{Block, Fragment, Extent, Close, IsFragment, messages_of, header_bytes, fragment_head_bytes, extent_head_bytes, close_bytes, SpellsEntries, SpellsFragment, SpellsExtent, SpellsClose, SpellsBlock, FileOf};
+ghost use Rattle.checkpoint_io.specs.Causes.{cause_number, cause_name};
 ghost use Rattle.checkpoint_io.specs.Fronts.{Front, HasNoHeader, Break};
 ghost use Rattle.checkpoint_io.specs.Logs.{ids_used, new_messages, AreFragments, HasAtMost, IsLaidOut, LogOf};
 ghost use Rattle.checkpoint_io.specs.Reading.{Outcome, found, ReadsHeader, ReadsBlock};
-ghost use Rattle.checkpoint_io.specs.Rows.{row_header, row_blocks, row_bytes, row_record, full_record, mixed_blocks};
+ghost use Rattle.checkpoint_io.specs.Rows.{all_causes, row_header, row_blocks, row_bytes, row_record, full_record, mixed_blocks};
 ghost use Rattle.arg_records.specs.Rows.{full_message};
 ghost use Rattle.log_dictionary.specs.Rows.{row_message};
 ghost use Rattle.checkpoint_io.specs.Validity.{records_of, last_stamp, IsClosed, IsOf, IsRightAfter, IsHeader, Valid};
@@ -429,4 +431,46 @@ pub fn worked_breaks()
     ensures other_writer { Break (slice_set row_bytes 57 1) 56 UnknownWriter }
     ensures cut_at_60 { Break (take 60 row_bytes) 56 Cut }
     ensures closed_twice { Break (row_bytes ++ 4 ∷ 0 ∷ []) 68 AfterClose }
+{}
+
+/// Where several causes hold the one is told that is met first, and a field is judged before the file ends behind it.
+pub fn worked_orders()
+    ensures magic_before_version { Break (slice_set (slice_set row_bytes 0 0) 4 9) 0 BadMagic }
+    ensures version_before_writers { Break (slice_set (slice_set row_bytes 4 9) 5 0) 0 BadVersion }
+    ensures writers_before_cut { Break (take 6 (slice_set row_bytes 5 0)) 0 BadHeader }
+    ensures first_id_before_count { Break (slice_set (slice_set row_bytes 31 1) 35 0) 30 FragmentOrder }
+    ensures severity_before_cut { Break (take 38 (slice_set row_bytes 37 5)) 30 BadEntry }
+    ensures writer_before_length { Break (slice_set (slice_set row_bytes 57 1) 58 0) 56 UnknownWriter }
+    ensures length_before_cut { Break (take 62 (slice_set row_bytes 58 0)) 56 BadLength }
+    ensures closed_before_length { Break (row_bytes ++ 2 ∷ 0 ∷ 0 ∷ 0 ∷ 0 ∷ 0 ∷ []) 68 AfterClose }
+{}
+
+/// All causes, each with its number and its name.
+pub fn causes_have_numbers_and_names()
+    ensures all { (cause : Cause) → Contains all_causes cause }
+    ensures numbers { map cause_number all_causes ≡ 1 ∷ 2 ∷ 3 ∷ 4 ∷ 5 ∷ 6 ∷ 7 ∷ 8 ∷ 9 ∷ 10 ∷ 98 ∷ 20 ∷ [] }
+    ensures names { map cause_name all_causes
+        ≡ codes "BadMagic" ∷ codes "BadVersion" ∷ codes "BadHeader" ∷ codes "Cut" ∷ codes "BadBlock"
+        ∷ codes "FragmentOrder" ∷ codes "BadEntry" ∷ codes "UnknownWriter" ∷ codes "AfterClose"
+        ∷ codes "BadLength" ∷ codes "Body" ∷ codes "TooLarge" ∷ [] }
+{}
+
+/// A header has 30 bytes, with `NLOG`, the version 1 and the number of writers in front. A fragment's head has 7 with the
+/// tag 1, an extent's has 6 with the tag 2, and a close mark has 2 with the tag 4.
+pub fn heads_have_lengths_and_tags()
+    ensures header { (header : Header) → length (header_bytes header) ≡ 30 }
+    ensures front { (header : Header) → take 6 (header_bytes header) ≡ codes "NLOG" ++ 1 ∷ header.writers ∷ [] }
+    ensures fragment { (first count : ℕ) → length (fragment_head_bytes first count) ≡ 7 }
+    ensures fragment_tag { (first count : ℕ) → take 1 (fragment_head_bytes first count) ≡ 1 ∷ [] }
+    ensures extent { (writer len : ℕ) → length (extent_head_bytes writer len) ≡ 6 }
+    ensures extent_tag { (writer len : ℕ) → take 1 (extent_head_bytes writer len) ≡ 2 ∷ [] }
+    ensures close { (writer : ℕ) → length (close_bytes writer) ≡ 2 }
+    ensures close_tag { (writer : ℕ) → take 1 (close_bytes writer) ≡ 4 ∷ [] }
+{}
+
+/// At most 134,217,728 bytes of a log are read. A body has at most 65,536 of them, and a fragment at most 16 messages.
+pub fn logs_have_limits()
+    ensures log { MAX_LOG ≡ 134217728 }
+    ensures body { MAX_BODY ≡ 65536 }
+    ensures fragment { MAX_FRAGMENT_MESSAGES ≡ 16 }
 {}

@@ -43,7 +43,7 @@ fn drop_front(bytes: &mut Vec<u8>, count: usize)
 }
 
 impl Pending {
-    /// No bytes, at the front of a file. It takes no memory.
+    /// No bytes, at the front of a file.
     pub fn none(alloc: Global) -> Pending
         ensures bytes { result.bytes ≡ [] }
         ensures offset { result.offset ≡ 0 }
@@ -98,8 +98,7 @@ impl Pending {
         let Ok(count) = source.read(&mut piece) else {
             return Err(BlockFault::ReadFault);
         };
-        // What a step has of its bytes is moved once, before more come, and is read with them: so all
-        // moves together are no more work than the reading, whatever the pieces.
+        // The bytes that wait are moved to the front only where more come, and not at each step.
         drop_front(&mut self.bytes, self.start);
         self.start = 0;
         let Ok(()) = self.bytes.extend_from_slice(&piece[..count]) else {

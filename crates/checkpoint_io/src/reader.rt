@@ -1,8 +1,9 @@
 //! The reader of a log.
 
-ghost use Rattle.std.specs.Prelude.{◌≡◌, ◌≤◌, List, [], ◌++◌, length, take, true, false, ◌<◌, get_or, IfOk, IfErr, IfSome, OnOk, OnErr, IsErrOf, Err, ℕ};
+ghost use Rattle.std.specs.Prelude.{◌≡◌, ◌≤◌, List, [], ◌++◌, length, take, true, false, ◌<◌, get_or, IfOk, IfErr, IfSome, IfNone, OnOk, OnErr, IsErrOf, Err, ℕ};
 ghost use Rattle.std.specs.List.{list_any};
 ghost use Rattle.nl_io.specs.Count.{Rose};
+ghost use Rattle.nl_io.specs.Content.{IsAtEnd};
 ghost use Rattle.checkpoint_io.specs.declared.cause.Cause.{Cause as LogCause};
 ghost use Rattle.checkpoint_io.specs.Places.{with_front};
 ghost use Rattle.checkpoint_io.specs.Readers.{StandsFor};
@@ -90,6 +91,7 @@ impl Reader {
     fn take_block<S: Source>(&mut self, source: &mut S) -> Result<Option<Block>, BlockFault>
         ensures ok { (taken : List ℕ) (before : StandsFor self.old taken) → IfOk result (λ answer.
             AnswersNext self.old self.new taken before answer (S.left source.old) (S.left source.new)) }
+        ensures end { IfOk result (λ answer. IfNone answer (IsAtEnd (S.left source.new))) }
         ensures damaged { (taken : List ℕ) (cause : LogCause) → StandsFor self.old taken
             → result ≡ Err (BlockFault.Damaged cause)
             → IfSome (with_front (taken ++ self.old.waiting.bytes) (S.left source.old))
@@ -124,7 +126,8 @@ impl Reader {
         Ok(Some(block))
     }
 
-    /// Reads the next block. There is none where the source ends behind the header or a whole block.
+    /// Reads the next block. There is none where the source ends behind the header or a whole block: nothing is
+    /// left of it then.
     ///
     /// # Errors
     ///
@@ -134,6 +137,7 @@ impl Reader {
         requires { self.old.failed ≡ false }
         ensures ok { (taken : List ℕ) (before : StandsFor self.old taken) → IfOk result (λ answer.
             AnswersNext self.old self.new taken before answer (S.left source.old) (S.left source.new)) }
+        ensures end { IfOk result (λ answer. IfNone answer (IsAtEnd (S.left source.new))) }
         ensures damaged { (taken : List ℕ) (cause : LogCause) → StandsFor self.old taken
             → result ≡ Err (BlockFault.Damaged cause)
             → IfSome (with_front (taken ++ self.old.waiting.bytes) (S.left source.old))
