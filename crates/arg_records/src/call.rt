@@ -37,7 +37,7 @@ impl Model for Calls {
 }
 
 impl Calls {
-    /// No calls. It takes no memory.
+    /// No calls.
     pub fn make(alloc: Global) -> Calls
         ensures { result ≡ [] }
     {

@@ -8,6 +8,7 @@ ghost use Rattle.log_dictionary.specs.declared.message.Message.{Message};
 ghost use Rattle.arg_records.specs.declared.call.Call.{Call};
 ghost use Rattle.buffer_extent.specs.Records.{code_bytes, RecordBytes};
 ghost use Rattle.buffer_extent.specs.declared.fault.Cause.{Cause as BodyCause};
+ghost use Rattle.buffer_extent.specs.declared.put.TheConstants.{RECORD_ROOM};
 ghost use Rattle.buffer_extent.specs.Bodies.{SpellsRecord, IsBody, BodyBreak};
 ghost use Rattle.arg_records.specs.Calls.{IsCall};
 ghost use Rattle.buffer_extent.specs.Steps.{StartsRecord};
@@ -27,6 +28,11 @@ pub fn a_record_with_a_text()
 /// Where the number of codes is odd, the last one stands alone in its byte.
 pub fn three_codes_in_two_bytes()
     ensures { code_bytes (1 ∷ 2 ∷ 3 ∷ []) ≡ 33 ∷ 3 ∷ [] }
+{}
+
+/// A record is written where 8,192 bytes are free.
+pub fn records_have_room()
+    ensures { RECORD_ROOM ≡ 8192 }
 {}
 
 /// No record's spelling is a proper prefix of another's, where both count from one stamp.
