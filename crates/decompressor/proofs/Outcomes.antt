@@ -1,6 +1,6 @@
 -- What the answer says of a log that was read and printed.
 use Rattle.std.proofs.Common.{◌≡◌, ℕ, ◌≤◌, List, [], ◌++◌, length, Some, None, Result, Ok, Err, refl, ap, sym, ◌∙◌, subst, inl, inr, arith}
-use Rattle.std.specs.Prelude.{IfSome}
+use Rattle.std.specs.Prelude.{IfSome, OnOk}
 use Rattle.std.specs.Result.{IsErrAnd}
 use Rattle.nl_io.specs.Count.{Rose}
 use Rattle.nl_io.specs.Content.{Told, with_end}
@@ -24,6 +24,11 @@ use Rattle.decompressor.specs.Decompressing.LinesTo.{of_none}
 use Rattle.decompressor.specs.Gathering.{EndsReading, AnswersFor}
 use Rattle.decompressor.specs.Printing.{Prints}
 use Rattle.decompressor.proofs.Endings.{is_whole, whole_lines, is_damaged, damaged_lines, lines_to, header_damaged, nothing_put}
+
+-- what follows from a fact of an answer holds of the answer
+pub on_ok : {T E P Q : Type 0} (r : Result T E) → (P → Q) → OnOk r P → OnOk r Q
+on_ok (Ok x) follows p = follows p
+on_ok (Err e) follows p = tt
 
 -- ---- what is told
 

@@ -1,7 +1,8 @@
 //! Decompressing a log.
 
-ghost use Rattle.std.specs.Prelude.{◌≡◌, ◌≤◌, ◌++◌, ℕ, List, [], false, IsErrOf, IfOk};
+ghost use Rattle.std.specs.Prelude.{◌≡◌, ◌≤◌, ◌++◌, ℕ, List, [], false, IsErrOf, IfOk, OnOk};
 ghost use Rattle.nl_io.specs.Count.{Rose};
+ghost use Rattle.nl_io.specs.Content.{IsAtEnd};
 ghost use Rattle.checkpoint_io.specs.Places.{with_front};
 ghost use Rattle.checkpoint_io.specs.Readers.{StandsFor};
 ghost use Rattle.decompressor.specs.Decompressing.{fault_at, open_writers as open_writers_of, Decompresses, Says};
@@ -49,7 +50,8 @@ fn answer_of(
     ending: Ending,
     lines: u64,
 ) -> Result<Report, DecodeFault>
-    ensures { AnswersFor reader.now lines ending result }
+    ensures answers { AnswersFor reader.now lines ending result }
+    ensures whole { OnOk result (ending ≡ Ending.Whole) }
 {
     match ending {
         Ending::Whole => Ok(Report {
@@ -77,6 +79,7 @@ fn decompress_blocks<S: Source, K: Sink>(
         → Says (with_front (taken ++ reader.old.waiting.bytes) (S.left source.old))
         (S.faults source.old) (S.faults source.new) (K.put out.old) (K.put out.new)
         (K.faults out.old) (K.faults out.new) result }
+    ensures end { OnOk result (IsAtEnd (S.left source.new)) }
     ensures out_others { K.rest out.old out.new }
     ensures source_others { S.rest source.old source.new }
 {
@@ -87,8 +90,7 @@ fn decompress_blocks<S: Source, K: Sink>(
 }
 
 /// Prints the lines of the records of a log, which is all that the source has left: by stamp, those of one stamp by
-/// writer, and those of one writer in its order. The file is read whole before a line is printed. Its records are kept
-/// in memory, and the lines go out in pieces.
+/// writer, and those of one writer in its order. Memory is taken for all of its records.
 ///
 /// # Errors
 ///
@@ -103,6 +105,7 @@ pub fn decompress<S: Source, K: Sink>(
     // What was printed, and what the answer says of the bytes that the source had left.
     ensures text { Decompresses (S.left source.old) (S.faults source.old) (S.faults source.new)
         (K.put out.old) (K.put out.new) result }
+    ensures end { OnOk result (IsAtEnd (S.left source.new)) }
 
     // A write fault is one of this call, and no other answer hides one.
     ensures write_fault { IsErrOf result DecodeFault.WriteFault → Rose (K.faults out.old) (K.faults out.new) }

@@ -10,15 +10,15 @@ use thiserror::Error;
 #[derive(Clone, Copy, Debug, PartialEq, Eq, Error)]
 pub enum DecodeFault {
     /// The sink failed.
-    #[error("the lines can't be written")]
+    #[error("write fault: the lines can't be written")]
     WriteFault,
     /// The file is no log from this offset on, from this cause.
-    #[error("the log is damaged at byte {offset}")]
+    #[error("damaged: the file isn't a whole and right log")]
     Damaged { offset: u64, cause: Cause },
-    /// A read failed, and the bytes that came before it are whole blocks or end inside one.
-    #[error("the log can't be read")]
+    /// A read failed.
+    #[error("read fault: the log can't be read")]
     ReadFault,
-    #[error("there is no memory")]
+    #[error("no memory")]
     NoMemory,
 }
 

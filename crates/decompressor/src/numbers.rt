@@ -23,7 +23,7 @@ impl Model for Numbers {
 }
 
 impl Numbers {
-    /// No numbers. It takes no memory.
+    /// No numbers.
     pub fn make(alloc: Global) -> Numbers
         ensures { result ≡ [] }
     {

@@ -54,7 +54,7 @@ fn all_remaining(alloc: Global, writers: &[WriterRecords]) -> Result<Vec<Remaini
     Ok(remaining)
 }
 
-/// Prints the lines of all records, in order, and answers how many there are. The text goes out in pieces.
+/// Prints the lines of all records, in order, and answers how many there are.
 pub fn print_lines<K: Sink>(
     alloc: Global,
     reader: &Reader,

@@ -2,6 +2,7 @@
 
 ghost use Rattle.std.specs.Prelude.{◌≡◌, ◌≤◌, ℕ, List, ◌++◌, false, IfOk, IsOkAnd, OnOk};
 ghost use Rattle.nl_io.specs.Count.{Rose};
+ghost use Rattle.nl_io.specs.Content.{IsAtEnd};
 ghost use Rattle.checkpoint_io.specs.Places.{with_front};
 ghost use Rattle.decompressor.specs.Gathering.{Gathers, EndsReading};
 
@@ -31,6 +32,7 @@ pub fn read_blocks<S: Source>(
     requires begun { (taken : List ℕ) × Gathers reader.old writers.old taken }
     ensures read { (taken : List ℕ) → Gathers reader.old writers.old taken → IfOk result
         (EndsReading (with_front (taken ++ reader.old.waiting.bytes) (S.left source.old)) reader.new writers.new) }
+    ensures end { IsOkAnd result (λ ending. ending ≡ Ending.Whole) → IsAtEnd (S.left source.new) }
     ensures header { reader.new.header ≡ reader.old.header }
     ensures read_fault { IsOkAnd result (λ ending. ending ≡ Ending.ReadFault)
         → Rose (S.faults source.old) (S.faults source.new) }

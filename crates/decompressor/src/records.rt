@@ -23,7 +23,7 @@ impl Model for WriterRecords {
 }
 
 impl WriterRecords {
-    /// No records. It takes no memory.
+    /// No records.
     pub fn make(alloc: Global) -> WriterRecords
         ensures { result ≡ [] }
     {

@@ -15,6 +15,7 @@ returns-in-Err g c =
     (λ cause is. c.in-Err.ensures.damaged cause (ap Err is)) (λ is. c.in-Err.ensures.read_fault (ap Err is)) (λ no. c.in-Err.ensures.counted (λ is. no cc)) c.start.ensures.count in
     record {
       text = said.text;
+      end = tt;
       write_fault = said.write_fault;
       written = said.written;
       read_fault = said.read_fault;
@@ -47,6 +48,7 @@ returns g c =
     (subst (λ (left : Told). Says left (g.S.Source.faults c.start.new.source) after was is low high c.decompress_blocks.result) (sym started.3) behind) in
     record {
       text = said.text;
+      end = c.decompress_blocks.ensures.end;
       write_fault = said.write_fault;
       written = said.written;
       read_fault = said.read_fault;

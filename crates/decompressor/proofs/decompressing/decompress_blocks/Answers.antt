@@ -7,7 +7,7 @@ use Rattle.decompressor.specs.Printing.{HaveLines}
 use Rattle.decompressor.specs.Gathering.{Gathers, EndsReading}
 use Rattle.decompressor.proofs.Gathering.{gathers_none}
 use Rattle.decompressor.proofs.Endings.{have_lines}
-use Rattle.decompressor.proofs.Outcomes.{says_nothing, says_cut, says_all}
+use Rattle.decompressor.proofs.Outcomes.{on_ok, says_nothing, says_cut, says_all}
 use Rattle.decompressor.proofs.decompressing.decompress_blocks.Goals as goal
 
 -- what was written through a slice is the whole vector
@@ -74,9 +74,12 @@ returns-clause-says g c taken read blocks =
     let e = c.in_ok-ending.ensures.read taken (gathers_none c.args.reader.now c.deref_mut.result.now taken read blocks none) in
     says_all (with_front (taken ++ c.args.reader.now.waiting.bytes) (g.S.Source.left c.args.source.now)) c.read_blocks.new.reader c.deref.result.now c.in_ok-ending.ending
     (g.S.Source.faults c.args.source.now) (g.S.Source.faults c.read_blocks.new.source) (g.K.Sink.faults c.args.out.now) (g.K.Sink.faults c.print_lines.new.out)
-    (g.K.Sink.put c.args.out.now) (g.K.Sink.put c.print_lines.new.out) c.in_ok-lines.lines c.answer_of.result c.answer_of.ensures
+    (g.K.Sink.put c.args.out.now) (g.K.Sink.put c.print_lines.new.out) c.in_ok-lines.lines c.answer_of.result c.answer_of.ensures.answers
     (subst (λ (writers : List (List Call)). EndsReading (with_front (taken ++ c.args.reader.now.waiting.bytes) (g.S.Source.left c.args.source.now)) c.read_blocks.new.reader writers c.in_ok-ending.ending) (sym same) e)
     c.in_ok-ending.ensures.read_fault c.in_ok-ending.ensures.counted c.read_blocks.ensures.count c.in_ok-lines.ensures.printed.0 c.in_ok-lines.ensures.lines c.in_ok-lines.ensures.printed.1
+
+pub returns-clause-end : goal.returns-clause-end
+returns-clause-end g c = on_ok c.answer_of.result c.in_ok-ending.ensures.end c.answer_of.ensures.whole
 
 pub returns-clause-out_others : goal.returns-clause-out_others
 returns-clause-out_others g c = c.print_lines.ensures.others
