@@ -1,5 +1,5 @@
 -- What the answer says of a log that was read.
-use Rattle.std.proofs.Common.{◌≡◌, ℕ, ◌<◌, ◌≤◌, Bool, true, false, List, [], ◌++◌, length, Option, Some, None, Result, Ok, Err, refl, ap, sym, ◌∙◌, subst, arith}
+use Rattle.std.proofs.Common.{◌≡◌, ◌≢◌, ℕ, ◌<◌, ◌≤◌, Bool, true, false, List, [], ◌++◌, length, Option, Some, None, Result, Ok, Err, refl, ap, sym, ◌∙◌, subst, arith}
 use Rattle.std.specs.Prelude.{IfSome, nat_lt, if◌then◌else◌}
 use Rattle.std.proofs.lemmas.Bool.{ltb-true, ltb-false}
 use Rattle.nl_io.specs.Count.{Rose}
@@ -66,6 +66,12 @@ answers_no_header None id nth fault breaks = none_told id nth (Err (fault_at 0 N
 answers_no_header (Some bytes) id nth (reading.Damaged cause) breaks = ([], header_damaged bytes cause (breaks cause refl), refl)
 answers_no_header (Some bytes) id nth reading.ReadFault breaks = tt
 answers_no_header (Some bytes) id nth reading.NoMemory breaks = tt
+
+-- a block that wasn't read is told as nothing that is missing
+pub nothing_missing : (offset : ℕ) (front : Option Totals) (fault : BlockFault) (answer : AggregateFault) → answer ≡ fault_at offset front fault → (answer ≢ NoSuchMessage) × (answer ≢ NoSuchArgument)
+nothing_missing offset front (reading.Damaged cause) answer is = ((λ e. cc), (λ e. cc))
+nothing_missing offset front reading.ReadFault answer is = ((λ e. cc), (λ e. cc))
+nothing_missing offset front reading.NoMemory answer is = ((λ e. cc), (λ e. cc))
 
 -- ---- all that the answer says
 

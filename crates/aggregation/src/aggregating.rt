@@ -1,7 +1,8 @@
 //! Totals over a log.
 
-ghost use Rattle.std.specs.Prelude.{◌≡◌, ◌≤◌, ℕ, List, [], ◌++◌, length, false, Some, None, if◌then◌else◌, IsErrOf};
+ghost use Rattle.std.specs.Prelude.{◌≡◌, ◌≤◌, ℕ, List, [], ◌++◌, length, false, Some, None, if◌then◌else◌, IsErrOf, OnOk};
 ghost use Rattle.nl_io.specs.Count.{Rose};
+ghost use Rattle.nl_io.specs.Content.{IsAtEnd};
 ghost use Rattle.log_dictionary.specs.declared.message.Message.{Message};
 ghost use Rattle.checkpoint_io.specs.Places.{with_front};
 ghost use Rattle.checkpoint_io.specs.Readers.{StandsFor};
@@ -93,6 +94,9 @@ fn aggregate_blocks<S: Source>(
     ensures says { (taken : List ℕ) (read : StandsFor reader.old taken) → read.blocks ≡ []
         → Says (with_front (taken ++ reader.old.waiting.bytes) (S.left source.old)) id nth
         (S.faults source.old) (S.faults source.new) result }
+    ensures end { OnOk result (IsAtEnd (S.left source.new)) }
+    ensures end_no_message { IsErrOf result AggregateFault.NoSuchMessage → IsAtEnd (S.left source.new) }
+    ensures end_no_argument { IsErrOf result AggregateFault.NoSuchArgument → IsAtEnd (S.left source.new) }
     ensures others { S.rest source.old source.new }
 {
     let mut tally = Tally {
@@ -110,7 +114,7 @@ fn aggregate_blocks<S: Source>(
 
 /// The totals of an argument, whose place counts from 0 and in which each `*` of the format is one, over all records of
 /// the message with this id in a log, which is all that the source has left. The values count as they were given: no
-/// length narrows them. The log is read block by block, and nothing is kept of a block but its messages.
+/// length narrows them.
 ///
 /// # Errors
 ///
@@ -124,6 +128,11 @@ pub fn aggregate<S: Source>(
 ) -> Result<Totals, AggregateFault>
     // What the answer says of the bytes that the source had left.
     ensures answer { Answers (S.left source.old) id nth result }
+
+    // Where the file is whole nothing of it is left.
+    ensures end { OnOk result (IsAtEnd (S.left source.new)) }
+    ensures end_no_message { IsErrOf result AggregateFault.NoSuchMessage → IsAtEnd (S.left source.new) }
+    ensures end_no_argument { IsErrOf result AggregateFault.NoSuchArgument → IsAtEnd (S.left source.new) }
 
     // A read fault is one of this call, and no other answer hides one.
     ensures read_fault { IsErrOf result AggregateFault.ReadFault → Rose (S.faults source.old) (S.faults source.new) }

@@ -4,7 +4,7 @@ use checkpoint_io::Cause;
 /// Why there are no totals of an argument over a whole log.
 #[derive(Clone, Copy, Debug, PartialEq, Eq)]
 pub enum AggregateFault {
-    /// A read failed, and the bytes that came before it are whole blocks or end inside one.
+    /// A read failed.
     ReadFault,
     /// The file is no log from this offset on, from this cause. The whole blocks in front have these totals, where they
     /// define such an argument.

@@ -25,6 +25,15 @@ pub fn worked_totals()
     ensures long_numbers { totals_of long_numbers ≡ long_number_totals }
 {}
 
+/// Of the same blocks totals are answered, that a text or what stands past the arguments is no such argument, and that
+/// there is no such message past the messages.
+pub fn worked_answers()
+    ensures numbers { answer_for (messages_of total_blocks) 0 0 plain_totals ≡ Ok plain_totals }
+    ensures text { answer_for (messages_of total_blocks) 1 2 no_totals ≡ Err LogFault.NoSuchArgument }
+    ensures past_the_arguments { answer_for (messages_of total_blocks) 0 1 no_totals ≡ Err LogFault.NoSuchArgument }
+    ensures past_the_messages { answer_for (messages_of total_blocks) 2 0 no_totals ≡ Err LogFault.NoSuchMessage }
+{}
+
 /// The range of numbers is from one of them to one of them, and none lies outside.
 pub fn ranges_are_reached()
     ensures { (numbers : List ℤ) (least greatest : ℤ) → range_of numbers ≡ Some (least, greatest)

@@ -1,7 +1,8 @@
 //! Reading the blocks of a log.
 
-ghost use Rattle.std.specs.Prelude.{◌≡◌, ◌≤◌, ℕ, List, ◌++◌, false, IsErrOf};
+ghost use Rattle.std.specs.Prelude.{◌≡◌, ◌≤◌, ℕ, List, ◌++◌, false, IsErrOf, OnOk};
 ghost use Rattle.nl_io.specs.Count.{Rose};
+ghost use Rattle.nl_io.specs.Content.{IsAtEnd};
 ghost use Rattle.checkpoint_io.specs.Places.{with_front};
 ghost use Rattle.aggregation.specs.Reading.{Counts, EndsReading};
 
@@ -32,6 +33,7 @@ pub fn read_blocks<S: Source>(
     ensures read { (taken : List ℕ) → Counts reader.old id nth tally.old taken
         → EndsReading (with_front (taken ++ reader.old.waiting.bytes) (S.left source.old))
         reader.new id nth tally.new result }
+    ensures end { OnOk result (IsAtEnd (S.left source.new)) }
     ensures read_fault { IsErrOf result BlockFault.ReadFault → Rose (S.faults source.old) (S.faults source.new) }
     ensures counted { ¬ (IsErrOf result BlockFault.ReadFault) → S.faults source.new ≡ S.faults source.old }
     ensures count { S.faults source.old ≤ S.faults source.new }

@@ -2,7 +2,7 @@ use Rattle.std.proofs.Common.{◌≡◌, ◌++◌, ℕ, Err, Option, None, ap, s
 use Rattle.nl_io.specs.Content.{Told}
 use Rattle.checkpoint_io.specs.declared.fault.BlockFault.TheVariants.{ReadFault}
 use Rattle.aggregation.specs.Answers.{Says}
-use Rattle.aggregation.proofs.Outcomes.{fault_says, answers_no_header}
+use Rattle.aggregation.proofs.Outcomes.{fault_says, answers_no_header, nothing_missing}
 use Rattle.aggregation.proofs.aggregating.aggregate.Goals as goal
 
 pub returns-in-Err : goal.returns-in-Err
@@ -13,6 +13,9 @@ returns-in-Err g c =
     (λ is. c.in-Err.ensures.read_fault (ap Err is)) (λ no. c.in-Err.ensures.counted (λ is. no cc)) c.start.ensures.count in
     record {
       answer = said.answers;
+      end = tt;
+      end_no_message = λ is. absurd ((nothing_missing _ _ _ c.fault_of.result c.fault_of.ensures).0 cc);
+      end_no_argument = λ is. absurd ((nothing_missing _ _ _ c.fault_of.result c.fault_of.ensures).1 cc);
       read_fault = said.read_fault;
       counted = said.counted;
       count = said.count;
@@ -38,6 +41,9 @@ returns g c =
     (subst (λ (left : Told). Says left c.args.id c.args.nth (g.S.Source.faults c.start.new.source) after answer) (sym started.3) behind) in
     record {
       answer = said.answers;
+      end = c.aggregate_blocks.ensures.end;
+      end_no_message = c.aggregate_blocks.ensures.end_no_message;
+      end_no_argument = c.aggregate_blocks.ensures.end_no_argument;
       read_fault = said.read_fault;
       counted = said.counted;
       count = said.count;

@@ -1,9 +1,10 @@
 use Rattle.std.proofs.Common.{ℕ, ◌++◌, Err, ap, refl, ◌∙◌}
+use Rattle.nl_io.proofs.Outcomes.{at_ok}
 use Rattle.checkpoint_io.specs.Blocks.{messages_of}
 use Rattle.checkpoint_io.specs.Places.{with_front}
 use Rattle.aggregation.specs.Answers.{fault_at}
 use Rattle.aggregation.proofs.Tallying.{counts_none}
-use Rattle.aggregation.proofs.Outcomes.{fault_says, answers_fault, whole_says}
+use Rattle.aggregation.proofs.Outcomes.{fault_says, answers_fault, nothing_missing, whole_says}
 use Rattle.aggregation.proofs.aggregating.aggregate_blocks.Goals as goal
 
 pub read_blocks-requires-clause-right : goal.read_blocks-requires-clause-right
@@ -31,3 +32,12 @@ returns-in-Err-clause-says g c taken read none =
     (c.fault_of.ensures ∙ ap (λ (n : ℕ). fault_at n front c.in-Err.fault) c.offset.ensures)
     (answers_fault left c.read_blocks.new.reader c.args.id c.args.nth c.read_blocks.new.tally c.in-Err.fault e front front_is)
     (λ is. c.in-Err.ensures.read_fault (ap Err is)) (λ no. c.in-Err.ensures.counted (λ is. no cc)) c.read_blocks.ensures.count
+
+pub returns-in-Ok-clause-end : goal.returns-in-Ok-clause-end
+returns-in-Ok-clause-end g c = at_ok c.answer_of.result c.in-Ok.ensures.end
+
+pub returns-in-Err-clause-end_no_message : goal.returns-in-Err-clause-end_no_message
+returns-in-Err-clause-end_no_message g c is = absurd ((nothing_missing _ _ _ c.fault_of.result c.fault_of.ensures).0 cc)
+
+pub returns-in-Err-clause-end_no_argument : goal.returns-in-Err-clause-end_no_argument
+returns-in-Err-clause-end_no_argument g c is = absurd ((nothing_missing _ _ _ c.fault_of.result c.fault_of.ensures).1 cc)
