@@ -55,7 +55,7 @@ impl<R: rt::Files + Drop> Files for StdFiles<R> {
 
     ghost rest_then = { λ _ _ _ _ _. tt };
 
-    /// `None` is the answer exactly where the system says that the name isn't found.
+    /// `None` is the answer where the system says that the name isn't found.
     fn open_read(&mut self, name: &str) -> Result<Option<u32>, Failed> {
         let Some(file) = open(&self.rt, name, &mut self.read_faults)? else {
             return Ok(None);

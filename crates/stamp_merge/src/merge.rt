@@ -24,7 +24,6 @@ fn add_heads(list: u32, stamps: &[u64], heads: &mut Vec<Head>) -> Result<(), All
 
 /// The numbers of the lists, in the order in which stamps are taken from them: by stamp, and equal
 /// stamps by the lists' numbers, which count from 0. A list stands there once for each of its stamps.
-/// Where no list falls, the stamp that is taken is always the least of those at the lists' heads.
 ///
 /// # Errors
 ///
@@ -37,7 +36,7 @@ pub fn merge_order(alloc: Global, lists: &[Vec<u64>]) -> Result<Vec<u32>, AllocE
     for (list, stamps) in lists.iter().enumerate() {
         add_heads(list as u32, stamps, &mut heads)?;
     }
-    // The stable sort keeps rising runs and merges them, and each list is one: in time n log(lists) for n stamps.
+    // The stable sort keeps rising runs and merges them, and each list is one.
     heads.sort()?;
     let mut order = Vec::with_capacity(alloc, heads.len())?;
     for head in heads.iter() {
