@@ -27,7 +27,7 @@ pub enum Taken {
 pub enum StageFault {
     /// The ring would have fewer words than [`MIN_RING`](crate::MIN_RING), or more than
     /// [`MAX_RING`](crate::MAX_RING).
-    #[error("a ring has 1,024 to 1,048,576 words")]
+    #[error("bad size of a ring")]
     BadSize,
     #[error("there is no memory")]
     NoMemory,

@@ -1,5 +1,5 @@
 -- The bytes for which a roamer stands, from call to call.
-use Rattle.std.proofs.Common.{◌≡◌, ◌≢◌, ℕ, zero, suc, ◌<◌, ◌≤◌, Bool, true, false, List, [], ◌∷◌, ◌++◌, length, get_or, Some, refl, sym, ap, subst, ◌∙◌, append_assoc, inl, inr, arith}
+use Rattle.std.proofs.Common.{◌≡◌, ◌≢◌, ℕ, zero, suc, ◌-◌, ◌<◌, ◌≤◌, Bool, true, false, List, [], ◌∷◌, ◌++◌, length, get_or, Some, refl, sym, ap, subst, ◌∙◌, append_assoc, inl, inr, arith}
 use Rattle.std.specs.Prelude.{All, slice_get, slice_set, replicate, max, take, drop}
 use Rattle.std.proofs.lemmas.Bool.{cases_lt}
 use Rattle.std.proofs.lemmas.Bool.Decides.{eqb_tells}
@@ -13,17 +13,19 @@ use Rattle.log_dictionary.specs.declared.message.Message.{Message}
 use Rattle.log_dictionary.specs.Messages.{AreDistinct}
 use Rattle.arg_records.specs.declared.call.Call.{Call}
 use Rattle.buffer_extent.specs.Bodies.{SpellsRecords}
+use Rattle.checkpoint_io.specs.declared.heads.TheConstants.{MAX_BODY}
 use Rattle.checkpoint_io.specs.Blocks.{SpellsExtent, header_bytes, extent_head_bytes, close_bytes}
 use Rattle.checkpoint_io.specs.Validity.{IsHeader}
-use Rattle.checkpoint_io.specs.Logs.{new_messages}
+use Rattle.checkpoint_io.specs.Logs.{ids_used, new_messages}
 use Rattle.ring_core.specs.Plans.{Plan, plan_of, frames_of, AreFramesOf}
 use Rattle.ring_core.proofs.Frames.{AreFramesOf-nil}
 use Rattle.roaming_consumer.specs.declared.draft.Draft.{Draft}
 use Rattle.roaming_consumer.specs.declared.roamer.Roamer.{Roamer}
 use Rattle.roaming_consumer.specs.Growth.{Progress, IsLogSoFar, with_calls, FragmentsFor, IsNext, progress_behind, progress_closing}
 use Rattle.roaming_consumer.specs.Drafts.{IsDraft}
-use Rattle.roaming_consumer.specs.Gathering.{Gathers}
+use Rattle.roaming_consumer.specs.Gathering.{Gathers, StopsTaking}
 use Rattle.roaming_consumer.specs.Roamers.{ends_of, messages_of, clock_of, batch_of, progress_of, is_begun, is_faulted, plan_of_roamer, ArePlanned, IsSameRun, KeepsLog, Answers, ChangesOne, AreTaken, IsLogOfEnds, StandsFor, header_of, Adds}
+use Rattle.roaming_consumer.specs.Visits.{WritesExtent}
 use Rattle.roaming_consumer.proofs.Used.{ids_known}
 use Rattle.roaming_consumer.proofs.Sending.{with_end-nil, ExtentSent}
 use Rattle.roaming_consumer.proofs.Growth.{grown, closing, beginning}
@@ -135,7 +137,10 @@ same_new messages defined used =
           ∙ sym (drop_all defined (take used messages) (omega (arith, none, length-take used messages)))
     ]
 
-body_some : (messages : List Message) (before : ℕ) (entries : List Call) (body : List ℕ) → 1 ≤ length entries → SpellsRecords messages before entries body → 1 ≤ length body
+wanted_new : (messages : List Message) (defined : ℕ) (entries : List Call) (ids : ℕ) → ids ≡ ids_used entries → drop defined (take (max defined ids) messages) ≡ new_messages messages defined entries
+wanted_new messages defined entries ids same = same_new messages defined ids ∙ ap (λ (n : ℕ). drop defined (take n messages)) same
+
+pub body_some : (messages : List Message) (before : ℕ) (entries : List Call) (body : List ℕ) → 1 ≤ length entries → SpellsRecords messages before entries body → 1 ≤ length body
 body_some messages before [] body some spelled = absurd (omega (arith, some))
 body_some messages before (entry ∷ entries) body some (front, back, joined, is, others) =
     omega (arith, ap length joined, length-append front back, ap length is.spelled.joined)
@@ -164,7 +169,7 @@ none_came messages tick before after draft body was none =
 -- ---- an extent
 
 -- the records of a draft, behind the head of an extent
-pub spells_extent : (messages : List Message) (tick writer : ℕ) (entries : List Call) (draft : Draft) (body extent : List ℕ) → IsDraft messages tick entries draft body → 1 ≤ draft.records → writer < 64 → length body ≤ 65536 → extent ≡ extent_head_bytes writer (length (take draft.len body)) ++ take draft.len body → SpellsExtent messages tick writer entries extent
+abbrev pub spells_extent : (messages : List Message) (tick writer : ℕ) (entries : List Call) (draft : Draft) (body extent : List ℕ) → IsDraft messages tick entries draft body → 1 ≤ draft.records → writer < 64 → length body ≤ 65536 → extent ≡ extent_head_bytes writer (length (take draft.len body)) ++ take draft.len body → SpellsExtent messages tick writer entries extent
 spells_extent messages tick writer entries draft body extent drafted some known room is =
     let records = drafted.records in
     let within = drafted.within in
@@ -213,8 +218,7 @@ extent_stands {S} got ended old new writer before after draft body fragments ext
     let now = moved.gathers.comes.lawful calls are in
     let open_writer : get_or (progress_of old).closed writer false ≡ false =
     not_true (get_or (progress_of old).closed writer false) (λ closed. omega (arith, some, going (log.closed writer before moved.was closed))) in
-    let new_are : drop (progress_of old).defined (take (max (progress_of old).defined draft.ids) (messages_of old)) ≡ new_messages (messages_of old) (progress_of old).defined entries =
-    same_new (messages_of old) (progress_of old).defined draft.ids ∙ ap (λ (n : ℕ). drop (progress_of old).defined (take n (messages_of old))) drafted.ids in
+    let new_are = wanted_new (messages_of old) (progress_of old).defined entries draft.ids drafted.ids in
     let records = drafted.records in
     let next : IsNext log.taken (messages_of old) (clock_of old).tick (batch_of old) (progress_of old) writer entries fragments extent = record {
       known = known;
@@ -330,6 +334,7 @@ stands_faulted got ended roamer wrote now faulted = record {
 abbrev pub Collected : {S : Type 0} → (S → List (List ℕ)) → (S → Bool) → (S → ℕ) → (S → List ℕ) → (S → Plan) → Roamer S → Draft → Bool → List ℕ → S → S → Type 0
 Collected got ended loads pair plan old draft all body before after =
     Gathers (messages_of old) (clock_of old).tick (got before) (got after) draft body × Answers ended loads pair plan draft.records all before after
+    × StopsTaking got ended loads (batch_of old) draft.records (MAX_BODY - draft.len) before after
 
 same_run_then : {S : Type 0} (old mid new : Roamer S) → IsSameRun old mid → IsSameRun mid new → IsSameRun old new
 same_run_then old mid new first second = record {
@@ -338,10 +343,48 @@ same_run_then old mid new first second = record {
   batch = second.batch ∙ first.batch;
 }
 
+-- what went out for a draft
+abbrev pub SentBy : {S : Type 0} → Roamer S → ℕ → Draft → List ℕ → Told → Told → Type 0
+SentBy roamer writer draft body p q =
+    ExtentSent (messages_of roamer) (progress_of roamer).defined (max (progress_of roamer).defined draft.ids) writer (take draft.len body) p q
+
+sent_of_old : {S : Type 0} (old mid : Roamer S) (writer : ℕ) (draft : Draft) (body : List ℕ) (p q : Told) → KeepsLog old mid → SentBy mid writer draft body p q → SentBy old writer draft body p q
+sent_of_old old mid writer draft body p q keeps sent =
+    subst (λ (ms : List Message). ExtentSent ms (progress_of old).defined (max (progress_of old).defined draft.ids) writer (take draft.len body) p q) keeps.same_run.messages
+    (subst (λ (o : Progress). ExtentSent (messages_of mid) o.defined (max o.defined draft.ids) writer (take draft.len body) p q) keeps.progress sent)
+
+-- a visit that wrote an extent
+pub writes_extent : {S : Type 0} (got : S → List (List ℕ)) (ended : S → Bool) (loads : S → ℕ) (pair : S → List ℕ) (plan : S → Plan) (old mid new : Roamer S) (writer : ℕ) (draft : Draft) (all : Bool) (body : List ℕ) (p q : Told) → ChangesOne (ends_of old) (ends_of mid) writer (Collected got ended loads pair plan old draft all body) → KeepsLog old mid → ends_of new ≡ ends_of mid → length (ends_of old) ≤ 64 → length body ≤ 65536 → 1 ≤ draft.records → SentBy mid writer draft body p q
+    → ChangesOne (ends_of old) (ends_of new) writer (λ before after. WritesExtent got ended loads old writer draft.records p q before after)
+writes_extent got ended loads pair plan old mid new writer draft all body p q one keeps same_ends few_ends room some sent_now =
+    let sent = sent_of_old old mid writer draft body p q keeps sent_now in
+    let gathers = one.step.0 in
+    let drafted = gathers.drafted in
+    let defined = (progress_of old).defined in
+    let inside = slice_get_within (ends_of old) writer one.before one.was in
+    record {
+      before = one.before;
+      after = one.after;
+      was = one.was;
+      now = same_ends ∙ one.now;
+      step = record {
+        entries = gathers.entries;
+        comes = gathers.comes;
+        right = gathers.right;
+        count = sym drafted.records;
+        fragments = sent.fragments;
+        defining = subst (λ (ms : List Message). FragmentsFor defined ms sent.fragments) (wanted_new (messages_of old) defined gathers.entries draft.ids drafted.ids) sent.spelled;
+        extent = sent.extent;
+        spelled = spells_extent (messages_of old) (clock_of old).tick writer gathers.entries draft body sent.extent drafted some (omega (arith, inside, few_ends)) room sent.extent_is;
+        puts = sent.put_is;
+        stops = subst (λ (n : ℕ). StopsTaking got ended loads (batch_of old) draft.records (MAX_BODY - n) one.before one.after) (sym (length-take-le draft.len body drafted.within)) one.step.2;
+      };
+    }
+
 pub wrote_extent : {S : Type 0} (got : S → List (List ℕ)) (ended : S → Bool) (loads : S → ℕ) (pair : S → List ℕ) (plan : S → Plan) (old mid new : Roamer S) (writer : ℕ) (draft : Draft) (all : Bool) (body : List ℕ) (p q : Told) → is_begun old ≡ true → is_faulted old ≡ false → ChangesOne (ends_of old) (ends_of mid) writer (Collected got ended loads pair plan old draft all body) → KeepsLog old mid → IsSameRun mid new → ends_of new ≡ ends_of mid → is_begun new ≡ is_begun mid → progress_of new ≡ record (progress_of mid) { defined = max (progress_of mid).defined draft.ids } → AreDistinct (messages_of mid) → length (messages_of mid) ≤ 65536 → length (ends_of old) ≤ 64 → length body ≤ 65536 → 1 ≤ draft.records → draft.records ≤ batch_of old
-    → ExtentSent (messages_of mid) (progress_of mid).defined (max (progress_of mid).defined draft.ids) writer (take draft.len body) p q
+    → SentBy mid writer draft body p q
     → Adds got ended old new p q
-wrote_extent {S} got ended loads pair plan old mid new writer draft all body p q now unfaulted one keeps run same_ends same_begun progress distinct few_messages few_ends room some few sent =
+wrote_extent {S} got ended loads pair plan old mid new writer draft all body p q now unfaulted one keeps run same_ends same_begun progress distinct few_messages few_ends room some few sent_now =
     let same = keeps.same_run.messages in
     let moved : Moved got ended old new writer one.before one.after draft body = record {
       was = one.was;
@@ -351,9 +394,7 @@ wrote_extent {S} got ended loads pair plan old mid new writer draft all body p q
       begun = now;
       unfaulted = unfaulted;
     } in
-    let spelled : FragmentsFor (progress_of old).defined (drop (progress_of old).defined (take (max (progress_of old).defined draft.ids) (messages_of old))) sent.fragments =
-    subst (λ (ms : List Message). FragmentsFor (progress_of old).defined (drop (progress_of old).defined (take (max (progress_of old).defined draft.ids) ms)) sent.fragments) same
-    (subst (λ (o : Progress). FragmentsFor o.defined (drop o.defined (take (max o.defined draft.ids) (messages_of mid))) sent.fragments) keeps.progress sent.spelled) in
+    let sent = sent_of_old old mid writer draft body p q keeps sent_now in
     let progress_now : progress_of new ≡ record (progress_of old) { defined = max (progress_of old).defined draft.ids } =
     progress ∙ ap (λ (o : Progress). record { defined = max o.defined draft.ids; closed = o.closed }) keeps.progress in
     record {
@@ -361,7 +402,7 @@ wrote_extent {S} got ended loads pair plan old mid new writer draft all body p q
       put_is = sent.put_is;
       stands = λ wrote stood.
           stands_begun got ended new (wrote ++ (sent.fragments ++ sent.extent)) (same_begun ∙ keeps.begun ∙ now)
-          (extent_stands got ended old new writer one.before one.after draft body sent.fragments sent.extent moved some few (λ over. (one.step.1.stays_ended over).0) progress_now (subst AreDistinct same distinct) (omega (arith, few_messages, ap length same)) few_ends room spelled sent.extent_is wrote stood);
+          (extent_stands got ended old new writer one.before one.after draft body sent.fragments sent.extent moved some few (λ over. (one.step.1.stays_ended over).0) progress_now (subst AreDistinct same distinct) (omega (arith, few_messages, ap length same)) few_ends room sent.spelled sent.extent_is wrote stood);
     }
 
 pub wrote_nothing : {S : Type 0} (got : S → List (List ℕ)) (ended : S → Bool) (loads : S → ℕ) (pair : S → List ℕ) (plan : S → Plan) (old new : Roamer S) (writer : ℕ) (draft : Draft) (all : Bool) (body : List ℕ) (p : Told) → is_begun old ≡ true → is_faulted old ≡ false → ChangesOne (ends_of old) (ends_of new) writer (Collected got ended loads pair plan old draft all body) → KeepsLog old new → draft.records ≡ 0 → Adds got ended old new p p

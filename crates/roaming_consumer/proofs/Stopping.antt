@@ -1,12 +1,15 @@
--- Visits of which a write failed.
+-- Where visits stop: of which a write failed, and which take no more frames.
 use Rattle.std.proofs.Common.{◌≡◌, ℕ, ◌<◌, ◌≤◌, Bool, true, List, ◌++◌, length, take, refl, ap, subst, ◌∙◌, inl, inr, arith}
-use Rattle.std.specs.Prelude.{max, Result, Ok, Err, is_err, OnErr}
+use Rattle.std.specs.Prelude.{◌⊎◌, max, Result, Ok, Err, is_err, OnErr}
+use Rattle.nl_io.specs.Count.{Rose}
 use Rattle.nl_io.specs.Content.{Told}
 use Rattle.log_dictionary.specs.declared.message.Message.{Message}
 use Rattle.checkpoint_io.specs.Logs.{ids_used}
 use Rattle.ring_core.specs.Plans.{Plan}
 use Rattle.roaming_consumer.specs.declared.draft.Draft.{Draft}
 use Rattle.roaming_consumer.specs.declared.roamer.Roamer.{Roamer}
+use Rattle.roaming_consumer.specs.Gathering.{StopsTaking}
+use Rattle.roaming_consumer.specs.Gathering.StopsTaking.{batch_is_full, body_is_full, nothing_is_there, all_has_ended}
 use Rattle.roaming_consumer.specs.Growth.{Progress}
 use Rattle.roaming_consumer.specs.Sinks.{SendsExtent}
 use Rattle.roaming_consumer.specs.Roamers.{ends_of, messages_of, clock_of, batch_of, progress_of, KeepsLog, ChangesOne}
@@ -57,3 +60,14 @@ stopped_in_extent got ended loads pair plan old mid ends_now writer draft all bo
         puts = err_of r failed sent.sent.err;
       });
     }
+
+-- ---- no more frames
+
+rises_from : (loads between loads_after : ℕ) → loads ≤ between → Rose between loads_after → Rose loads loads_after
+rises_from loads between loads_after less rose = omega (arith, less, rose)
+
+pub goes_on_while_room : {S : Type 0} (got : S → List (List ℕ)) (ended : S → Bool) (loads : S → ℕ) (batch taken free : ℕ) (before after : S) → StopsTaking got ended loads batch taken free before after → taken < batch → 8192 ≤ free → (ended after ≡ true) ⊎ Rose (loads before) (loads after)
+goes_on_while_room got ended loads batch taken free before after (batch_is_full full) few room = absurd (omega (arith, full, few))
+goes_on_while_room got ended loads batch taken free before after (body_is_full full) few room = absurd (omega (arith, full, room))
+goes_on_while_room got ended loads batch taken free before after (nothing_is_there last less found) few room = inr (rises_from (loads before) (loads last) (loads after) less found.2)
+goes_on_while_room got ended loads batch taken free before after (all_has_ended over) few room = inl over

@@ -1,27 +1,26 @@
 -- What is told of a visit.
-use Rattle.std.specs.Prelude.{◌≡◌, ◌≢◌, ◌⊎◌, ℕ, ◌≤◌, Bool, true, false, List, [], ◌++◌, length, max, take, drop, Result, Ok}
+use Rattle.std.specs.Prelude.{◌≡◌, ◌≢◌, ◌⊎◌, ℕ, ◌-◌, ◌≤◌, Bool, true, false, List, [], ◌++◌, length, max, take, drop, Result, Ok, if◌then◌else◌}
 use Rattle.std.specs.List.{AllByRecursion}
-use Rattle.nl_io.specs.Count.{Rose}
-use Rattle.nl_io.specs.Content.{Told, PutsFront}
+use Rattle.nl_io.specs.Content.{Told, with_end, PutsFront}
 use Rattle.log_dictionary.specs.declared.message.Message.{Message}
 use Rattle.arg_records.specs.declared.call.Call.{Call}
 use Rattle.arg_records.specs.Calls.{IsCall}
+use Rattle.checkpoint_io.specs.declared.heads.TheConstants.{MAX_BODY}
 use Rattle.checkpoint_io.specs.Blocks.{SpellsExtent, close_bytes}
-use Rattle.checkpoint_io.specs.Logs.{ids_used}
+use Rattle.checkpoint_io.specs.Logs.{ids_used, new_messages}
 use Rattle.ring_core.specs.Plans.{Plan}
 use Rattle.roaming_consumer.specs.declared.visit.Visit.{Visit}
 use Rattle.roaming_consumer.specs.declared.visit.Visit.TheVariants.{Wrote, Idle, Ended, Discarded}
 use Rattle.roaming_consumer.specs.declared.visit.SinkFault.{SinkFault}
 use Rattle.roaming_consumer.specs.declared.roamer.Roamer.{Roamer}
 use Rattle.roaming_consumer.specs.Growth.{FragmentsFor}
-use Rattle.roaming_consumer.specs.Gathering.{Came, Comes}
+use Rattle.roaming_consumer.specs.Gathering.{Came, Comes, FindsNothing, StopsTaking}
 use Rattle.roaming_consumer.specs.Roamers.{messages_of, clock_of, batch_of, progress_of, is_faulted, is_marked, plan_of_roamer}
 
 -- what the answer says of the end: how many frames were taken, or that there was none, or that all had ended
 abbrev pub Tells : {S : Type 0} → (S → List (List ℕ)) → (S → Bool) → (S → ℕ) → Visit → S → S → Type 0
 Tells got ended loads (Wrote n) before after = (1 ≤ n) × Came (got before) (got after) n
-Tells got ended loads Idle before after =
-    (got after ≡ got before) × (ended after ≡ false) × Rose (loads before) (loads after)
+Tells got ended loads Idle before after = FindsNothing got ended loads before after
 Tells got ended loads Ended before after = (got after ≡ got before) × (ended after ≡ true)
 Tells got ended loads (Discarded n) before after = (1 ≤ n) × Came (got before) (got after) n
 
@@ -57,6 +56,35 @@ TakesAtMost most (Wrote n) = n ≤ most
 TakesAtMost most Idle = Unit {0}
 TakesAtMost most Ended = Unit {0}
 TakesAtMost most (Discarded n) = n ≤ most
+
+-- A visit took the frames of so many calls, up to a reason to stop. The sink took fragments of the messages that the calls
+-- want and that the log doesn't define yet, and behind them one extent of the records of all these calls.
+pub record WritesExtent {S : Type 0} (got : S → List (List ℕ)) (ended : S → Bool) (loads : S → ℕ) (roamer : Roamer S)
+    (writer taken : ℕ) (put put_after : Told) (before after : S) : Type 0 where
+  pub entries : List Call
+  pub comes : Comes (plan_of_roamer roamer) (got before) (got after) entries
+  pub right : AllByRecursion (IsCall (messages_of roamer)) entries
+  pub count : length entries ≡ taken
+  pub fragments : List ℕ
+  pub defining : FragmentsFor (progress_of roamer).defined
+      (new_messages (messages_of roamer) (progress_of roamer).defined entries) fragments
+  pub extent : List ℕ
+  pub spelled : SpellsExtent (messages_of roamer) (clock_of roamer).tick writer entries extent
+  pub puts : put_after ≡ with_end (fragments ++ extent) put
+  pub stops : StopsTaking got ended loads (batch_of roamer) taken (MAX_BODY - length spelled.body) before after
+
+-- What a visit that answers so has given to the sink, and why it took no more frames: the fragments and the extent of what
+-- it took, nothing, or the close mark of a writer that has ended, where no write had failed and it wasn't written before.
+-- Where frames are thrown away all of a body is free.
+abbrev pub Writes : {S : Type 0} → (S → List (List ℕ)) → (S → Bool) → (S → ℕ) → Roamer S → ℕ → Told → Told → Visit → S → S → Type 0
+Writes got ended loads roamer writer put put_after (Wrote n) before after =
+    WritesExtent got ended loads roamer writer n put put_after before after
+Writes got ended loads roamer writer put put_after Idle before after = put_after ≡ put
+Writes got ended loads roamer writer put put_after Ended before after =
+    put_after ≡ (if is_faulted roamer then put
+    else if is_marked roamer writer then put else with_end (close_bytes writer) put)
+Writes got ended loads roamer writer put put_after (Discarded n) before after =
+    (put_after ≡ put) × StopsTaking got ended loads (batch_of roamer) n MAX_BODY before after
 
 -- The bytes of an extent of these records and of the fragments that it wants, behind a log that defines so many messages;
 -- or those of fragments alone, of the messages up to some end.

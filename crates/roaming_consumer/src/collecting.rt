@@ -1,12 +1,12 @@
 //! The parts of a visit: taking frames, and writing what was taken.
 
-ghost use Rattle.std.specs.Prelude.{◌≡◌, ◌+◌, ◌<◌, ◌≤◌, ℕ, List, true, false, length, max, take, slice_set, OnOk, OnErr};
+ghost use Rattle.std.specs.Prelude.{◌≡◌, ◌+◌, ◌-◌, ◌<◌, ◌≤◌, ℕ, List, true, false, length, max, take, slice_set, OnOk, OnErr};
 ghost use Rattle.log_dictionary.specs.declared.dictionary.TheConstants.{MAX_MESSAGES};
 ghost use Rattle.log_dictionary.specs.Messages.{AreDistinct};
 ghost use Rattle.arg_records.specs.declared.call.TheConstants.{MAX_WRITERS};
 ghost use Rattle.checkpoint_io.specs.declared.heads.TheConstants.{MAX_BODY};
 ghost use Rattle.checkpoint_io.specs.Blocks.{close_bytes};
-ghost use Rattle.roaming_consumer.specs.Gathering.{Came, Gathers};
+ghost use Rattle.roaming_consumer.specs.Gathering.{Came, Gathers, StopsTaking};
 ghost use Rattle.roaming_consumer.specs.Growth.{progress_closing};
 ghost use Rattle.roaming_consumer.specs.Sinks.{Sends, SendsExtent};
 ghost use Rattle.roaming_consumer.specs.Roamers.{ends_of, messages_of, clock_of, batch_of, progress_of, is_begun, is_faulted, ArePlanned, IsSameRun, ChangesOne, Answers, KeepsLog};
@@ -30,7 +30,9 @@ impl<'d, S: StageOut> Roamer<'d, S> {
         ensures gathers { ChangesOne (ends_of self.old) (ends_of self.new) writer (λ before after.
             Gathers (messages_of self.old) (clock_of self.old).tick (S.got before) (S.got after) result.draft
             self.new.body.items
-            × Answers S.ended S.loads S.pair S.plan result.draft.records result.ended before after) }
+            × Answers S.ended S.loads S.pair S.plan result.draft.records result.ended before after
+            × StopsTaking S.got S.ended S.loads (batch_of self.old) result.draft.records
+            (MAX_BODY - result.draft.len) before after) }
         ensures few { result.draft.records ≤ batch_of self.old }
         ensures others { KeepsLog self.old self.new }
     {
@@ -51,7 +53,8 @@ impl<'d, S: StageOut> Roamer<'d, S> {
         requires known { writer < length (ends_of self.old) }
         ensures came { ChangesOne (ends_of self.old) (ends_of self.new) writer (λ before after.
             Came (S.got before) (S.got after) result.frames
-            × Answers S.ended S.loads S.pair S.plan result.frames result.ended before after) }
+            × Answers S.ended S.loads S.pair S.plan result.frames result.ended before after
+            × StopsTaking S.got S.ended S.loads (batch_of self.old) result.frames MAX_BODY before after) }
         ensures few { result.frames ≤ batch_of self.old }
         ensures others { KeepsLog self.old self.new }
     {

@@ -5,9 +5,6 @@ ghost use Rattle.log_dictionary.specs.declared.dictionary.TheConstants.{MAX_MESS
 
 use log_dictionary::MAX_MESSAGES;
 
-/// How many bytes have to be free where a record is put.
-pub(crate) const RECORD_ROOM: usize = 8_192;
-
 /// What is known of the records that stand in the front of a body.
 #[derive(Clone, Copy)]
 pub(crate) struct Draft {

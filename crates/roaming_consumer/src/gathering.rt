@@ -1,13 +1,16 @@
 //! Taking frames from the roamer's end of a ring.
 
-ghost use Rattle.std.specs.Prelude.{◌≡◌, ◌+◌, ◌<◌, ◌≤◌, ◌^◌, ℕ, List, true, false, length};
+ghost use Rattle.std.specs.Prelude.{◌≡◌, ◌+◌, ◌-◌, ◌<◌, ◌≤◌, ◌^◌, ℕ, List, true, false, length};
 ghost use Rattle.nl_io.specs.Count.{Rose};
+ghost use Rattle.buffer_extent.specs.declared.put.TheConstants.{RECORD_ROOM};
+ghost use Rattle.checkpoint_io.specs.declared.heads.TheConstants.{MAX_BODY};
 ghost use Rattle.ring_core.specs.Plans.{plan_of};
-ghost use Rattle.roaming_consumer.specs.Gathering.{Came, Gathers};
+ghost use Rattle.roaming_consumer.specs.Gathering.{Came, Gathers, StopsTaking};
 
-use crate::draft::{Draft, RECORD_ROOM};
+use crate::draft::Draft;
 use crate::put_frame::put_frame;
 use arg_records::MAX_FRAME_WORDS;
+use buffer_extent::RECORD_ROOM;
 use log_dictionary::Dictionary;
 use ring_core::{StageOut, Taken};
 use std::sync::Wait;
@@ -37,6 +40,8 @@ pub(crate) fn gather<S: StageOut, R: Wait + Copy>(
     requires room { RECORD_ROOM ≤ length body.old }
     ensures gathers { Gathers dictionary.now tick (S.got end.old) (S.got end.new) result.draft body.new }
     ensures few { result.draft.records ≤ batch }
+    ensures stops { StopsTaking S.got S.ended S.loads batch result.draft.records
+        (length body.new - result.draft.len) end.old end.new }
     ensures none { result.draft.records ≡ 0 → S.ended end.new ≡ result.ended }
     ensures looked { result.draft.records ≡ 0 → result.ended ≡ false → Rose (S.loads end.old) (S.loads end.new) }
     ensures stays_ended { S.ended end.old ≡ true → (result.draft.records ≡ 0) × (result.ended ≡ true) }
@@ -82,6 +87,7 @@ pub(crate) fn throw_away<S: StageOut, R: Wait + Copy>(
     requires some { 1 ≤ batch }
     ensures came { Came (S.got end.old) (S.got end.new) result.frames }
     ensures few { result.frames ≤ batch }
+    ensures stops { StopsTaking S.got S.ended S.loads batch result.frames MAX_BODY end.old end.new }
     ensures none { result.frames ≡ 0 → S.ended end.new ≡ result.ended }
     ensures looked { result.frames ≡ 0 → result.ended ≡ false → Rose (S.loads end.old) (S.loads end.new) }
     ensures stays_ended { S.ended end.old ≡ true → (result.frames ≡ 0) × (result.ended ≡ true) }

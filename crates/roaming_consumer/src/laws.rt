@@ -1,14 +1,19 @@
 //! Laws over the definitions of a log that grows. The functions do nothing: what they ensure is proved of the
 //! definitions.
 
-ghost use Rattle.std.specs.Prelude.{◌≡◌, ◌<◌, ◌≤◌, ◌++◌, [], ℕ, Bool, true, false, List, length, get_or, replicate};
+ghost use Rattle.std.specs.Prelude.{◌≡◌, ◌⊎◌, ◌<◌, ◌≤◌, ◌++◌, [], ℕ, Bool, true, false, List, length, get_or, replicate};
+ghost use Rattle.nl_io.specs.Count.{Rose};
 ghost use Rattle.log_dictionary.specs.declared.clock.Clock.{Clock};
 ghost use Rattle.log_dictionary.specs.declared.message.Message.{Message};
 ghost use Rattle.log_dictionary.specs.Messages.{AreDistinct};
 ghost use Rattle.arg_records.specs.declared.call.Call.{Call};
+ghost use Rattle.buffer_extent.specs.declared.put.TheConstants.{RECORD_ROOM};
+ghost use Rattle.checkpoint_io.specs.declared.heads.TheConstants.{MAX_BODY};
 ghost use Rattle.checkpoint_io.specs.declared.header.Header.{Header};
 ghost use Rattle.checkpoint_io.specs.Blocks.{header_bytes, close_bytes};
 ghost use Rattle.checkpoint_io.specs.Validity.{IsHeader};
+ghost use Rattle.roaming_consumer.specs.declared.making.TheConstants.{MAX_BATCH};
+ghost use Rattle.roaming_consumer.specs.Gathering.{StopsTaking};
 ghost use Rattle.roaming_consumer.specs.Growth.{Progress, IsLogSoFar, with_calls, IsNext, progress_behind, progress_closing};
 ghost use Rattle.roaming_consumer.specs.declared.roamer.Roamer.{Roamer};
 ghost use Rattle.roaming_consumer.specs.Roamers.{is_begun, is_faulted, AreMarked, IsClosedLogOfEnds, StandsFor};
@@ -57,4 +62,21 @@ pub fn marks_stand_in_the_log<S: StageOut>()
         → is_faulted roamer ≡ false
         → AreMarked roamer
         → IsClosedLogOfEnds S.got roamer wrote }
+{}
+
+/// How great the body of an extent and a batch are at most, and how many bytes of a body are kept free for a record.
+pub fn the_limits_of_a_visit()
+    ensures body { MAX_BODY ≡ 65536 }
+    ensures record { RECORD_ROOM ≡ 8192 }
+    ensures batch { MAX_BATCH ≡ 65536 }
+{}
+
+/// A visit that stops before the batch is full, while 8,192 bytes of the body are free, has found all ended, or has
+/// looked for more in vain.
+pub fn a_visit_goes_on_while_there_is_room<S: StageOut>()
+    ensures { (batch taken free : ℕ) (before after : S)
+        → StopsTaking S.got S.ended S.loads batch taken free before after
+        → taken < batch
+        → 8192 ≤ free
+        → (S.ended after ≡ true) ⊎ Rose (S.loads before) (S.loads after) }
 {}

@@ -2,11 +2,12 @@
 
 ghost use Rattle.std.specs.Prelude.{◌≡◌, ◌+◌, ◌<◌, ◌≤◌, ◌^◌, ℕ, List, [], ◌∷◌, ◌++◌, length};
 ghost use Rattle.arg_records.specs.declared.call.Call.{Call};
+ghost use Rattle.buffer_extent.specs.declared.put.TheConstants.{RECORD_ROOM};
 ghost use Rattle.roaming_consumer.specs.Drafts.{IsFrameOf, IsDraft};
 
-use crate::draft::{Draft, RECORD_ROOM, counted};
+use crate::draft::{Draft, counted};
 use arg_records::{frame_id, frame_stamp};
-use buffer_extent::put_record;
+use buffer_extent::{RECORD_ROOM, put_record};
 use log_dictionary::Dictionary;
 
 /// Puts the record of the call whose frame this is behind those of a draft.

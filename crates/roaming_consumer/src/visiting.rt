@@ -2,8 +2,9 @@
 
 ghost use Rattle.std.specs.Prelude.{◌≡◌, ◌<◌, ◌≤◌, ◌+◌, ℕ, true, false, length, Ok, IfOk, OnOk, OnErr};
 ghost use Rattle.nl_io.specs.Count.{Rose};
+ghost use Rattle.nl_io.specs.Content.{Told};
 ghost use Rattle.roaming_consumer.specs.Roamers.{ends_of, messages_of, clock_of, batch_of, progress_of, is_begun, is_faulted, ArePlanned, IsSameRun, ChangesOne, KeepsLog, Adds};
-ghost use Rattle.roaming_consumer.specs.Visits.{Tells, Leaves, Marks, TakesAtMost, Stops, IsWritten, IsThrown};
+ghost use Rattle.roaming_consumer.specs.Visits.{Tells, Leaves, Marks, TakesAtMost, Writes, Stops, IsWritten, IsThrown};
 
 use crate::gathering::{Gathered, Thrown};
 use crate::roamer::Roamer;
@@ -30,6 +31,8 @@ impl<'d, S: StageOut> Roamer<'d, S> {
         ensures written { IfOk result IsWritten }
         ensures few { IfOk result (TakesAtMost (batch_of self.old)) }
         ensures marks { Marks result writer self.old self.new }
+        ensures writes { IfOk result (λ visit. ChangesOne (ends_of self.old) (ends_of self.new) writer
+            (Writes S.got S.ended S.loads self.old writer (K.put sink.old) (K.put sink.new) visit)) }
         ensures stops { OnErr result (ChangesOne (ends_of self.old) (ends_of self.new) writer
             (Stops S.got S.ended self.old writer (K.put sink.old) (K.put sink.new))) }
         ensures wrote { Adds S.got S.ended self.old self.new (K.put sink.old) (K.put sink.new) }
@@ -65,9 +68,12 @@ impl<'d, S: StageOut> Roamer<'d, S> {
     /// A visit after a write has failed.
     fn throw_visit<R: Wait + Copy>(&mut self, rt: R, writer: u32) -> Visit
         requires known { writer < length (ends_of self.old) }
+        requires faulted { is_faulted self.old ≡ true }
         ensures visits { ChangesOne (ends_of self.old) (ends_of self.new) writer (λ before after.
             Tells S.got S.ended S.loads result before after × Leaves S.ended S.loads S.pair S.plan before after) }
         ensures thrown { IsThrown result }
+        ensures writes { (put : Told) → ChangesOne (ends_of self.old) (ends_of self.new) writer
+            (Writes S.got S.ended S.loads self.old writer put put result) }
         ensures few { TakesAtMost (batch_of self.old) result }
         ensures others { KeepsLog self.old self.new }
     {
@@ -107,7 +113,9 @@ impl<'d, S: StageOut> Roamer<'d, S> {
         ensures few { IfOk result (TakesAtMost (batch_of self.old)) }
         ensures marks { Marks result writer self.old self.new }
 
-        // What the sink was given.
+        // What the sink was given, and why no more frames were taken.
+        ensures writes { IfOk result (λ visit. ChangesOne (ends_of self.old) (ends_of self.new) writer
+            (Writes S.got S.ended S.loads self.old writer (K.put sink.old) (K.put sink.new) visit)) }
         ensures stops { OnErr result (ChangesOne (ends_of self.old) (ends_of self.new) writer
             (Stops S.got S.ended self.old writer (K.put sink.old) (K.put sink.new))) }
         ensures wrote { Adds S.got S.ended self.old self.new (K.put sink.old) (K.put sink.new) }

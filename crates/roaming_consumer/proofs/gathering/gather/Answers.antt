@@ -1,6 +1,7 @@
-use Rattle.std.proofs.Common.{◌≡◌, ◌+◌, ℕ, List, [], ◌∷◌, ◌++◌, take, sym, ap, subst, ◌∙◌, arith}
+use Rattle.std.proofs.Common.{◌≡◌, ◌+◌, ℕ, List, [], ◌∷◌, ◌++◌, take, refl, sym, ap, subst, ◌∙◌, arith}
 use Rattle.ring_core.specs.Plans.{Plan, plan_of, Lawful}
 use Rattle.roaming_consumer.specs.Gathering.{Gathers}
+use Rattle.roaming_consumer.specs.Gathering.StopsTaking.{nothing_is_there}
 use Rattle.roaming_consumer.proofs.TakenFrames.{taken_call, gathers_more}
 use Rattle.roaming_consumer.proofs.gathering.gather.Goals as goal
 
@@ -35,3 +36,8 @@ loop-taken-preserved g c =
       same_pair = taken.same.0 ∙ was.same_pair;
       same_plan = taken.same.1 ∙ was.same_plan;
     }
+
+pub returns-in-Nothing-clause-stops : goal.returns-in-Nothing-clause-stops
+returns-in-Nothing-clause-stops g c =
+    let e = c.in-Nothing.ensures in
+    nothing_is_there c.loop-taken.end c.loop-taken.invariant.loads (e.none, e.ended, e.nothing refl)

@@ -1,4 +1,5 @@
 use Rattle.std.proofs.Common.{refl, ap, ◌∙◌, arith}
+use Rattle.roaming_consumer.specs.Gathering.StopsTaking.{nothing_is_there}
 use Rattle.roaming_consumer.proofs.TakenFrames.{came_none, came_more}
 use Rattle.roaming_consumer.proofs.gathering.throw_away.Goals as goal
 
@@ -27,3 +28,8 @@ loop-frames-preserved g c =
       same_pair = taken.same.0 ∙ was.same_pair;
       same_plan = taken.same.1 ∙ was.same_plan;
     }
+
+pub returns-in-Nothing-clause-stops : goal.returns-in-Nothing-clause-stops
+returns-in-Nothing-clause-stops g c =
+    let e = c.in-Nothing.ensures in
+    nothing_is_there c.loop-frames.end c.loop-frames.invariant.loads (e.none, e.ended, e.nothing refl)

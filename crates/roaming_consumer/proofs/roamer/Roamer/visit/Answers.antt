@@ -27,3 +27,6 @@ returns-clause-same_count g c = count_after _ _ _ c.write_visit.ensures.visits
 pub returns-then-self-clause-marks : goal.returns-then-self-clause-marks
 returns-then-self-clause-marks g c =
     marks_stay _ c.args.writer c.args.self.now c.throw_visit.new.self (ap (λ (p : Progress). p.closed) c.throw_visit.ensures.others.progress) (λ unfaulted is. false_is_not_true (is_faulted c.args.self.now) unfaulted c.if-self.true)
+
+pub returns-then-self-clause-writes : goal.returns-then-self-clause-writes
+returns-then-self-clause-writes g c = c.throw_visit.ensures.writes _

@@ -1,7 +1,7 @@
 use Rattle.std.proofs.Common.{Bool, true, false, List, length, get_or, sym, ap, ◌∙◌, arith}
 use Rattle.std.specs.Prelude.{slice_set}
 use Rattle.roaming_consumer.proofs.Sending.{ok_of, extent_sent, sent_whole}
-use Rattle.roaming_consumer.proofs.Standing.{draft_some, draft_ids, wrote_extent, wrote_nothing, wrote_mark}
+use Rattle.roaming_consumer.proofs.Standing.{draft_some, draft_ids, writes_extent, wrote_extent, wrote_nothing, wrote_mark}
 use Rattle.roaming_consumer.specs.Growth.{Progress}
 use Rattle.roaming_consumer.proofs.Marking.{marks_stay, mark_written}
 use Rattle.roaming_consumer.proofs.Stopping.{stopped_in_extent}
@@ -67,3 +67,11 @@ returns-then-is_err-clause-stops g c =
     let mid = c.collect-ended.new.self in
     let w = c.write_draft.ensures in
     stopped_in_extent g.S.StageOut.got g.S.StageOut.ended g.S.StageOut.loads g.S.StageOut.pair g.S.StageOut.plan c.args.self.now mid _ c.args.writer c.collect-ended.result.draft c.collect-ended.result.ended mid.body.items c.write_draft.result _ _ _ _ c.collect-ended.ensures.gathers c.collect-ended.ensures.others w.same_ends (omega arith) c.collect-ended.ensures.few (let known = c.requires.known in omega (arith, known, c.args.self.now.few_ends)) (omega (arith, mid.body_room, mid.body.ok.0)) c.if-is_err.ensures.value w.sent
+
+pub returns-then-draft-gt0-clause-writes : goal.returns-then-draft-gt0-clause-writes
+returns-then-draft-gt0-clause-writes g c =
+    let w = c.write_draft.ensures in
+    let mid = c.collect-ended.new.self in
+    rw c.from.ensures (
+    writes_extent g.S.StageOut.got g.S.StageOut.ended g.S.StageOut.loads g.S.StageOut.pair g.S.StageOut.plan c.args.self.now mid c.write_draft.new.self c.args.writer c.collect-ended.result.draft c.collect-ended.result.ended mid.body.items _ _ c.collect-ended.ensures.gathers c.collect-ended.ensures.others w.same_ends c.args.self.now.few_ends (omega (arith, mid.body_room, mid.body.ok.0)) (omega arith)
+    (extent_sent c.write_draft.result _ _ _ _ _ _ _ _ _ c.if-is_err.ensures.value w.sent))

@@ -1,0 +1,27 @@
+use Rattle.std.proofs.Common.{◌≡◌, ◌-◌, ℕ, List, length, drop, refl, sym, subst, rules, arith}
+use Rattle.std.proofs.lemmas.List.{take_at}
+use Rattle.std.proofs.lemmas.Option.{slice_get_read}
+use Rattle.checkpoint_io.specs.declared.heads.TheConstants.{MAX_BODY}
+use Rattle.roaming_consumer.specs.Gathering.{Gathers, StopsTaking}
+use Rattle.roaming_consumer.specs.Roamers.{messages_of, clock_of, batch_of}
+use Rattle.roaming_consumer.proofs.roamer.Roamer.collect.Goals as goal
+
+pub returns-clause-gathers : goal.returns-clause-gathers
+returns-clause-gathers g c =
+    let e = c.gather.ensures in
+    let roamer = c.args.self.now in
+    let before = c.index_mut-end.result.now in
+    let after = c.gather.new.end in
+    let draft = c.gather.result.draft in
+    let room : length c.gather.new.body ≡ MAX_BODY = omega (arith, c.gather.auto.body, c.deref_mut.ensures.len, roamer.body_room) in
+    record {
+      before = before;
+      after = after;
+      was = slice_get_read _ _ _ _ refl c.requires.known c.index_mut-end.ensures.value;
+      now = refl;
+      step = (
+        subst (λ (b : List ℕ). Gathers (messages_of roamer) (clock_of roamer).tick (g.S.StageOut.got before) (g.S.StageOut.got after) draft b) (sym (take_at c.gather.new.body (drop (length c.gather.new.body) roamer.body.items) roamer.body.len (omega (arith, room, roamer.body_room)))) e.gathers,
+        search rules,
+        subst (λ (n : ℕ). StopsTaking g.S.StageOut.got g.S.StageOut.ended g.S.StageOut.loads (batch_of roamer) draft.records (n - draft.len) before after) room e.stops,
+      );
+    }
