@@ -30,7 +30,7 @@ pub trait StageIn {
     /// How many words the ring has.
     ghost words: { Self → ℕ };
 
-    /// Which ring it is: numbers that no other ring has.
+    /// Which ring it is: both ends of a ring have the same numbers.
     ghost pair: { Self → List ℕ };
 
     /// What the two ends agree on.

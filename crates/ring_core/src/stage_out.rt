@@ -21,7 +21,7 @@ pub trait StageOut {
     /// How often the roamer looked how far the frames were put.
     ghost loads: { Self → ℕ };
 
-    /// Which ring it is: numbers that no other ring has.
+    /// Which ring it is: both ends of a ring have the same numbers.
     ghost pair: { Self → List ℕ };
 
     /// What the two ends agree on.

@@ -94,7 +94,7 @@ fn copy_words(words: &[u64], into: &mut [u64; MAX_FRAME_WORDS])
 }
 
 impl<'d> StoredOut<'d> {
-    /// An end over no frames, for calls of the dictionary whose stamps aren't below `first`. It takes no memory.
+    /// An end over no frames, for calls of the dictionary whose stamps aren't below `first`.
     pub fn make(alloc: Global, dictionary: &'d Dictionary, first: u64) -> StoredOut<'d>
         ensures { result ≡ empty_end dictionary.now first }
     {

@@ -57,7 +57,7 @@ TakesAtMost most Idle = Unit {0}
 TakesAtMost most Ended = Unit {0}
 TakesAtMost most (Discarded n) = n ≤ most
 
--- A visit took the frames of so many calls, up to a reason to stop. The sink took fragments of the messages that the calls
+-- A visit took the frames of so many calls, up to a reason to stop. The sink took fragments of the messages that they
 -- want and that the log doesn't define yet, and behind them one extent of the records of all these calls.
 pub record WritesExtent {S : Type 0} (got : S → List (List ℕ)) (ended : S → Bool) (loads : S → ℕ) (roamer : Roamer S)
     (writer taken : ℕ) (put put_after : Told) (before after : S) : Type 0 where
@@ -73,10 +73,11 @@ pub record WritesExtent {S : Type 0} (got : S → List (List ℕ)) (ended : S �
   pub puts : put_after ≡ with_end (fragments ++ extent) put
   pub stops : StopsTaking got ended loads (batch_of roamer) taken (MAX_BODY - length spelled.body) before after
 
--- What a visit that answers so has given to the sink, and why it took no more frames: the fragments and the extent of what
--- it took, nothing, or the close mark of a writer that has ended, where no write had failed and it wasn't written before.
--- Where frames are thrown away all of a body is free.
-abbrev pub Writes : {S : Type 0} → (S → List (List ℕ)) → (S → Bool) → (S → ℕ) → Roamer S → ℕ → Told → Told → Visit → S → S → Type 0
+-- What a visit that answers so has given to the sink, and why it took no more frames: the fragments and the extent of
+-- what it took, nothing, or the close mark of a writer that has ended, where no write had failed and it wasn't written
+-- before. Where frames are thrown away all of a body is free.
+abbrev pub Writes : {S : Type 0} → (S → List (List ℕ)) → (S → Bool) → (S → ℕ) → Roamer S → ℕ → Told → Told → Visit
+    → S → S → Type 0
 Writes got ended loads roamer writer put put_after (Wrote n) before after =
     WritesExtent got ended loads roamer writer n put put_after before after
 Writes got ended loads roamer writer put put_after Idle before after = put_after ≡ put

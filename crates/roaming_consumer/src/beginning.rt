@@ -27,7 +27,7 @@ impl<'d, S> Roamer<'d, S> {
 }
 
 impl<'d, S: StageOut> Roamer<'d, S> {
-    /// Writes the header of the log. It takes no memory.
+    /// Writes the header of the log. It has no answer for want of memory.
     ///
     /// # Errors
     ///

@@ -54,7 +54,7 @@ fn put_fragment(dictionary: &Dictionary, first: u32, count: u32, into: &mut [u8]
     head + put_entries(messages, &mut into[head..])
 }
 
-/// Writes the fragments of the messages from the first one up to this end, each by one call of [`write_all`].
+/// Writes the fragments of the messages from the first one up to this end.
 pub(crate) fn write_fragments<K: Sink>(
     dictionary: &Dictionary,
     first: u32,

@@ -17,8 +17,8 @@ use std::alloc::{AllocError, Global};
 pub const MAX_BATCH: u32 = 65_536;
 
 impl<'d, S: StageOut + Drop> Roamer<'d, S> {
-    /// A roamer over these ends, which takes at most `batch` frames in a visit. All its buffers are made here. Where
-    /// that is refused the ends are dropped.
+    /// A roamer over these ends, which takes at most `batch` frames in a visit. Where there is no memory for its
+    /// buffers the ends are dropped.
     pub fn make(
         alloc: Global,
         ends: Vec<S>,

@@ -51,7 +51,7 @@ impl<'d, S> Roamer<'d, S> {
         self.faulted
     }
 
-    /// The ends, in the order of their writers' numbers. It takes no memory.
+    /// The ends, in the order of their writers' numbers.
     pub fn into_ends(self) -> Vec<S>
         ensures { result.items ≡ ends_of self.entry }
     {

@@ -85,9 +85,9 @@ impl<'d, S: StageOut> Roamer<'d, S> {
     }
 
     /// Takes frames of the writer's end, and writes their records as one extent, in front of which stand the fragments
-    /// of the messages that it wants and that the log doesn't define yet. It takes frames until there are as many as in
-    /// a batch, a record might have no room in the body, or the end gives none. Where it gives none at first and all has
-    /// ended, the close mark of the writer is written, once. It takes no memory.
+    /// of the messages that it wants and that the log doesn't define yet. It takes frames until there are as many as
+    /// in a batch, a record might have no room in the body, or the end gives none. Where it gives none at first and all
+    /// has ended, the close mark of the writer is written, once. It has no answer for want of memory.
     ///
     /// After a write has failed the frames are thrown away, and nothing is written.
     ///
