@@ -28,7 +28,6 @@ pub enum TokenKind {
     BrokenRawString,
     /// This byte, which is none of the others.
     Punctuator(u8),
-    /// A directive: from a `#` that is the first token of its line up to the LF that ends it. `parts` alone
-    /// gives it.
+    /// A directive: from a `#` that is the first token of its line up to the LF that ends it.
     Directive,
 }
