@@ -1,13 +1,15 @@
 -- What a numbering tells of the sources that it stands for.
-use Rattle.std.proofs.Common.{◌≡◌, ℕ, zero, suc, ◌<◌, Bool, true, false, List, [], ◌∷◌, ◌++◌, length, get_or, refl, sym, ap, subst, ◌∙◌, ◌||◌, length-append, arith}
+use Rattle.std.proofs.Common.{◌≡◌, ℕ, zero, suc, ◌<◌, ◌≤◌, Bool, true, false, cond, Some, List, [], ◌∷◌, ◌++◌, length, get_or, refl, sym, ap, subst, ◌∙◌, ◌||◌, length-append, arith}
+use Rattle.std.specs.Prelude.{not, slice_get}
 use Rattle.std.specs.List.{list_any, Contains}
+use Rattle.std.proofs.lemmas.Bool.{false≢true}
 use Rattle.log_dictionary.specs.declared.message.Message.{Message}
-use Rattle.log_dictionary.specs.Messages.{is_same, HasMessage}
+use Rattle.log_dictionary.specs.Messages.{SameMessage, is_same, HasMessage}
 use Rattle.log_dictionary.proofs.Distinct.{test_from_same, there_from_test}
 use Rattle.preprocessor.specs.declared.numbering.Numbering.{Numbering}
 use Rattle.preprocessor.specs.declared.refusal.Refusal.{Refusal}
 use Rattle.preprocessor.specs.Findings.{SourceFile, Finding, AllHave}
-use Rattle.preprocessor.specs.Numbering.{messages_of, numbered, firsts, refusals_of, excess_refusal, Numbered, Refusals, Numbers}
+use Rattle.preprocessor.specs.Numbering.{messages_of, numbered, firsts, IsFirstAt, StandFirst, refusals_of, excess_refusal, Numbered, Refusals, Numbers}
 use Rattle.preprocessor.proofs.Firsts.{among_others, others}
 use Rattle.preprocessor.proofs.Once.{all_have_once}
 
@@ -51,3 +53,35 @@ pub numbered_has : (files : List SourceFile) (messages : List Message) (n : ℕ)
 numbered_has files messages n findings message told have (k, within, is) =
     subst (λ (l : List Message). HasMessage l message) (ap numbered (all_have_once files findings told.findings have told.have) ∙ sym told.messages_are)
     (there_from_test (firsts (messages_of findings)) message (passes (messages_of findings) k message within is))
+
+-- ---- the messages stand first
+
+stand_earlier : (all : List Message) (from first : ℕ) (messages : List Message) → from ≤ first → StandFirst all first messages → StandFirst all from messages
+stand_earlier all from first [] before stand = tt
+stand_earlier all from first (message ∷ messages) before stand = (stand.0, omega (arith, stand.1), stand.2, stand.3)
+
+first_behind : (front message : Message) (all : List Message) (place : ℕ) → is_same front message ≡ false → IsFirstAt all place message → IsFirstAt (front ∷ all) (suc place) message
+first_behind front message all place apart at = record { there = at.there; first = first }
+  where
+    first : (k : ℕ) (other : Message) → k < suc place → slice_get (front ∷ all) k ≡ Some other → ¬ (SameMessage other message)
+    first zero other before there same = let one : front ≡ other = cc in false≢true (sym apart ∙ ap (λ (m : Message). is_same m message) one ∙ test_from_same other message same)
+    first (suc k) other before there same = at.first k other (omega (arith, before)) there same
+
+-- behind another message those that don't equal it stand first
+stand_behind : (front : Message) (all : List Message) (from : ℕ) (messages : List Message) → StandFirst all from messages → StandFirst (front ∷ all) (suc from) (others front messages)
+stand_behind front all from [] stand = tt
+stand_behind front all from (message ∷ messages) stand = by_test (is_same front message) refl (stand_behind front all (suc stand.0) messages stand.3)
+  where
+    by_test : (same : Bool) → is_same front message ≡ same → StandFirst (front ∷ all) (suc (suc stand.0)) (others front messages) → StandFirst (front ∷ all) (suc from) (cond (not same) (message ∷ others front messages) (others front messages))
+    by_test true is later = stand_earlier (front ∷ all) (suc from) (suc (suc stand.0)) (others front messages) (omega (arith, stand.1)) later
+    by_test false is later = (suc stand.0, omega (arith, stand.1), first_behind front message all stand.0 is stand.2, later)
+
+firsts_stand : (messages : List Message) → StandFirst messages 0 (firsts messages)
+unfolding firsts
+firsts_stand [] = tt
+firsts_stand (message ∷ messages) =
+    (0, omega arith, record { there = refl; first = λ k other before there same. absurd (omega (arith, before)) }, stand_behind message messages 0 (firsts messages) (firsts_stand messages))
+
+pub numbered_stand : (files : List SourceFile) (messages : List Message) (n : ℕ) (findings : List Finding) → Numbered files messages n → AllHave files findings → StandFirst (messages_of findings) 0 messages
+numbered_stand files messages n findings told have =
+    subst (StandFirst (messages_of findings) 0) (ap numbered (all_have_once files findings told.findings have told.have) ∙ sym told.messages_are) (firsts_stand (messages_of findings))

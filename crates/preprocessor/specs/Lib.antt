@@ -1,3 +1,4 @@
 pub mod Causes
 pub mod Findings
 pub mod Numbering
+pub mod Rows

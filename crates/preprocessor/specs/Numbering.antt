@@ -1,8 +1,9 @@
 -- The messages of sources, each once, and what of the sources is refused.
-use Rattle.std.specs.Prelude.{◌≡◌, ℕ, ◌⊎◌, ◌≤◌, true, false, not, List, [], ◌∷◌, ◌++◌, length, filter, flat_map}
+use Rattle.std.specs.Prelude.{◌≡◌, ℕ, suc, ◌⊎◌, ◌<◌, ◌≤◌, true, false, not, List, [], ◌∷◌, ◌++◌, length, filter, flat_map}
+use Rattle.std.specs.Prelude.{slice_get, Some}
 use Rattle.log_dictionary.specs.declared.message.Message.{Message}
 use Rattle.log_dictionary.specs.declared.dictionary.TheConstants.{MAX_MESSAGES}
-use Rattle.log_dictionary.specs.Messages.{is_same, HasMessage}
+use Rattle.log_dictionary.specs.Messages.{SameMessage, is_same, HasMessage}
 use Rattle.preprocessor.specs.declared.numbering.Numbering.{Numbering}
 use Rattle.preprocessor.specs.declared.refusal.Refusal.{Refusal}
 use Rattle.preprocessor.specs.declared.refusal.RefusalCause.TheVariants as causes
@@ -30,6 +31,17 @@ refusals_of findings = flat_map finding_refusals findings
 unfoldable pub firsts : List Message → List Message
 firsts [] = []
 firsts (message ∷ messages) = message ∷ filter (λ (other : Message). not (is_same message other)) (firsts messages)
+
+-- the message stands at this place of the list, and none before it equals it
+pub record IsFirstAt (all : List Message) (place : ℕ) (message : Message) : Type 0 where
+  pub there : slice_get all place ≡ Some message
+  pub first : (k : ℕ) (other : Message) → k < place → slice_get all k ≡ Some other → ¬ (SameMessage other message)
+
+-- each of the messages stands first at a place of the list, at or behind one and behind that of the message before
+abbrev pub StandFirst : List Message → ℕ → List Message → Type 0
+StandFirst all from [] = Unit {0}
+StandFirst all from (message ∷ messages) =
+    (place : ℕ) × (from ≤ place) × IsFirstAt all place message × StandFirst all (suc place) messages
 
 -- the messages of all statements, each where it stands first
 abbrev pub numbered : List Finding → List Message

@@ -1,13 +1,17 @@
 //! Laws of the definitions. The functions answer nothing: what they ensure is proved of the definitions.
 
-ghost use Rattle.std.specs.Prelude.{◌≡◌, ℕ, List, [], map};
+ghost use Rattle.std.specs.Prelude.{◌≡◌, ℕ, List, [], ◌∷◌, ◌++◌, map, codes};
 ghost use Rattle.std.specs.List.{Contains};
+ghost use Rattle.printf_grammar.specs.declared.fault.FormatCause.TheVariants.{Float};
+ghost use Rattle.source_scan.specs.declared.found.StatementCause.TheVariants as causes;
 ghost use Rattle.log_dictionary.specs.declared.message.Message.{Message};
 ghost use Rattle.log_dictionary.specs.Messages.{HasMessage, AreDistinct};
 ghost use Rattle.preprocessor.specs.declared.numbering.Numbering.{Numbering};
 ghost use Rattle.preprocessor.specs.declared.refusal.Refusal.{Refusal};
-ghost use Rattle.preprocessor.specs.Findings.{SourceFile, Finding, AllHave, sources_of};
-ghost use Rattle.preprocessor.specs.Numbering.{messages_of, Numbered, Refusals, Numbers};
+ghost use Rattle.preprocessor.specs.Causes.{refusal_line};
+ghost use Rattle.preprocessor.specs.Rows.{refused_in};
+ghost use Rattle.preprocessor.specs.Findings.{SourceFile, Finding, AllHave, sources_of, large_refusal};
+ghost use Rattle.preprocessor.specs.Numbering.{messages_of, StandFirst, Numbered, Refusals, Numbers};
 
 /// What a numbering refuses is what is refused of the sources that it stands for. Where that is
 /// nothing, its messages and its number of statements are those of the sources.
@@ -47,4 +51,21 @@ pub fn each_message_has_one_number()
         → Contains (messages_of findings) message → HasMessage messages message }
     ensures distinct { (files : List SourceFile) (messages : List Message) (n : ℕ)
         → Numbered files messages n → AreDistinct messages }
+{}
+
+/// The messages of sources are messages of their statements, in the order of the places where they stand
+/// first. So with the law before they are all of those messages, each once.
+pub fn messages_stand_first()
+    ensures { (files : List SourceFile) (messages : List Message) (n : ℕ) (findings : List Finding)
+        → Numbered files messages n → AllHave files findings → StandFirst (messages_of findings) 0 messages }
+{}
+
+/// The words on what is refused.
+pub fn worked_refusals()
+    ensures format { refusal_line (refused_in 7 (causes.Format Float 2))
+        ≡ codes "nanolog: h.h:7: refused: 3 Format Float at 2" ++ 10 ∷ [] }
+    ensures unclosed { refusal_line (refused_in 10 causes.Unclosed)
+        ≡ codes "nanolog: h.h:10: refused: 5 Unclosed" ++ 10 ∷ [] }
+    ensures too_large { refusal_line (large_refusal (codes "big.cc"))
+        ≡ codes "nanolog: big.cc:0: refused: 7 TooLarge" ++ 10 ∷ [] }
 {}

@@ -1,0 +1,5 @@
+use Rattle.preprocessor.proofs.Told.{numbered_stand}
+use Rattle.preprocessor.proofs.laws.messages_stand_first.Goals as goal
+
+pub returns : goal.returns
+returns c = numbered_stand
