@@ -1,8 +1,10 @@
 pub mod Answered
 pub mod ChangeLists
+pub mod Closing
 pub mod Commas
 pub mod CursorLemmas
 pub mod Digits
+pub mod Extents
 pub mod FoundLists
 pub mod Fronts
 pub mod ItemLists
@@ -16,3 +18,6 @@ pub mod SomeTokens
 pub mod Texts
 pub mod Unique
 pub mod Unsplicing
+pub mod WorkedCauses
+pub mod WorkedSource
+pub mod WorkedTokens

@@ -11,6 +11,7 @@ use Rattle.printf_grammar.proofs.Unique.{spells_once, breaks_once, never_both}
 use Rattle.log_dictionary.specs.declared.severity.Severity.{Severity}
 use Rattle.log_dictionary.proofs.SameMessages.{same_names}
 use Rattle.source_tokens.specs.declared.token.Token.{Token}
+use Rattle.source_tokens.specs.Directives.{Parts}
 use Rattle.source_tokens.proofs.Unique.{tokens_once}
 use Rattle.source_tokens.proofs.UniqueParts.{parts_once}
 use Rattle.source_scan.specs.declared.found.Found.{Found}
@@ -202,13 +203,17 @@ finds_once source zero (token ∷ tokens) found others here there =
     p.2 ∙ front_same p.0 q.0 p.1 q.1 first rest ∙ sym q.2 in
     match_once (begins source.bytes token tokens) From (Finds source zero tokens) found others both (finds_once source zero tokens found others) here there
 
+-- the statements of a source are those among its significant parts, under its line directives
+pub statements_find : (file source : List ℕ) (parts : List Token) (changes : List PlacedChange) (found : List Found) → Parts source parts → Changes source parts changes → Statements file source found
+    → Finds (record { file = file; bytes = source; changes = changes }) 0 (significant parts) found
+statements_find file source parts changes found are changes_are is =
+    let same : is.parts ≡ parts = parts_once source is.parts parts is.parts_are are in
+    let moved : Changes source parts is.changes = subst (λ (list : List Token). Changes source list is.changes) same is.changes_are in
+    let changed : is.changes ≡ changes = changes_once source parts is.changes changes moved changes_are in
+    let with_parts : Finds (record { file = file; bytes = source; changes = is.changes }) 0 (significant parts) found =
+    subst (λ (list : List Token). Finds (record { file = file; bytes = source; changes = is.changes }) 0 (significant list) found) same is.finds in
+    subst (λ (list : List PlacedChange). Finds (record { file = file; bytes = source; changes = list }) 0 (significant parts) found) changed with_parts
+
 pub statements_once : (file source : List ℕ) (found others : List Found) → Statements file source found → Statements file source others → found ≡ others
 statements_once file source found others here there =
-    let parts : there.parts ≡ here.parts = parts_once source there.parts here.parts there.parts_are here.parts_are in
-    let moved : Changes source here.parts there.changes = subst (λ (list : List Token). Changes source list there.changes) parts there.changes_are in
-    let changes : there.changes ≡ here.changes = changes_once source here.parts there.changes here.changes moved here.changes_are in
-    let with_parts : Finds (record { file = file; bytes = source; changes = there.changes }) 0 (significant here.parts) others =
-    subst (λ (list : List Token). Finds (record { file = file; bytes = source; changes = there.changes }) 0 (significant list) others) parts there.finds in
-    let with_changes : Finds (record { file = file; bytes = source; changes = here.changes }) 0 (significant here.parts) others =
-    subst (λ (list : List PlacedChange). Finds (record { file = file; bytes = source; changes = list }) 0 (significant here.parts) others) changes with_parts in
-    finds_once (record { file = file; bytes = source; changes = here.changes }) 0 (significant here.parts) found others here.finds with_changes
+    finds_once (record { file = file; bytes = source; changes = here.changes }) 0 (significant here.parts) found others here.finds (statements_find file source here.parts here.changes others here.parts_are here.changes_are there)

@@ -1,5 +1,6 @@
 -- The parentheses of a statement, and its arguments. A depth is the number of parentheses that are open.
-use Rattle.std.specs.Prelude.{ℕ, suc, ◌-◌, Bool, false, ◌&&◌, ◌==◌, if◌then◌else◌, List, [], ◌∷◌, Option, Some, None}
+use Rattle.std.specs.Prelude.{ℕ, suc, ◌-◌, ◌≤◌, Bool, false, ◌&&◌, ◌==◌, if◌then◌else◌, List, [], ◌∷◌, take, count_by}
+use Rattle.std.specs.Prelude.{Option, Some, None}
 use Rattle.std.specs.Option.{option_map}
 use Rattle.source_tokens.specs.declared.kind.TokenKind.{TokenKind}
 use Rattle.source_tokens.specs.declared.kind.TokenKind.TheVariants.{Punctuator}
@@ -32,6 +33,10 @@ unfoldable pub closing_from : ℕ → List Token → Option ℕ
 closing_from depth [] = None
 closing_from depth (token ∷ tokens) =
     if is_bare 41 depth token then Some 0 else option_map suc (closing_from (depth_behind depth token) tokens)
+
+-- among so many of the tokens no more parentheses are closed than opened
+abbrev pub IsOpenTo : List Token → ℕ → Type 0
+IsOpenTo tokens n = count_by closes (take n tokens) ≤ count_by opens (take n tokens)
 
 -- these lists with a token in front of the first
 abbrev pub onto_first : Token → List (List Token) → List (List Token)

@@ -1,30 +1,55 @@
 //! Laws and worked examples of the definitions. The functions answer nothing: what they ensure is
 //! proved of the definitions.
 
-ghost use Rattle.std.specs.Prelude.{◌≡◌, ℕ, ◌+◌, ◌≤◌, List, [], ◌∷◌, length, Some, None};
-ghost use Rattle.std.specs.Prelude.{take, drop, codes};
+ghost use Rattle.std.specs.Prelude.{◌≡◌, ℕ, suc, ◌+◌, ◌≤◌, List, [], ◌∷◌, length, Some, None};
+ghost use Rattle.std.specs.Prelude.{take, drop, map, replicate, codes};
+ghost use Rattle.printf_grammar.specs.declared.fault.FormatCause.TheVariants.{Store};
 ghost use Rattle.source_tokens.specs.declared.token.Token.{Token};
 ghost use Rattle.source_tokens.specs.Tokens.{Tokens};
 ghost use Rattle.source_tokens.specs.Directives.{Parts};
 ghost use Rattle.source_scan.specs.declared.found.Found.{Found};
+ghost use Rattle.source_scan.specs.declared.found.Found.TheVariants as found;
+ghost use Rattle.source_scan.specs.declared.found.StatementCause.TheVariants as causes;
 ghost use Rattle.source_scan.specs.declared.line_change.TheConstants.{MAX_LINE};
 ghost use Rattle.source_scan.specs.declared.position.PlacedChange.{PlacedChange};
+ghost use Rattle.source_scan.specs.declared.statement.TheConstants.{MAX_SOURCE};
 ghost use Rattle.source_scan.specs.Texts.{unspliced, bytes_of, significant};
 ghost use Rattle.source_scan.specs.Escapes.{unescaped};
+ghost use Rattle.source_scan.specs.PriWords.{pri_bytes};
 ghost use Rattle.source_scan.specs.Items.{items_bytes};
 ghost use Rattle.source_scan.specs.Severities.{last_name};
-ghost use Rattle.source_scan.specs.Arguments.{closing_from, parted_from};
+ghost use Rattle.source_scan.specs.Arguments.{closing_from, parted_from, IsOpenTo};
 ghost use Rattle.source_scan.specs.LineChanges.{directive_change};
 ghost use Rattle.source_scan.specs.Positions.{Changes, in_force_at, at_front, line_of};
 ghost use Rattle.source_scan.specs.Rising.{RiseFrom};
 ghost use Rattle.source_scan.specs.Rows.{mark_at, name_at, number_at, literal_at};
 ghost use Rattle.source_scan.specs.Rows.{in_braces, in_parentheses, behind_word, worked_statement, scoped};
-ghost use Rattle.source_scan.specs.Statements.{reading_of, Statements};
+ghost use Rattle.source_scan.specs.Rows.{worked_source, worked_found};
+ghost use Rattle.source_scan.specs.Rows.{pri_words, letters, long_letters};
+ghost use Rattle.source_scan.specs.Rows.{worked_words, word, error, integer, store, IsToldOf};
+ghost use Rattle.source_scan.specs.Statements.{reading_of, IsFoundIn, Statements};
+ghost use Rattle.source_scan.specs.Extents.{AreAll};
 
 /// A source has one list of statements under each name of its file.
 pub fn one_list()
     ensures { (file source : List ℕ) (found others : List Found)
         → Statements file source found → Statements file source others → found ≡ others }
+{}
+
+/// The statements of a source are all that stand in it outside directives: each `NANO_LOG` with a parenthesis
+/// behind it begins one of them or stands between the parentheses of one. They stand one behind the other,
+/// one that nothing closes is the last, and each has the file and the line that are in force where it begins.
+pub fn all_statements()
+    ensures { (file source : List ℕ) (parts : List Token) (changes : List PlacedChange) (found : List Found)
+        → Parts source parts → Changes source parts changes → Statements file source found
+        → AreAll (record { file = file; bytes = source; changes = changes }) (significant parts) found }
+{}
+
+/// The parenthesis that closes a statement is the first with which more are closed than opened behind its `(`.
+pub fn closing_parenthesis()
+    ensures some { (tokens : List Token) (place : ℕ) → closing_from 0 tokens ≡ Some place
+        → ((n : ℕ) → n ≤ place → IsOpenTo tokens n) × ¬ (IsOpenTo tokens (suc place)) }
+    ensures none { (tokens : List Token) → closing_from 0 tokens ≡ None → (n : ℕ) → IsOpenTo tokens n }
 {}
 
 /// How far the numbers of a source go: no line is further behind the greatest that a directive gives
@@ -69,6 +94,16 @@ pub fn some_list(source: &[u8])
     parts_have_tokens(source);
 }
 
+/// The most bytes of a source that is scanned.
+pub fn limit()
+    ensures { MAX_SOURCE ≡ 16777216 }
+{}
+
+/// A whole source, of whose `NANO_LOG` three begin statements.
+pub fn worked_source()
+    ensures { Statements (codes "t.cc") worked_source worked_found }
+{}
+
 /// Where arguments part and close, and how far their statement goes.
 pub fn worked_arguments()
     ensures braces { parted_from 0 in_braces ≡ take 2 in_braces ∷ drop 3 in_braces ∷ [] }
@@ -84,13 +119,48 @@ pub fn worked_formats()
     ensures joined { items_bytes (codes "\"\\x4\"\"1\"") (literal_at 0 5 ∷ literal_at 5 8 ∷ []) ≡ Some (4 ∷ 49 ∷ []) }
     ensures prefix { items_bytes (codes "u8\"a\"") (name_at 0 2 ∷ literal_at 2 5 ∷ []) ≡ Some (codes "a") }
     ensures prefix_apart { items_bytes (codes "u8 \"a\"") (name_at 0 2 ∷ literal_at 3 6 ∷ []) ≡ None }
+{}
+
+/// What each escape stands for, and some that are none.
+pub fn worked_escapes()
+    ensures letters { unescaped (codes "\\'\\\"\\?\\\\\\a\\b\\f\\n\\r\\t\\v\\e")
+        ≡ Some (39 ∷ 34 ∷ 63 ∷ 92 ∷ 7 ∷ 8 ∷ 12 ∷ 10 ∷ 13 ∷ 9 ∷ 11 ∷ 27 ∷ []) }
     ensures octal { unescaped (codes "\\377") ≡ Some (255 ∷ []) }
-    ensures octal_over { unescaped (codes "\\400") ≡ None }
-    ensures hexadecimal { unescaped (codes "\\x00fF") ≡ Some (255 ∷ []) }
-    ensures hexadecimal_over { unescaped (codes "\\x100") ≡ None }
-    ensures surrogate { unescaped (codes "\\ud800") ≡ None }
+    ensures octal_digits { unescaped (codes "\\0017\\18") ≡ Some (1 ∷ 55 ∷ 1 ∷ 56 ∷ []) }
+    ensures hexadecimal { unescaped (codes "\\x00fFg") ≡ Some (255 ∷ 103 ∷ []) }
+    ensures short { unescaped (codes "\\u00e99") ≡ Some (195 ∷ 169 ∷ 57 ∷ []) }
+    ensures long { unescaped (codes "\\U000000e99") ≡ Some (195 ∷ 169 ∷ 57 ∷ []) }
     ensures greatest { unescaped (codes "\\U0010ffff") ≡ Some (244 ∷ 143 ∷ 191 ∷ 191 ∷ []) }
-    ensures greatest_over { unescaped (codes "\\U00110000") ≡ None }
+    ensures too_great { map unescaped (codes "\\400" ∷ codes "\\x100" ∷ codes "\\ud800" ∷ codes "\\U00110000" ∷ [])
+        ≡ replicate 4 None }
+    ensures too_short { map unescaped (codes "\\" ∷ codes "\\xg" ∷ codes "\\u0e9" ∷ codes "\\U00000e9" ∷ [])
+        ≡ replicate 4 None }
+    ensures unknown { map unescaped (codes "\\8" ∷ codes "\\c" ∷ codes "\\X41" ∷ codes "\\N" ∷ []) ≡ replicate 4 None }
+{}
+
+/// What each PRI word stands for, and some words that are none.
+pub fn worked_pri_words()
+    ensures of_8 { pri_words (codes "8") ≡ map Some letters }
+    ensures of_16 { pri_words (codes "16") ≡ map Some letters }
+    ensures of_32 { pri_words (codes "32") ≡ map Some letters }
+    ensures of_64 { pri_words (codes "64") ≡ map Some long_letters }
+    ensures greatest { pri_words (codes "MAX") ≡ map Some long_letters }
+    ensures pointer { pri_words (codes "PTR") ≡ map Some long_letters }
+    ensures widths { map pri_bytes (codes "PRId" ∷ codes "PRId7" ∷ codes "PRId128" ∷ codes "PRIdFAST8" ∷ [])
+        ≡ replicate 4 None }
+    ensures letters { map pri_bytes (codes "PRI8" ∷ codes "PRIc8" ∷ codes "PRID8" ∷ codes "SCNd8" ∷ [])
+        ≡ replicate 4 None }
+{}
+
+/// The first cause that holds is told, in this order: Unclosed, FileName, Severity, FormatNotLiteral, Format, TooFew.
+pub fn worked_causes()
+    ensures unclosed { IsFoundIn worked_words [] 1 word (word ∷ []) (closing_from 0 (word ∷ []))
+        (found.Bad (record { file = []; line = 1; cause = causes.Unclosed })) }
+    ensures file_name { IsToldOf [] (word ∷ []) (word ∷ []) causes.FileName }
+    ensures severity { IsToldOf (codes "t.cc") (word ∷ []) (word ∷ []) causes.Severity }
+    ensures not_literal { IsToldOf (codes "t.cc") (error ∷ []) (integer ∷ word ∷ []) causes.FormatNotLiteral }
+    ensures format { IsToldOf (codes "t.cc") (error ∷ []) (integer ∷ store ∷ []) (causes.Format Store 3) }
+    ensures too_few { IsToldOf (codes "t.cc") (error ∷ []) (integer ∷ []) causes.TooFew }
 {}
 
 /// A severity behind `::`, and what line directives say.
@@ -101,6 +171,10 @@ pub fn worked_names()
         ≡ Some (record { number = 7; name = Some (codes "h") }) }
     ensures line { directive_change (codes "#line 020") (name_at 1 5 ∷ number_at 6 9 ∷ [])
         ≡ Some (record { number = 20; name = None }) }
+    ensures line_least { directive_change (codes "#line 0") (name_at 1 5 ∷ number_at 6 7 ∷ [])
+        ≡ Some (record { number = 0; name = None }) }
+    ensures line_greatest { directive_change (codes "#line 2147483647") (name_at 1 5 ∷ number_at 6 16 ∷ [])
+        ≡ Some (record { number = 2147483647; name = None }) }
     ensures line_over { directive_change (codes "#line 2147483648") (name_at 1 5 ∷ number_at 6 16 ∷ []) ≡ None }
     ensures splices { unspliced (97 ∷ 92 ∷ 10 ∷ 98 ∷ 92 ∷ 13 ∷ 10 ∷ []) ≡ codes "ab" }
     ensures spliced_line { line_of (97 ∷ 92 ∷ 10 ∷ 98 ∷ []) (at_front (codes "t.cc")) 3 ≡ 2 }

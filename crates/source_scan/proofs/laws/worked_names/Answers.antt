@@ -20,6 +20,14 @@ pub returns-clause-line : goal.returns-clause-line
 unfolding unspliced
 returns-clause-line c = refl
 
+pub returns-clause-line_least : goal.returns-clause-line_least
+unfolding unspliced
+returns-clause-line_least c = refl
+
+pub returns-clause-line_greatest : goal.returns-clause-line_greatest
+unfolding unspliced
+returns-clause-line_greatest c = refl
+
 pub returns-clause-line_over : goal.returns-clause-line_over
 unfolding unspliced
 returns-clause-line_over c = refl
