@@ -1,5 +1,4 @@
-ghost use Rattle.std.specs.Prelude.{◌≡◌, ◌⊎◌, ℕ, ◌<◌, List, length, IfOk, MatchResult, Err, ◌↔◌, IsTrue};
-ghost use Rattle.printf_grammar.specs.Narrow.{IsNarrowPiece};
+ghost use Rattle.std.specs.Prelude.{◌≡◌, ◌⊎◌, ℕ, ◌<◌, List, length, IfOk, MatchResult, Err};
 ghost use Rattle.printf_grammar.specs.declared.limits.TheConstants.{MAX_FORMAT};
 ghost use Rattle.printf_grammar.specs.declared.piece.Piece.{Piece};
 ghost use Rattle.printf_grammar.specs.Spelling.{Spells};
@@ -10,22 +9,9 @@ use crate::bytes::Bytes;
 use crate::fault::{FormatCause, ParseFault};
 use crate::limits::MAX_FORMAT;
 use crate::parsing::all_pieces;
-use crate::piece::{Conversion, Length, Piece, Size, Spec};
+use crate::piece::Piece;
 use std::alloc::Global;
 use std::marker::Model;
-
-// `%d` with nothing between.
-const PLAIN_D: Spec = Spec {
-    minus: false,
-    plus: false,
-    space: false,
-    sharp: false,
-    zero: false,
-    width: Size::Absent,
-    precision: Size::Absent,
-    length: Length::Plain,
-    conversion: Conversion::D,
-};
 
 /// A format that was parsed: its bytes, its pieces, and the types of the arguments that it takes.
 #[derive(Debug, Drop)]
@@ -51,7 +37,6 @@ impl Model for Format {
 }
 
 impl Format {
-    ghost use Rattle.printf_grammar.specs.Narrow.{IsNarrow};
     ghost use Rattle.printf_grammar.specs.Spelling.{Spells};
     ghost use Rattle.printf_grammar.specs.Types.{Types};
 
@@ -78,22 +63,6 @@ impl Format {
     {
         self.pieces.as_slice()
     }
-
-    /// Whether there are only literals, `%%` and `%d` with nothing between.
-    pub fn is_narrow(&self) -> bool
-        ensures { IsTrue result ↔ IsNarrow self.now.pieces }
-    {
-        self.pieces.iter().all(|piece| is_narrow(*piece))
-    }
-}
-
-fn is_narrow(piece: Piece) -> bool
-    ensures { IsTrue result ↔ IsNarrowPiece piece }
-{
-    match piece {
-        Piece::Field(spec) => spec == PLAIN_D,
-        _ => true,
-    }
 }
 
 /// The format that the bytes spell (C11 7.21.6.1), without floating and wide conversions, `n` and places of arguments
@@ -104,7 +73,7 @@ pub fn parse(alloc: Global, bytes: &[u8]) -> Result<Format, ParseFault>
     ensures bad { (cause : FormatCause) (place : ℕ) → result ≡ Err (ParseFault.Bad cause place)
         → FormatBreak bytes.now cause place }
 
-    // Too many bytes are refused before any memory is wanted.
+    // Too many bytes are refused also where there is no memory.
     ensures long { MAX_FORMAT < length bytes.now → result ≡ Err (ParseFault.Bad FormatCause.Long MAX_FORMAT) }
 
     // What is spelled so is found, unless memory runs out, and where the bytes break, that is what is answered.
