@@ -57,7 +57,7 @@ impl FormatCause {
 #[derive(Debug, Drop, PartialEq, Eq, Error)]
 pub enum ParseFault {
     /// The bytes break the grammar at this place, counted from 0, from this cause.
-    #[error("the format is broken at byte {place}")]
+    #[error("the format is bad")]
     Bad { cause: FormatCause, place: usize },
     #[error("there is no memory")]
     NoMemory,
