@@ -1,5 +1,6 @@
-ghost use Rattle.std.specs.Prelude.{◌≡◌, ◌⊎◌, ℕ, ◌<◌, List, [], ◌∷◌, ◌++◌, length, replicate, codes};
+ghost use Rattle.std.specs.Prelude.{◌≡◌, ◌⊎◌, ℕ, ◌<◌, List, [], ◌∷◌, ◌++◌, length, replicate, codes, pos, negsuc};
 ghost use Rattle.printf_grammar.specs.declared.arg_type.ArgType.TheVariants as types;
+ghost use Rattle.printf_grammar.specs.declared.argument.Value.TheVariants.{Signed};
 ghost use Rattle.printf_grammar.specs.declared.piece.Piece.{Piece};
 ghost use Rattle.printf_grammar.specs.declared.piece.Piece.TheVariants.{Literal};
 ghost use Rattle.printf_grammar.specs.declared.fault.FormatCause.{FormatCause};
@@ -9,7 +10,7 @@ ghost use Rattle.printf_grammar.specs.declared.fault.FormatCause.TheVariants.{Nu
 ghost use Rattle.printf_grammar.specs.Spelling.{Spells};
 ghost use Rattle.printf_grammar.specs.Breaks.{FormatBreak};
 ghost use Rattle.printf_grammar.specs.Rows.{padded_pieces, starred_pieces, widest_pieces, plain_ds, plain_fields};
-ghost use Rattle.printf_grammar.specs.Types.{Types, IsText};
+ghost use Rattle.printf_grammar.specs.Types.{Types, FitsType, IsText};
 
 use crate::arg_type::ArgType;
 use crate::argument::{Arg, Value, Values};
@@ -68,6 +69,18 @@ pub fn worked_limits()
     ensures long { FormatBreak (replicate 4096 97) Long 4095 }
     ensures longest_text { IsText (replicate 4000 97) }
     ensures long_text { (bytes : List ℕ) → length bytes ≡ 4001 → ¬ (IsText bytes) }
+{}
+
+/// The numbers at both ends of what a `*` takes: a width, which may be below 0, and a precision, which is an int of
+/// any size below 0.
+pub fn worked_star_arguments()
+    ensures widths { FitsType (Signed (pos 4095)) types.Width × FitsType (Signed (negsuc 4094)) types.Width }
+    ensures too_wide { ¬ (FitsType (Signed (pos 4096)) types.Width) }
+    ensures too_wide_below { ¬ (FitsType (Signed (negsuc 4095)) types.Width) }
+    ensures precisions { FitsType (Signed (pos 4095)) types.Precision
+        × FitsType (Signed (negsuc 2147483647)) types.Precision }
+    ensures too_precise { ¬ (FitsType (Signed (pos 4096)) types.Precision) }
+    ensures too_precise_below { ¬ (FitsType (Signed (negsuc 2147483648)) types.Precision) }
 {}
 
 /// Formats, arguments and faults go from thread to thread, and threads share them.
