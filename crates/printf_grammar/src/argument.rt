@@ -71,7 +71,7 @@ impl Value {
 impl Values {
     ghost use Rattle.printf_grammar.specs.Types.{values_of};
 
-    /// No arguments. This takes no memory.
+    /// No arguments.
     pub fn make(alloc: Global) -> Values
         ensures { result ≡ [] }
     {
@@ -80,7 +80,7 @@ impl Values {
         }
     }
 
-    /// No arguments, with room for `n` of them: pushing so many asks for no more memory.
+    /// No arguments, where `n` of them are to come.
     pub fn with_capacity(alloc: Global, n: usize) -> Result<Values, AllocError>
         ensures { IfOk result (λ values. values ≡ []) }
     {
@@ -113,7 +113,7 @@ impl Values {
         self.items.as_slice().get(place)
     }
 
-    /// The values as arguments, in order. This takes no memory.
+    /// The values as arguments, in order.
     pub fn args(&self) -> ArrayVec<Arg<'_>, MAX_ARGUMENTS>
         ensures values { values_of result.items ≡ self.now }
         ensures limit { length self.now ≤ MAX_ARGUMENTS }

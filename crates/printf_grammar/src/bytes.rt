@@ -27,7 +27,7 @@ impl Bytes {
         })
     }
 
-    /// The bytes that a `Vec` holds, which aren't copied.
+    /// The bytes that a `Vec` holds.
     pub fn from_vec(items: Vec<u8>) -> Bytes
         ensures { result ≡ items.items }
     {
