@@ -1,16 +1,13 @@
 -- Which messages are there.
-use Rattle.std.proofs.Common.{if◌then◌else◌, ℕ, ◌<◌, ◌≤◌, Bool, true, false, cond, ◌&&◌, ltb, Option, Some, None, List, [], ◌∷◌, ◌++◌, length, get_or, refl, sym, subst, ap, ◌≡◌, ◌∙◌, arith, eq-eqb}
-use Rattle.std.specs.Prelude.{not, IfSome, IsNone, slice_get, nat_eq}
+use Rattle.std.proofs.Common.{ℕ, Bool, true, false, ◌&&◌, List, [], ◌∷◌, ◌++◌, length, get_or, refl, sym, subst, ap, ◌≡◌, ◌∙◌, arith, eq-eqb}
+use Rattle.std.specs.Prelude.{nat_eq}
 use Rattle.std.specs.Cmp.Lexicographic.{pointwise, bytes_decides}
-use Rattle.std.specs.List.{list_any, position, position_or_len, IsDistinct}
-use Rattle.std.proofs.lemmas.Bool.{false≢true, and_parts, eqb-true, ltb-false, not-true, not-false}
-use Rattle.std.proofs.lemmas.Option.{slice_get-get_or, slice_get_within, get_or_from_slice_get}
+use Rattle.std.specs.List.{list_any}
+use Rattle.std.proofs.lemmas.Bool.{false≢true, and_parts, eqb-true}
+use Rattle.std.proofs.lemmas.Option.{slice_get_within, get_or_from_slice_get}
 use Rattle.std.proofs.lemmas.List.{get_or_default, length-append, get_or_append_left, get_or_at}
 use Rattle.std.proofs.lemmas.List.Folds.{list_any_at, Any-from_list_any}
-use Rattle.std.proofs.lemmas.List.Sums.{position_or_len_is, fails_before_first}
-use Rattle.std.proofs.lemmas.List.Quantifiers.{position-Some, all_pairs_push}
-use Rattle.std.proofs.lemmas.Map.Keys.{apart_from_distinct}
-use Rattle.indexmap.specs.IndexSet.{insert_key}
+use Rattle.std.proofs.lemmas.List.Quantifiers.{all_pairs_push}
 use Rattle.log_dictionary.specs.declared.message.Message.{Message}
 use Rattle.log_dictionary.specs.declared.dictionary.Added.{Added}
 use Rattle.log_dictionary.specs.declared.dictionary.Added.TheVariants.{Old, New}
@@ -66,62 +63,10 @@ test_from_there messages message (k, other, within, is, same) =
 pub none_from_test : (messages : List Message) (message : Message) → list_any (is_same message) messages ≡ false → ¬ (HasMessage messages message)
 none_from_test messages message e there = false≢true (sym e ∙ test_from_there messages message there)
 
--- what a search for an equal message answers
-pub found_is : (messages : List Message) (message : Message) (r : Option ℕ) → position (is_same message) messages ≡ r
-    → IfSome r (HasId messages message) × (IsNone r → ¬ (HasMessage messages message)) × (¬ (HasMessage messages message) → IsNone r)
-found_is messages message None e = (tt, (λ _ there. absurd (none_found there)), λ _. refl)
-  where
-    first : ℕ
-    first = position_or_len (is_same message) messages
-
-    past : (b : Bool) → ltb first (length messages) ≡ b → cond b (Some first) None ≡ None → length messages ≤ first
-    past true t e = absurd cc
-    past false t e = ltb-false _ _ t
-
-    none_found : HasMessage messages message → ⊥
-    none_found (k, other, within, is, same) =
-        let beyond = past (ltb first (length messages)) refl e in
-        false≢true (sym (fails_before_first (is_same message) messages k other (omega arith)) ∙ ap (is_same message) is ∙ test_from_same message other same)
-found_is messages message (Some id) e =
-    let at = position-Some (is_same message) messages id message e in
-    let has : HasId messages message id = (get_or messages id message, slice_get-get_or messages id message at.0, same_from_test message (get_or messages id message) at.1) in
-    (has, (λ none. absurd cc), λ new. absurd (new (id_is_there messages message id has)))
-
--- the place of a message that isn't there is the last
-pub last_place : (messages : List Message) (message : Message) → list_any (is_same message) messages ≡ false → position_or_len (is_same message) messages ≡ length messages
-last_place messages message e =
-    position_or_len_is (is_same message) messages (length messages) message (omega arith) (λ k h. fails (is_same message (get_or messages k message)) refl h) (λ h. absurd (omega (arith, h)))
-  where
-    fails : {k : ℕ} (b : Bool) → is_same message (get_or messages k message) ≡ b → k < length messages → is_same message (get_or messages k message) ≡ false
-    fails {k} true t h = absurd (false≢true (sym e ∙ list_any_at (is_same message) messages k message h t))
-    fails false t h = t
-
--- a message that was inserted as a new one wasn't there, and goes last
-pub new_is_added : (messages : List Message) (message : Message) (id : ℕ) (after : List Message) → not (list_any (is_same message) messages) ≡ true → id ≡ position_or_len (is_same message) messages → after ≡ insert_key is_same messages message
-    → (¬ (HasMessage messages message)) × (id ≡ length messages) × (after ≡ messages ++ message ∷ [])
-new_is_added messages message id after e place keys =
-    let none = not-true (list_any (is_same message) messages) e in (
-      none_from_test messages message none,
-      place ∙ last_place messages message none,
-      keys ∙ ap (λ (b : Bool). if b then messages else messages ++ message ∷ []) none,
-    )
-
--- one that was inserted as an old one was there with this id
-pub old_is_there : (messages : List Message) (message : Message) (id : ℕ) (after : List Message) → not (list_any (is_same message) messages) ≡ false → after ≡ insert_key is_same messages message → (k : Message) × (slice_get after id ≡ Some k) × (is_same message k ≡ true)
-    → HasId messages message id × (after ≡ messages)
-old_is_there messages message id after e keys (k, at, same) =
-    let stays : after ≡ messages = keys ∙ ap (λ (b : Bool). if b then messages else messages ++ message ∷ []) (not-false (list_any (is_same message) messages) e) in
-    ((k, subst (λ (l : List Message). slice_get l id ≡ Some k) stays at, same_from_test message k same), stays)
-
 -- one that was there is told as an old one
 pub old_is_added : (before : List Message) (message : Message) (after : List Message) (added : Added) → IsAdded before message after added → HasMessage before message → (id : ℕ) × (added ≡ Old id)
 old_is_added before message after (Old id) is there = (id, refl)
 old_is_added before message after (New id) is there = absurd (is.0 there)
-
--- messages of a set are distinct
-pub distinct_from_set : (messages : List Message) → IsDistinct is_same messages → AreDistinct messages
-distinct_from_set messages distinct i j d before within same =
-    false≢true (sym (apart_from_distinct is_same messages i j d distinct before within) ∙ test_from_same _ _ same)
 
 -- a message that isn't there keeps them distinct
 pub still_distinct : (messages : List Message) (message : Message) → AreDistinct messages → ¬ (HasMessage messages message) → AreDistinct (messages ++ message ∷ [])

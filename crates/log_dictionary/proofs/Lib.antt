@@ -20,3 +20,4 @@ pub mod LineMessages
 pub mod LineLaws
 pub mod Appending
 pub mod Written
+pub mod Places

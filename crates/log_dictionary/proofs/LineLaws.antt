@@ -19,6 +19,14 @@ use Rattle.log_dictionary.proofs.NumberLaws.{natural_decimal, decimal_natural}
 use Rattle.log_dictionary.proofs.LineParts.{spelling_of, parts_at-spelled, same_spelling, spells_parts}
 use Rattle.log_dictionary.proofs.LineMessages.{parts_of, parts_spelled, message_spelled, format_is_spelled}
 
+-- a field spells a number, or none
+natural_or_not : (field : List ℕ) → ((n : ℕ) × (natural_of field ≡ Some n)) ⊎ ((n : ℕ) → natural_of field ≢ Some n)
+natural_or_not field = by (natural_of field) refl
+  where
+    by : (o : Option ℕ) → natural_of field ≡ o → ((n : ℕ) × (natural_of field ≡ Some n)) ⊎ ((n : ℕ) → natural_of field ≢ Some n)
+    by None e = inr (λ n is. cc)
+    by (Some n) e = inl (n, e)
+
 -- a field spells one number below the limit, or none
 number_or_not : (field : List ℕ) (limit : ℕ) → limit ≤ 2 ^ 64 → ((n : ℕ) × (n < limit) × (field ≡ decimal n)) ⊎ ((n : ℕ) → n < limit → field ≢ decimal n)
 number_or_not field limit most = by (natural_of field) refl
@@ -82,8 +90,8 @@ parts_or_not line = by (parts_at line) refl
     by None e = inr (λ parts spells. let found = parts_at-spelled line parts spells in cc)
     by (Some found) e =
         let same = λ (parts : LineParts) (spells : SpellsParts line parts). same_spelling line found parts (sym e) spells in
-        elim (number_or_not found.id (2 ^ 64) (omega arith)) [
-          | inr none ↦ inr (λ parts spells. none parts.id spells.id_fits (ap (λ (p : SpelledParts). p.id) (same parts spells)))
+        elim (natural_or_not found.id) [
+          | inr none ↦ inr (λ parts spells. none parts.id (ap natural_of (ap (λ (p : SpelledParts). p.id) (same parts spells)) ∙ spells.numeral))
           | inl id ↦ elim (severity_or_not found.severity) [
             | inr none ↦ inr (λ parts spells. none parts.severity (ap (λ (p : SpelledParts). p.severity) (same parts spells)))
             | inl severity ↦ elim (number_or_not found.number (2 ^ 32) (omega arith)) [
@@ -96,11 +104,10 @@ parts_or_not line = by (parts_at line) refl
                     ))
                 | inl within ↦ inl (
                     let parts : LineParts = record { id = id.0; severity = severity.0; number = number.0; file = found.file; format = found.format } in
-                    let is : found ≡ spelling_of parts =
-                    ap (λ (l : List ℕ). made l found.severity found.number found.file found.format) id.2
-                    ∙ ap (λ (l : List ℕ). made (decimal id.0) l found.number found.file found.format) severity.1
-                    ∙ ap (λ (l : List ℕ). made (decimal id.0) (severity_name severity.0) l found.file found.format) number.2 in
-                    (parts, spells_parts line found parts (sym e) is id.1 number.1 within.0 within.1 within.2)
+                    let is : found ≡ spelling_of found.id parts =
+                    ap (λ (l : List ℕ). made found.id l found.number found.file found.format) severity.1
+                    ∙ ap (λ (l : List ℕ). made found.id (severity_name severity.0) l found.file found.format) number.2 in
+                    (parts, spells_parts line found found.id parts (sym e) is id.1 number.1 within.0 within.1 within.2)
                     )
               ]
             ]

@@ -23,12 +23,13 @@ parts_of id message = record { id = id; severity = message.severity; number = me
 -- a line that spells a message spells its parts
 pub parts_spelled : (line : List ℕ) (id : ℕ) (message : Message) → SpellsMessage line id message → SpellsParts line (parts_of id message)
 parts_spelled line id message spells = record {
+  digits = spells.digits;
   name = spells.name;
   text = spells.format;
   spelled = spells.spelled;
+  numeral = spells.numeral;
   file_spelled = spells.file;
   format_spelled = spells.bytes;
-  id_fits = spells.id_fits;
   number_fits = spells.line_fits;
   named = message.file_length.0;
   short_name = message.file_length.1;
@@ -40,13 +41,14 @@ pub message_spelled : (line : List ℕ) (parts : LineParts) (message : Message) 
 message_spelled line parts message spells same formed =
     let own = subst (SpellsParts line) (sym same) spells in
     record {
+      digits = own.digits;
       name = own.name;
       format = own.text;
       spelled = own.spelled;
+      numeral = own.numeral;
       file = own.file_spelled;
       bytes = own.format_spelled;
       formed = formed;
-      id_fits = own.id_fits;
       line_fits = own.number_fits;
     }
 

@@ -8,12 +8,13 @@ use Rattle.std.proofs.lemmas.Fmt.{decimal_injective}
 use Rattle.printf_grammar.specs.declared.limits.TheConstants.{MAX_FORMAT}
 use Rattle.log_dictionary.specs.declared.message.TheConstants.{MAX_FILE_NAME}
 use Rattle.log_dictionary.specs.declared.severity.Severity.{Severity}
+use Rattle.log_dictionary.specs.Numbers.{natural_of}
 use Rattle.log_dictionary.specs.Severities.{severity_name}
 use Rattle.log_dictionary.specs.Texts.{SpellsText, text_at}
 use Rattle.log_dictionary.specs.Fields.{◌>>=◌, split_at_first, after}
 use Rattle.log_dictionary.specs.MessageLines.{SpelledParts, parts_at, LineParts, SpellsParts}
 use Rattle.log_dictionary.proofs.Splits.{split_again, split_takes, after_takes}
-use Rattle.log_dictionary.proofs.Lines.{severity_none, decimal_none}
+use Rattle.log_dictionary.proofs.Lines.{severity_none, natural_none, decimal_none}
 use Rattle.log_dictionary.proofs.SameMessages.{same_names}
 use Rattle.log_dictionary.proofs.TextLaws.{opens_read, read_opens_text}
 
@@ -116,27 +117,27 @@ parts_found line parts found =
 
 -- ---- parts that fit
 
--- the parts as they are spelled
-abbrev pub spelling_of : LineParts → SpelledParts
-spelling_of parts = record { id = decimal parts.id; severity = severity_name parts.severity; number = decimal parts.number; file = parts.file; format = parts.format }
+-- the parts as they are spelled, with these digits of the id
+abbrev pub spelling_of : List ℕ → LineParts → SpelledParts
+spelling_of digits parts = record { id = digits; severity = severity_name parts.severity; number = decimal parts.number; file = parts.file; format = parts.format }
 
 -- the parts that a line spells are found
-pub parts_at-spelled : (line : List ℕ) (parts : LineParts) → SpellsParts line parts → parts_at line ≡ Some (spelling_of parts)
+pub parts_at-spelled : (line : List ℕ) (parts : LineParts) → (spells : SpellsParts line parts) → parts_at line ≡ Some (spelling_of spells.digits parts)
 parts_at-spelled line parts spells =
-    parts_again line (spelling_of parts) (record { name = spells.name; text = spells.text; spelled = spells.spelled; file_spelled = spells.file_spelled; format_spelled = spells.format_spelled })
-    (decimal_none 32 parts.id (inl (omega arith)) spells.id_fits) (severity_none 32 refl refl refl refl parts.severity) (decimal_none 32 parts.number (inl (omega arith)) (let small = spells.number_fits in omega arith))
+    parts_again line (spelling_of spells.digits parts) (record { name = spells.name; text = spells.text; spelled = spells.spelled; file_spelled = spells.file_spelled; format_spelled = spells.format_spelled })
+    (natural_none 32 spells.digits parts.id (inl (omega arith)) spells.numeral) (severity_none 32 refl refl refl refl parts.severity) (decimal_none 32 parts.number (inl (omega arith)) (let small = spells.number_fits in omega arith))
 
 -- parts that were found are those that the line spells
-pub same_spelling : (line : List ℕ) (found : SpelledParts) (parts : LineParts) → Some found ≡ parts_at line → SpellsParts line parts → found ≡ spelling_of parts
-same_spelling line found parts e spells = same_Some found (spelling_of parts) (e ∙ parts_at-spelled line parts spells)
+pub same_spelling : (line : List ℕ) (found : SpelledParts) (parts : LineParts) → Some found ≡ parts_at line → (spells : SpellsParts line parts) → found ≡ spelling_of spells.digits parts
+same_spelling line found parts e spells = same_Some found (spelling_of spells.digits parts) (e ∙ parts_at-spelled line parts spells)
 
 -- a line spells one list of parts
 pub same_parts : (line : List ℕ) (a b : LineParts) → SpellsParts line a → SpellsParts line b → a ≡ b
 same_parts line a b first second =
-    let same = same_Some (spelling_of a) (spelling_of b) (sym (parts_at-spelled line a first) ∙ parts_at-spelled line b second) in
+    let same = same_Some (spelling_of first.digits a) (spelling_of second.digits b) (sym (parts_at-spelled line a first) ∙ parts_at-spelled line b second) in
     let a_fits : a.number < 2 ^ 64 = let small = first.number_fits in omega arith in
     let b_fits : b.number < 2 ^ 64 = let small = second.number_fits in omega arith in
-    let id = decimal_injective a.id b.id first.id_fits second.id_fits (ap (λ (p : SpelledParts). p.id) same) in
+    let id = same_Some a.id b.id (sym first.numeral ∙ ap natural_of (ap (λ (p : SpelledParts). p.id) same) ∙ second.numeral) in
     let severity = same_names a.severity b.severity (ap (λ (p : SpelledParts). p.severity) same) in
     let number = decimal_injective a.number b.number a_fits b_fits (ap (λ (p : SpelledParts). p.number) same) in
     ap (λ (x : ℕ). made x a.severity a.number a.file a.format) id
@@ -148,16 +149,17 @@ same_parts line a b first second =
     made id severity number file format = record { id = id; severity = severity; number = number; file = file; format = format }
 
 -- parts that were found, and are spelled and within their limits, are those that the line spells
-pub spells_parts : (line : List ℕ) (found : SpelledParts) (parts : LineParts) → Some found ≡ parts_at line → found ≡ spelling_of parts → parts.id < 2 ^ 64 → parts.number < 2 ^ 32 → 1 ≤ length parts.file → length parts.file ≤ MAX_FILE_NAME → length parts.format ≤ MAX_FORMAT → SpellsParts line parts
-spells_parts line found parts e same id_fits number_fits named short_name short_format =
-    let is = parts_found line (spelling_of parts) (sym e ∙ ap (λ (p : SpelledParts). Some p) same) in
+pub spells_parts : (line : List ℕ) (found : SpelledParts) (digits : List ℕ) (parts : LineParts) → Some found ≡ parts_at line → found ≡ spelling_of digits parts → natural_of digits ≡ Some parts.id → parts.number < 2 ^ 32 → 1 ≤ length parts.file → length parts.file ≤ MAX_FILE_NAME → length parts.format ≤ MAX_FORMAT → SpellsParts line parts
+spells_parts line found digits parts e same numeral number_fits named short_name short_format =
+    let is = parts_found line (spelling_of digits parts) (sym e ∙ ap (λ (p : SpelledParts). Some p) same) in
     record {
+      digits = digits;
       name = is.name;
       text = is.text;
       spelled = is.spelled;
+      numeral = numeral;
       file_spelled = is.file_spelled;
       format_spelled = is.format_spelled;
-      id_fits = id_fits;
       number_fits = number_fits;
       named = named;
       short_name = short_name;

@@ -110,9 +110,10 @@ negated_is None z e = absurd cc
 negated_is (Some zero) z e = absurd cc
 negated_is (Some (suc n)) z e = (n, refl, sym (same_Some (negsuc n) z e))
 
-mapped_is : (o : Option ℕ) (z : ℤ) → option_map pos o ≡ Some z → (n : ℕ) × (o ≡ Some n) × (z ≡ pos n)
-mapped_is None z e = absurd cc
-mapped_is (Some n) z e = (n, refl, sym (same_Some (pos n) z e))
+-- what was made of a number came from one
+pub mapped_is : {A : Type 0} (f : ℕ → A) (o : Option ℕ) (x : A) → option_map f o ≡ Some x → (n : ℕ) × (o ≡ Some n) × (x ≡ f n)
+mapped_is f None x e = absurd cc
+mapped_is f (Some n) x e = (n, refl, sym (same_Some (f n) x e))
 
 integer_at : (t : Bool) (b : ℕ) (field : List ℕ) (z : ℤ) → eqb b 45 ≡ t → IsShort z → cond t (negated (natural_of field)) (option_map pos (natural_of (b ∷ field))) ≡ Some z → b ∷ field ≡ signed_decimal z
 integer_at true b field z mark short e =
@@ -120,7 +121,7 @@ integer_at true b field z mark short e =
     let small : suc is.0 < 2 ^ 64 = let fits = subst IsShort is.2 short in omega (arith, fits) in
     rw is.2 (ap (λ (x : ℕ). x ∷ field) (eqb-true b 45 mark) ∙ ap (λ (l : List ℕ). 45 ∷ l) (natural_decimal field (suc is.0) small is.1))
 integer_at false b field z mark short e =
-    let is = mapped_is (natural_of (b ∷ field)) z e in
+    let is = mapped_is pos (natural_of (b ∷ field)) z e in
     rw is.2 (natural_decimal (b ∷ field) is.0 (subst IsShort is.2 short) is.1)
 
 pub integer_decimal : (field : List ℕ) (z : ℤ) → IsShort z → integer_of field ≡ Some z → field ≡ signed_decimal z

@@ -10,6 +10,7 @@ use Rattle.log_dictionary.specs.Severities.{severity_name}
 use Rattle.log_dictionary.specs.Texts.{IsPlain, SpellsByte, SpellsText}
 use Rattle.log_dictionary.specs.Texts.SpellsByte.{itself, quotation_mark, backslash, line_feed, tab, hexadecimal}
 use Rattle.log_dictionary.specs.Messages.{SpellsMessage}
+use Rattle.log_dictionary.proofs.NumberLaws.{decimal_natural}
 use Rattle.log_dictionary.specs.Canonical.{canonical_byte, canonical_text, message_line, AreBytes, HasLine}
 
 digit_at : (n : ℕ) (few : Bool) → n < 16 → (few ≡ true → n < 10) → (few ≡ false → 10 ≤ n) → IsAsciiHexdigit (cond few (48 + n) (87 + n))
@@ -54,12 +55,13 @@ regroup w d s n name format = simp append_assoc
 -- what is written of a message spells it
 pub written_message : (id : ℕ) (message : Message) → id < 2 ^ 64 → HasLine message → SpellsMessage (message_line id message) id message
 written_message id message fits has = record {
+  digits = decimal id;
   name = canonical_text message.file;
   format = canonical_text message.format.bytes;
   spelled = regroup (codes "message ") (decimal id) (32 ∷ severity_name message.severity) (32 ∷ decimal message.line) (canonical_text message.file) (canonical_text message.format.bytes);
   file = written_text message.file has.file;
   bytes = written_text message.format.bytes has.bytes;
   formed = has.formed;
-  id_fits = fits;
+  numeral = decimal_natural (decimal id) id fits refl;
   line_fits = has.line_fits;
 }

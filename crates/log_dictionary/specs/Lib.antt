@@ -10,5 +10,6 @@ pub mod Additions
 pub mod BinaryEntries
 pub mod EntryReading
 pub mod Calls
+pub mod Places
 pub mod Rows
 pub mod Canonical

@@ -5,6 +5,7 @@ use Rattle.log_dictionary.specs.declared.message.TheConstants.{MAX_FILE_NAME}
 use Rattle.log_dictionary.specs.declared.message_line.Fields.{Fields}
 use Rattle.log_dictionary.specs.declared.message_line.MessageLine.{MessageLine}
 use Rattle.log_dictionary.specs.declared.severity.Severity.{Severity}
+use Rattle.log_dictionary.specs.Numbers.{natural_of}
 use Rattle.log_dictionary.specs.Severities.{severity_name}
 use Rattle.log_dictionary.specs.Texts.{SpellsText, text_at}
 use Rattle.log_dictionary.specs.Fields.{◌>>=◌, split_at_first, after}
@@ -54,20 +55,22 @@ pub record LineParts : Type 0 where
   pub file : List ℕ
   pub format : List ℕ
 
--- the same without what its texts lie in
-abbrev pub line_parts : MessageLine → LineParts
-line_parts line =
-    record { id = line.id; severity = line.severity; number = line.line; file = line.file; format = line.format }
+-- the same with this id, and without what its texts lie in
+abbrev pub line_parts : ℕ → MessageLine → LineParts
+line_parts id line =
+    record { id = id; severity = line.severity; number = line.line; file = line.file; format = line.format }
 
--- the line spells these parts, and each is within its limits; what the format spells isn't judged
+-- the line spells these parts, and each but the id, which has any size, is within its limits; what the format spells
+-- isn't judged
 pub record SpellsParts (line : List ℕ) (parts : LineParts) : Type 0 where
+  pub digits : List ℕ
   pub name : List ℕ
   pub text : List ℕ
-  pub spelled : line ≡ codes "message " ++ decimal parts.id ++ 32 ∷ severity_name parts.severity
+  pub spelled : line ≡ codes "message " ++ digits ++ 32 ∷ severity_name parts.severity
       ++ 32 ∷ decimal parts.number ++ codes " \"" ++ name ++ codes "\" \"" ++ text ++ 34 ∷ []
+  pub numeral : natural_of digits ≡ Some parts.id
   pub file_spelled : SpellsText name parts.file
   pub format_spelled : SpellsText text parts.format
-  pub id_fits : parts.id < 2 ^ 64
   pub number_fits : parts.number < 2 ^ 32
   pub named : 1 ≤ length parts.file
   pub short_name : length parts.file ≤ MAX_FILE_NAME

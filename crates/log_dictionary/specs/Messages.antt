@@ -2,9 +2,9 @@
 use Rattle.std.specs.Prelude.{◌≡◌, ℕ, ◌<◌, ◌^◌, List, [], ◌∷◌, ◌++◌, codes, decimal, Any, AllPairs, slice_get, Some, Bool, nat_eq}
 use Rattle.std.specs.Ordering.{on, eq_of_both}
 use Rattle.std.specs.Cmp.Lexicographic.{pointwise}
-use Rattle.std.specs.Hash.{u8, u32}
 use Rattle.printf_grammar.specs.Spelling.{Spells}
 use Rattle.log_dictionary.specs.declared.message.Message.{Message}
+use Rattle.log_dictionary.specs.Numbers.{natural_of}
 use Rattle.log_dictionary.specs.Severities.{severity_name, severity_number}
 use Rattle.log_dictionary.specs.Texts.{SpellsText}
 
@@ -22,10 +22,6 @@ is_same =
     (eq_of_both (on (λ m. severity_number m.severity) nat_eq)
     (eq_of_both (on (λ m. m.file) (pointwise nat_eq)) (on (λ m. m.format.bytes) (pointwise nat_eq))))
 
--- what of a message is hashed: what the test compares
-abbrev pub message_writes : Message → List (List ℕ)
-message_writes m = u32 m.line ++ u8 (severity_number m.severity) ++ m.file ∷ m.format.bytes ∷ []
-
 -- some of these messages equals the message
 abbrev pub HasMessage : List Message → Message → Type 0
 HasMessage messages message = Any (SameMessage message) messages
@@ -38,15 +34,16 @@ HasId messages message id = (other : Message) × (slice_get messages id ≡ Some
 abbrev pub AreDistinct : List Message → Type 0
 AreDistinct messages = AllPairs (λ a b. ¬ (SameMessage a b)) messages
 
--- the line is `message`, a number, a severity, a number and two texts in quotation marks, and these are the id and the
--- parts of the message
+-- the line is `message`, a number, a severity, a number and two texts in quotation marks, and these are the id, of any
+-- size, and the parts of the message
 pub record SpellsMessage (line : List ℕ) (id : ℕ) (message : Message) : Type 0 where
+  pub digits : List ℕ
   pub name : List ℕ
   pub format : List ℕ
-  pub spelled : line ≡ codes "message " ++ decimal id ++ 32 ∷ severity_name message.severity
+  pub spelled : line ≡ codes "message " ++ digits ++ 32 ∷ severity_name message.severity
       ++ 32 ∷ decimal message.line ++ codes " \"" ++ name ++ codes "\" \"" ++ format ++ 34 ∷ []
+  pub numeral : natural_of digits ≡ Some id
   pub file : SpellsText name message.file
   pub bytes : SpellsText format message.format.bytes
   pub formed : Spells message.format.bytes message.format.pieces
-  pub id_fits : id < 2 ^ 64
   pub line_fits : message.line < 2 ^ 32

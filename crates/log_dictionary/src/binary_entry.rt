@@ -17,6 +17,9 @@ use std::alloc::Global;
 /// The bytes of the severity, the line and the two lengths.
 const FIXED_LEN: usize = 9;
 
+/// The most bytes of an entry.
+pub(crate) const MAX_ENTRY: usize = FIXED_LEN + MAX_FILE_NAME + MAX_FORMAT;
+
 /// Why bytes begin with no entry.
 #[derive(Clone, Copy, Debug, PartialEq, Eq)]
 pub enum EntryFault {

@@ -7,16 +7,18 @@ ghost use Rattle.printf_grammar.specs.declared.piece.Piece.{Piece};
 ghost use Rattle.printf_grammar.specs.Spelling.{Spells};
 ghost use Rattle.printf_grammar.specs.Types.{values_of};
 ghost use Rattle.log_dictionary.specs.declared.message.Message.{Message};
-ghost use Rattle.log_dictionary.specs.Messages.{SpellsMessage, HasMessage, HasId};
+ghost use Rattle.log_dictionary.specs.Messages.{SpellsMessage, HasMessage};
 ghost use Rattle.log_dictionary.specs.Calls.{Takes};
 ghost use Rattle.log_dictionary.specs.Additions.{IsAdded, SpellsNone, StopsMessage, ReadsLine};
 ghost use Rattle.log_dictionary.specs.MessageLines.{IsMessageLine};
+ghost use Rattle.log_dictionary.specs.Numbers.{natural_read};
 
 use crate::formats::{FormatFault, format_of};
 use crate::message::Message;
 use crate::message_line::message_line_of;
+use crate::message_set::MessageSet;
+use crate::numbers::Natural;
 use crate::text::SpelledText;
-use indexmap::IndexSet;
 use printf_grammar::{Arg, Format, fits};
 use std::alloc::{AllocError, Global};
 use std::marker::Model;
@@ -28,7 +30,7 @@ pub const MAX_MESSAGES: usize = 65_536;
 /// At most 65,536 messages, no two of them equal. A message's id is its place, from 0.
 #[derive(Debug, Drop)]
 pub struct Dictionary {
-    messages: IndexSet<Message>,
+    messages: MessageSet,
 }
 
 /// Why a line gave no message to a dictionary.
@@ -67,9 +69,9 @@ impl Model for Dictionary {
 
     ghost Value = { List Message };
 
-    ghost view = { λ d. d.messages.keys };
+    ghost view = { λ d. d.messages };
 
-    ghost invariant = { λ d. length d.messages.keys ≤ MAX_MESSAGES };
+    ghost invariant = { λ d. length d.messages ≤ MAX_MESSAGES };
 }
 
 fn format_of_text(alloc: Global, text: &SpelledText<'_>) -> Result<Format, FormatFault>
@@ -83,8 +85,8 @@ fn format_of_text(alloc: Global, text: &SpelledText<'_>) -> Result<Format, Forma
 }
 
 // The id and the message that a message line spells.
-fn message_of(alloc: Global, line: &[u8]) -> Result<(u64, Message), LineFault>
-    ensures found { IfOk result (λ pair. SpellsMessage line.now pair.0 pair.1) }
+fn message_of(alloc: Global, line: &[u8]) -> Result<(Natural, Message), LineFault>
+    ensures found { IfOk result (λ pair. (id : ℕ) × (pair.0 ≡ natural_read id) × SpellsMessage line.now id pair.1) }
     ensures fault { IfErr result (λ fault. StopsMessage fault (SpellsNone line.now)) }
 
     // All but what the format spells is judged before any memory is wanted.
@@ -110,35 +112,13 @@ fn message_of(alloc: Global, line: &[u8]) -> Result<(u64, Message), LineFault>
     Ok((parts.id, message))
 }
 
-// The id of a message that equals the message.
-fn id_of(messages: &IndexSet<Message>, message: &Message) -> Option<usize>
-    ensures some { IfSome result (HasId messages.now.keys message.now) }
-    ensures within { IfSome result (λ id. id < length messages.now.keys) }
-    ensures none { IsNone result ↔ (¬ (HasMessage messages.now.keys message.now)) }
+// Whether the number that was read is this one.
+fn is_number(read: Natural, number: usize) -> bool
+    ensures { (n : ℕ) → read ≡ natural_read n → IsTrue result ↔ (n ≡ number) }
 {
-    messages.get_index_of(message)
-}
-
-fn has_message(messages: &IndexSet<Message>, message: &Message) -> bool
-    ensures { IsTrue result ↔ HasMessage messages.now.keys message.now }
-{
-    messages.contains(message)
-}
-
-// Adds the message, unless an equal one is there.
-fn insert(messages: &mut IndexSet<Message>, message: Message) -> Result<Added, AllocError>
-    requires room { length messages.old.keys < MAX_MESSAGES }
-    ensures ok { IfOk result (IsAdded messages.old.keys message messages.new.keys) }
-    ensures err { OnErr result (messages.new.keys ≡ messages.old.keys) }
-    ensures new { OnErr result (¬ (HasMessage messages.old.keys message)) }
-{
-    let Ok((id, is_new)) = messages.insert_full(message) else {
-        return Err(AllocError);
-    };
-    if is_new {
-        Ok(Added::New(id as u32))
-    } else {
-        Ok(Added::Old(id as u32))
+    match read {
+        Natural::Small(read) => read == number as u64,
+        Natural::Large => false,
     }
 }
 
@@ -150,7 +130,7 @@ impl Dictionary {
         ensures { result ≡ [] }
     {
         Dictionary {
-            messages: IndexSet::new(alloc),
+            messages: MessageSet::new(alloc),
         }
     }
 
@@ -168,7 +148,7 @@ impl Dictionary {
         ensures value { option_copied result ≡ slice_get self.now id }
         ensures none { IsNone result ↔ (length self.now ≤ id) }
     {
-        self.messages.get_index(id as usize)
+        self.messages.as_slice().get(id as usize)
     }
 
     /// The message with an id that the dictionary has.
@@ -176,7 +156,7 @@ impl Dictionary {
         requires { id < length self.now }
         ensures { slice_get self.now id ≡ Some result.now }
     {
-        &self.messages[id as usize]
+        &self.messages.as_slice()[id as usize]
     }
 
     /// The messages, in the order of their ids.
@@ -207,12 +187,12 @@ impl Dictionary {
             ↔ ((¬ (HasMessage self.old message)) × (length self.old ≡ MAX_MESSAGES)) }
     {
         if self.messages.len() >= MAX_MESSAGES {
-            let Some(id) = id_of(&self.messages, &message) else {
+            let Some(id) = self.messages.place_of(&message) else {
                 return Err(AddFault::TooMany);
             };
-            return Ok(Added::Old(id as u32));
+            return Ok(Added::Old(id));
         }
-        let Ok(added) = insert(&mut self.messages, message) else {
+        let Ok(added) = self.messages.insert(message) else {
             return Err(AddFault::NoMemory);
         };
         Ok(added)
@@ -231,18 +211,18 @@ impl Dictionary {
         if self.messages.len() >= MAX_MESSAGES {
             return Err(LineFault::TooMany);
         }
-        let alloc = *self.messages.allocator();
+        let alloc = self.messages.allocator();
         let (id, message) = match message_of(alloc, line) {
             Ok(pair) => pair,
             Err(fault) => return Err(fault),
         };
-        if id != self.messages.len() as u64 {
-            if has_message(&self.messages, &message) {
+        if !is_number(id, self.messages.len()) {
+            if let Some(_) = self.messages.place_of(&message) {
                 return Err(LineFault::BadEntry);
             }
             return Err(LineFault::Order);
         }
-        match insert(&mut self.messages, message) {
+        match self.messages.insert(message) {
             Ok(Added::New(_)) => Ok(()),
             Ok(Added::Old(_)) => Err(LineFault::BadEntry),
             Err(_) => Err(LineFault::NoMemory),

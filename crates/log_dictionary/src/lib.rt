@@ -9,6 +9,7 @@ mod formats;
 pub mod laws;
 mod message;
 mod message_line;
+mod message_set;
 mod numbers;
 mod severity;
 mod text;

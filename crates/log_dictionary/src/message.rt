@@ -5,7 +5,6 @@ ghost use Rattle.log_dictionary.specs.declared.message.TheConstants.{MAX_FILE_NA
 
 use crate::severity::Severity;
 use printf_grammar::{Bytes, Format};
-use std::hash::{Hash, Hasher};
 
 /// The most bytes of a file's name.
 pub const MAX_FILE_NAME: usize = 255;
@@ -45,21 +44,4 @@ impl Eq for Message {
     ghost use Rattle.std.specs.Cmp.Rules.{comparing};
 
     ghost laws = { Prim.search (comparing, rules) };
-}
-
-impl Hash for Message {
-    ghost use Rattle.std.proofs.Common.{rules};
-    ghost use Rattle.std.specs.Cmp.Rules.{hashing};
-    ghost use Rattle.log_dictionary.specs.Messages.{message_writes};
-
-    ghost hash_input = { message_writes };
-
-    ghost respects_eq = { Prim.search (hashing, rules) };
-
-    fn hash<H: Hasher>(&self, state: &mut H) {
-        state.write_u32(self.line);
-        state.write_u8(self.severity.number());
-        state.write(self.file.as_slice());
-        state.write(self.format.bytes());
-    }
 }

@@ -6,10 +6,11 @@ ghost use Rattle.printf_grammar.specs.declared.limits.TheConstants.{MAX_FORMAT};
 ghost use Rattle.log_dictionary.specs.declared.message.TheConstants.{MAX_FILE_NAME};
 ghost use Rattle.log_dictionary.specs.Fields.{split_at_first, after};
 ghost use Rattle.log_dictionary.specs.MessageLines.{spelled_parts, parts_at, line_parts, SpellsParts, IsMessageLine};
+ghost use Rattle.log_dictionary.specs.Numbers.{natural_read};
 
 use crate::fields::split_at_byte;
 use crate::message::MAX_FILE_NAME;
-use crate::numbers::read_number;
+use crate::numbers::{Natural, read_natural, read_number};
 use crate::severity::{Severity, severity_named};
 use crate::text::{SpelledText, split_text};
 use printf_grammar::MAX_FORMAT;
@@ -27,7 +28,7 @@ struct Fields<'a> {
 /// What a message line says, before its format is parsed.
 #[derive(Drop)]
 pub(crate) struct MessageLine<'a> {
-    pub(crate) id: u64,
+    pub(crate) id: Natural,
     pub(crate) severity: Severity,
     pub(crate) line: u32,
     pub(crate) file: SpelledText<'a>,
@@ -94,11 +95,12 @@ fn are_within_limits(file_len: usize, format_len: usize) -> bool
 
 /// What the line says, if it is a message line but for what its format spells. It takes no memory.
 pub(crate) fn message_line_of(line: &[u8]) -> Option<MessageLine<'_>>
-    ensures some { IfSome result (λ found. SpellsParts line.now (line_parts found)) }
+    ensures some { IfSome result (λ found. (id : ℕ) × (found.id ≡ natural_read id)
+        × SpellsParts line.now (line_parts id found)) }
     ensures none { IfNone result (¬ (IsMessageLine line.now)) }
 {
     let fields = fields_of(line)?;
-    let id = read_number(fields.id)?;
+    let id = read_natural(fields.id)?;
     let severity = severity_named(fields.severity)?;
     let line = read_line_number(fields.number)?;
     if !are_within_limits(fields.file.len(), fields.format.len()) {

@@ -13,7 +13,7 @@ const LAST: u8 = 5;
 
 /// A number of any size.
 #[derive(Clone, Copy)]
-enum Natural {
+pub(crate) enum Natural {
     Small(u64),
     /// It isn't below 2^64.
     Large,
@@ -75,7 +75,8 @@ fn value_of(digits: &[u8]) -> Option<Natural>
     })
 }
 
-fn read_natural(digits: &[u8]) -> Option<Natural>
+/// The number of any size that the digits spell, with no zero in front, or `0`.
+pub(crate) fn read_natural(digits: &[u8]) -> Option<Natural>
     ensures { result ≡ option_map natural_read (natural_of digits.now) }
 {
     match digits {

@@ -14,12 +14,16 @@ returns-in_default-clause-fault c = λ id message spells. c.in_default.ensures.n
 
 pub returns-in-Err-Bad-clause-fault : goal.returns-in-Err-Bad-clause-fault
 returns-in-Err-Bad-clause-fault c = λ id message spells.
-    c.in-Err-Bad.ensures.bad (ap (λ (f : FormatFault). Err f) c.in-Err-Bad.field-0-is) message.format.pieces (format_is_spelled c.args.line.now (line_parts c.in-Some.parts) c.in-Some.ensures.some id message spells)
+    c.in-Err-Bad.ensures.bad (ap (λ (f : FormatFault). Err f) c.in-Err-Bad.field-0-is) message.format.pieces (format_is_spelled c.args.line.now (line_parts c.in-Some.ensures.some.0 c.in-Some.parts) c.in-Some.ensures.some.2 id message spells)
 
 pub returns-clause-found : goal.returns-clause-found
 returns-clause-found c =
-    let parts = line_parts c.in-Some.parts in
-    message_spelled c.args.line.now parts _ c.in-Some.ensures.some (
-    ap (λ (file : List ℕ). made parts.id parts.severity parts.number file c.in-Ok.format.bytes) c.in-Ok-to_bytes.ensures
-    ∙ ap (made parts.id parts.severity parts.number parts.file) c.in-Ok.ensures.found.0
-    ) (subst (λ (l : List ℕ). Spells l c.in-Ok.format.pieces) (sym c.in-Ok.ensures.found.0) c.in-Ok.ensures.found.1)
+    let id = c.in-Some.ensures.some in
+    let parts = line_parts id.0 c.in-Some.parts in (
+      id.0,
+      id.1,
+      message_spelled c.args.line.now parts _ id.2 (
+          ap (λ (file : List ℕ). made parts.id parts.severity parts.number file c.in-Ok.format.bytes) c.in-Ok-to_bytes.ensures
+          ∙ ap (made parts.id parts.severity parts.number parts.file) c.in-Ok.ensures.found.0
+          ) (subst (λ (l : List ℕ). Spells l c.in-Ok.format.pieces) (sym c.in-Ok.ensures.found.0) c.in-Ok.ensures.found.1),
+    )

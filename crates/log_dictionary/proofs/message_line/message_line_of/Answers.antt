@@ -1,8 +1,10 @@
-use Rattle.std.proofs.Common.{◌≡◌, ℕ, List, length, sym, ap, ◌∙◌, arith}
+use Rattle.std.proofs.Common.{◌≡◌, ℕ, List, length, Some, sym, ap, ◌∙◌, arith}
+use Rattle.std.specs.Option.{option_map}
 use Rattle.std.proofs.lemmas.Bool.{false≢true}
-use Rattle.std.specs.Prelude.{decimal}
+use Rattle.log_dictionary.specs.Numbers.{natural_of, natural_read}
 use Rattle.log_dictionary.specs.Severities.{severity_name}
 use Rattle.log_dictionary.specs.MessageLines.{SpelledParts, spelled_parts, LineParts}
+use Rattle.log_dictionary.proofs.NumberLaws.{mapped_is}
 use Rattle.log_dictionary.proofs.LineParts.{parts_at-spelled, same_spelling, spells_parts}
 use Rattle.log_dictionary.proofs.message_line.message_line_of.Goals as goal
 
@@ -15,7 +17,8 @@ returns-in_err-fields-clause-none c = rw c.from_residual.ensures (λ found. cc (
 pub returns-in_err-id-clause-none : goal.returns-in_err-id-clause-none
 returns-in_err-id-clause-none c = rw c.from_residual-in_err-id.ensures (λ found.
     let same = same_spelling c.args.line.now (spelled_parts c.in_ok-fields.fields) found.0 c.in_ok-fields.ensures found.1 in
-    c.in_err-id.ensures.none found.0.id found.1.id_fits (ap (λ (p : SpelledParts). p.id) same))
+    let read : option_map natural_read (natural_of c.in_ok-fields.fields.id.now) ≡ option_map natural_read (Some found.0.id) = ap (option_map natural_read) (ap natural_of (ap (λ (p : SpelledParts). p.id) same) ∙ found.1.numeral) in
+    cc (read, c.in_err-id.ensures))
 
 pub returns-in_err-severity-clause-none : goal.returns-in_err-severity-clause-none
 returns-in_err-severity-clause-none c = rw c.from_residual-in_err-severity.ensures (λ found.
@@ -37,10 +40,14 @@ returns-then-not-are_within_limits-clause-none c = λ found.
 
 pub returns-clause-some : goal.returns-clause-some
 returns-clause-some c =
-    let parts : LineParts = record { id = c.in_ok-id.id; severity = c.in_ok-severity.severity; number = c.in_ok-line.line; file = c.in_ok-fields.fields.file; format = c.in_ok-fields.fields.format } in
-    let within = c.are_within_limits.ensures.0 c.if-not-are_within_limits.false in
-    spells_parts c.args.line.now (spelled_parts c.in_ok-fields.fields) parts c.in_ok-fields.ensures
-    (ap (λ (id : List ℕ). made id c.in_ok-fields.fields.severity.now c.in_ok-fields.fields.number.now parts.file parts.format) c.in_ok-id.ensures.some
-    ∙ ap (λ (severity : List ℕ). made (decimal parts.id) severity c.in_ok-fields.fields.number.now parts.file parts.format) c.in_ok-severity.ensures.some
-    ∙ ap (λ (number : List ℕ). made (decimal parts.id) (severity_name parts.severity) number parts.file parts.format) c.in_ok-line.ensures.some)
-    (omega arith) (omega arith) (omega (arith, c.len.ensures, within.0)) (omega (arith, c.len.ensures, within.1)) (omega (arith, c.len-2.ensures, within.2))
+    let fields = c.in_ok-fields.fields in
+    let id = mapped_is natural_read (natural_of fields.id.now) c.in_ok-id.id (sym c.in_ok-id.ensures) in
+    let parts : LineParts = record { id = id.0; severity = c.in_ok-severity.severity; number = c.in_ok-line.line; file = fields.file; format = fields.format } in
+    let within = c.are_within_limits.ensures.0 c.if-not-are_within_limits.false in (
+      id.0,
+      id.2,
+      spells_parts c.args.line.now (spelled_parts fields) fields.id.now parts c.in_ok-fields.ensures
+          (ap (λ (severity : List ℕ). made fields.id.now severity fields.number.now parts.file parts.format) c.in_ok-severity.ensures.some
+          ∙ ap (λ (number : List ℕ). made fields.id.now (severity_name parts.severity) number parts.file parts.format) c.in_ok-line.ensures.some)
+          id.1 (omega arith) (omega (arith, c.len.ensures, within.0)) (omega (arith, c.len.ensures, within.1)) (omega (arith, c.len-2.ensures, within.2)),
+    )
