@@ -21,3 +21,4 @@ pub mod LineLaws
 pub mod Appending
 pub mod Written
 pub mod Places
+pub mod LineWorked

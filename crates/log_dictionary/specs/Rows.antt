@@ -1,9 +1,10 @@
--- A worked message and its entry.
+-- A worked message, its entry and its line, and more rows of laws.
 use Rattle.std.specs.Prelude.{ℕ, List, [], ◌∷◌, ◌++◌, codes}
 use Rattle.std.proofs.Common.{lit≤}
 use Rattle.printf_grammar.specs.declared.piece.Piece.TheVariants.{Literal, Field}
 use Rattle.printf_grammar.specs.Narrow.{plain_d}
-use Rattle.log_dictionary.specs.declared.severity.Severity.TheVariants.{Notice}
+use Rattle.log_dictionary.specs.declared.severity.Severity.{Severity}
+use Rattle.log_dictionary.specs.declared.severity.Severity.TheVariants.{Error, Warning, Notice, Debug}
 use Rattle.log_dictionary.specs.declared.message.Message.{Message}
 
 -- a message at line 12 of `srv.cc` with the format `x=%d`
@@ -23,3 +24,14 @@ row_head = 3 ∷ 12 ∷ 0 ∷ 0 ∷ 0 ∷ []
 -- its entry
 abbrev pub row_entry : List ℕ
 row_entry = row_head ++ 6 ∷ 0 ∷ codes "srv.cc" ++ 4 ∷ 0 ∷ codes "x=%d"
+
+-- its line as the first message of a dictionary
+abbrev pub row_line : List ℕ
+row_line = codes "message 0 NOTICE 12 \"srv.cc\" \"x=%d\""
+
+-- a line whose id is 2^64
+abbrev pub great_line : List ℕ
+great_line = codes "message 18446744073709551616 NOTICE 12 \"srv.cc\" \"x\""
+
+abbrev pub all_severities : List Severity
+all_severities = Error ∷ Warning ∷ Notice ∷ Debug ∷ []

@@ -1,19 +1,21 @@
 //! What holds of the definitions. The functions do nothing: what they ensure is proved of the definitions.
 
-ghost use Rattle.std.specs.Prelude.{◌≡◌, ◌⊎◌, ◌↔◌, ℕ, ◌<◌, ◌≤◌, ◌^◌, List, [], ◌∷◌, ◌++◌, length, codes, All, IsTrue, ℤ, pos, negsuc, FitsSigned};
+ghost use Rattle.std.specs.Prelude.{◌≡◌, ◌⊎◌, ◌↔◌, ℕ, ◌<◌, ◌≤◌, ◌^◌, List, [], ◌∷◌, ◌++◌, length, map, codes, All, Ok, Err, IsTrue, ℤ, pos, negsuc, FitsSigned};
 ghost use Rattle.std.specs.Int.{w64};
 ghost use Rattle.std.specs.Option.{option_map};
 ghost use Rattle.std.specs.Fmt.{decimal, signed_decimal};
 ghost use Rattle.log_dictionary.specs.declared.message.Message.{Message};
+ghost use Rattle.log_dictionary.specs.Additions.{ReadsLine};
+ghost use Rattle.log_dictionary.specs.Severities.{severity_name, severity_number};
 ghost use Rattle.log_dictionary.specs.BinaryEntries.{SpellsEntry, BeginsWithEntry, IsCutEntry, IsOutOfRange, IsBadEntry};
 ghost use Rattle.log_dictionary.specs.Texts.{OpensText, SpellsText, text_at};
 ghost use Rattle.log_dictionary.specs.Messages.{SameMessage, is_same, SpellsMessage};
-ghost use Rattle.log_dictionary.specs.Canonical.{canonical_text, message_line, AreBytes, HasLine};
-ghost use Rattle.log_dictionary.specs.Rows.{row_message, row_head, row_entry};
+ghost use Rattle.log_dictionary.specs.Canonical.{canonical_text, message_line, dictionary_text, AreBytes, HasLine};
+ghost use Rattle.log_dictionary.specs.Rows.{row_message, row_head, row_entry, row_line, great_line, all_severities};
 ghost use Rattle.log_dictionary.specs.Numbers.{natural_of, integer_of, integer_read};
 
 use crate::clock::Clock;
-use crate::dictionary::Dictionary;
+use crate::dictionary::{Dictionary, LineFault};
 use crate::message::Message;
 use crate::numbers::Integer;
 use crate::severity::Severity;
@@ -41,9 +43,8 @@ pub fn entries_are_told_apart()
     ensures cut_or_bad { (bytes : List ℕ) → IsCutEntry bytes → ¬ (IsBadEntry bytes) }
 {}
 
-/// Bytes begin with one entry, and all messages whose entry it is are equal; where formats are
-/// narrow it is one message. Each proper front of an entry is cut off, and bytes that are wrong
-/// stay so, whatever follows.
+/// Bytes begin with one entry, of one message. Each proper front of an entry is cut off, and bytes that are wrong stay
+/// so, whatever follows.
 pub fn entries_are_one()
     ensures one_spelling { (front other rest other_rest : List ℕ) (a b : Message)
         → SpellsEntry front a → SpellsEntry other b → front ++ rest ≡ other ++ other_rest
@@ -108,6 +109,28 @@ pub fn texts_are_read()
         ⊎ ((value rest : List ℕ) → ¬ (OpensText bytes value rest)) }
 {}
 
+/// Worked message lines: one that is read, and one whose id is 2^64, which is out of order and no bad entry.
+pub fn worked_lines()
+    ensures read { ReadsLine [] row_line (row_message ∷ []) (Ok tt) }
+    ensures great_id { ReadsLine [] great_line [] (Err LineFault.Order) }
+    ensures no_bad_entry { ¬ (ReadsLine [] great_line [] (Err LineFault.BadEntry)) }
+{}
+
+/// A dictionary is full with 65,536 messages, and no sooner.
+pub fn worked_limits()
+    ensures full { (messages : List Message) (line : List ℕ) → length messages ≡ 65536
+        → ReadsLine messages line messages (Err LineFault.TooMany) }
+    ensures room { (messages : List Message) (line : List ℕ) → length messages ≡ 65535
+        → ¬ (ReadsLine messages line messages (Err LineFault.TooMany)) }
+{}
+
+/// The severities, from the gravest on: their numbers and their names.
+pub fn worked_severities()
+    ensures numbers { map severity_number all_severities ≡ 1 ∷ 2 ∷ 3 ∷ 4 ∷ [] }
+    ensures names { map severity_name all_severities
+        ≡ codes "ERROR" ∷ codes "WARNING" ∷ codes "NOTICE" ∷ codes "DEBUG" ∷ [] }
+{}
+
 /// A message line spells one id and one message, and every line spells one of each or none. Messages
 /// pass `==` where they are equal.
 pub fn message_lines_have_one_reading()
@@ -128,6 +151,8 @@ pub fn what_is_written_spells()
     ensures letters { canonical_text (97 ∷ 65 ∷ 10 ∷ []) ≡ codes "aA\\n" }
     ensures delete { canonical_text (127 ∷ []) ≡ codes "\\x7f" }
     ensures marks { canonical_text (34 ∷ 92 ∷ 9 ∷ 254 ∷ []) ≡ codes "\\\"\\\\\\t\\xfe" }
+    ensures line { message_line 0 row_message ≡ row_line }
+    ensures dictionary { dictionary_text (row_message ∷ []) ≡ codes "nanolog-trace 1\n" ++ row_line ++ 10 ∷ [] }
 {}
 
 /// What a program logs with goes from thread to thread, and threads share it.
