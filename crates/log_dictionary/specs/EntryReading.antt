@@ -5,7 +5,7 @@ use Rattle.log_dictionary.specs.declared.binary_entry.EntryFault.TheVariants.{Cu
 use Rattle.log_dictionary.specs.declared.binary_entry.EntryFields.{EntryFields}
 use Rattle.log_dictionary.specs.BinaryEntries.{RawEntry, raw_bytes, IsInRange}
 
--- the bytes are cut off or wrong, as the fault says; no memory was wanted
+-- the bytes are cut off or wrong, as the fault says; it isn't that memory ran out
 abbrev pub Stops : EntryFault → Type 0 → Type 0 → Type 0
 Stops Cut cut wrong = cut
 Stops BadEntry cut wrong = wrong

@@ -47,7 +47,7 @@ pub fn entry_len(message: &Message) -> usize
     FIXED_LEN + message.file.as_slice().len() + message.format.bytes().len()
 }
 
-/// Copies the bytes to this place, and gives the place after them. It takes no memory.
+/// Copies the bytes to this place, and gives the place after them.
 pub fn put(into: &mut [u8], at: usize, bytes: &[u8]) -> usize
     requires room { at + length bytes.now ≤ length into.now }
     ensures put { into.new ≡ take at into.old ++ bytes.now ++ drop result into.old }
@@ -71,7 +71,7 @@ fn put_text(into: &mut [u8], at: usize, text: &[u8]) -> usize
     put(into, at, text)
 }
 
-/// Writes the message's entry to the front, and gives its length. It takes no memory.
+/// Writes the message's entry to the front, and gives its length.
 pub fn put_entry(message: &Message, into: &mut [u8]) -> usize
     requires room { length (entry_bytes message.now) ≤ length into.now }
     ensures put { into.new ≡ entry_bytes message.now ++ drop result into.old }
@@ -170,11 +170,11 @@ pub fn read_entry(alloc: Global, bytes: &[u8]) -> Result<(Message, usize), Entry
         (λ read. (read.0 ≡ message) × (read.1 ≡ length front))
         (λ fault. fault ≡ EntryFault.NoMemory) }
 
-    // Where bytes end, and where a field is out of range, is found before any memory is wanted.
+    // Where bytes end, and where a field is out of range, is found also where there is no memory.
     ensures cut { (result ≡ Err EntryFault.Cut) ↔ IsCutEntry bytes.now }
     ensures out_of_range { IsOutOfRange bytes.now → result ≡ Err EntryFault.BadEntry }
 
-    // A format is refused only once it is parsed, which takes memory.
+    // A format is refused once it is parsed, for which there may be no memory.
     ensures bad_entry { result ≡ Err EntryFault.BadEntry → IsBadEntry bytes.now }
     ensures refused { IsBadEntry bytes.now → MatchResult result
         (λ _. ⊥)

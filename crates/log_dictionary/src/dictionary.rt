@@ -89,7 +89,7 @@ fn message_of(alloc: Global, line: &[u8]) -> Result<(Natural, Message), LineFaul
     ensures found { IfOk result (λ pair. (id : ℕ) × (pair.0 ≡ natural_read id) × SpellsMessage line.now id pair.1) }
     ensures fault { IfErr result (λ fault. StopsMessage fault (SpellsNone line.now)) }
 
-    // All but what the format spells is judged before any memory is wanted.
+    // All but what the format spells is judged also where there is no memory.
     ensures no_message_line { ¬ (IsMessageLine line.now) → result ≡ Err LineFault.BadEntry }
 {
     let Some(parts) = message_line_of(line) else {
@@ -125,7 +125,7 @@ fn is_number(read: Natural, number: usize) -> bool
 impl Dictionary {
     ghost use Rattle.log_dictionary.specs.Messages.{AreDistinct};
 
-    /// A dictionary with no message. It takes no memory.
+    /// A dictionary with no message.
     pub fn make(alloc: Global) -> Dictionary
         ensures { result ≡ [] }
     {
@@ -166,7 +166,7 @@ impl Dictionary {
         self.messages.as_slice().iter()
     }
 
-    /// Whether a call may have this id and these arguments. It takes no memory.
+    /// Whether a call may have this id and these arguments.
     pub fn takes(&self, id: u32, args: &[Arg]) -> bool
         ensures { IsTrue result ↔ Takes self.now id (values_of args.now) }
     {
@@ -180,7 +180,7 @@ impl Dictionary {
     pub fn add(&mut self, message: Message) -> Result<Added, AddFault>
         ensures ok { IfOk result (IsAdded self.old message self.new) }
 
-        // It takes no memory to find one that is there.
+        // One that is there is found also where there is no memory.
         ensures old { HasMessage self.old message → (id : ℕ) × (result ≡ Ok (Added.Old id)) }
         ensures err { OnErr result (self.new ≡ self.old) }
         ensures too_many { (result ≡ Err AddFault.TooMany)
@@ -202,8 +202,7 @@ impl Dictionary {
     pub fn read_line(&mut self, line: &[u8]) -> Result<(), LineFault>
         ensures reads { ReadsLine self.old line.now self.new result }
 
-        // A full dictionary is told, and all but what the format spells is judged, before any
-        // memory is wanted.
+        // A full dictionary is told, and all but what the format spells is judged, also where there is no memory.
         ensures too_many { (result ≡ Err LineFault.TooMany) ↔ (length self.old ≡ MAX_MESSAGES) }
         ensures no_message_line { ¬ (IsMessageLine line.now) → length self.old < MAX_MESSAGES
             → result ≡ Err LineFault.BadEntry }

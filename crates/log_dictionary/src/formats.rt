@@ -24,7 +24,7 @@ pub(crate) fn format_of(alloc: Global, bytes: &[u8]) -> Result<Format, FormatFau
         (λ fault. fault ≡ FormatFault.NoMemory) }
     ensures bad { result ≡ Err FormatFault.Bad → (pieces : List Piece) → ¬ Spells bytes.now pieces }
 
-    // Too many bytes are refused before any memory is wanted.
+    // Too many bytes are refused also where there is no memory.
     ensures long { MAX_FORMAT < length bytes.now → result ≡ Err FormatFault.Bad }
 {
     match parse(alloc, bytes) {

@@ -93,7 +93,7 @@ fn are_within_limits(file_len: usize, format_len: usize) -> bool
     file_len >= 1 && file_len <= MAX_FILE_NAME && format_len <= MAX_FORMAT
 }
 
-/// What the line says, if it is a message line but for what its format spells. It takes no memory.
+/// What the line says, if it is a message line but for what its format spells.
 pub(crate) fn message_line_of(line: &[u8]) -> Option<MessageLine<'_>>
     ensures some { IfSome result (λ found. (id : ℕ) × (found.id ≡ natural_read id)
         × SpellsParts line.now (line_parts id found)) }
