@@ -36,7 +36,7 @@ abbrev bad_tokens : List Token
 bad_tokens = name_at 85 93 ∷ mark_at 40 93 ∷ name_at 94 95 ∷ mark_at 44 95 ∷ name_at 96 104 ∷ mark_at 40 104 ∷ name_at 105 106 ∷ mark_at 41 106 ∷ mark_at 41 107 ∷ []
 
 abbrev open_tokens : List Token
-open_tokens = name_at 109 117 ∷ mark_at 40 117 ∷ []
+open_tokens = name_at 109 117 ∷ mark_at 40 117 ∷ name_at 118 126 ∷ mark_at 40 126 ∷ mark_at 41 127 ∷ []
 
 abbrev worked_lines : List Line
 worked_lines =
@@ -44,7 +44,7 @@ worked_lines =
     ∷ record { tokens = raw_tokens; ending = line_end_at 47 }
     ∷ record { tokens = good_tokens; ending = line_end_at 84 }
     ∷ record { tokens = bad_tokens; ending = line_end_at 108 }
-    ∷ record { tokens = open_tokens; ending = line_end_at 118 }
+    ∷ record { tokens = open_tokens; ending = line_end_at 128 }
     ∷ []
 
 abbrev source_tokens : List Token
@@ -54,7 +54,7 @@ abbrev source_parts : List Token
 source_parts = flat_map line_parts worked_lines
 
 -- the raw string of the second line
-raw_here : IsToken 119 (drop 20 worked_source) (raw_at 20 34) (drop 34 worked_source)
+raw_here : IsToken 129 (drop 20 worked_source) (raw_at 20 34) (drop 34 worked_source)
 unfolding past_splices Reads
 raw_here = record {
   stands = inl (record {
@@ -90,50 +90,53 @@ source_read = record {
   front_is = refl;
   tokens_are = refl;
   follow =
-      (follow_token 119 _ _ _ _ (token_before 119 35 [] 32 _ _ refl refl refl (λ more. refl) refl refl refl)
-      (follow_token 119 _ _ _ _ (token_before 119 32 [] 55 _ _ refl refl refl (λ more. refl) refl refl refl)
-      (follow_token 119 _ _ _ _ (token_before 119 55 [] 32 _ _ refl refl refl (λ more. refl) refl refl refl)
-      (follow_token 119 _ _ _ _ (token_before 119 32 [] 34 _ _ refl refl refl (λ more. refl) refl refl refl)
-      (follow_token 119 _ _ _ _ (token_before 119 34 (codes "h\"") 32 _ _ refl refl refl (λ more. refl) refl refl refl)
-      (follow_token 119 _ _ _ _ (token_before 119 32 [] 78 _ _ refl refl refl (λ more. refl) refl refl refl)
-      (follow_token 119 _ _ _ _ (token_before 119 78 (codes "ANO_LOG") 40 _ _ refl refl refl (λ more. refl) refl refl refl)
-      (follow_token 119 _ _ _ _ (token_before 119 40 [] 120 _ _ refl refl refl (λ more. refl) refl refl refl)
-      (follow_token 119 _ _ _ _ (token_before 119 120 [] 41 _ _ refl refl refl (λ more. refl) refl refl refl)
-      (follow_token 119 _ _ _ _ (token_before 119 41 [] 10 _ _ refl refl refl (λ more. refl) refl refl refl)
-      (follow_token 119 _ _ _ _ (token_before 119 10 [] 82 _ _ refl refl refl (λ more. refl) refl refl refl)
-      (follow_token 119 _ _ _ _ raw_here
-      (follow_token 119 _ _ _ _ (token_before 119 47 (codes "/NANO_LOG(x)") 10 _ _ refl refl refl (λ more. refl) refl refl refl)
-      (follow_token 119 _ _ _ _ (token_before 119 10 [] 78 _ _ refl refl refl (λ more. refl) refl refl refl)
-      (follow_token 119 _ _ _ _ (token_before 119 78 (codes "ANO_LOG") 32 _ _ refl refl refl (λ more. refl) refl refl refl)
-      (follow_token 119 _ _ _ _ (token_before 119 32 [] 78 _ _ refl refl refl (λ more. refl) refl refl refl)
-      (follow_token 119 _ _ _ _ (token_before 119 78 (codes "ANO_LOG") 40 _ _ refl refl refl (λ more. refl) refl refl refl)
-      (follow_token 119 _ _ _ _ (token_before 119 40 [] 69 _ _ refl refl refl (λ more. refl) refl refl refl)
-      (follow_token 119 _ _ _ _ (token_before 119 69 (codes "RROR") 44 _ _ refl refl refl (λ more. refl) refl refl refl)
-      (follow_token 119 _ _ _ _ (token_before 119 44 [] 34 _ _ refl refl refl (λ more. refl) refl refl refl)
-      (follow_token 119 _ _ _ _ (token_before 119 34 (codes "%d\"") 44 _ _ refl refl refl (λ more. refl) refl refl refl)
-      (follow_token 119 _ _ _ _ (token_before 119 44 [] 102 _ _ refl refl refl (λ more. refl) refl refl refl)
-      (follow_token 119 _ _ _ _ (token_before 119 102 [] 40 _ _ refl refl refl (λ more. refl) refl refl refl)
-      (follow_token 119 _ _ _ _ (token_before 119 40 [] 49 _ _ refl refl refl (λ more. refl) refl refl refl)
-      (follow_token 119 _ _ _ _ (token_before 119 49 [] 44 _ _ refl refl refl (λ more. refl) refl refl refl)
-      (follow_token 119 _ _ _ _ (token_before 119 44 [] 50 _ _ refl refl refl (λ more. refl) refl refl refl)
-      (follow_token 119 _ _ _ _ (token_before 119 50 [] 41 _ _ refl refl refl (λ more. refl) refl refl refl)
-      (follow_token 119 _ _ _ _ (token_before 119 41 [] 41 _ _ refl refl refl (λ more. refl) refl refl refl)
-      (follow_token 119 _ _ _ _ (token_before 119 41 [] 10 _ _ refl refl refl (λ more. refl) refl refl refl)
-      (follow_token 119 _ _ _ _ (token_before 119 10 [] 78 _ _ refl refl refl (λ more. refl) refl refl refl)
-      (follow_token 119 _ _ _ _ (token_before 119 78 (codes "ANO_LOG") 40 _ _ refl refl refl (λ more. refl) refl refl refl)
-      (follow_token 119 _ _ _ _ (token_before 119 40 [] 120 _ _ refl refl refl (λ more. refl) refl refl refl)
-      (follow_token 119 _ _ _ _ (token_before 119 120 [] 44 _ _ refl refl refl (λ more. refl) refl refl refl)
-      (follow_token 119 _ _ _ _ (token_before 119 44 [] 78 _ _ refl refl refl (λ more. refl) refl refl refl)
-      (follow_token 119 _ _ _ _ (token_before 119 78 (codes "ANO_LOG") 40 _ _ refl refl refl (λ more. refl) refl refl refl)
-      (follow_token 119 _ _ _ _ (token_before 119 40 [] 121 _ _ refl refl refl (λ more. refl) refl refl refl)
-      (follow_token 119 _ _ _ _ (token_before 119 121 [] 41 _ _ refl refl refl (λ more. refl) refl refl refl)
-      (follow_token 119 _ _ _ _ (token_before 119 41 [] 41 _ _ refl refl refl (λ more. refl) refl refl refl)
-      (follow_token 119 _ _ _ _ (token_before 119 41 [] 10 _ _ refl refl refl (λ more. refl) refl refl refl)
-      (follow_token 119 _ _ _ _ (token_before 119 10 [] 78 _ _ refl refl refl (λ more. refl) refl refl refl)
-      (follow_token 119 _ _ _ _ (token_before 119 78 (codes "ANO_LOG") 40 _ _ refl refl refl (λ more. refl) refl refl refl)
-      (follow_token 119 _ _ _ _ (token_before 119 40 [] 10 _ _ refl refl refl (λ more. refl) refl refl refl)
-      (follow_token 119 _ _ _ _ (token_last 119 10 [] _ refl refl refl refl refl refl)
-      (follow_none 119))))))))))))))))))))))))))))))))))))))))))));
+      (follow_token 129 _ _ _ _ (token_before 129 35 [] 32 _ _ refl refl refl (λ more. refl) refl refl refl)
+      (follow_token 129 _ _ _ _ (token_before 129 32 [] 55 _ _ refl refl refl (λ more. refl) refl refl refl)
+      (follow_token 129 _ _ _ _ (token_before 129 55 [] 32 _ _ refl refl refl (λ more. refl) refl refl refl)
+      (follow_token 129 _ _ _ _ (token_before 129 32 [] 34 _ _ refl refl refl (λ more. refl) refl refl refl)
+      (follow_token 129 _ _ _ _ (token_before 129 34 (codes "h\"") 32 _ _ refl refl refl (λ more. refl) refl refl refl)
+      (follow_token 129 _ _ _ _ (token_before 129 32 [] 78 _ _ refl refl refl (λ more. refl) refl refl refl)
+      (follow_token 129 _ _ _ _ (token_before 129 78 (codes "ANO_LOG") 40 _ _ refl refl refl (λ more. refl) refl refl refl)
+      (follow_token 129 _ _ _ _ (token_before 129 40 [] 120 _ _ refl refl refl (λ more. refl) refl refl refl)
+      (follow_token 129 _ _ _ _ (token_before 129 120 [] 41 _ _ refl refl refl (λ more. refl) refl refl refl)
+      (follow_token 129 _ _ _ _ (token_before 129 41 [] 10 _ _ refl refl refl (λ more. refl) refl refl refl)
+      (follow_token 129 _ _ _ _ (token_before 129 10 [] 82 _ _ refl refl refl (λ more. refl) refl refl refl)
+      (follow_token 129 _ _ _ _ raw_here
+      (follow_token 129 _ _ _ _ (token_before 129 47 (codes "/NANO_LOG(x)") 10 _ _ refl refl refl (λ more. refl) refl refl refl)
+      (follow_token 129 _ _ _ _ (token_before 129 10 [] 78 _ _ refl refl refl (λ more. refl) refl refl refl)
+      (follow_token 129 _ _ _ _ (token_before 129 78 (codes "ANO_LOG") 32 _ _ refl refl refl (λ more. refl) refl refl refl)
+      (follow_token 129 _ _ _ _ (token_before 129 32 [] 78 _ _ refl refl refl (λ more. refl) refl refl refl)
+      (follow_token 129 _ _ _ _ (token_before 129 78 (codes "ANO_LOG") 40 _ _ refl refl refl (λ more. refl) refl refl refl)
+      (follow_token 129 _ _ _ _ (token_before 129 40 [] 69 _ _ refl refl refl (λ more. refl) refl refl refl)
+      (follow_token 129 _ _ _ _ (token_before 129 69 (codes "RROR") 44 _ _ refl refl refl (λ more. refl) refl refl refl)
+      (follow_token 129 _ _ _ _ (token_before 129 44 [] 34 _ _ refl refl refl (λ more. refl) refl refl refl)
+      (follow_token 129 _ _ _ _ (token_before 129 34 (codes "%d\"") 44 _ _ refl refl refl (λ more. refl) refl refl refl)
+      (follow_token 129 _ _ _ _ (token_before 129 44 [] 102 _ _ refl refl refl (λ more. refl) refl refl refl)
+      (follow_token 129 _ _ _ _ (token_before 129 102 [] 40 _ _ refl refl refl (λ more. refl) refl refl refl)
+      (follow_token 129 _ _ _ _ (token_before 129 40 [] 49 _ _ refl refl refl (λ more. refl) refl refl refl)
+      (follow_token 129 _ _ _ _ (token_before 129 49 [] 44 _ _ refl refl refl (λ more. refl) refl refl refl)
+      (follow_token 129 _ _ _ _ (token_before 129 44 [] 50 _ _ refl refl refl (λ more. refl) refl refl refl)
+      (follow_token 129 _ _ _ _ (token_before 129 50 [] 41 _ _ refl refl refl (λ more. refl) refl refl refl)
+      (follow_token 129 _ _ _ _ (token_before 129 41 [] 41 _ _ refl refl refl (λ more. refl) refl refl refl)
+      (follow_token 129 _ _ _ _ (token_before 129 41 [] 10 _ _ refl refl refl (λ more. refl) refl refl refl)
+      (follow_token 129 _ _ _ _ (token_before 129 10 [] 78 _ _ refl refl refl (λ more. refl) refl refl refl)
+      (follow_token 129 _ _ _ _ (token_before 129 78 (codes "ANO_LOG") 40 _ _ refl refl refl (λ more. refl) refl refl refl)
+      (follow_token 129 _ _ _ _ (token_before 129 40 [] 120 _ _ refl refl refl (λ more. refl) refl refl refl)
+      (follow_token 129 _ _ _ _ (token_before 129 120 [] 44 _ _ refl refl refl (λ more. refl) refl refl refl)
+      (follow_token 129 _ _ _ _ (token_before 129 44 [] 78 _ _ refl refl refl (λ more. refl) refl refl refl)
+      (follow_token 129 _ _ _ _ (token_before 129 78 (codes "ANO_LOG") 40 _ _ refl refl refl (λ more. refl) refl refl refl)
+      (follow_token 129 _ _ _ _ (token_before 129 40 [] 121 _ _ refl refl refl (λ more. refl) refl refl refl)
+      (follow_token 129 _ _ _ _ (token_before 129 121 [] 41 _ _ refl refl refl (λ more. refl) refl refl refl)
+      (follow_token 129 _ _ _ _ (token_before 129 41 [] 41 _ _ refl refl refl (λ more. refl) refl refl refl)
+      (follow_token 129 _ _ _ _ (token_before 129 41 [] 10 _ _ refl refl refl (λ more. refl) refl refl refl)
+      (follow_token 129 _ _ _ _ (token_before 129 10 [] 78 _ _ refl refl refl (λ more. refl) refl refl refl)
+      (follow_token 129 _ _ _ _ (token_before 129 78 (codes "ANO_LOG") 40 _ _ refl refl refl (λ more. refl) refl refl refl)
+      (follow_token 129 _ _ _ _ (token_before 129 40 [] 78 _ _ refl refl refl (λ more. refl) refl refl refl)
+      (follow_token 129 _ _ _ _ (token_before 129 78 (codes "ANO_LOG") 40 _ _ refl refl refl (λ more. refl) refl refl refl)
+      (follow_token 129 _ _ _ _ (token_before 129 40 [] 41 _ _ refl refl refl (λ more. refl) refl refl refl)
+      (follow_token 129 _ _ _ _ (token_before 129 41 [] 10 _ _ refl refl refl (λ more. refl) refl refl refl)
+      (follow_token 129 _ _ _ _ (token_last 129 10 [] _ refl refl refl refl refl refl)
+      (follow_none 129)))))))))))))))))))))))))))))))))))))))))))))));
 }
 
 -- the tokens of the directive by itself

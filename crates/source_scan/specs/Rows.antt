@@ -128,7 +128,7 @@ worked_source =
     ∷ codes "R\"(NANO_LOG()\"//NANO_LOG(x)" ++ 10
     ∷ codes "NANO_LOG NANO_LOG(ERROR,\"%d\",f(1,2))" ++ 10
     ∷ codes "NANO_LOG(x,NANO_LOG(y))" ++ 10
-    ∷ codes "NANO_LOG(" ++ 10 ∷ []
+    ∷ codes "NANO_LOG(NANO_LOG()" ++ 10 ∷ []
 
 -- the statements of its last three lines
 abbrev pub worked_good : Found
