@@ -15,9 +15,9 @@ use Rattle.log_session.specs.declared.options.Policy.{Policy}
 use Rattle.log_session.specs.declared.options.Policy.TheVariants.{Wait, Shed}
 use Rattle.log_session.specs.Levels.{keeps, Kept}
 use Rattle.log_session.specs.Drops.{taken_of, calls_at, call_count}
-use Rattle.log_session.specs.Workers.{Progress, WorkerView, Task, Work, all_calls, accepted_before, kept_before, HasWorked, work_of}
+use Rattle.log_session.specs.Workers.{Progress, WorkerView, Task, Work, all_calls, accepted_before, kept_before, HasWorked, HasTriedOnce, work_of}
 use Rattle.log_session.specs.Finishing.{task_at, work_at, works_of, taken_front, HasSent, FinishedView, AreDone}
-use Rattle.log_session.specs.Writers.{WriterView}
+use Rattle.log_session.specs.Writers.{WriterView, Tries}
 use Rattle.log_session.proofs.Rings.{AllZip-snoc}
 use Rattle.log_session.proofs.Taking.{numbered_push, lawful_append, taken_of-before, taken_of-own}
 use Rattle.log_session.proofs.Working.{worked_all}
@@ -78,15 +78,13 @@ module _ (run : Recording) (level : Severity) where
       ∙ ap (λ (l : List Call). taken_front run level drops n ++ l ∷ []) (taken_of-own run level drops more n (calls_at run n) below)
 
   -- the calls that the level keeps of one writer more
-  kept-more : (n : ℕ) → n < length run.writers → call_count (take (n + 1) (Kept run level)) ≡ call_count (take n (Kept run level)) + length (filter (keeps run.dictionary level) (calls_at run n))
+  kept-more : (n : ℕ) → n < length run.writers → take (n + 1) (Kept run level) ≡ take n (Kept run level) ++ filter (keeps run.dictionary level) (calls_at run n) ∷ []
   kept-more n known =
       let kept = filter (keeps run.dictionary level) in
-      ap (λ (l : List (List Call)). call_count l)
-      (take-map kept (n + 1) run.writers
+      take-map kept (n + 1) run.writers
       ∙ ap (λ (l : List (List Call)). map kept l) (take_writer n known)
       ∙ map-append kept (take n run.writers) (calls_at run n ∷ [])
-      ∙ ap (λ (l : List (List Call)). l ++ kept (calls_at run n) ∷ []) (sym (take-map kept n run.writers)))
-      ∙ sum_by_push length (take n (Kept run level)) (kept (calls_at run n))
+      ∙ ap (λ (l : List (List Call)). l ++ kept (calls_at run n) ∷ []) (sym (take-map kept n run.writers))
 
 -- ---- what writers leave
 
@@ -96,9 +94,9 @@ both_none drops more none no_more = λ i. none i ++ no_more i
 -- with one writer more, whose worker has done all calls
 done_more : {S : Type 0} (sent : S → List (List ℕ)) (closed : S → Bool) (done : FinishedView S) (writer : WriterView S) (progress : Progress) (plan : Plan) (at seen last : ℕ)
     → AreDone sent closed done → HasWorked (task_at done.run done.options (length done.writers)) progress plan (sent writer.end) at done.options.ring seen (closed writer.end) last
-    → progress.closed ≡ true → writer.accepted ≡ length (sent writer.end)
+    → progress.closed ≡ true → writer.accepted ≡ length (sent writer.end) → HasTriedOnce (task_at done.run done.options (length done.writers)) progress writer.tries
     → AreDone sent closed (record done { drops = done.drops ++ progress.drops; writers = done.writers ++ writer ∷ [] })
-done_more {S} sent closed done writer progress plan at seen last were worked shut counted =
+done_more {S} sent closed done writer progress plan at seen last were worked shut counted once =
     let run = done.run in
     let level = done.options.level in
     let n = length done.writers in
@@ -118,8 +116,10 @@ done_more {S} sent closed done writer progress plan at seen last were worked shu
     ap (λ (k : ℕ). taken_front run level (done.drops ++ more) k) longer ∙ taken_front-more run level done.drops more n p.known were.before p.own in
     let sum_taken : call_count (taken_front run level (done.drops ++ more) (length after)) ≡ call_count (taken_front run level done.drops n) + length calls =
     ap (λ (l : List (List Call)). call_count l) fronts ∙ sum_by_push length (taken_front run level done.drops n) calls in
+    let kept : take (length after) (Kept run level) ≡ take n (Kept run level) ++ filter (keeps run.dictionary level) (calls_at run n) ∷ [] =
+    ap (λ (k : ℕ). take k (Kept run level)) longer ∙ kept-more run level n p.known in
     let sum_kept : call_count (take (length after) (Kept run level)) ≡ call_count (take n (Kept run level)) + length (filter (keeps run.dictionary level) (calls_at run n)) =
-    ap (λ (k : ℕ). call_count (take k (Kept run level))) longer ∙ kept-more run level n p.known in
+    ap (λ (l : List (List Call)). call_count l) kept ∙ sum_by_push length (take n (Kept run level)) (filter (keeps run.dictionary level) (calls_at run n)) in
     record {
       within = omega (arith, longer, p.known);
       lawful = lawful_append run level done.options.ring n done.drops more were.lawful were.before p.lawful p.own;
@@ -143,6 +143,12 @@ done_more {S} sent closed done writer progress plan at seen last were worked shu
         p.kept,
         were.kept,
       );
+      tried = λ sheds.
+          let one : writer.tries.logs ≡ length (filter (keeps run.dictionary level) (calls_at run n)) = once sheds ∙ ap (λ (l : List Call). length l) whole in
+          map-append (λ (w : WriterView S). w.tries.logs) done.writers (writer ∷ [])
+          ∙ (λ i. were.tried sheds i ++ one i ∷ [])
+          ∙ sym (map-append length (take n (Kept run level)) (filter (keeps run.dictionary level) (calls_at run n) ∷ []))
+          ∙ ap (λ (l : List (List Call)). map length l) (sym kept);
     }
 
 -- ---- what a worker leaves
@@ -151,9 +157,9 @@ done_more {S} sent closed done writer progress plan at seen last were worked shu
 pub done_add : {S : Type 0} (pair : S → List ℕ) (plan : S → Plan) (sent : S → List (List ℕ)) (closed : S → Bool) (at words seen : S → ℕ) (done view : FinishedView S) (worker : WorkerView S) (writer : WriterView S) (more : List Dropped)
     → done ≡ view → AreDone sent closed done → (p : List ℕ) × (work_of pair words worker ≡ work_at view.run view.options (length view.writers, p)) → worker.progress.closed ≡ true
     → (last : ℕ) × HasWorked worker.task worker.progress (plan worker.end) (sent worker.end) (at worker.end) (words worker.end) (seen worker.end) (closed worker.end) last
-    → writer.end ≡ worker.end → writer.accepted ≡ length (sent worker.end) → more ≡ worker.progress.drops
+    → writer.end ≡ worker.end → writer.accepted ≡ length (sent worker.end) → more ≡ worker.progress.drops → writer.tries ≡ worker.tries → HasTriedOnce worker.task worker.progress worker.tries
     → AreDone sent closed (record done { drops = done.drops ++ more; writers = done.writers ++ writer ∷ [] }) × (length done.writers < length done.run.writers)
-done_add {S} pair plan sent closed at words seen done view worker writer more same were next shut worked same_end counted drops_are =
+done_add {S} pair plan sent closed at words seen done view worker writer more same were next shut worked same_end counted drops_are tries_are once =
     let here = subst (λ (v : FinishedView S). (p : List ℕ) × (work_of pair words worker ≡ work_at v.run v.options (length v.writers, p))) (sym same) next in
     let task_is : worker.task ≡ task_at done.run done.options (length done.writers) = ap (λ (w : Work). w.task) here.1 in
     let words_are : words worker.end ≡ done.options.ring = ap (λ (w : Work). w.words) here.1 in
@@ -164,7 +170,8 @@ done_add {S} pair plan sent closed at words seen done view worker writer more sa
     (λ (end : S). HasWorked (task_at done.run done.options (length done.writers)) worker.progress (plan worker.end) (sent end) (at worker.end) done.options.ring (seen worker.end) (closed end) worked.0)
     (sym same_end) at_task in
     let all = done_more sent closed done writer worker.progress (plan worker.end) (at worker.end) (seen worker.end) worked.0 were at_end shut
-    (counted ∙ ap (λ (end : S). length (sent end)) (sym same_end)) in (
+    (counted ∙ ap (λ (end : S). length (sent end)) (sym same_end))
+    (subst (λ (x : Task × Tries). HasTriedOnce x.0 worker.progress x.1) (λ i. (task_is i, sym tries_are i)) once) in (
       subst (λ (drops : List Dropped). AreDone sent closed (record done { drops = done.drops ++ drops; writers = done.writers ++ writer ∷ [] })) (sym drops_are) all,
       at_task.progress_is.known,
     )

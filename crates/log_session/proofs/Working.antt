@@ -4,8 +4,9 @@ use Rattle.std.specs.Prelude.{All, Option, filter, slice_get, sum_by}
 use Rattle.std.specs.List.{AllByRecursion, cons_option, filter_map, enumerate_from}
 use Rattle.std.proofs.lemmas.List.{append-nil, length-take, length-take-le, length_push, take_more, take_all}
 use Rattle.std.proofs.lemmas.List.Elements.{All-nil, All-push, All-weaker, filter-append}
-use Rattle.std.proofs.lemmas.List.Sums.{get_or-le-sum_by}
+use Rattle.std.proofs.lemmas.List.Sums.{get_or-le-sum_by, length-filter, count_by-le-length}
 use Rattle.std.proofs.lemmas.Option.{same_Some, slice_get_within, slice_get-get_or, get_or_from_slice_get}
+use Rattle.printf_grammar.specs.declared.argument.Value.{Value}
 use Rattle.log_dictionary.specs.declared.severity.Severity.{Severity}
 use Rattle.log_dictionary.specs.declared.message.Message.{Message}
 use Rattle.arg_records.specs.declared.call.Call.{Call}
@@ -25,7 +26,8 @@ use Rattle.log_session.specs.declared.drops.Dropped.{Dropped}
 use Rattle.log_session.specs.declared.options.Policy.TheVariants as policies
 use Rattle.log_session.specs.Levels.{keeps}
 use Rattle.log_session.specs.Drops.{is_listed, taken_call, taken_of, calls_at, position_at, released_at, LacksRoom, IsDrop}
-use Rattle.log_session.specs.Workers.{Task, Progress, all_calls, calls_before, accepted_before, kept_before, HasWorked, IsNextFiltered, IsNextKept}
+use Rattle.log_session.specs.Workers.{Task, Progress, all_calls, calls_before, accepted_before, kept_before, drop_of, HasWorked, HasTriedOnce, IsNextFiltered, IsNextKept, WantsRoom}
+use Rattle.log_session.specs.Writers.{Tries, one_log}
 use Rattle.log_session.proofs.Taking.{taken_calls-passed, taken_calls-accepted, taken_calls-dropped, taken_calls-same, is_listed-below, is_listed-last, is_listed-earlier, released_at-same, lawful_nil, lawful_more}
 
 -- ---- calls of a run that is recorded
@@ -89,7 +91,7 @@ module _ (task : Task) (progress : Progress) (call : Call) (next_is : slice_get 
   before_length = length-take-le progress.next (all_calls task) (omega (arith, within_more))
 
   -- those that the level keeps
-  kept_passed : keeps task.run.dictionary task.level call ≡ false → filter (keeps task.run.dictionary task.level) (take (progress.next + 1) (all_calls task)) ≡ kept_before task progress
+  pub kept_passed : keeps task.run.dictionary task.level call ≡ false → filter (keeps task.run.dictionary task.level) (take (progress.next + 1) (all_calls task)) ≡ kept_before task progress
   kept_passed passed =
       ap (filter (keeps task.run.dictionary task.level)) before_more
       ∙ filter_more (keeps task.run.dictionary task.level) (calls_before task progress) call false passed
@@ -251,9 +253,12 @@ worked_accepted {task} {progress} {plan} {sent} {at} {words} {seen} {closed} {la
       last_is = omega (arith, last_more task progress call is);
     }
 
--- the drop of the next call
-abbrev pub drop_of : Task → Progress → Full → Dropped
-drop_of task progress full = record { writer = task.number; ordinal = progress.next; need = full.need; room = full.room }
+-- the ring lacks room for the next call where it does for arguments that are its own
+pub wants_room : {at at_now words words_now seen : ℕ} {full : Full} (task : Task) (progress : Progress) (call : Call) (args : List Value) → slice_get (all_calls task) progress.next ≡ Some call → args ≡ call.args
+    → IsFull at (FrameLen args) words seen full → at_now ≡ at → words_now ≡ words → WantsRoom task progress at_now words_now seen full
+wants_room {at} {at_now} {words} {words_now} {seen} {full} task progress call args is own lacks same_at same_words = λ other there.
+    let same : args ≡ other.args = own ∙ ap (λ (x : Call). x.args) (same_Some call other (sym is ∙ there)) in
+    subst (λ (x : ℕ × List Value × ℕ). IsFull x.0 (FrameLen x.1) x.2 seen full) (λ i. (sym same_at i, same i, sym same_words i)) lacks
 
 -- one for which the ring lacked room
 pub worked_dropped : {task : Task} {progress : Progress} {plan : Plan} {sent : List (List ℕ)} {at words seen : ℕ} {closed : Bool} {last : ℕ} → IsRecording task.run → HasWorked task progress plan sent at words seen closed last
@@ -305,6 +310,26 @@ worked_dropped {task} {progress} {plan} {sent} {at} {words} {seen} {closed} {las
       closed_is = h.closed_is;
       last_is = omega (arith, last_more task progress call is, worked_last recorded h call is);
     }
+
+-- ---- tries
+
+-- no call was tried that the level doesn't keep
+pub tried_passed : (task : Task) (progress : Progress) (call : Call) (tries : Tries) → slice_get (all_calls task) progress.next ≡ Some call → keeps task.run.dictionary task.level call ≡ false → HasTriedOnce task progress tries
+    → HasTriedOnce task (record progress { next = progress.next + 1 }) tries
+tried_passed task progress call tries is passed once = λ sheds. once sheds ∙ sym (ap (λ (calls : List Call). length calls) (kept_passed task progress call is passed))
+
+-- one that it keeps was tried once
+pub tried_more : {task : Task} {progress : Progress} {plan : Plan} {sent : List (List ℕ)} {at words seen : ℕ} {closed : Bool} {last : ℕ} → IsRecording task.run → HasWorked task progress plan sent at words seen closed last
+    → (call : Call) (tries new_tries : Tries) → slice_get (all_calls task) progress.next ≡ Some call → keeps task.run.dictionary task.level call ≡ true → new_tries ≡ one_log tries → HasTriedOnce task progress tries
+    → HasTriedOnce task (record progress { next = progress.next + 1 }) new_tries
+tried_more {task} {progress} recorded h call tries new_tries is keeping more once = λ sheds.
+    let kept : length (filter (keeps task.run.dictionary task.level) (take (progress.next + 1) (all_calls task))) ≡ length (kept_before task progress) + 1 =
+    ap (λ (calls : List Call). length calls) (kept_more task progress call is keeping) ∙ length_push (kept_before task progress) call in
+    let few : length (kept_before task progress) ≤ progress.next =
+    omega (arith, length-filter (keeps task.run.dictionary task.level) (calls_before task progress), count_by-le-length (keeps task.run.dictionary task.level) (calls_before task progress), before_length task progress call is) in
+    omega (arith, ap (λ (t : Tries). t.logs) more, once sheds, kept, few, worked_next recorded h call is)
+
+-- ---- the end
 
 -- more is known to be taken
 pub worked_seen : {task : Task} {progress : Progress} {plan : Plan} {sent : List (List ℕ)} {at words seen : ℕ} {closed : Bool} {last : ℕ} → HasWorked task progress plan sent at words seen closed last

@@ -45,7 +45,8 @@ pub record FinishedView (S : Type 0) : Type 0 where
   pub drops : List Dropped
   pub writers : List (WriterView S)
 
--- The writers have logged all calls that the level keeps, but for the drops, and these are lawful.
+-- The writers have logged all calls that the level keeps, but for the drops, and these are lawful. Where calls are
+-- dropped, each was tried once.
 pub record AreDone {S : Type 0} (sent : S → List (List ℕ)) (closed : S → Bool) (done : FinishedView S) : Type 0 where
   pub within : length done.writers ≤ length done.run.writers
   pub lawful : LawfulDrops done.run done.options.level done.options.ring done.drops
@@ -55,3 +56,5 @@ pub record AreDone {S : Type 0} (sent : S → List (List ℕ)) (closed : S → B
       (taken_front done.run done.options.level done.drops (length done.writers))
   pub kept : call_count (taken_front done.run done.options.level done.drops (length done.writers))
       + length done.drops ≡ call_count (take (length done.writers) (Kept done.run done.options.level))
+  pub tried : done.options.policy ≡ policies.Shed → map (λ writer. writer.tries.logs) done.writers
+      ≡ map length (take (length done.writers) (Kept done.run done.options.level))

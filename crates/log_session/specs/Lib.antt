@@ -6,6 +6,7 @@ pub mod Levels
 pub mod Drops
 pub mod Sessions
 pub mod Workers
+pub mod Turns
 pub mod WorkerInside
 pub mod Seats
 pub mod Rounds

@@ -8,15 +8,16 @@ use Rattle.log_session.specs.declared.options.Options.{Options}
 use Rattle.log_session.specs.Starts.{IsUnused}
 use Rattle.log_session.specs.Workers.{Work}
 use Rattle.log_session.specs.Finishing.{works_of}
-use Rattle.log_session.specs.Writers.{WriterView}
+use Rattle.log_session.specs.Writers.{WriterView, no_tries}
 
--- nothing was logged into the writer's ring, which has this size and this plan
+-- nothing was logged into the writer's ring, nor tried, and it has this size and this plan
 pub record IsNewWriter {S : Type 0} (size : ℕ) (plan : Plan) (words : S → ℕ) (planned : S → Plan)
     (sent : S → List (List ℕ)) (closed : S → Bool) (at seen : S → ℕ) (writer : WriterView S) : Type 0 where
   pub size_is : words writer.end ≡ size
   pub plan_is : planned writer.end ≡ plan
   pub unused : IsUnused (sent writer.end) (closed writer.end) (at writer.end) (seen writer.end)
   pub last_is : writer.last ≡ plan.first
+  pub untried : writer.tries ≡ no_tries
 
 -- The workers are those of the run's writers, over the rings of the roamer, which is one for the run.
 pub record AreReady {O : Type 0} (pair : O → List ℕ) (plan : O → Plan) (run : Recording) (options : Options)

@@ -15,6 +15,7 @@ use Rattle.log_session.specs.declared.options.Policy.{Policy}
 use Rattle.log_session.specs.declared.options.Policy.TheVariants as policies
 use Rattle.log_session.specs.Levels.{keeps}
 use Rattle.log_session.specs.Drops.{calls_at, taken_of, released_at, LawfulDrops}
+use Rattle.log_session.specs.Writers.{Tries}
 
 -- what a worker is to do: the calls of one writer of a run that the level keeps, by this policy
 pub record Task : Type 0 where
@@ -33,6 +34,7 @@ pub record Progress : Type 0 where
 pub record WorkerView (S : Type 0) : Type 0 where
   pub task : Task
   pub end : S
+  pub tries : Tries
   pub progress : Progress
 
 -- all calls of its writer
@@ -74,6 +76,10 @@ pub record HasWorked (task : Task) (progress : Progress) (plan : Plan) (sent : L
   pub closed_is : closed ≡ progress.closed
   pub last_is : last ≤ last_stamp task.run.clock.tick (calls_before task progress)
 
+-- where calls are dropped, its writer was asked once to log each of the calls that the level keeps
+abbrev pub HasTriedOnce : Task → Progress → Tries → Type 0
+HasTriedOnce task progress tries = task.policy ≡ policies.Shed → tries.logs ≡ length (kept_before task progress)
+
 -- what a worker works on: its task, and a ring of so many words
 pub record Work : Type 0 where
   pub task : Task
@@ -102,6 +108,11 @@ abbrev pub IsNextKept : Task → Progress → Type 0
 IsNextKept task progress =
     (call : Call) × (slice_get (all_calls task) progress.next ≡ Some call)
     × (keeps task.run.dictionary task.level call ≡ true)
+
+-- what is listed of the next call where it is dropped
+abbrev pub drop_of : Task → Progress → Full → Dropped
+drop_of task progress full =
+    record { writer = task.number; ordinal = progress.next; need = full.need; room = full.room }
 
 -- the ring lacks room for the next call
 abbrev pub WantsRoom : Task → Progress → ℕ → ℕ → ℕ → Full → Type 0

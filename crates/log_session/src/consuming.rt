@@ -1,9 +1,10 @@
 //! The consumer's rounds.
 
-ghost use Rattle.std.specs.Prelude.{◌≡◌, ◌↔◌, ◌<◌, ◌+◌, true, length};
+ghost use Rattle.std.specs.Prelude.{◌≡◌, ◌↔◌, ◌<◌, ◌+◌, Bool, true, length};
+ghost use Rattle.std.specs.List.{AllZip};
 ghost use Rattle.roaming_consumer.specs.Roamers.{ends_of, is_begun, ArePlanned};
 ghost use Rattle.log_session.specs.Rounds.{Roams, IsOverUpTo};
-ghost use Rattle.log_session.specs.Seats.{works_at};
+ghost use Rattle.log_session.specs.Seats.{works_at, TurnsOnce};
 
 use crate::gate::Gate;
 use crate::seat::Seat;
@@ -90,6 +91,8 @@ where
     G: Gate + 'static,
     R: Wait + Copy,
     ensures same { works_at I.pair I.words seats.new ≡ works_at I.pair I.words seats.old }
+    ensures turns { AllZip (λ old new. (moved : Bool) × TurnsOnce I.at I.words I.seen I.looks old new moved)
+        seats.old seats.new }
 {
     let mut round = Round::Over;
     for place in 0..seats.len() {
@@ -100,8 +103,7 @@ where
     round
 }
 
-/// Goes round the writers until all of them have ended, and takes the turns of those workers that are here. Where
-/// nothing moves it pauses for a short while.
+/// Goes round the writers until all of them have ended, and takes the turns of those workers that are here.
 pub(crate) fn consume<I, O, K, G, R>(
     rt: R,
     roamer: &mut Roamer<'_, O>,

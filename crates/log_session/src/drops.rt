@@ -37,7 +37,7 @@ impl Model for Drops {
 }
 
 impl Drops {
-    /// No drops. It takes no memory.
+    /// No drops.
     pub fn make(alloc: Global) -> Drops
         ensures { result ≡ [] }
     {

@@ -21,12 +21,12 @@ pub struct Outcome<D> {
 pub enum RunFault {
     /// A ring would have fewer words than [`MIN_RING`](ring_core::MIN_RING), or more than
     /// [`MAX_RING`](ring_core::MAX_RING).
-    #[error("a ring has 1,024 to 1,048,576 words")]
+    #[error("bad size")]
     BadSize,
-    /// Memory was wanting before the session began. Nothing was written.
-    #[error("there is no memory")]
+    /// Memory was wanting. Nothing was written.
+    #[error("no memory")]
     NoMemory,
-    /// The log couldn't be written. All writers have ended.
-    #[error("the log could not be written")]
+    /// The log couldn't be written.
+    #[error("sink fault")]
     SinkFault,
 }

@@ -24,13 +24,13 @@ impl<S: StageIn, G> Promise<Worker<S, G>> for Returns<S, G> {
 /// Where a worker is.
 #[derive(Drop)]
 pub(crate) enum Seat<S: StageIn, G> {
-    /// It works to its end in a thread of its own.
+    /// It works in a thread of its own.
     Away(PromisedHandle<Worker<S, G>, Returns<S, G>>),
     /// It takes its turns here.
     Here(Worker<S, G>),
 }
 
-/// Works to the end, unless the worker stays where it was made.
+/// Lets the worker work, unless it stays where it was made.
 fn go<S: StageIn + Drop, G: Gate, R: Wait + Copy>(rt: R, worker: Worker<S, G>) -> Worker<S, G>
     ensures { IsSameWork S.pair S.words worker result }
 {
@@ -43,9 +43,9 @@ fn go<S: StageIn + Drop, G: Gate, R: Wait + Copy>(rt: R, worker: Worker<S, G>) -
 
 impl<S: StageIn + Send + Drop + 'static, G: Gate + 'static> Seat<S, G> {
     ghost use Rattle.log_session.specs.Workers.{IsSameWork};
-    ghost use Rattle.log_session.specs.Seats.{worker_of};
+    ghost use Rattle.log_session.specs.Seats.{worker_of, TurnsOnce};
 
-    /// Starts a thread for the worker. Where none can be started, the worker stays here and hasn't begun.
+    /// Starts a thread for the worker. Where none can be started, the worker stays here.
     pub(crate) fn start<R>(rt: R, worker: Worker<S, G>) -> Seat<S, G>
     where
         R: Threads + Wait + Copy + Send + 'static,
@@ -66,7 +66,8 @@ impl<S: StageIn + Send + Drop + 'static, G: Gate + 'static> Seat<S, G> {
 
     /// Takes a turn of the worker, if it is here, and answers whether that moved it.
     pub(crate) fn take_turn<R: Wait + Copy>(&mut self, rt: R) -> bool
-        ensures { IsSameWork S.pair S.words (worker_of self.old) (worker_of self.new) }
+        ensures same { IsSameWork S.pair S.words (worker_of self.old) (worker_of self.new) }
+        ensures turn { TurnsOnce S.at S.words S.seen S.looks self.old self.new result }
     {
         match self {
             Seat::Away(_) => false,

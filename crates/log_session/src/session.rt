@@ -47,7 +47,7 @@ where
     }
 }
 
-/// Makes the calls of a run whose header was written. It takes no memory.
+/// Makes the calls of a run whose header was written.
 fn run_begun<R, S, K, G>(
     rt: R,
     trace: &Trace,
@@ -105,8 +105,7 @@ where
 ///
 /// # Errors
 ///
-/// The rings' size is none, memory was wanting, or the log couldn't be written. Memory is wanted before anything is
-/// written and a thread is started.
+/// The rings' size is none, memory was wanting before anything was written, or the log couldn't be written.
 pub fn run<R, S, K, G>(
     rt: R,
     alloc: Global,

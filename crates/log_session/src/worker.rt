@@ -77,20 +77,27 @@ fn hold_recorded(trace: &Trace)
 }
 
 impl<S: StageIn, G> Model for Worker<S, G> {
-    ghost use Rattle.log_session.specs.Workers.{WorkerView, HasWorked};
+    ghost use Rattle.log_session.specs.Workers.{WorkerView, HasWorked, HasTriedOnce};
     ghost use Rattle.log_session.specs.WorkerInside.{task_of, progress_of, HasRoom};
 
     ghost Value = { WorkerView S };
 
-    ghost view = { λ w. record { task = task_of w; end = w.writer.end; progress = progress_of w } };
+    ghost view = { λ w. record {
+      task = task_of w;
+      end = w.writer.end;
+      tries = w.writer.tries;
+      progress = progress_of w;
+    } };
 
     ghost invariant = { λ w. HasWorked (task_of w) (progress_of w) (S.plan w.writer.end) (S.sent w.writer.end)
         (S.at w.writer.end) (S.words w.writer.end) (S.seen w.writer.end) (S.closed w.writer.end) w.writer.last
-        × HasRoom w };
+        × HasRoom w × HasTriedOnce (task_of w) (progress_of w) w.writer.tries };
 }
 
 impl<S: StageIn + Drop, G: Gate> Worker<S, G> {
-    ghost use Rattle.log_session.specs.Workers.{HasWorked, all_calls, IsSameWork, IsNextFiltered, IsNextKept, WantsRoom};
+    ghost use Rattle.log_session.specs.Workers.{HasWorked, HasTriedOnce, all_calls, IsSameWork, IsNextFiltered, IsNextKept};
+    ghost use Rattle.log_session.specs.Turns.{Passes, TriesCall, TriesToClose};
+    ghost use Rattle.log_session.specs.Writers.{no_tries};
 
     /// A worker for a writer of the run, which has logged nothing. Where calls may be dropped, the room for all of them
     /// is taken here.
@@ -105,6 +112,7 @@ impl<S: StageIn + Drop, G: Gate> Worker<S, G> {
         requires known { number < length (arc_value trace).writers }
         requires unused { IsUnused (S.sent writer.end) (S.closed writer.end) (S.at writer.end) (S.seen writer.end) }
         requires new { writer.last ≡ (arc_value trace).clock.tick }
+        requires untried { writer.tries ≡ no_tries }
         requires plan { S.plan writer.end ≡ plan_of (arc_value trace).dictionary (arc_value trace).clock.tick }
         requires ring { (MIN_RING ≤ S.words writer.end) × (S.words writer.end ≤ MAX_RING) }
         ensures task { IfOk result (λ worker. worker.task ≡ record {
@@ -141,6 +149,8 @@ impl<S: StageIn + Drop, G: Gate> Worker<S, G> {
         ensures end { result.0.end ≡ self.end }
         ensures counted { result.0.accepted ≡ length (S.sent self.end) }
         ensures drops { result.1.items ≡ self.progress.drops }
+        ensures tries { result.0.tries ≡ self.tries }
+        ensures tried { HasTriedOnce self.task self.progress self.tries }
         ensures recorded { IsRecording self.task.run }
         ensures worked { (last : ℕ) × HasWorked self.task self.progress (S.plan self.end) (S.sent self.end)
             (S.at self.end) (S.words self.end) (S.seen self.end) (S.closed self.end) last }
@@ -192,9 +202,7 @@ impl<S: StageIn + Drop, G: Gate> Worker<S, G> {
     fn pass(&mut self)
         requires filtered { IsNextFiltered self.old.task self.old.progress }
         requires unfinished { self.old.progress.closed ≡ false }
-        ensures end { self.new.end ≡ self.old.end }
-        ensures task { self.new.task ≡ self.old.task }
-        ensures unfinished { self.new.progress.closed ≡ false }
+        ensures passes { Passes self.old self.new }
         ensures next { self.new.progress.next ≡ self.old.progress.next + 1 }
     {
         hold_recorded(&self.trace);
@@ -204,9 +212,7 @@ impl<S: StageIn + Drop, G: Gate> Worker<S, G> {
     /// Passes over the next calls that the level doesn't keep.
     fn pass_filtered(&mut self)
         requires unfinished { self.old.progress.closed ≡ false }
-        ensures end { self.new.end ≡ self.old.end }
-        ensures task { self.new.task ≡ self.old.task }
-        ensures unfinished { self.new.progress.closed ≡ false }
+        ensures passes { Passes self.old self.new }
         ensures passed { ¬ (IsNextFiltered self.new.task self.new.progress) }
     {
         while self.is_at_filtered() {
@@ -214,14 +220,13 @@ impl<S: StageIn + Drop, G: Gate> Worker<S, G> {
         }
     }
 
-    /// Logs the next call, if there is room.
-    fn log_next<R: Wait + Copy>(&mut self, rt: R) -> Result<(), Full>
+    /// Tries the next call, once: logs it, or drops it where there is no room and that is the policy. It answers whether
+    /// the call was answered.
+    fn log_or_shed<R: Wait + Copy>(&mut self, rt: R) -> bool
         requires unfinished { self.old.progress.closed ≡ false }
         requires next { IsNextKept self.old.task self.old.progress }
         ensures same { IsSameWork S.pair S.words self.old self.new }
-        ensures unfinished { self.new.progress.closed ≡ false }
-        ensures err { IfErr result (λ full. (self.new.progress ≡ self.old.progress) × WantsRoom self.old.task
-            self.old.progress (S.at self.new.end) (S.words self.new.end) (S.seen self.new.end) full) }
+        ensures tried { TriesCall S.at S.words S.seen S.looks self.old self.new result }
     {
         hold_recorded(&self.trace);
         let call = self
@@ -232,69 +237,43 @@ impl<S: StageIn + Drop, G: Gate> Worker<S, G> {
         match self.writer.log(rt, call.stamp, call.id, &call.args.args()) {
             Ok(()) => {
                 self.next += 1;
-                Ok(())
+                true
             }
-            Err(LogRefusal::Full(full)) => Err(full),
+            Err(LogRefusal::Full(full)) => {
+                if self.policy == Policy::Wait {
+                    return false;
+                }
+                let drop = Dropped {
+                    writer: self.number,
+                    ordinal: self.next as u64,
+                    need: full.need,
+                    room: full.room,
+                };
+                self.drops.push_reserved(drop);
+                self.next += 1;
+                true
+            }
             Err(LogRefusal::TooLong) => unreachable!(),
         }
     }
 
-    /// Drops the next call, for which there was no room.
-    fn shed(&mut self, full: Full)
-        requires unfinished { self.old.progress.closed ≡ false }
-        requires next { IsNextKept self.old.task self.old.progress }
-        requires shed { self.old.task.policy ≡ Policy.Shed }
-        requires wanting { WantsRoom self.old.task self.old.progress
-            (S.at self.old.end) (S.words self.old.end) (S.seen self.old.end) full }
-        ensures same { IsSameWork S.pair S.words self.old self.new }
-        ensures unfinished { self.new.progress.closed ≡ false }
-    {
-        hold_recorded(&self.trace);
-        let drop = Dropped {
-            writer: self.number,
-            ordinal: self.next as u64,
-            need: full.need,
-            room: full.room,
-        };
-        self.drops.push_reserved(drop);
-        self.next += 1;
-    }
-
-    /// Logs the next call, or drops it where that is the policy. It answers whether the call was answered.
-    fn log_or_shed<R: Wait + Copy>(&mut self, rt: R) -> bool
-        requires unfinished { self.old.progress.closed ≡ false }
-        requires next { IsNextKept self.old.task self.old.progress }
-        ensures same { IsSameWork S.pair S.words self.old self.new }
-    {
-        let Err(full) = self.log_next(rt) else {
-            return true;
-        };
-        if self.policy == Policy::Wait {
-            return false;
-        }
-        self.shed(full);
-        true
-    }
-
-    /// Tries to close the writer.
-    fn try_close<R: Wait + Copy>(&mut self, rt: R) -> Turn
+    /// Tries to close the writer, once, and answers whether it is closed.
+    fn try_close<R: Wait + Copy>(&mut self, rt: R) -> bool
         requires unfinished { self.old.progress.closed ≡ false }
         requires all { self.old.progress.next ≡ length (all_calls self.old.task) }
         ensures same { IsSameWork S.pair S.words self.old self.new }
-        ensures tried { result ≢ Turn.Finished }
+        ensures tried { TriesToClose self.old self.new result }
     {
-        if self.writer.close(rt).is_err() {
-            return Turn::Stuck;
-        }
-        self.closed = true;
-        Turn::Moved
+        self.closed = self.writer.close(rt).is_ok();
+        self.closed
     }
 }
 
 impl<S: StageIn + Drop, G: Gate> Worker<S, G> {
-    ghost use Rattle.log_session.specs.Workers.{all_calls, IsSameWork, IsNextFiltered, IsNextKept};
+    ghost use Rattle.log_session.specs.Workers.{IsSameWork, IsNextFiltered, IsNextKept};
+    ghost use Rattle.log_session.specs.Turns.{TriesCall, TriesNext, IsTurn};
 
-    /// Tells the gate, once, that the next call is going to be tried.
+    /// Tells the gate that the next call is going to be tried, if it wasn't told.
     fn announce(&mut self)
         ensures { self.new ≡ self.old }
     {
@@ -313,31 +292,30 @@ impl<S: StageIn + Drop, G: Gate> Worker<S, G> {
         self.gate.after(self.number, ordinal);
     }
 
-    /// Tries the next call.
-    fn try_call<R: Wait + Copy>(&mut self, rt: R) -> Turn
+    /// Tries the next call, once, and tells the gate. It answers whether the call was answered.
+    fn try_call<R: Wait + Copy>(&mut self, rt: R) -> bool
         requires unfinished { self.old.progress.closed ≡ false }
         requires next { IsNextKept self.old.task self.old.progress }
         ensures same { IsSameWork S.pair S.words self.old self.new }
-        ensures tried { result ≢ Turn.Finished }
+        ensures tried { TriesCall S.at S.words S.seen S.looks self.old self.new result }
     {
         let ordinal = self.next as u64;
         self.announce();
-        if !self.log_or_shed(rt) {
-            return Turn::Stuck;
+        let answered = self.log_or_shed(rt);
+        if answered {
+            self.tell(ordinal);
         }
-        self.tell(ordinal);
-        Turn::Moved
+        answered
     }
 
-    /// Tries the next call that the level keeps, or to close the writer where there is none.
-    pub(crate) fn turn<R: Wait + Copy>(&mut self, rt: R) -> Turn
+    /// Tries the next call, which the level keeps, or to close the writer where there is none. It answers whether that
+    /// moved it.
+    fn try_next<R: Wait + Copy>(&mut self, rt: R) -> bool
+        requires unfinished { self.old.progress.closed ≡ false }
+        requires passed { ¬ (IsNextFiltered self.old.task self.old.progress) }
         ensures same { IsSameWork S.pair S.words self.old self.new }
-        ensures finished { result ≡ Turn.Finished → self.new.progress.closed ≡ true }
+        ensures tried { TriesNext S.at S.words S.seen S.looks self.old self.new result }
     {
-        if self.closed {
-            return Turn::Finished;
-        }
-        self.pass_filtered();
         if self.next < self.calls().len() {
             self.try_call(rt)
         } else {
@@ -345,7 +323,23 @@ impl<S: StageIn + Drop, G: Gate> Worker<S, G> {
         }
     }
 
-    /// Takes turns until all is done. Where there is no room it lets others run before it tries again.
+    /// Takes a turn: tries the next call that the level keeps, or to close the writer where there is none.
+    pub(crate) fn turn<R: Wait + Copy>(&mut self, rt: R) -> Turn
+        ensures same { IsSameWork S.pair S.words self.old self.new }
+        ensures turn { IsTurn S.at S.words S.seen S.looks result self.old self.new }
+    {
+        if self.closed {
+            return Turn::Finished;
+        }
+        self.pass_filtered();
+        if self.try_next(rt) {
+            Turn::Moved
+        } else {
+            Turn::Stuck
+        }
+    }
+
+    /// Takes turns until all is done.
     pub(crate) fn work<R: Wait + Copy>(&mut self, rt: R)
         ensures same { IsSameWork S.pair S.words self.old self.new }
         ensures finished { self.new.progress.closed ≡ true }

@@ -9,7 +9,7 @@ ghost use Rattle.ring_core.specs.declared.limits.TheConstants.{MIN_RING, MAX_RIN
 ghost use Rattle.ring_core.specs.Answers.{IsFull};
 ghost use Rattle.ring_core.specs.Plans.{call_of};
 ghost use Rattle.ring_core.specs.Positions.{Need};
-ghost use Rattle.log_session.specs.Writers.{IsDictionaryPlan, Knows, Accepts, IfFull, IsSameEnd};
+ghost use Rattle.log_session.specs.Writers.{IsDictionaryPlan, Knows, Accepts, IfFull, IsSameEnd, one_log, one_close};
 
 use crate::refusal::LogRefusal;
 use arg_records::{MAX_FRAME_WORDS, frame_words};
@@ -27,6 +27,10 @@ pub struct Writer<S: StageIn> {
     pub(crate) end: S,
     last: u64,
     accepted: u64,
+    /// How often it was asked to log a call.
+    logs: u64,
+    /// How often it was asked to close.
+    closes: u64,
     frame: [u64; MAX_FRAME_WORDS],
 }
 
@@ -35,7 +39,12 @@ impl<S: StageIn> Model for Writer<S> {
 
     ghost Value = { WriterView S };
 
-    ghost view = { λ w. record { end = w.end; last = w.last; accepted = w.accepted } };
+    ghost view = { λ w. record {
+      end = w.end;
+      last = w.last;
+      accepted = w.accepted;
+      tries = record { logs = w.logs; closes = w.closes };
+    } };
 
     ghost invariant = { λ w. HasLogged (S.plan w.end) (S.sent w.end) (S.at w.end) (S.words w.end) w.last w.accepted };
 }
@@ -55,11 +64,13 @@ impl<S: StageIn> Writer<S> {
             end,
             last: first,
             accepted: 0,
+            logs: 0,
+            closes: 0,
             frame: [0; MAX_FRAME_WORDS],
         }
     }
 
-    /// Logs a call, with the arguments that its message takes. It takes no memory.
+    /// Logs a call, with the arguments that its message takes.
     ///
     /// # Errors
     ///
@@ -90,11 +101,13 @@ impl<S: StageIn> Writer<S> {
         ensures err { OnErr result ((S.sent self.new.end ≡ S.sent self.old.end)
             × (S.at self.new.end ≡ S.at self.old.end) × (self.new.last ≡ self.old.last)
             × (self.new.accepted ≡ self.old.accepted)) }
+        ensures tried { self.new.tries ≡ one_log self.old.tries }
         ensures stays_open { S.closed self.new.end ≡ false }
         ensures seen_never_falls { S.seen self.old.end ≤ S.seen self.new.end }
         ensures looks_never_fall { S.looks self.old.end ≤ S.looks self.new.end }
         ensures same { IsSameEnd S.pair S.words S.plan self.old.end self.new.end }
     {
+        self.logs = self.logs.saturating_add(1);
         hold_bytes(args);
         let Ok(len) = frame_words(id, stamp, args, &mut self.frame) else {
             return Err(LogRefusal::TooLong);
@@ -117,10 +130,12 @@ impl<S: StageIn> Writer<S> {
         ensures err { OnErr result (S.closed self.new.end ≡ false) }
         ensures others { (S.sent self.new.end ≡ S.sent self.old.end) × (S.at self.new.end ≡ S.at self.old.end)
             × (self.new.last ≡ self.old.last) × (self.new.accepted ≡ self.old.accepted) }
+        ensures tried { self.new.tries ≡ one_close self.old.tries }
         ensures seen_never_falls { S.seen self.old.end ≤ S.seen self.new.end }
         ensures looks_never_fall { S.looks self.old.end ≤ S.looks self.new.end }
         ensures same { IsSameEnd S.pair S.words S.plan self.old.end self.new.end }
     {
+        self.closes = self.closes.saturating_add(1);
         self.end.close(rt)
     }
 
@@ -155,6 +170,8 @@ impl<S: StageIn> Writer<S> {
             end,
             last: _,
             accepted: _,
+            logs: _,
+            closes: _,
             frame: _,
         } = self;
         end

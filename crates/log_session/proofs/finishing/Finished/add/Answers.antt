@@ -17,7 +17,7 @@ added g c =
     let parts = c.into_parts-writer.ensures in
     done_add g.S.StageIn.pair g.S.StageIn.plan g.S.StageIn.sent g.S.StageIn.closed g.S.StageIn.at g.S.StageIn.words g.S.StageIn.seen
     (finished_of c.self.inside) c.args.self.now c.args.worker c.into_parts-writer.result.0 c.into_parts-writer.result.1.items c.self.view_is c.self.invariant.0 c.requires.next c.requires.finished
-    parts.worked parts.end parts.counted parts.drops
+    parts.worked parts.end parts.counted parts.drops parts.tries parts.tried
 
 pub unreachable-requires : goal.unreachable-requires
 unreachable-requires g c =
