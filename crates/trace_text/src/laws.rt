@@ -21,6 +21,7 @@ ghost use Rattle.printf_grammar.specs.declared.argument.Value.TheVariants.{Signe
 ghost use Rattle.std.specs.List.{range_with_len};
 ghost use Rattle.arg_records.specs.declared.call.TheConstants.{MAX_WRITERS};
 ghost use Rattle.trace_text.specs.declared.generating.TheConstants.{MAX_GENERATED};
+ghost use Rattle.trace_text.specs.declared.trace.TheConstants.{MAX_CALLS, MAX_TRACE};
 ghost use Rattle.trace_text.specs.Generated.{state_after, Generated};
 ghost use Rattle.trace_text.specs.Rows.{first_states, two_calls_text, turns_text, no_calls_text};
 
@@ -29,6 +30,14 @@ use crate::reading::TraceFault;
 use crate::trace::Trace;
 use crate::writer_calls::WriterCalls;
 use crate::writing::WriteTraceFault;
+
+/// The limits of traces, as numbers.
+pub fn limits_have_these_numbers()
+    ensures bytes { MAX_TRACE ≡ 67108864 }
+    ensures calls { MAX_CALLS ≡ 4194304 }
+    ensures writers { MAX_WRITERS ≡ 64 }
+    ensures generated { MAX_GENERATED ≡ 1000000 }
+{}
 
 /// A run of three writers, whose calls are mixed.
 pub fn writers_are_mixed()
@@ -166,9 +175,9 @@ pub fn traces_are_generated()
         → Generated seed calls writers ≡ Generated other calls writers }
 {}
 
-/// Each generated trace has a text: it can be written, and reading that gives it again.
+/// Each generated trace is one that a text can spell.
 pub fn generated_traces_have_texts()
-    ensures { (seed calls writers : ℕ) → calls ≤ MAX_GENERATED → 1 ≤ writers → writers ≤ MAX_WRITERS
+    ensures { (seed calls writers : ℕ) → calls ≤ 1000000 → 1 ≤ writers → writers ≤ 64
         → HasText (Generated seed calls writers) }
 {}
 
