@@ -47,7 +47,7 @@ nested head = codes "call " ++ (decimal head.writer ++ 32 ∷ (decimal head.stam
 line_of-nested : (head : CallHead) → line_of head ≡ nested head
 line_of-nested head = simp append_assoc
 
-head_read : (head : CallHead) → IsHead head → head_at (line_of head) ≡ Some head
+pub head_read : (head : CallHead) → IsHead head → head_at (line_of head) ≡ Some head
 head_read head is =
     let id = first_read (decimal head.id) head.fields (decimal_all (λ byte. byte ≢ 32) (λ d small e. omega (arith, e)) head.id) is.ends in
     let stamp = split_number head.stamp (decimal head.id ++ head.fields) is.stamp in

@@ -4,7 +4,8 @@ use Rattle.std.proofs.lemmas.Bool.{eqb-true, eqb-false}
 use Rattle.std.proofs.lemmas.List.Elements.{recursion_from_All}
 use Rattle.log_dictionary.specs.Fields.{IsFirstSplit}
 use Rattle.trace_text.specs.Lines.{text_of_lines}
-use Rattle.trace_text.specs.Reading.{IsCut}
+use Rattle.std.specs.List.{AllByRecursion}
+use Rattle.trace_text.specs.Reading.{IsOneLine, IsCut}
 
 -- ---- every list of bytes is cut in one way
 
@@ -56,3 +57,14 @@ cut_behind bytes line behind lines rest split cut = record {
 -- bytes in which no line ends
 pub cut_unended : (bytes : List ℕ) → All (λ byte. byte ≢ 10) bytes → IsCut bytes [] bytes
 cut_unended bytes none = record { joined = refl; whole = tt; unended = recursion_from_All (λ byte. byte ≢ 10) bytes none }
+
+-- whole lines in front of what is cut
+pub cut_lines : (lines : List (List ℕ)) (bytes : List ℕ) (more : List (List ℕ)) (rest : List ℕ) → AllByRecursion IsOneLine lines → IsCut bytes more rest → IsCut (text_of_lines lines ++ bytes) (lines ++ more) rest
+cut_lines [] bytes more rest whole cut = cut
+cut_lines (line ∷ lines) bytes more rest whole cut =
+    let others = cut_lines lines bytes more rest whole.1 cut in
+    record {
+      joined = append_assoc line (10 ∷ text_of_lines lines) bytes ∙ ap (λ (r : List ℕ). line ++ 10 ∷ r) others.joined ∙ sym (append_assoc line (10 ∷ text_of_lines (lines ++ more)) rest);
+      whole = (whole.0, others.whole);
+      unended = others.unended;
+    }

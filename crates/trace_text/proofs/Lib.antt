@@ -24,6 +24,9 @@ pub mod ReadTexts
 pub mod OneOutcome
 pub mod SomeOutcome
 pub mod ToldApart
+pub mod Followed
+pub mod LongLines
+pub mod CauseNumbers
 pub mod Fronts
 pub mod CallTexts
 pub mod OwnCalls

@@ -25,7 +25,7 @@ same_first (byte ∷ a) (head ∷ b) x y none other same =
     let first : byte ≡ head = cc in
     (ap (λ (n : ℕ). n ∷ a) first ∙ ap (λ (l : List ℕ). head ∷ l) others.0, others.1)
 
-one_cut : (bytes : List ℕ) (a b : List (List ℕ)) (x y : List ℕ) → IsCut bytes a x → IsCut bytes b y → (a ≡ b) × (x ≡ y)
+pub one_cut : (bytes : List ℕ) (a b : List (List ℕ)) (x y : List ℕ) → IsCut bytes a x → IsCut bytes b y → (a ≡ b) × (x ≡ y)
 one_cut bytes [] [] x y first second = (refl, sym first.joined ∙ second.joined)
 one_cut bytes [] (line ∷ b) x y first second =
     absurd (feed_inside line (text_of_lines b ++ y) (subst IsOneLine (sym first.joined ∙ second.joined ∙ append_assoc line (10 ∷ text_of_lines b) y) first.unended))

@@ -21,7 +21,7 @@ copies_rise least call (suc n) h = (h, copies_rise call.stamp call n (omega arit
 
 -- ---- calls
 
-row_is_call : (others : List Message) (n : ℕ) → n ≤ 9 → IsCall (row_message ∷ others) (row_call n)
+pub row_is_call : (others : List Message) (n : ℕ) → n ≤ 9 → IsCall (row_message ∷ others) (row_call n)
 row_is_call others n small = record { message = row_message; known = refl; fits = (record { sfits = omega (arith, small) }, tt); short = lit≤ tt }
 
 full_is_call : (stamp : ℕ) → IsCall (row_message ∷ full_message ∷ []) (full_call stamp)

@@ -42,7 +42,7 @@ calls_are_lines (line ∷ lines) [] spells = absurd spells
 
 -- ---- messages
 
-message_begins : (line : List ℕ) (id : ℕ) (message : Message) → SpellsMessage line id message → begins_with (codes "message ") line ≡ true
+pub message_begins : (line : List ℕ) (id : ℕ) (message : Message) → SpellsMessage line id message → begins_with (codes "message ") line ≡ true
 message_begins line id message spells = subst (λ text. begins_with (codes "message ") text ≡ true) (sym spells.spelled) refl
 
 module _ (rest : List ℕ) (outcome : Result Recording Broken) where

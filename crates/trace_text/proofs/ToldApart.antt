@@ -17,21 +17,21 @@ use Rattle.trace_text.proofs.ReadTexts.{read_spells}
 use Rattle.trace_text.proofs.OneOutcome.{one_outcome}
 use Rattle.trace_text.proofs.SomeOutcome.{some_outcome}
 
-abbrev ok_of : Recording → Result Recording Broken
+abbrev pub ok_of : Recording → Result Recording Broken
 ok_of run = Ok run
 
-abbrev err_of : ℕ → TraceCause → Result Recording Broken
+abbrev pub err_of : ℕ → TraceCause → Result Recording Broken
 err_of line cause = Err (record { line = line; cause = cause })
 
 same_run : (a b : Recording) → ok_of a ≡ ok_of b → a ≡ b
 same_run a b e = cc
 
-same_break : (i j : ℕ) (a b : TraceCause) → err_of i a ≡ err_of j b → (i ≡ j) × (a ≡ b)
+pub same_break : (i j : ℕ) (a b : TraceCause) → err_of i a ≡ err_of j b → (i ≡ j) × (a ≡ b)
 same_break i j a b e =
     let same : ◌≡◌ {A = Broken} (record { line = i; cause = a }) (record { line = j; cause = b }) = cc in
     (ap (λ (broken : Broken). broken.line) same, ap (λ (broken : Broken). broken.cause) same)
 
-no_run_breaks : (run : Recording) (line : ℕ) (cause : TraceCause) → ¬ (ok_of run ≡ err_of line cause)
+pub no_run_breaks : (run : Recording) (line : ℕ) (cause : TraceCause) → ¬ (ok_of run ≡ err_of line cause)
 no_run_breaks run line cause e = cc
 
 pub one_run : (bytes : List ℕ) (a b : Recording) → TraceText bytes a → TraceText bytes b → a ≡ b

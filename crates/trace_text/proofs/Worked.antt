@@ -18,11 +18,11 @@ use Rattle.log_dictionary.specs.Rows.{row_message}
 low : (b : ℕ) → 35 ≤ b → b ≤ 91 → IsPlain b
 low b least most = inl (omega (arith, least), omega (arith, most), (λ e. omega (arith, least, e)), (λ e. omega (arith, most, e)))
 
-high : (b : ℕ) → 93 ≤ b → b ≤ 126 → IsPlain b
+pub high : (b : ℕ) → 93 ≤ b → b ≤ 126 → IsPlain b
 high b least most = inl (omega (arith, least), most, (λ e. omega (arith, least, e)), (λ e. omega (arith, least, e)))
 
 -- bytes that stand for themselves
-plain_text : (bytes : List ℕ) → AllByRecursion IsPlain bytes → SpellsText bytes bytes
+pub plain_text : (bytes : List ℕ) → AllByRecursion IsPlain bytes → SpellsText bytes bytes
 plain_text [] all = refl
 plain_text (b ∷ bytes) all = (b ∷ [], bytes, refl, itself all.0 refl, plain_text bytes all.1)
 

@@ -89,6 +89,29 @@ no_rate = inr (
   },
 )
 
+pub no_clock : TraceBreak (codes "nanolog-trace 1\nwriters 2\nend\n") 2 causes.Clock
+no_clock = inr (
+  lit≤ tt,
+  record {
+    lines = first_line ∷ codes "writers 2" ∷ codes "end" ∷ [];
+    rest = [];
+    cut = record { joined = refl; whole = (is_line first_line refl, (is_line (codes "writers 2") refl, (is_line (codes "end") refl, tt))); unended = tt };
+    reads = inl (messages [], (refl, refl), inr (causes.Clock, inr (refl, refl, refl), refl));
+  },
+)
+
+pub no_writer : TraceBreak (codes "nanolog-trace 1\nclock 1 2 3\nwriters 0\nend\n") 3 causes.Writers
+unfolding split_at_first number_from
+no_writer = inr (
+  lit≤ tt,
+  record {
+    lines = first_line ∷ codes "clock 1 2 3" ∷ codes "writers 0" ∷ codes "end" ∷ [];
+    rest = [];
+    cut = record { joined = refl; whole = (is_line first_line refl, (is_line (codes "clock 1 2 3") refl, (is_line (codes "writers 0") refl, (is_line (codes "end") refl, tt)))); unended = tt };
+    reads = inl (messages [], (refl, refl), inl (clock [] small_clock, inr (refl, (small_clock, refl, refl)), inr (causes.Writers, (refl, refl), refl)));
+  },
+)
+
 pub many_writers : TraceBreak (codes "nanolog-trace 1\nclock 1 2 3\nwriters 65\nend\n") 3 causes.Writers
 unfolding split_at_first number_from
 many_writers = inr (

@@ -1,5 +1,5 @@
 -- Worked examples: runs of three writers, and calls with texts.
-use Rattle.std.specs.Prelude.{◌≡◌, ℕ, List, [], ◌∷◌, ◌++◌, codes, Err}
+use Rattle.std.specs.Prelude.{◌≡◌, ℕ, List, [], ◌∷◌, ◌++◌, codes, replicate, Err}
 use Rattle.printf_grammar.specs.declared.piece.Piece.TheVariants.{Field}
 use Rattle.printf_grammar.specs.declared.piece.Conversion.TheVariants.{S}
 use Rattle.printf_grammar.specs.declared.argument.Value.TheVariants.{Unsigned, Text}
@@ -56,6 +56,24 @@ begun_run =
 -- the cause from which the line is refused in that run
 abbrev pub refused : List ℕ → TraceCause → Type 0
 refused line cause = call_at begun_run line ≡ Err cause
+
+-- a text of so many letters, behind its space
+abbrev pub letters : ℕ → List ℕ
+letters n = 32 ∷ 34 ∷ replicate n 97 ++ 34 ∷ []
+
+-- a line of a call with two texts of so many letters each, which goes on with that run, and its call
+abbrev pub texts_line : ℕ → ℕ → List ℕ
+texts_line n m = codes "call 0 1003 1" ++ letters n ++ letters m
+
+abbrev pub texts_made : ℕ → ℕ → WriterCall
+texts_made n m = record {
+  writer = 0;
+  call = record { stamp = 1003; id = 1; args = Text (replicate n 97) ∷ Text (replicate m 97) ∷ [] };
+}
+
+-- a run of one writer who made so many calls
+abbrev pub many_calls : ℕ → Recording
+many_calls n = record two_messages { writers = replicate n (row_call 1) ∷ [] }
 
 -- ---- runs as they are written
 

@@ -1,7 +1,7 @@
 //! Laws and worked examples of the definitions. The functions do nothing: what they ensure is
 //! proved of the definitions.
 
-ghost use Rattle.std.specs.Prelude.{◌≡◌, ◌⊎◌, Result, ℕ, ◌%◌, ◌<◌, ◌≤◌, List, [], ◌∷◌, length, replicate, map, sum_by, Some, Ok, codes, negsuc};
+ghost use Rattle.std.specs.Prelude.{◌≡◌, ◌≢◌, ◌⊎◌, Result, ℕ, ◌+◌, ◌/◌, ◌%◌, ◌<◌, ◌≤◌, List, [], ◌∷◌, ◌++◌, length, replicate, map, sum_by, Some, Ok, codes, negsuc};
 ghost use Rattle.std.specs.List.{AllByRecursion};
 ghost use Rattle.log_dictionary.specs.Messages.{AreDistinct};
 ghost use Rattle.arg_records.specs.Rows.{row_call};
@@ -9,14 +9,18 @@ ghost use Rattle.direct_printf.specs.Lines.{in_order};
 ghost use Rattle.trace_text.specs.Recordings.{Recording, IsRecording, calls_of};
 ghost use Rattle.trace_text.specs.Order.{call_in, places_in_order};
 ghost use Rattle.arg_records.specs.Calls.{IsCall, NeverFalls};
-ghost use Rattle.trace_text.specs.Reading.{Part, Broken, Gives, opening, TraceBreak};
+ghost use Rattle.log_dictionary.specs.Additions.{SpellsNew};
+ghost use Rattle.log_dictionary.specs.declared.message.Message.{Message as MessageValue};
+ghost use Rattle.trace_text.specs.Reading as parts;
+ghost use Rattle.trace_text.specs.Reading.{Part, Broken, IsOneLine, Follows, Breaks, Gives, opening, TraceBreak};
 ghost use Rattle.trace_text.specs.Traces.{TraceText};
 ghost use Rattle.trace_text.specs.Canonical.{call_line, Canonical, HasText};
-ghost use Rattle.trace_text.specs.Lines.{SpellsCall};
-ghost use Rattle.trace_text.specs.Rows.{three_writers, three_writers_text, two_messages, text_call, text_call_line, begun_run, refused, three_writers_canonical, one_text_run, one_text_call};
+ghost use Rattle.trace_text.specs.Lines.{SpellsCall, text_of_lines};
+ghost use Rattle.trace_text.specs.Rows.{three_writers, three_writers_text, two_messages, text_call, text_call_line, begun_run, refused, texts_line, texts_made, many_calls, three_writers_canonical, one_text_run, one_text_call};
 ghost use Rattle.trace_text.specs.CallReading.{call_at};
 ghost use Rattle.trace_text.specs.declared.cause.TraceCause.{TraceCause};
-ghost use Rattle.trace_text.specs.declared.cause.TraceCause.TheVariants.{TooLarge, NoEnd, Header, Message, Clock, Writers, CallForm, Writer, BeforeClock, StampFalls, Id, ArgCount, ArgKind, ArgRange, NulInText, AfterEnd};
+ghost use Rattle.trace_text.specs.declared.cause.TraceCause.TheVariants.{TooLarge, NoEnd, Header, Message, Clock, Writers, CallForm, Writer, BeforeClock, StampFalls, Id, ArgCount, ArgKind, ArgRange, NulInText, TooLong, AfterEnd, TooMany};
+ghost use Rattle.trace_text.specs.Causes.{cause_number};
 ghost use Rattle.printf_grammar.specs.declared.argument.Value.TheVariants.{Signed, Text};
 ghost use Rattle.std.specs.List.{range_with_len};
 ghost use Rattle.arg_records.specs.declared.call.TheConstants.{MAX_WRITERS};
@@ -116,10 +120,65 @@ pub fn texts_are_refused()
     ensures other_version { TraceBreak (codes "nanolog-trace 2\nclock") 1 Header }
     ensures other_id { TraceBreak (codes "nanolog-trace 1\nmessage 1 DEBUG 1 \"a\" \"b\"\n") 2 Message }
     ensures no_rate { TraceBreak (codes "nanolog-trace 1\nclock 1 2 0\nend\n") 2 Clock }
+    ensures no_clock { TraceBreak (codes "nanolog-trace 1\nwriters 2\nend\n") 2 Clock }
+    ensures no_writer { TraceBreak (codes "nanolog-trace 1\nclock 1 2 3\nwriters 0\nend\n") 3 Writers }
     ensures many_writers { TraceBreak (codes "nanolog-trace 1\nclock 1 2 3\nwriters 65\nend\n") 3 Writers }
     ensures call_of_none { TraceBreak (codes "nanolog-trace 1\nclock 1 2 3\nwriters 2\ncall 2 1 0\nend\n") 4 Writer }
     ensures line_behind { TraceBreak (codes "nanolog-trace 1\nclock 1 2 3\nwriters 2\nend\nend\n") 5 AfterEnd }
     ensures byte_behind { TraceBreak (codes "nanolog-trace 1\nclock 1 2 3\nwriters 2\nend\n ") 5 AfterEnd }
+{}
+
+/// A run takes 4,194,304 calls, and a dictionary 65,536 messages. A line that would bring one more is refused as that,
+/// whatever stands behind its first word.
+pub fn full_runs_take_no_more()
+    ensures last_call { (n : ℕ) → n < 4194304
+        → call_at (many_calls n) (codes "call 0 1003 0 2") ≡ Ok (record { writer = 0; call = row_call 2 }) }
+    ensures one_call_more { (run : Recording) (fields : List ℕ) → 4194304 ≤ sum_by length run.writers
+        → Breaks (parts.calls run) (codes "call " ++ fields) TooMany }
+    ensures last_message { (before : List MessageValue) (line : List ℕ) (message : MessageValue) → length before < 65536
+        → SpellsNew before line (length before) message
+        → Follows (parts.messages before) line (parts.messages (before ++ message ∷ [])) }
+    ensures one_message_more { (before : List MessageValue) (fields : List ℕ) → 65536 ≤ length before
+        → Breaks (parts.messages before) (codes "message " ++ fields) TooMany }
+{}
+
+/// A text has at most 4,000 bytes. The frame of a call has 2 words, one more for each of its texts, and one for eight
+/// bytes of a text, or for fewer that are left: at most 512.
+pub fn long_calls_are_refused()
+    ensures long_text { (n m : ℕ) → 4000 < n → refused (texts_line n m) TooLong }
+    ensures long_frame { (n m : ℕ) → n ≤ 4000 → m ≤ 4000 → 512 < 4 + (n + 7) / 8 + (m + 7) / 8
+        → refused (texts_line n m) TooLong }
+    ensures short_frame { (n m : ℕ) → n ≤ 4000 → m ≤ 4000 → 4 + (n + 7) / 8 + (m + 7) / 8 ≤ 512
+        → call_at begun_run (texts_line n m) ≡ Ok (texts_made n m) }
+{}
+
+/// A line that is refused is one of the text's whole lines, but where the last line is wanting or isn't the last. Then
+/// the text is refused so whatever follows that line, unless it is too large.
+pub fn refused_lines_stay_refused()
+    ensures whole_line { (bytes : List ℕ) (n : ℕ) (cause : TraceCause) → TraceBreak bytes n cause
+        → cause ≢ TooLarge → cause ≢ NoEnd → cause ≢ AfterEnd
+        → (lines : List (List ℕ)) × (rest : List ℕ) × (length lines ≡ n) × AllByRecursion IsOneLine lines
+        × (bytes ≡ text_of_lines lines ++ rest) }
+    ensures stays { (lines : List (List ℕ)) (rest other : List ℕ) (cause : TraceCause)
+        → AllByRecursion IsOneLine lines → 1 ≤ length lines
+        → TraceBreak (text_of_lines lines ++ rest) (length lines) cause
+        → length (text_of_lines lines ++ other) ≤ 67108864
+        → TraceBreak (text_of_lines lines ++ other) (length lines) cause }
+{}
+
+/// A text that is cut off lacks its end, and behind the end nothing may follow.
+pub fn texts_end_with_their_last_line()
+    ensures cut_off { (front rest : List ℕ) (run : Recording) → TraceText (front ++ rest) run → 1 ≤ length rest
+        → (line : ℕ) × TraceBreak front line NoEnd }
+    ensures more { (bytes rest : List ℕ) (run : Recording) → TraceText bytes run → 1 ≤ length rest
+        → length (bytes ++ rest) ≤ 67108864 → (line : ℕ) × TraceBreak (bytes ++ rest) line AfterEnd }
+{}
+
+/// No two causes have one number, and the numbers are those from 1 to 18.
+pub fn causes_have_numbers()
+    ensures apart { (a b : TraceCause) → cause_number a ≡ cause_number b → a ≡ b }
+    ensures all { (n : ℕ) → 1 ≤ n → n ≤ 18 → (cause : TraceCause) × (cause_number cause ≡ n) }
+    ensures no_other { (cause : TraceCause) → (1 ≤ cause_number cause) × (cause_number cause ≤ 18) }
 {}
 
 /// The calls at the places in order are all calls in order.

@@ -1,5 +1,5 @@
 use Rattle.std.proofs.Common.{refl, inl}
-use Rattle.trace_text.proofs.WorkedRefusals.{empty, no_line_feed, no_last_line, other_version, other_id, no_rate, many_writers, call_of_none, line_behind, byte_behind}
+use Rattle.trace_text.proofs.WorkedRefusals.{empty, no_line_feed, no_last_line, other_version, other_id, no_rate, no_clock, no_writer, many_writers, call_of_none, line_behind, byte_behind}
 use Rattle.trace_text.proofs.laws.texts_are_refused.Goals as goal
 
 pub returns : goal.returns
@@ -11,6 +11,8 @@ returns c = record {
   other_version = other_version;
   other_id = other_id;
   no_rate = no_rate;
+  no_clock = no_clock;
+  no_writer = no_writer;
   many_writers = many_writers;
   call_of_none = call_of_none;
   line_behind = line_behind;
