@@ -72,9 +72,10 @@ module _ (P : List Call → Type 0) where
 
 -- ---- calls of messages, and stamps
 
-calls-append : (messages : List Message) (calls : List Call) (call : Call) → AllByRecursion (IsCall messages) calls → IsCall messages call → AllByRecursion (IsCall messages) (calls ++ call ∷ [])
-calls-append messages [] call all is = (is, tt)
-calls-append messages (first ∷ calls) call all is = (all.0, calls-append messages calls call all.1 is)
+-- what holds of each item and of one more
+pub all-push : {A : Type 0} (P : A → Type 0) (items : List A) (item : A) → AllByRecursion P items → P item → AllByRecursion P (items ++ item ∷ [])
+all-push P [] item all is = (is, tt)
+all-push P (first ∷ items) item all is = (all.0, all-push P items item all.1 is)
 
 calls-before : (messages : List Message) (calls : List Call) (call : Call) → AllByRecursion (IsCall messages) (calls ++ call ∷ []) → AllByRecursion (IsCall messages) calls × IsCall messages call
 calls-before messages [] call all = (tt, all.0)
@@ -105,7 +106,7 @@ recorded_after run made recorded next =
       few_writers = omega (arith, long, recorded.few_writers);
       few_calls = omega (arith, sum_by-with_call_of run.writers writer call next.calls next.known, next.few);
       rate = recorded.rate;
-      calls = all_after (AllByRecursion (IsCall run.dictionary)) run.writers writer call next.calls next.known (calls-append run.dictionary next.calls call (all_at (AllByRecursion (IsCall run.dictionary)) run.writers writer next.calls next.known recorded.calls) next.is_call) recorded.calls;
+      calls = all_after (AllByRecursion (IsCall run.dictionary)) run.writers writer call next.calls next.known (all-push (IsCall run.dictionary) next.calls call (all_at (AllByRecursion (IsCall run.dictionary)) run.writers writer next.calls next.known recorded.calls) next.is_call) recorded.calls;
       stamps = all_after (NeverFalls run.clock.tick) run.writers writer call next.calls next.known (stamps-append run.clock.tick next.calls call (all_at (NeverFalls run.clock.tick) run.writers writer next.calls next.known recorded.stamps) next.risen) recorded.stamps;
     }
 

@@ -1,5 +1,5 @@
 -- Each generated trace has a text.
-use Rattle.std.proofs.Common.{◌≡◌, ℕ, zero, suc, ◌+◌, ◌*◌, ◌^◌, ◌<◌, ◌≤◌, lit<, lit≤, Bool, true, false, cond, List, [], ◌∷◌, ◌++◌, get_or, replicate, refl, sym, subst, arith}
+use Rattle.std.proofs.Common.{◌≡◌, ℕ, zero, suc, ◌+◌, ◌*◌, ◌^◌, ◌<◌, ◌≤◌, lit<, lit≤, Bool, true, false, cond, List, [], ◌∷◌, get_or, refl, sym, subst, arith}
 use Rattle.std.specs.List.{AllByRecursion}
 use Rattle.std.proofs.Math.Dec.{ltb}
 use Rattle.std.proofs.lemmas.Bool.{ltb-true}
@@ -9,11 +9,11 @@ use Rattle.log_dictionary.specs.declared.message.Message.{Message}
 use Rattle.log_dictionary.specs.declared.severity.Severity.{Severity}
 use Rattle.log_dictionary.specs.Messages.{AreDistinct}
 use Rattle.log_dictionary.specs.Canonical.{AreBytes, HasLine}
-use Rattle.arg_records.specs.declared.call.Call.{Call}
 use Rattle.trace_text.specs.Recordings.{Recording}
 use Rattle.trace_text.specs.Canonical.{HasBytes, HasCallLine, HasText}
 use Rattle.trace_text.specs.Generated.{next_state, state_after, draw, generated_file, generated_message, generated_messages, drawn_arguments, drawn_call, generator_at, generated_call, Generated}
-use Rattle.trace_text.proofs.CallRuns.{all_after, all_at}
+use Rattle.trace_text.proofs.CallRuns.{all-push, all_after, all_at}
+use Rattle.printf_grammar.proofs.Worked.{all_copies}
 use Rattle.trace_text.proofs.GeneratedFormats.{disk, queue, request, state}
 use Rattle.trace_text.proofs.GeneratedCalls.{draw_below, stamp_within, there, generated_none, generated_next, generated_recorded, generated_writer}
 
@@ -67,17 +67,9 @@ has_call_line seed k within =
       texts = drawn_bytes (draw generator.state 4) (state_after 2 generator.state) (draw_below generator.state 4 (lit≤ tt));
     }
 
-lines-push : (calls : List Call) (call : Call) → AllByRecursion HasCallLine calls → HasCallLine call → AllByRecursion HasCallLine (calls ++ call ∷ [])
-lines-push [] call all is = (is, tt)
-lines-push (first ∷ calls) call all is = (all.0, lines-push calls call all.1 is)
-
-no_lines : (n : ℕ) → AllByRecursion (AllByRecursion HasCallLine) (replicate n [])
-no_lines zero = tt
-no_lines (suc n) = (tt, no_lines n)
-
 module _ (seed writers : ℕ) (some : 1 ≤ writers) (few : writers ≤ 64) where
   calls_have_lines : (k : ℕ) → k ≤ 1000000 → AllByRecursion (AllByRecursion HasCallLine) (Generated seed k writers).writers
-  calls_have_lines zero within = subst (λ (run : Recording). AllByRecursion (AllByRecursion HasCallLine) run.writers) (sym (generated_none seed writers)) (no_lines writers)
+  calls_have_lines zero within = subst (λ (run : Recording). AllByRecursion (AllByRecursion HasCallLine) run.writers) (sym (generated_none seed writers)) (all_copies (AllByRecursion HasCallLine) [] writers tt)
   calls_have_lines (suc k) within =
       let fewer : k ≤ 1000000 = omega (arith, within) in
       let run = Generated seed k writers in
@@ -86,14 +78,12 @@ module _ (seed writers : ℕ) (some : 1 ≤ writers) (few : writers ≤ 64) wher
       let at = there run.writers made.writer (generated_writer seed writers some few k fewer) in
       let own = all_at (AllByRecursion HasCallLine) run.writers made.writer at.0 at.1 before in
       subst (λ (run : Recording). AllByRecursion (AllByRecursion HasCallLine) run.writers) (sym (generated_next seed k writers))
-      (all_after (AllByRecursion HasCallLine) run.writers made.writer made.call at.0 at.1 (lines-push at.0 made.call own (has_call_line seed k fewer)) before)
+      (all_after (AllByRecursion HasCallLine) run.writers made.writer made.call at.0 at.1 (all-push HasCallLine at.0 made.call own (has_call_line seed k fewer)) before)
 
   pub has_text : (k : ℕ) → k ≤ 1000000 → HasText (Generated seed k writers)
   has_text k within = record {
     recorded = generated_recorded seed writers some few k within;
-    distinct = distinct;
-    few_messages = lit≤ tt;
-    messages = messages_have_lines;
+    messages = record { distinct = distinct; few = lit≤ tt; lines = messages_have_lines };
     clock_fits = record { tick = lit< tt; nanos = lit< tt; rate = lit< tt };
     calls = calls_have_lines k within;
   }

@@ -9,6 +9,7 @@ use Rattle.arg_records.specs.declared.call.TheConstants.{MAX_WRITERS}
 use Rattle.arg_records.specs.Calls.{IsCall, NeverFalls}
 use Rattle.trace_text.specs.Recordings.{Recording, IsRecording}
 use Rattle.trace_text.specs.Lines.{WriterCall}
+use Rattle.trace_text.specs.Canonical.{HasText}
 use Rattle.trace_text.specs.CallReading.{with_call_of, with_call}
 use Rattle.printf_grammar.proofs.Worked.{all_copies}
 use Rattle.trace_text.proofs.RecordingLaws.{sum_of_none}
@@ -42,8 +43,8 @@ pub written : {E : Type 0} (writers : List (List Call)) (writer : ℕ) (call : C
 written writers writer call calls new (Ok u) within there ok = ap (set writers writer) ok ∙ set-with_call_of writers writer call calls within there
 written writers writer call calls new (Err e) within there ok = tt
 
--- whether the call was added or not, the run can be recorded
-pub pushed : {E : Type 0} (run : Recording) (made : WriterCall) (writers : List (List Call)) (r : Result (Unit {0}) E) → OnOk r (writers ≡ with_call_of run.writers made.writer made.call) → OnErr r (writers ≡ run.writers) → IsRecording run → IsRecording (with_call run made)
-    → IsRecording (record run { writers = writers })
-pushed run made writers (Ok u) ok err old new = subst (λ (w : List (List Call)). IsRecording (record run { writers = w })) (sym ok) new
-pushed run made writers (Err e) ok err old new = subst (λ (w : List (List Call)). IsRecording (record run { writers = w })) (sym err) old
+-- whether the call was added or not, the run has a text
+pub pushed : {E : Type 0} (run : Recording) (made : WriterCall) (writers : List (List Call)) (r : Result (Unit {0}) E) → OnOk r (writers ≡ with_call_of run.writers made.writer made.call) → OnErr r (writers ≡ run.writers) → HasText run → HasText (with_call run made)
+    → HasText (record run { writers = writers })
+pushed run made writers (Ok u) ok err old new = subst (λ (w : List (List Call)). HasText (record run { writers = w })) (sym ok) new
+pushed run made writers (Err e) ok err old new = subst (λ (w : List (List Call)). HasText (record run { writers = w })) (sym err) old

@@ -1,5 +1,5 @@
--- A run that a text spells is one that a text can spell.
-use Rattle.std.proofs.Common.{ℕ, ◌+◌, ◌<◌, Bool, true, false, cond, eqb, List, [], ◌∷◌, map, sym, subst, inl, inr, arith}
+-- A run that a text spells is one that a text can spell, and so is one that is read line by line.
+use Rattle.std.proofs.Common.{◌≡◌, ℕ, ◌+◌, ◌<◌, ◌≤◌, lit≤, Bool, true, false, cond, eqb, List, [], ◌∷◌, length, map, Ok, sym, subst, inl, inr, arith}
 use Rattle.std.specs.Prelude.{filter}
 use Rattle.std.proofs.lemmas.Bool.Decides.{nat_tests}
 use Rattle.std.specs.Char.{digit_value, IsAsciiHexdigit}
@@ -10,10 +10,22 @@ use Rattle.log_dictionary.specs.declared.message.Message.{Message}
 use Rattle.log_dictionary.specs.Texts.{SpellsByte, SpellsText}
 use Rattle.log_dictionary.specs.Texts.SpellsByte.{itself, quotation_mark, backslash, line_feed, tab, hexadecimal}
 use Rattle.log_dictionary.specs.Canonical.{AreBytes, HasLine}
+use Rattle.log_dictionary.specs.Messages.{SpellsMessage}
+use Rattle.log_dictionary.specs.Additions.{ReadsLine}
+use Rattle.log_dictionary.specs.declared.clock.Clock.{Clock}
+use Rattle.log_dictionary.proofs.Distinct.{still_distinct}
+use Rattle.arg_records.specs.declared.call.TheConstants.{MAX_WRITERS}
+use Rattle.printf_grammar.proofs.Worked.{all_copies}
+use Rattle.std.proofs.lemmas.List.{length-append}
+use Rattle.trace_text.specs.CallReading.{call_at, with_call}
+use Rattle.trace_text.proofs.CallRuns.{all-push, all_after, all_at, recorded_after}
+use Rattle.trace_text.proofs.CallLines.{call_spelled}
+use Rattle.trace_text.proofs.CallSteps.{can_follow}
+use Rattle.trace_text.proofs.RunSteps.{start_of, start_recorded}
 use Rattle.trace_text.specs.Recordings.{Recording}
-use Rattle.trace_text.specs.Lines.{WriterCall, SpellsArguments, SpellsMessages, SpellsCalls}
+use Rattle.trace_text.specs.Lines.{WriterCall, FitsLine, SpellsArguments, SpellsCall, SpellsMessages, SpellsCalls}
 use Rattle.trace_text.specs.Traces.{TraceText, calls_by}
-use Rattle.trace_text.specs.Canonical.{HasBytes, HasCallLine, HasText}
+use Rattle.trace_text.specs.Canonical.{HasBytes, HasCallLine, HaveLines, HasText}
 
 digit_small : (b : ℕ) → IsAsciiHexdigit b → digit_value b < 16
 digit_small b is = grind (arith, nat_tests)
@@ -31,12 +43,12 @@ spelled_bytes : (spelled bytes : List ℕ) → SpellsText spelled bytes → AreB
 spelled_bytes spelled [] spells = tt
 spelled_bytes spelled (b ∷ bytes) (unit, rest, joined, byte, others) = (spelled_byte unit b byte, spelled_bytes rest bytes others)
 
+spelled_message : (line : List ℕ) (id : ℕ) (message : Message) → SpellsMessage line id message → HasLine message
+spelled_message line id message spells = record { file = spelled_bytes _ _ spells.file; bytes = spelled_bytes _ _ spells.bytes; formed = spells.formed; line_fits = spells.line_fits }
+
 spelled_messages : (n : ℕ) (lines : List (List ℕ)) (messages : List Message) → SpellsMessages n lines messages → AllByRecursion HasLine messages
 spelled_messages n [] [] spells = tt
-spelled_messages n (line ∷ lines) (message ∷ messages) spells = (
-  record { file = spelled_bytes _ _ spells.0.file; bytes = spelled_bytes _ _ spells.0.bytes; formed = spells.0.formed; line_fits = spells.0.line_fits },
-  spelled_messages (n + 1) lines messages spells.1,
-)
+spelled_messages n (line ∷ lines) (message ∷ messages) spells = (spelled_message line n message spells.0, spelled_messages (n + 1) lines messages spells.1)
 spelled_messages n [] (message ∷ messages) spells = absurd spells
 spelled_messages n (line ∷ lines) [] spells = absurd spells
 
@@ -49,9 +61,12 @@ spelled_arguments fields (values.Text bytes ∷ args) (field, others, joined, ar
 abbrev HasLineOf : WriterCall → Type 0
 HasLineOf made = HasCallLine made.call
 
+spelled_call : (line : List ℕ) (made : WriterCall) → SpellsCall line made → HasLineOf made
+spelled_call line made spells = record { stamp = spells.stamp_fits; texts = spelled_arguments spells.fields made.call.args spells.arguments }
+
 spelled_calls : (lines : List (List ℕ)) (calls : List WriterCall) → SpellsCalls lines calls → AllByRecursion HasLineOf calls
 spelled_calls [] [] spells = tt
-spelled_calls (line ∷ lines) (made ∷ calls) spells = (record { stamp = spells.0.stamp_fits; texts = spelled_arguments spells.0.fields made.call.args spells.0.arguments }, spelled_calls lines calls spells.1)
+spelled_calls (line ∷ lines) (made ∷ calls) spells = (spelled_call line made spells.0, spelled_calls lines calls spells.1)
 spelled_calls [] (made ∷ calls) spells = absurd spells
 spelled_calls (line ∷ lines) [] spells = absurd spells
 
@@ -71,9 +86,38 @@ of_all_writers calls (writer ∷ writers) all = (of_one_writer writer calls all,
 pub read_has_text : (bytes : List ℕ) (run : Recording) → TraceText bytes run → HasText run
 read_has_text bytes run text = record {
   recorded = text.recorded;
-  distinct = text.distinct;
-  few_messages = text.few_messages;
-  messages = spelled_messages 0 text.message_lines run.dictionary text.messages_spelled;
+  messages = record { distinct = text.distinct; few = text.few_messages; lines = spelled_messages 0 text.message_lines run.dictionary text.messages_spelled };
   clock_fits = text.clock_fits;
   calls = subst (AllByRecursion (AllByRecursion HasCallLine)) (sym text.by_writer) (of_all_writers text.calls _ (spelled_calls text.call_lines text.calls text.calls_spelled));
 }
+
+-- ---- runs that are read line by line
+
+pub no_messages : HaveLines []
+no_messages = record { distinct = λ i j d earlier within. absurd (omega (arith, within)); few = lit≤ tt; lines = tt }
+
+-- the messages with the one that a line brings
+pub lines_after : (before after : List Message) (line : List ℕ) (u : Unit {0}) → HaveLines before → ReadsLine before line after (Ok u) → HaveLines after
+lines_after before after line u have (message, new, room, is) =
+    subst HaveLines (sym is) (record {
+      distinct = still_distinct before message have.distinct new.new;
+      few = omega (arith, length-append before (message ∷ []), room);
+      lines = all-push HasLine before message have.lines (spelled_message line (length before) message new.spelled);
+    })
+
+-- a run without calls
+pub start_has_text : (dictionary : List Message) (clock : Clock) (count : ℕ) → HaveLines dictionary → FitsLine clock → 1 ≤ clock.rate → 1 ≤ count → count ≤ MAX_WRITERS → HasText (start_of dictionary clock count)
+start_has_text dictionary clock count have fits rate some few =
+    record { recorded = start_recorded dictionary clock count rate some few; messages = have; clock_fits = fits; calls = all_copies (AllByRecursion HasCallLine) [] count tt }
+
+-- the run with the call that a line brings
+pub text_after : (run : Recording) (line : List ℕ) (made : WriterCall) → HasText run → call_at run line ≡ Ok made → HasText (with_call run made)
+text_after run line made has read =
+    let next = can_follow run line made read in
+    let own = all_at (AllByRecursion HasCallLine) run.writers made.writer next.calls next.known has.calls in
+    record {
+      recorded = recorded_after run made has.recorded next;
+      messages = has.messages;
+      clock_fits = has.clock_fits;
+      calls = all_after (AllByRecursion HasCallLine) run.writers made.writer made.call next.calls next.known (all-push HasCallLine next.calls made.call own (spelled_call line made (call_spelled run line made read))) has.calls;
+    }

@@ -8,6 +8,7 @@ use Rattle.printf_grammar.specs.declared.argument.Value.TheVariants as values
 use Rattle.log_dictionary.specs.declared.dictionary.TheConstants.{MAX_MESSAGES}
 use Rattle.log_dictionary.specs.Canonical.{quoted_text, dictionary_text, AreBytes, HasLine}
 use Rattle.log_dictionary.specs.Messages.{AreDistinct}
+use Rattle.log_dictionary.specs.declared.message.Message.{Message}
 use Rattle.arg_records.specs.declared.call.Call.{Call}
 use Rattle.trace_text.specs.declared.order.Place.{Place}
 use Rattle.trace_text.specs.Recordings.{Recording, IsRecording}
@@ -72,11 +73,15 @@ pub record HasCallLine (call : Call) : Type 0 where
   pub stamp : call.stamp < 2 ^ 64
   pub texts : AllByRecursion HasBytes call.args
 
--- a run that a text can spell: its messages are distinct, and they, its clock and its calls each have a line
+-- messages that the front of a text can spell: no two are equal, they are at most 65,536, and each has a line
+pub record HaveLines (messages : List Message) : Type 0 where
+  pub distinct : AreDistinct messages
+  pub few : length messages ≤ MAX_MESSAGES
+  pub lines : AllByRecursion HasLine messages
+
+-- a run that a text can spell: its messages, its clock and its calls have lines
 pub record HasText (run : Recording) : Type 0 where
   pub recorded : IsRecording run
-  pub distinct : AreDistinct run.dictionary
-  pub few_messages : length run.dictionary ≤ MAX_MESSAGES
-  pub messages : AllByRecursion HasLine run.dictionary
+  pub messages : HaveLines run.dictionary
   pub clock_fits : FitsLine run.clock
   pub calls : AllByRecursion (AllByRecursion HasCallLine) run.writers

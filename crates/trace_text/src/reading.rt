@@ -6,6 +6,8 @@ ghost use Rattle.nl_io.specs.Content.{IsAtEnd};
 ghost use Rattle.trace_text.specs.Reading as parts;
 ghost use Rattle.trace_text.specs.Progress.{progress, Comes, Finishes, message_fault, call_fault};
 ghost use Rattle.trace_text.specs.TraceReading.{IsAnswer, IsOnlyAnswer};
+ghost use Rattle.trace_text.specs.Lines.{FitsLine};
+ghost use Rattle.trace_text.specs.Canonical.{HaveLines};
 
 use crate::call_line::{CallFault, read_call};
 use crate::cause::TraceCause;
@@ -70,6 +72,8 @@ fn read_front(
 ) -> Result<(Dictionary, Clock, Lines<'_>), TraceFault>
     ensures front { Comes (progress (parts.messages []) lines.entry)
         (λ front. progress (parts.clock front.0 front.1) front.2) result }
+    ensures messages { IfOk result (λ front. HaveLines front.0) }
+    ensures fits { IfOk result (λ front. FitsLine front.1) }
     ensures rate { IfOk result (λ front. 1 ≤ front.1.rate) }
 {
     let mut dictionary = Dictionary::make(alloc);
@@ -95,6 +99,8 @@ fn read_run(
     clock: Clock,
     lines: Lines<'_>,
 ) -> Result<(Trace, Lines<'_>), TraceFault>
+    requires messages { HaveLines dictionary }
+    requires fits { FitsLine clock }
     requires rate { 1 ≤ clock.rate }
     ensures run { Comes (progress (parts.clock dictionary clock) lines.entry)
         (λ start. progress (parts.calls start.0) start.1) result }

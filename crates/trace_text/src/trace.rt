@@ -15,7 +15,8 @@ pub const MAX_CALLS: usize = 4_194_304;
 /// The most bytes of the text of a trace.
 pub const MAX_TRACE: usize = 67_108_864;
 
-/// A recorded run of a program that logs: its messages, its clock, and the calls of each writer.
+/// A recorded run of a program that logs: its messages, its clock, and the calls of each writer. Each run that is one
+/// can be written as a text.
 #[derive(Debug, Drop)]
 pub struct Trace {
     pub dictionary: Dictionary,
@@ -24,23 +25,24 @@ pub struct Trace {
 }
 
 impl Model for Trace {
-    ghost use Rattle.trace_text.specs.Recordings.{Recording, IsRecording};
+    ghost use Rattle.trace_text.specs.Recordings.{Recording};
+    ghost use Rattle.trace_text.specs.Canonical.{HasText};
 
     ghost Value = { Recording };
 
     ghost view = { λ t. record { dictionary = t.dictionary; clock = t.clock; writers = t.writers } };
 
-    ghost invariant = { λ t. IsRecording
+    ghost invariant = { λ t. HasText
         (record { dictionary = t.dictionary; clock = t.clock; writers = t.writers }) };
 }
 
 impl Trace {
-    ghost use Rattle.trace_text.specs.Recordings.{IsRecording};
+    ghost use Rattle.trace_text.specs.Canonical.{HasText};
 
     /// Adds a call at the end of the writer's.
     pub(crate) fn push_call(&mut self, writer: u32, call: Call) -> Result<(), AllocError>
         requires writer { writer < length self.old.writers }
-        requires recorded { IsRecording (with_call self.old (record { writer = writer; call = call })) }
+        requires has_text { HasText (with_call self.old (record { writer = writer; call = call })) }
         ensures ok { OnOk result (self.new ≡ with_call self.old (record { writer = writer; call = call })) }
         ensures err { OnErr result (self.new ≡ self.old) }
     {

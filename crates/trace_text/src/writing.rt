@@ -1,11 +1,13 @@
 //! Writing the text of a trace.
 
-ghost use Rattle.std.specs.Prelude.{◌≡◌, ◌++◌, ◌∷◌, [], OnOk};
+ghost use Rattle.std.specs.Prelude.{◌≡◌, ◌≤◌, ◌++◌, ◌∷◌, [], length, OnOk};
 ghost use Rattle.std.specs.Option.{option_map};
 ghost use Rattle.std.specs.List.{flat_map, filter_map};
 ghost use Rattle.printf_grammar.specs.Types.{value_of, values_of};
 ghost use Rattle.trace_text.specs.Lines.{clock_line};
-ghost use Rattle.trace_text.specs.Canonical.{argument_text, call_front, call_text, made_by, made_at, front_text, Canonical};
+ghost use Rattle.trace_text.specs.Canonical.{argument_text, call_front, call_text, made_by, made_at, front_text, Canonical, HasText};
+ghost use Rattle.trace_text.specs.Traces.{TraceText};
+ghost use Rattle.trace_text.specs.declared.trace.TheConstants.{MAX_TRACE};
 ghost use Rattle.trace_text.specs.Writing.{Gathers, Writes};
 
 use crate::order::{Place, places_in_order};
@@ -89,7 +91,8 @@ fn push_clock(text: &mut Vec<u8>, clock: &Clock) -> Result<(), AllocError>
 
 // The text up to the calls.
 fn push_front(text: &mut Vec<u8>, trace: &Trace) -> Result<(), AllocError>
-    ensures { OnOk result (text.new.items ≡ text.old.items ++ front_text trace.now) }
+    ensures written { OnOk result (text.new.items ≡ text.old.items ++ front_text trace.now) }
+    ensures has_text { HasText trace.now }
 {
     let mut buffer = Buffer::new();
     trace.dictionary.write_text(text)?;
@@ -151,6 +154,7 @@ fn write_calls<K: Sink>(
 /// # Errors
 ///
 /// The sink failed, or there is no memory. A front of the text went out then.
+#[tactic(auto, using(crate::proofs::CanonicalLaws::canonical_spells))]
 pub fn write_trace<K: Sink>(
     alloc: Global,
     trace: &Trace,
@@ -159,13 +163,16 @@ pub fn write_trace<K: Sink>(
     // All of the text goes out, or a front of it, and the fault says whether the count of faults rose.
     ensures written { Writes (Canonical trace.now) (K.put sink.old) (K.put sink.new)
         (K.faults sink.old) (K.faults sink.new) result }
+
+    // Reading the text gives the run again, where the text is within the limit.
+    ensures spelled { length (Canonical trace.now) ≤ MAX_TRACE → TraceText (Canonical trace.now) trace.now }
     ensures others { K.rest sink.old sink.new }
 {
     let mut text = Vec::new(alloc);
-    let Ok(places) = places_in_order(alloc, trace) else {
+    let Ok(()) = push_front(&mut text, trace) else {
         return Err(WriteTraceFault::NoMemory);
     };
-    let Ok(()) = push_front(&mut text, trace) else {
+    let Ok(places) = places_in_order(alloc, trace) else {
         return Err(WriteTraceFault::NoMemory);
     };
     write_calls(trace, &places, &mut text, sink)?;

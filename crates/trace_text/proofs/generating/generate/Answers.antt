@@ -2,11 +2,13 @@ use Rattle.std.proofs.Common.{◌≡◌, ℕ, suc, ◌+◌, ◌%◌, lit≤, Lis
 use Rattle.log_dictionary.specs.declared.message.Message.{Message}
 use Rattle.arg_records.specs.declared.call.Call.{Call}
 use Rattle.trace_text.specs.declared.generator.Generator.{Generator}
-use Rattle.trace_text.specs.Recordings.{Recording, IsRecording}
+use Rattle.trace_text.specs.Recordings.{Recording}
+use Rattle.trace_text.specs.Canonical.{HasText}
 use Rattle.trace_text.specs.CallReading.{with_call}
 use Rattle.trace_text.specs.Generated.{generated_messages, generated_clock, drawn_call, after_call, generator_at, Generated}
-use Rattle.trace_text.proofs.RunSteps.{start_of, start_recorded}
-use Rattle.trace_text.proofs.GeneratedCalls.{generator_below, stamp_within, generated_none, generated_next, generated_recorded, generated_writer}
+use Rattle.trace_text.proofs.RunSteps.{start_of}
+use Rattle.trace_text.proofs.GeneratedCalls.{generator_below, stamp_within, generated_none, generated_next, generated_writer}
+use Rattle.trace_text.proofs.GeneratedTexts.{has_text}
 use Rattle.trace_text.proofs.generating.generate.Goals as goal
 
 start_is : (messages : List Message) (writers : List (List Call)) (count : ℕ) → messages ≡ generated_messages → writers ≡ replicate count []
@@ -27,8 +29,8 @@ next_is seed k writers run generator call begun there drawn =
 
 pub invariant_of-trace : goal.invariant_of-trace
 invariant_of-trace c =
-    subst IsRecording (sym (start_is _ _ c.args.writers c.in_ok-messages.ensures c.in_ok-without_calls.ensures))
-    (start_recorded generated_messages generated_clock c.args.writers (lit≤ tt) c.requires.some_writer c.requires.few_writers)
+    subst HasText (sym (start_is _ _ c.args.writers c.in_ok-messages.ensures c.in_ok-without_calls.ensures ∙ sym (generated_none c.args.seed c.args.writers)))
+    (has_text c.args.seed c.args.writers c.requires.some_writer c.requires.few_writers 0 (lit≤ tt))
 
 pub loop-k-init : goal.loop-k-init
 loop-k-init c = record {
@@ -50,10 +52,10 @@ push_call-requires-clause-writer c =
       generated_writer c.args.seed c.args.writers c.requires.some_writer c.requires.few_writers c.loop-k.k (omega (arith, c.loop-k-test.true, c.requires.few_calls)),
     )
 
-pub push_call-requires-clause-recorded : goal.push_call-requires-clause-recorded
-push_call-requires-clause-recorded c =
-    subst IsRecording (sym (next_is c.args.seed c.loop-k.k c.args.writers c.loop-k.trace c.loop-k.generator c.in_ok-call.call c.loop-k.invariant.trace c.loop-k.invariant.generator c.in_ok-call.ensures.drawn))
-    (generated_recorded c.args.seed c.args.writers c.requires.some_writer c.requires.few_writers (c.loop-k.k + 1) (omega (arith, c.loop-k-test.true, c.requires.few_calls)))
+pub push_call-requires-clause-has_text : goal.push_call-requires-clause-has_text
+push_call-requires-clause-has_text c =
+    subst HasText (sym (next_is c.args.seed c.loop-k.k c.args.writers c.loop-k.trace c.loop-k.generator c.in_ok-call.call c.loop-k.invariant.trace c.loop-k.invariant.generator c.in_ok-call.ensures.drawn))
+    (has_text c.args.seed c.args.writers c.requires.some_writer c.requires.few_writers (c.loop-k.k + 1) (omega (arith, c.loop-k-test.true, c.requires.few_calls)))
 
 pub loop-k-preserved : goal.loop-k-preserved
 loop-k-preserved c =

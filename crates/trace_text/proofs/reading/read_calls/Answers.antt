@@ -2,10 +2,12 @@ use Rattle.std.proofs.Common.{refl, sym, ap, ◌∙◌, inl, inr, subst, arith, 
 use Rattle.trace_text.specs.declared.cause.TraceCause.TheVariants.{NoEnd}
 use Rattle.trace_text.specs.Lines.{WriterCall, last_line}
 use Rattle.std.specs.Prelude.{sum_by}
-use Rattle.trace_text.specs.Recordings.{Recording, IsRecording}
+use Rattle.trace_text.specs.Recordings.{Recording}
+use Rattle.trace_text.specs.Canonical.{HasText}
 use Rattle.trace_text.specs.Reading.{calls, ended}
 use Rattle.trace_text.specs.Progress.{progress, IsRefusal}
-use Rattle.trace_text.proofs.CallRuns.{CanFollow, recorded_after}
+use Rattle.trace_text.proofs.CallRuns.{CanFollow}
+use Rattle.trace_text.proofs.SpelledRuns.{text_after}
 use Rattle.trace_text.proofs.CallSteps.{breaks_call, can_follow, writer_is_there, one_call_more}
 use Rattle.trace_text.proofs.Steps.{leads, leads_on, refused_on, refused_as, finished_on, ends_here}
 use Rattle.trace_text.proofs.LineFronts.{same_line, other_line}
@@ -32,8 +34,8 @@ next c = can_follow c.loop-line.run c.in-Some.line.now (record { writer = c.in-O
 pub push_call-requires-clause-writer : goal.push_call-requires-clause-writer
 push_call-requires-clause-writer c = writer_is_there c.loop-line.run _ (next (goal.at.push_call-requires-clause-writer c).In-Ok)
 
-pub push_call-requires-clause-recorded : goal.push_call-requires-clause-recorded
-push_call-requires-clause-recorded c = recorded_after c.loop-line.run _ (subst IsRecording c.run.view_is c.run.invariant) (next (goal.at.push_call-requires-clause-recorded c).In-Ok)
+pub push_call-requires-clause-has_text : goal.push_call-requires-clause-has_text
+push_call-requires-clause-has_text c = text_after c.loop-line.run c.in-Some.line.now _ (subst HasText c.run.view_is c.run.invariant) c.in-Ok.ensures.read
 
 pub loop-line-preserved : goal.loop-line-preserved
 loop-line-preserved c =

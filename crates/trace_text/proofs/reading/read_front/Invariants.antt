@@ -1,10 +1,14 @@
 use Rattle.std.proofs.Common.{[], length}
 use Rattle.trace_text.specs.Reading.{messages}
 use Rattle.trace_text.specs.Progress.{progress, Leads}
+use Rattle.trace_text.specs.Canonical.{HaveLines}
 use Rattle.trace_text.proofs.reading.read_front.Given as goal
 
 abbrev pub invariant-loop-line : goal.invariant-loop-line
-invariant-loop-line l = Leads (progress (messages []) l.fn.lines) (progress (messages l.dictionary) l.lines)
+invariant-loop-line l = record {
+  led : Leads (progress (messages []) l.fn.lines) (progress (messages l.dictionary) l.lines);
+  lines : HaveLines l.dictionary;
+}
 
 abbrev pub decreases-loop-line : goal.decreases-loop-line
 decreases-loop-line l = length l.lines.bytes.now

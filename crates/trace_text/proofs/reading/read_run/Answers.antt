@@ -1,12 +1,13 @@
 use Rattle.std.proofs.Common.{ℕ, List, refl, ap, sym, subst}
 use Rattle.arg_records.specs.declared.call.Call.{Call}
 use Rattle.trace_text.specs.declared.cause.TraceCause.TheVariants.{Writers}
-use Rattle.trace_text.specs.Recordings.{Recording, IsRecording}
+use Rattle.trace_text.specs.Recordings.{Recording}
+use Rattle.trace_text.specs.Canonical.{HasText}
 use Rattle.trace_text.specs.Reading.{clock, calls}
 use Rattle.trace_text.specs.Progress.{progress}
 use Rattle.trace_text.proofs.Steps.{leads, refused_here, refused_as}
 use Rattle.trace_text.proofs.HeadLines.{writers_taken}
-use Rattle.trace_text.proofs.RunSteps.{start_recorded}
+use Rattle.trace_text.proofs.SpelledRuns.{start_has_text}
 use Rattle.trace_text.proofs.reading.read_run.Goals as goal
 
 pub returns-in_default-read_writers-clause-run : goal.returns-in_default-read_writers-clause-run
@@ -18,8 +19,8 @@ pub invariant_of-run : goal.invariant_of-run
 invariant_of-run c =
     let count : ℕ = c.in-Some-read_writers.count in
     let counted = writers_taken c.in-Some.line.now count (sym c.in-Some-read_writers.ensures) in
-    subst (λ (writers : List (List Call)). IsRecording (record { dictionary = c.args.dictionary; clock = c.args.clock; writers = writers })) (sym c.in-Ok.ensures)
-    (start_recorded c.args.dictionary c.args.clock count c.requires.rate counted.some counted.few)
+    subst (λ (writers : List (List Call)). HasText (record { dictionary = c.args.dictionary; clock = c.args.clock; writers = writers })) (sym c.in-Ok.ensures)
+    (start_has_text c.args.dictionary c.args.clock count c.requires.messages c.requires.fits c.requires.rate counted.some counted.few)
 
 pub returns-clause-run : goal.returns-clause-run
 returns-clause-run c =

@@ -12,21 +12,21 @@ use Rattle.trace_text.proofs.writing.write_trace.Goals as goal
 pub returns-in_err-write_calls-clause-written : goal.returns-in_err-write_calls-clause-written
 returns-in_err-write_calls-clause-written g c =
     let run = c.args.trace.now in
-    let whole = text_of_parts run _ _ _ _ c.new-text.ensures.items c.in-Ok-push_front.ensures c.deref.ensures.value c.in-Ok.ensures in
+    let whole = text_of_parts run _ _ _ _ c.new-text.ensures.items c.in-Ok.ensures.written c.deref.ensures.value c.in-Ok-places_in_order.ensures in
     writes_fault (Canonical run) _ _ _ _ c.in_err-write_calls.field-0.0 c.from_residual.result c.from_residual.ensures.1
     (cut_within (Canonical run) [] (c.push_front.new.text.items ++ calls_text run c.deref.result.now) (codes "end\n") _ _ _ _ _ _ _ whole (with_end-none [] _) refl c.in_err-write_calls.ensures.written)
 
 pub returns-in_default-extend_from_slice-clause-written : goal.returns-in_default-extend_from_slice-clause-written
 returns-in_default-extend_from_slice-clause-written g c =
     let run = c.args.trace.now in
-    let whole = text_of_parts run _ _ _ _ c.new-text.ensures.items c.in-Ok-push_front.ensures c.deref.ensures.value c.in-Ok.ensures in
+    let whole = text_of_parts run _ _ _ _ c.new-text.ensures.items c.in-Ok.ensures.written c.deref.ensures.value c.in-Ok-places_in_order.ensures in
     let calls = c.in_ok-write_calls.ensures.written in
     memory_wanted (Canonical run) calls.0 (c.write_calls.new.text.items ++ codes "end\n") _ _ _ _ (whole ∙ ap (λ (bytes : List ℕ). bytes ++ codes "end\n") calls.1 ∙ append_assoc calls.0 c.write_calls.new.text.items (codes "end\n")) calls.2 calls.3
 
 pub returns-in_default-write_all-clause-written : goal.returns-in_default-write_all-clause-written
 returns-in_default-write_all-clause-written g c =
     let run = c.args.trace.now in
-    let whole = text_of_parts run _ _ _ _ c.new-text.ensures.items c.in-Ok-push_front.ensures c.deref.ensures.value c.in-Ok.ensures in
+    let whole = text_of_parts run _ _ _ _ c.new-text.ensures.items c.in-Ok.ensures.written c.deref.ensures.value c.in-Ok-places_in_order.ensures in
     let calls = c.in_ok-write_calls.ensures.written in
     let last = written_last (Canonical run) _ calls.0 c.write_calls.new.text.items _ (codes "end\n") _ whole calls.1 c.in-Ok-extend_from_slice.ensures.items c.deref-2.ensures.value in
     cut_within (Canonical run) calls.0 c.deref-2.result.now [] _ _ _ _ _ _ Failed (last ∙ sym (append-nil (calls.0 ++ c.deref-2.result.now))) calls.2 calls.3
@@ -35,7 +35,7 @@ returns-in_default-write_all-clause-written g c =
 pub returns-clause-written : goal.returns-clause-written
 returns-clause-written g c =
     let run = c.args.trace.now in
-    let whole = text_of_parts run _ _ _ _ c.new-text.ensures.items c.in-Ok-push_front.ensures c.deref.ensures.value c.in-Ok.ensures in
+    let whole = text_of_parts run _ _ _ _ c.new-text.ensures.items c.in-Ok.ensures.written c.deref.ensures.value c.in-Ok-places_in_order.ensures in
     let calls = c.in_ok-write_calls.ensures.written in
     let last = written_last (Canonical run) _ calls.0 c.write_calls.new.text.items _ (codes "end\n") _ whole calls.1 c.in-Ok-extend_from_slice.ensures.items c.deref-2.ensures.value in (
       c.in-Ok-write_all.ensures.ok ∙ ap (with_end c.deref-2.result.now) calls.2 ∙ with_end-both calls.0 c.deref-2.result.now _ ∙ ap (λ (bytes : List ℕ). with_end bytes (g.K.Sink.put c.args.sink.now)) (sym last),

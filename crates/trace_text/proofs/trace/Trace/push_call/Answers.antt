@@ -1,5 +1,6 @@
 use Rattle.std.proofs.Common.{sym, subst}
-use Rattle.trace_text.specs.Recordings.{Recording, IsRecording}
+use Rattle.trace_text.specs.Recordings.{Recording}
+use Rattle.trace_text.specs.Canonical.{HasText}
 use Rattle.trace_text.specs.CallReading.{with_call}
 use Rattle.trace_text.proofs.RunSteps.{pushed}
 use Rattle.trace_text.proofs.trace.Trace.push_call.Goals as goal
@@ -8,4 +9,4 @@ pub invariant_of-self : goal.invariant_of-self
 invariant_of-self c =
     let run : Recording = record { dictionary = c.self.inside.dictionary; clock = c.self.inside.clock; writers = c.self.inside.writers } in
     pushed run (record { writer = c.args.writer; call = c.args.call }) c.push_call.new.self c.push_call.result c.push_call.ensures.ok c.push_call.ensures.err c.self.invariant
-    (subst (λ (r : Recording). IsRecording (with_call r (record { writer = c.args.writer; call = c.args.call }))) (sym c.self.view_is) c.requires.recorded)
+    (subst (λ (r : Recording). HasText (with_call r (record { writer = c.args.writer; call = c.args.call }))) (sym c.self.view_is) c.requires.has_text)
