@@ -3,8 +3,8 @@
 ghost use Rattle.std.specs.Prelude.{◌≡◌};
 ghost use Rattle.trace_text.specs.Causes.{cause_number, cause_name};
 
-/// Why a line of a trace is refused. Where several causes hold of a line, the first of this list is
-/// told.
+/// Why a line of a trace is refused. Where several causes hold of a line, the first of this list is told. The arguments
+/// of a call are judged from left to right, and its frame behind them.
 #[derive(Clone, Copy, Debug, PartialEq, Eq)]
 pub enum TraceCause {
     /// The text has more than 67,108,864 bytes.

@@ -50,7 +50,7 @@ fn add_places(writer: u32, calls: &Calls, places: &mut Vec<Place>) -> Result<(),
 ///
 /// # Errors
 ///
-/// There is no memory for the places. It is asked for once, for all of them.
+/// There is no memory for the places.
 pub fn places_in_order(alloc: Global, trace: &Trace) -> Result<Vec<Place>, AllocError>
     ensures { IfOk result (λ places. places.items ≡ places_in_order trace.now) }
 {

@@ -1,6 +1,6 @@
 //! Reading the text of a trace.
 
-ghost use Rattle.std.specs.Prelude.{◌≡◌, ◌≤◌, [], length, sum_by, IfOk, IfSome, OnOk, IsErrOf};
+ghost use Rattle.std.specs.Prelude.{◌≡◌, ℕ, ◌≤◌, [], Err, length, sum_by, IfOk, IfSome, OnOk, IsErrOf};
 ghost use Rattle.nl_io.specs.Count.{Rose};
 ghost use Rattle.nl_io.specs.Content.{IsAtEnd};
 ghost use Rattle.trace_text.specs.Reading as parts;
@@ -192,13 +192,16 @@ pub fn read_text(alloc: Global, text: &[u8]) -> Result<Trace, TraceFault>
     run_of(alloc, text)
 }
 
-/// The run whose trace a source has left, which is read to its end. No line is judged before all of
-/// the text is there.
+/// The run whose trace a source has left, which is read to its end.
 pub fn read_trace<S: Source>(alloc: Global, source: &mut S) -> Result<Trace, TraceFault>
     // The bytes that were left are the trace of the run, or are refused so.
     ensures answer { IfSome (S.left source.old) (λ text. IsAnswer text result) }
     ensures only { IfSome (S.left source.old) (λ text. IsOnlyAnswer text result) }
     ensures end { OnOk result (IsAtEnd (S.left source.new)) }
+
+    // No line is judged before all of the text is there.
+    ensures whole { (line : ℕ) (cause : TraceCause) → result ≡ Err (TraceFault.Refused line cause) → 1 ≤ line
+        → IsAtEnd (S.left source.new) }
     ensures read_fault { IsErrOf result TraceFault.ReadFault
         → Rose (S.faults source.old) (S.faults source.new) }
     ensures counted { ¬ (IsErrOf result TraceFault.ReadFault) → S.faults source.new ≡ S.faults source.old }

@@ -148,8 +148,7 @@ fn write_calls<K: Sink>(
 }
 
 /// Writes the canonical text of a run: each call once, by stamp, those of one stamp by writer, and
-/// those of one writer in the order in which it made them. The text goes out in pieces. Memory is
-/// taken for the messages, for a piece, and once for the order of the calls.
+/// those of one writer in the order in which it made them.
 ///
 /// # Errors
 ///
