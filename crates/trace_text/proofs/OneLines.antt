@@ -12,7 +12,7 @@ use Rattle.log_dictionary.specs.declared.severity.Severity.{Severity}
 use Rattle.log_dictionary.specs.Severities.{severity_name}
 use Rattle.log_dictionary.specs.Texts.{IsPlain, SpellsByte, itself, quotation_mark, backslash, line_feed, tab, hexadecimal, SpellsText}
 use Rattle.log_dictionary.specs.Messages.{SpellsMessage}
-use Rattle.log_dictionary.proofs.Lines.{none_by_test, severity_none}
+use Rattle.log_dictionary.proofs.Lines.{none_by_test, severity_none, natural_none}
 use Rattle.trace_text.specs.Lines.{first_line, last_line, clock_line, writers_line, SpellsArgument, SpellsArguments, WriterCall, SpellsCall}
 use Rattle.trace_text.specs.Reading.{IsOneLine}
 use Rattle.trace_text.proofs.DecimalBytes.{decimal_all}
@@ -79,14 +79,15 @@ severity_is_line severity = ((λ e. omega (arith, e)), recursion_from_All (λ by
 
 pub message_is_line : (line : List ℕ) (id : ℕ) (message : Message) → SpellsMessage line id message → IsOneLine line
 message_is_line line id message spells =
-    let front = codes "message " ++ decimal id in
+    let id_line = recursion_from_All (λ byte. byte ≢ 10) spells.digits (natural_none 10 spells.digits id (inl (omega arith)) spells.numeral) in
+    let front = codes "message " ++ spells.digits in
     let graded = front ++ 32 ∷ severity_name message.severity in
     let placed = graded ++ 32 ∷ decimal message.line in
     let opened = placed ++ codes " \"" in
     let named = opened ++ spells.name in
     let second = named ++ codes "\" \"" in
     let filled = second ++ spells.format in
-    let front_line = joined (codes "message ") (decimal id) (none_by_test 10 (codes "message ") refl) (number_is_line id) in
+    let front_line = joined (codes "message ") spells.digits (none_by_test 10 (codes "message ") refl) id_line in
     let graded_line = joined front (32 ∷ severity_name message.severity) front_line (severity_is_line message.severity) in
     let placed_line = joined graded (32 ∷ decimal message.line) graded_line (field_is_line message.line) in
     let opened_line = joined placed (codes " \"") placed_line (none_by_test 10 (codes " \"") refl) in

@@ -3,10 +3,7 @@ use Rattle.std.proofs.Common.{ℕ, ◌≤◌, lit<, lit≤, List, [], ◌∷◌,
 use Rattle.std.specs.Prelude.{codes}
 use Rattle.std.specs.Fmt.{digits}
 use Rattle.std.specs.List.{AllByRecursion}
-use Rattle.printf_grammar.specs.Spelling.{Spells}
-use Rattle.printf_grammar.proofs.NarrowLaws.{plain_d_spelled}
 use Rattle.log_dictionary.specs.Texts.{IsPlain, SpellsText, itself, quotation_mark, backslash, line_feed, tab, hexadecimal}
-use Rattle.log_dictionary.specs.Messages.{SpellsMessage}
 use Rattle.trace_text.specs.Recordings.{IsRecording}
 use Rattle.arg_records.specs.Calls.{IsCall}
 use Rattle.trace_text.specs.Lines.{SpellsCall}
@@ -14,9 +11,7 @@ use Rattle.trace_text.specs.Traces.{TraceText}
 use Rattle.trace_text.specs.Rows.{three_writers, three_writers_text, text_call, text_call_line}
 use Rattle.arg_records.specs.Rows.{row_call}
 use Rattle.log_dictionary.specs.Rows.{row_message}
-
-low : (b : ℕ) → 35 ≤ b → b ≤ 91 → IsPlain b
-low b least most = inl (omega (arith, least), omega (arith, most), (λ e. omega (arith, least, e)), (λ e. omega (arith, most, e)))
+use Rattle.log_dictionary.proofs.LineWorked.{row_spelled}
 
 pub high : (b : ℕ) → 93 ≤ b → b ≤ 126 → IsPlain b
 high b least most = inl (omega (arith, least), most, (λ e. omega (arith, least, e)), (λ e. omega (arith, least, e)))
@@ -25,24 +20,6 @@ high b least most = inl (omega (arith, least), most, (λ e. omega (arith, least,
 pub plain_text : (bytes : List ℕ) → AllByRecursion IsPlain bytes → SpellsText bytes bytes
 plain_text [] all = refl
 plain_text (b ∷ bytes) all = (b ∷ [], bytes, refl, itself all.0 refl, plain_text bytes all.1)
-
-file_spelled : SpellsText (codes "srv.cc") (codes "srv.cc")
-file_spelled = plain_text (codes "srv.cc") (high _ (lit≤ tt) (lit≤ tt), (high _ (lit≤ tt) (lit≤ tt), (high _ (lit≤ tt) (lit≤ tt), (low _ (lit≤ tt) (lit≤ tt), (high _ (lit≤ tt) (lit≤ tt), (high _ (lit≤ tt) (lit≤ tt), tt))))))
-
-format_spelled : SpellsText (codes "x=%d") (codes "x=%d")
-format_spelled = plain_text (codes "x=%d") (high _ (lit≤ tt) (lit≤ tt), (low _ (lit≤ tt) (lit≤ tt), (low _ (lit≤ tt) (lit≤ tt), (high _ (lit≤ tt) (lit≤ tt), tt))))
-
-formed : Spells (codes "x=%d") row_message.format.pieces
-formed = record {
-  short = lit≤ tt;
-  few = lit≤ tt;
-  apart = (tt, tt);
-  spelled = (codes "x=", codes "%d", refl, record { start_is = refl; end_is = refl; nonempty = lit< tt; literal = ((λ h. cc, λ h. cc), ((λ h. cc, λ h. cc), tt)) }, (codes "%d", [], refl, plain_d_spelled, refl));
-}
-
-message_spelled : SpellsMessage (codes "message 0 NOTICE 12 \"srv.cc\" \"x=%d\"") 0 row_message
-unfolding digits
-message_spelled = record { name = codes "srv.cc"; format = codes "x=%d"; spelled = refl; file = file_spelled; bytes = format_spelled; formed = formed; id_fits = lit< tt; line_fits = lit< tt }
 
 second_first : SpellsCall (codes "call 1 1003 0 2") (record { writer = 1; call = row_call 2 })
 unfolding digits
@@ -77,7 +54,7 @@ mixed = record {
   call_lines = codes "call 1 1003 0 2" ∷ codes "call 0 1003 0 1" ∷ codes "call 1 1003 0 3" ∷ [];
   calls = record { writer = 1; call = row_call 2 } ∷ record { writer = 0; call = row_call 1 } ∷ record { writer = 1; call = row_call 3 } ∷ [];
   whole = refl;
-  messages_spelled = (message_spelled, tt);
+  messages_spelled = (row_spelled, tt);
   distinct = λ i j d earlier within. absurd (omega (arith, earlier, within));
   few_messages = lit≤ tt;
   clock_fits = record { tick = lit< tt; nanos = lit< tt; rate = lit< tt };

@@ -1,14 +1,21 @@
 -- Worked texts that are refused.
-use Rattle.std.proofs.Common.{◌≡◌, ◌≢◌, ℕ, lit<, lit≤, true, not, eqb, List, [], ◌∷◌, ◌++◌, Result, Err, get_or, refl, ap, inl, inr, arith}
+use Rattle.std.proofs.Common.{◌≡◌, ◌≢◌, ℕ, lit<, lit≤, true, not, eqb, List, [], ◌∷◌, ◌++◌, Result, Err, get_or, refl, ap, subst, inl, inr, arith}
 use Rattle.std.specs.Prelude.{codes}
 use Rattle.std.specs.Fmt.{digits}
 use Rattle.std.specs.List.{list_all}
 use Rattle.log_dictionary.specs.declared.clock.Clock.{Clock}
+use Rattle.printf_grammar.specs.declared.piece.Piece.TheVariants.{Literal}
+use Rattle.printf_grammar.specs.Spelling.{Spells}
 use Rattle.log_dictionary.specs.declared.message.Message.{Message}
+use Rattle.log_dictionary.specs.declared.severity.Severity.TheVariants.{Debug}
+use Rattle.log_dictionary.specs.Messages.{SpellsMessage}
+use Rattle.log_dictionary.specs.Canonical.{message_line}
 use Rattle.log_dictionary.specs.Additions.{SpellsNew}
 use Rattle.log_dictionary.specs.Fields.{split_at_first}
 use Rattle.log_dictionary.specs.Numbers.{number_from}
 use Rattle.log_dictionary.proofs.Lines.{none_by_test}
+use Rattle.log_dictionary.proofs.LineMessages.{one_message}
+use Rattle.log_dictionary.proofs.Written.{written_message}
 use Rattle.trace_text.specs.declared.cause.TraceCause.TheVariants as causes
 use Rattle.trace_text.specs.Recordings.{Recording}
 use Rattle.trace_text.specs.Lines.{first_line}
@@ -61,10 +68,22 @@ other_version = inr (
   },
 )
 
+abbrev second_message : Message
+second_message = record { file = codes "a"; line = 1; severity = Debug; format = record { bytes = codes "b"; pieces = Literal 0 1 ∷ [] }; file_length = (lit≤ tt, lit≤ tt) }
+
+second_formed : Spells (codes "b") (Literal 0 1 ∷ [])
+second_formed = record { short = lit≤ tt; few = lit≤ tt; apart = (tt, tt); spelled = (codes "b", [], refl, record { start_is = refl; end_is = refl; nonempty = lit< tt; literal = ((λ h. cc, λ h. cc), tt) }, refl) }
+
+second_written : message_line 1 second_message ≡ codes "message 1 DEBUG 1 \"a\" \"b\""
+unfolding digits
+second_written = refl
+
+second_spelled : SpellsMessage (codes "message 1 DEBUG 1 \"a\" \"b\"") 1 second_message
+second_spelled = subst (λ (line : List ℕ). SpellsMessage line 1 second_message) second_written (written_message 1 second_message (lit< tt) (record { file = (lit< tt, tt); bytes = (lit< tt, tt); formed = second_formed; line_fits = lit< tt }))
+
 -- the id of the first message is 0
 no_message : (message : Message) → ¬ (SpellsNew [] (codes "message 1 DEBUG 1 \"a\" \"b\"") 0 message)
-unfolding digits
-no_message message new = let wrong : ◌≡◌ {A = ℕ} 49 48 = ap (λ line. get_or line 8 0) new.spelled.spelled in omega arith
+no_message message new = omega (arith, (one_message _ 0 1 message second_message new.spelled second_spelled).0)
 
 pub other_id : TraceBreak (codes "nanolog-trace 1\nmessage 1 DEBUG 1 \"a\" \"b\"\n") 2 causes.Message
 other_id = inr (
