@@ -1,5 +1,5 @@
 -- What a turn of a worker did.
-use Rattle.std.specs.Prelude.{◌≡◌, ◌⊎◌, ℕ, ◌+◌, Bool, true, false, List, [], ◌∷◌, ◌++◌, length}
+use Rattle.std.specs.Prelude.{◌≡◌, ◌⊎◌, ℕ, ◌+◌, Bool, true, false, [], ◌∷◌, ◌++◌, length}
 use Rattle.nl_io.specs.Count.{Rose}
 use Rattle.ring_core.specs.declared.answers.Full.{Full}
 use Rattle.log_session.specs.declared.options.Policy.TheVariants as policies
@@ -34,7 +34,8 @@ pub record DropsNext {S : Type 0} (at words seen looks : S → ℕ) (old new : W
 
 -- The next call, which the level keeps, was tried, once. Where it was answered it was logged or dropped; else writers
 -- wait for room, and it is to be tried again.
-pub record TriesCall {S : Type 0} (at words seen looks : S → ℕ) (old new : WorkerView S) (answered : Bool) : Type 0 where
+pub record TriesCall {S : Type 0} (at words seen looks : S → ℕ) (old new : WorkerView S) (answered : Bool)
+    : Type 0 where
   pub next : IsNextKept old.task old.progress
   pub once : new.tries ≡ one_log old.tries
   pub answer : answered ≡ true → LogsNext old new ⊎ DropsNext at words seen looks old new

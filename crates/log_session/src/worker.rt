@@ -220,8 +220,8 @@ impl<S: StageIn + Drop, G: Gate> Worker<S, G> {
         }
     }
 
-    /// Tries the next call, once: logs it, or drops it where there is no room and that is the policy. It answers whether
-    /// the call was answered.
+    /// Tries the next call, once: logs it, or drops it where there is no room and that is the policy. It answers
+    /// whether the call was answered.
     fn log_or_shed<R: Wait + Copy>(&mut self, rt: R) -> bool
         requires unfinished { self.old.progress.closed ≡ false }
         requires next { IsNextKept self.old.task self.old.progress }
