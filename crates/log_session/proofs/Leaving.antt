@@ -1,5 +1,5 @@
 -- What the first writers of a run leave, and what those leave with one writer more.
-use Rattle.std.proofs.Common.{◌≡◌, ℕ, ◌+◌, ◌<◌, ◌≤◌, Bool, true, List, [], ◌∷◌, ◌++◌, map, length, take, drop, get_or, refl, sym, ap, subst, ◌∙◌, arith}
+use Rattle.std.proofs.Common.{rules, ◌≡◌, ℕ, ◌+◌, ◌<◌, ◌≤◌, Bool, true, List, [], ◌∷◌, ◌++◌, map, length, take, drop, get_or, refl, sym, ap, subst, ◌∙◌, arith}
 use Rattle.std.specs.Prelude.{All, filter}
 use Rattle.std.specs.List.{AllZip, enumerate_from}
 use Rattle.std.proofs.lemmas.List.{append-nil, length-append, length-map, length-take-le, length_push, map-append, take-map, take_all, take_more}
@@ -235,3 +235,9 @@ as_many {S} f writers seen same =
 pub all_seen : {A : Type 0} (f : A → Work) (seen : List Work) (rest all : List A) → seen ++ map f rest ≡ map f all → length rest ≡ 0 → seen ≡ map f all
 all_seen f seen [] all joined none = sym (append-nil seen) ∙ joined
 all_seen f seen (x ∷ rest) all joined none = absurd (omega arith)
+
+-- ---- the first of them
+
+-- of no writer all is done
+pub none_done : {S : Type 0} (sent : S → List (List ℕ)) (closed : S → Bool) (run : Recording) (options : Options) → AreDone sent closed (record { run = run; options = options; drops = []; writers = [] })
+none_done sent closed run options = search rules

@@ -161,6 +161,14 @@ impl<S: StageIn> Writer<S> {
         self.accepted
     }
 
+    /// How often it was asked to log a call. All but the [`accepted`](Writer::accepted) ones were refused, each tried
+    /// once. The number stands still at 2^64-1.
+    pub fn asked(&self) -> u64
+        ensures { result ≡ self.now.tries.logs }
+    {
+        self.logs
+    }
+
     /// The end of its ring.
     pub(crate) fn into_end(self) -> S
         ensures end { result ≡ self.end }

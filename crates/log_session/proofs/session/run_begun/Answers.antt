@@ -56,7 +56,7 @@ settle-accepted-requires-clause-few g c κs within =
     let parts = c.into_parts-drops.ensures in
     let (done, all) = all_done _ _ _ _ c.args.trace.now c.args.options.now _ _ c.requires.free.finished c.add_all.ensures.same parts.drops parts.writers parts.done c.add_all.ensures.all in
     let few = few_accepted g.S.In.StageIn.sent g.S.In.StageIn.closed c.args.trace.now c.args.options.now _ _ done all in
-    omega (arith, few, ap (λ (r : Recording). call_count r.writers) c.trace.view_is, c.trace.invariant.few_calls)
+    omega (arith, few, ap (λ (r : Recording). call_count r.writers) c.trace.view_is, c.trace.invariant.recorded.few_calls)
 
 pub returns-clause-counted : goal.returns-clause-counted
 returns-clause-counted g c = (c.consume.ensures.roams.unfaulted (sym c.faulted.ensures ∙ c.if-faulted.false)).1

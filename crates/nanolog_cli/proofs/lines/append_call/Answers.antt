@@ -12,7 +12,7 @@ pub append_line-requires-clause-later : goal.append_line-requires-clause-later
 append_line-requires-clause-later c = subst (λ (run : Recording). run.clock.tick ≤ c.call_at-call.result.now.stamp) (sym c.run.view_is) c.call_at-call.ensures.later
 
 pub append_line-requires-clause-rate : goal.append_line-requires-clause-rate
-append_line-requires-clause-rate c = c.run.invariant.rate
+append_line-requires-clause-rate c = c.run.invariant.recorded.rate
 
 pub returns : goal.returns
 returns c = on_ok_weaker c.append_line.result (called _ _ c.args.place c.call_at-call.result.now _ _ c.run.view_is c.call_at-call.ensures.made) c.append_line.ensures

@@ -3,23 +3,36 @@ use Rattle.std.specs.Prelude.{slice_get}
 use Rattle.std.proofs.lemmas.Option.{same_Some, slice_get_within}
 use Rattle.nl_io.specs.Count.{Rose}
 use Rattle.printf_grammar.specs.declared.argument.Value.{Value}
-use Rattle.printf_grammar.specs.Types.{values_of}
+use Rattle.printf_grammar.specs.Types.{values_of, Types, Fits}
 use Rattle.arg_records.specs.declared.call.Call.{Call}
 use Rattle.arg_records.specs.Frames.{FrameLen}
 use Rattle.ring_core.specs.Answers.{IsFull}
-use Rattle.ring_core.specs.Plans.{AreFramesOf, call_of}
+use Rattle.ring_core.specs.Plans.{Plan, AreFramesOf, call_of}
 use Rattle.ring_core.specs.Positions.{Need}
 use Rattle.trace_text.specs.Recordings.{IsRecording}
 use Rattle.log_session.specs.declared.drops.Dropped.{Dropped}
 use Rattle.log_session.specs.declared.options.Policy.TheVariants as policies
 use Rattle.log_session.specs.declared.refusal.LogRefusal.{LogRefusal}
-use Rattle.log_session.specs.Writers.{IfFull}
+use Rattle.log_session.specs.Writers.{Knows, IfFull}
 use Rattle.log_session.specs.Levels.{keeps}
 use Rattle.log_session.specs.Workers.{WorkerView, HasWorked, IsNextKept, all_calls, accepted_before}
 use Rattle.log_session.specs.Turns.{TriesCall}
 use Rattle.log_session.specs.WorkerInside.{task_of, progress_of}
+use Rattle.log_session.proofs.Logging.{knows_taken}
 use Rattle.log_session.proofs.Working.{worked_call, worked_last, worked_position, worked_accepted, worked_seen, worked_same, worked_dropped, wants_room, tried_more, next_found}
 use Rattle.log_session.proofs.worker.Worker.log_or_shed.Goals as goal
+
+pub log-requires-clause-known : goal.log-requires-clause-known
+log-requires-clause-known g c =
+    let recorded = subst IsRecording c.deref.ensures c.hold_recorded.ensures in
+    let task = task_of c.self.inside in
+    let call = c.call-call.result.now in
+    let is : slice_get (all_calls task) c.self.inside.next ≡ Some call = next_found task _ _ _ _ (sym (c.behind-self.view_is ∙ c.deref-2.ensures)) c.calls.ensures c.call-call.ensures in
+    let values : values_of c.deref-3.result.now ≡ call.args = ap values_of c.deref-3.ensures.0 ∙ c.args-2.ensures.values in
+    let good = worked_call recorded c.self.invariant.0 call is in
+    let fits = subst (λ (args : List Value). Fits args (Types good.message.format.pieces)) (sym values) good.fits in
+    subst (λ (plan : Plan). Knows plan call.id (values_of c.deref-3.result.now)) (sym c.self.invariant.0.plan_is)
+    (knows_taken task.run.dictionary task.run.clock.tick call.id _ (good.message, good.known, fits))
 
 pub log-requires-clause-not_before : goal.log-requires-clause-not_before
 log-requires-clause-not_before g c =
