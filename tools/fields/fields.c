@@ -1,11 +1,12 @@
-/* Prints a table of fields as the C library's own snprintf prints them, for the tests of direct_printf:
+/* Prints fields as the C library's own snprintf prints them, for a case of the program nanolog_cases:
 
-       cc -o fields fields.c && ./fields > ../../crates/direct_printf/src/tests/fields.rt
+       cc -o fields fields.c && ./fields trace && ./fields lines
 
-   Each row is FORMAT|ARGUMENTS|TEXT, where ARGUMENTS are those of the stars and the value, joined by commas: `i` and a
-   signed number, `u` and an unsigned one, or `s` and a text. Only fields that C11 7.21.6.1 defines are in it: no `#` on
-   d, i and u, on c, s and p no flag but `-`, and no precision on c and p. What `p` writes is the library's choice;
-   glibc's is the one that the crate follows. */
+   The first prints the trace of the case, which stands in crates/nanolog_cases/data/formats.cases: a message and a call for
+   each field. The name of a message's file says what is printed. The second prints the lines of these calls, as they
+   stand in crates/nanolog_cases/stdout. Only fields that C11 7.21.6.1 defines are in it: no `#` on d, i and u, on c, s
+   and p no flag but `-`, and no precision on c and p. What `p` writes is the library's choice; glibc's is the one that
+   the crate follows. */
 #include <inttypes.h>
 #include <limits.h>
 #include <stddef.h>
@@ -22,6 +23,25 @@ static const long long longs[] = {LLONG_MIN, LLONG_MAX, 4294967296};
 static const char *const texts[] = {"abc", "", "a", "hello world"};
 
 enum { LENGTHS = 8, WIDTHS = 4, PRECISIONS = 5, NUMBERS = 12, LONGS = 3, TEXTS = 4 };
+
+/* What is printed of each field, the number of the next one, and the state of the sequence that they are picked by. */
+static enum { MESSAGES, CALLS, LINES } part;
+static int row;
+static uint32_t state;
+
+/* One row: what is printed, the call's arguments, and the text. */
+static void put_row(const char *format, const char *shown, const char *arguments, const char *text) {
+    if (part == MESSAGES) printf("  message %d ERROR %d \"%s of %s\" \"<%s>\"\n", row, row + 1, format, shown, format);
+    else if (part == CALLS) printf("  call 0 0 %d %s\n", row, arguments);
+    else printf("  0.000000000 %s of %s:%d ERROR[0]: <%s>\n", format, shown, row + 1, text);
+    row++;
+}
+
+/* The stars, each with what stands behind it, and the value in marks. */
+static void join(char *into, int stars, const int *star, const char *comma, const char *mark, const char *value) {
+    for (int i = 0; i < stars; i++) into += sprintf(into, "%d%s", star[i], comma);
+    sprintf(into, "%s%s%s", mark, value, mark);
+}
 
 static int is_long(const char *length) { return length[0] != '\0' && length[0] != 'h'; }
 
@@ -49,12 +69,13 @@ static void put_number(const char *format, const char *length, char conversion, 
         if (is_signed) PRINT((ptrdiff_t)value); else PRINT((size_t)value);
     }
 #undef PRINT
-    printf("%s|", format);
-    for (int i = 0; i < stars; i++) printf("i%d,", star[i]);
-    if (is_signed) printf("i%lld", value);
-    else if (conversion == 'p' || is_long(length)) printf("u%llu", (unsigned long long)value);
-    else printf("u%u", (unsigned)value);
-    printf("|%s\\n\\\n", text);
+    char number[32], shown[64], arguments[64];
+    if (is_signed) sprintf(number, "%lld", value);
+    else if (conversion == 'p' || is_long(length)) sprintf(number, "%llu", (unsigned long long)value);
+    else sprintf(number, "%u", (unsigned)value);
+    join(shown, stars, star, ", ", "", number);
+    join(arguments, stars, star, " ", "", number);
+    put_row(format, shown, arguments, text);
 }
 
 static void put_text(const char *format, int stars, const int *star, const char *value) {
@@ -62,9 +83,10 @@ static void put_text(const char *format, int stars, const int *star, const char 
     if (stars == 0) snprintf(text, sizeof text, format, value);
     else if (stars == 1) snprintf(text, sizeof text, format, star[0], value);
     else snprintf(text, sizeof text, format, star[0], star[1], value);
-    printf("%s|", format);
-    for (int i = 0; i < stars; i++) printf("i%d,", star[i]);
-    printf("s%s|%s\\n\\\n", value, text);
+    char shown[64], arguments[64];
+    join(shown, stars, star, ", ", "'", value);
+    join(arguments, stars, star, " ", "\"", value);
+    put_row(format, shown, arguments, text);
 }
 
 static void flags_of(unsigned set, char *flags) {
@@ -76,7 +98,6 @@ static void flags_of(unsigned set, char *flags) {
 
 /* A number below the limit, by a fixed sequence. */
 static unsigned pick(unsigned limit) {
-    static uint32_t state = 1;
     state = state * 1664525 + 1013904223;
     return (state >> 16) % limit;
 }
@@ -128,12 +149,25 @@ static void put_stars(void) {
     }
 }
 
-int main(void) {
-    puts("/// Fields as a C library prints them: the format, its arguments and the text.");
-    puts("pub const FIELDS: &str = \"\\");
+static void put_part(int which) {
+    part = which;
+    row = 0;
+    state = 1;
     put_integers();
     put_others();
     put_stars();
-    puts("\";");
+}
+
+int main(int count, char **words) {
+    if (count == 2 && strcmp(words[1], "lines") == 0) {
+        put_part(LINES);
+        return 0;
+    }
+    if (count != 2 || strcmp(words[1], "trace") != 0) return 1;
+    puts("  nanolog-trace 1");
+    put_part(MESSAGES);
+    puts("  clock 0 0 1\n  writers 1");
+    put_part(CALLS);
+    puts("  end");
     return 0;
 }
