@@ -1,0 +1,130 @@
+//! Inputs as large as they can be, and larger.
+
+use crate::runs::{PIECE, TRACE, run_gated, run_over, words_of};
+use log_session::FreeGate;
+use nanolog_cli::{Status, quick};
+use nl_io::{MemFiles, MemSink};
+use std::alloc::{AllocError, Global};
+use std::fmt::Write;
+use std::process::Abort;
+use std::sync::Arc;
+use std::test::Fail;
+
+/// A trace of so many messages, and so many calls of the first.
+fn counted_trace(alloc: Global, messages: u32, calls: u32) -> Result<String, AllocError> {
+    let mut text = String::from_str(alloc, "nanolog-trace 1\n")?;
+    for id in 0..messages {
+        writeln!(text, "message {id} NOTICE {id} \"srv.cc\" \"x=%d\"")?;
+    }
+    text.push_str("clock 1000 1514764800000000000 2000000000\nwriters 1\n")?;
+    for number in 0..calls {
+        writeln!(text, "call 0 1003 0 {number}")?;
+    }
+    text.push_str("end\n")?;
+    Ok(text)
+}
+
+/// The lines of so many calls.
+fn counted_lines(alloc: Global, calls: u32) -> Result<String, AllocError> {
+    let mut lines = String::new(alloc);
+    for number in 0..calls {
+        writeln!(lines, "1514764800.000000001 srv.cc:0 NOTICE[0]: x={number}")?;
+    }
+    Ok(lines)
+}
+
+/// One call of the output takes a piece of 64 KiB, and the next one fails.
+#[test]
+fn a_long_text_is_printed_in_pieces(rt: HostRuntime) -> Result<(), Fail> {
+    let alloc = rt.alloc();
+    let text = counted_trace(alloc, 1, 3_000)?;
+    let lines = counted_lines(alloc, 3_000)?;
+    let file = ("t", text.as_bytes());
+    let ran = run_over(&rt, alloc, "direct t", file)?;
+    assert!(rt; ran.shown() == (Status::Done, lines.as_str(), ""));
+    let gate = Arc::new(alloc, FreeGate)?;
+    let ran = run_gated(&rt, alloc, "direct t", file, &[1], &gate)?;
+    let (status, out, err) = ran.shown();
+    let told = "nanolog: standard output: write fault\n";
+    assert_eq!(rt; (status, err), (Status::WriteFault, told));
+    assert!(rt; out.len() >= 65_536 && out.len() < 65_600 && lines.as_str().starts_with(out));
+    Ok(())
+}
+
+/// One message more than there can be is told, also where its line is wrong.
+#[test]
+fn too_many_messages_are_told(rt: HostRuntime) -> Result<(), Fail> {
+    let alloc = rt.alloc();
+    let text = counted_trace(alloc, 65_537, 0)?;
+    let (right, wrong) = ("NOTICE 65536", "Notice 65536");
+    let wrong = text.as_str().replacen(alloc, right, wrong, 1)?;
+    let told = "nanolog: t:65538: refused: 15 TooMany\n";
+    for text in [text.as_str(), wrong.as_str()] {
+        let ran = run_over(&rt, alloc, "direct t", ("t", text.as_bytes()))?;
+        assert_eq!(rt; ran.shown(), (Status::Refused, "", told));
+    }
+    Ok(())
+}
+
+/// One byte more than a trace has is told.
+#[test]
+fn too_large_a_trace_is_told(rt: HostRuntime) -> Result<(), Fail> {
+    let bytes = Vec::from_elem(rt.alloc(), b'\n', 67_108_865)?;
+    let file = ("t", bytes.as_slice());
+    let ran = run_over(&rt, rt.alloc(), "direct t", file)?;
+    let told = "nanolog: t:0: refused: 18 TooLarge\n";
+    assert_eq!(rt; ran.shown(), (Status::Refused, "", told));
+    Ok(())
+}
+
+/// A trace of as many messages as there can be, whose files' names are made to fall together in a table of hashes: eight
+/// bytes that differ, and eight that undo what they add.
+fn made_names(alloc: Global) -> Result<String, AllocError> {
+    let mut text = String::from_str(alloc, "nanolog-trace 1\n")?;
+    for id in 0..65_536 {
+        writeln!(
+            text,
+            "message {id} NOTICE 1 \"{id:08}\\x15\\x7c\\x4a\\x7f\\xb9\\x79\\x37\\x9e\" \"x\""
+        )?;
+    }
+    text.push_str("clock 0 0 1\nwriters 1\ncall 0 0 65535\nend\n")?;
+    Ok(text)
+}
+
+/// Neither the reader of traces nor that of logs takes long for them; a test has 60 seconds.
+#[test]
+fn made_names_take_no_time(rt: HostRuntime) -> Result<(), Fail> {
+    let alloc = rt.alloc();
+    let text = made_names(alloc)?;
+    let ran = run_over(&rt, alloc, "replay t l", ("t", text.as_bytes()))?;
+    let told = "accepted 1 dropped 0 filtered 0\n";
+    assert_eq!(rt; ran.shown(), (Status::Done, told, ""));
+    let log = ran.log.as_deref().unwrap_or(&[]);
+    let ran = run_over(&rt, alloc, "aggregate l 65535 0", ("l", log))?;
+    let told = "nanolog: l: refused: 2 NoSuchArgument\n";
+    assert_eq!(rt; ran.shown(), (Status::Refused, "", told));
+    Ok(())
+}
+
+/// Asserts how [`quick`] ends where the file `t` holds [`TRACE`].
+fn expect_quick(rt: &impl Abort, alloc: Global, line: &str, want: Status) -> Result<(), Fail> {
+    let mut files = MemFiles::make(alloc, PIECE, &[])?;
+    files.put_file("t", TRACE.as_bytes())?;
+    let mut out = MemSink::make(alloc, PIECE, &[])?;
+    let mut err = MemSink::make(alloc, PIECE, &[])?;
+    let words = words_of(alloc, line)?;
+    let status = quick(alloc, &words, &mut files, &mut out, &mut err);
+    assert_eq!(rt; status, want, "{line}");
+    assert_eq!(rt; out.bytes().is_empty(), want != Status::Done);
+    assert_eq!(rt; err.bytes().starts_with(b"usage:\n"), want == Status::Usage);
+    assert!(rt; files.get_file("l").is_none());
+    Ok(())
+}
+
+/// What waits for nobody does all but `replay` and `selftest`, which it answers as words that are no command.
+#[test]
+fn quick_does_what_waits_for_nobody(rt: HostRuntime) -> Result<(), Fail> {
+    expect_quick(&rt, rt.alloc(), "direct t", Status::Done)?;
+    expect_quick(&rt, rt.alloc(), "replay t l", Status::Usage)?;
+    expect_quick(&rt, rt.alloc(), "selftest 1 2 1", Status::Usage)
+}

@@ -1,0 +1,14 @@
+//! Tests of whole commands that no transcript can show: with gates that hold threads, with inputs as large as there can
+//! be, and with refused memory.
+#![tactic(auto)]
+
+#[cfg(test)]
+mod large;
+#[cfg(test)]
+mod made;
+#[cfg(test)]
+mod memory;
+#[cfg(test)]
+mod runs;
+#[cfg(test)]
+mod threads;

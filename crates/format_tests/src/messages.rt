@@ -1,0 +1,226 @@
+//! Messages as lines and as entries, and the dictionaries that they make.
+
+use crate::tables::{bytes_of, check_rows, cut, hexadecimal, text_of, values_of};
+use log_dictionary::{
+    AddFault, Added, Dictionary, EntryFault, LineFault, Message, entry_len, first_field, put_entry,
+    read_entry, read_integer, read_number, read_signed, split_at_byte, split_text,
+};
+use std::alloc::Global;
+use std::test::Fail;
+
+/// Lines, and how they are written again.
+const LINES: &str = r#"
+message 0 NOTICE 12 "srv.cc" "x=%d"|message 0 NOTICE 12 "srv.cc" "x=%d"
+message 0 ERROR 1 "a\"b\\" "\x41\n\t%d"|message 0 ERROR 1 "a\"b\\" "A\n\t%d"
+message 0 WARNING 1 "\x00\xfFé" "\x25%"|message 0 WARNING 1 "\x00\xff\xc3\xa9" "%%""#;
+
+/// The dictionary of one line.
+pub fn one_message(alloc: Global, line: &str) -> Result<Dictionary, LineFault> {
+    let mut dictionary = Dictionary::make(alloc);
+    dictionary.read_line(line.as_bytes())?;
+    Ok(dictionary)
+}
+
+fn written(alloc: Global, line: &str) -> Result<String, Fail> {
+    let mut out = Vec::new(alloc);
+    one_message(alloc, line)?.write_text(&mut out)?;
+    let text = String::from_utf8(out)?;
+    let (_, line) = text.split_once('\n').ok_or("no first line")?;
+    Ok(String::from_str(alloc, line.trim_end())?)
+}
+
+/// Lines, and their entries in hexadecimal.
+const ENTRIES: &str = r#"
+message 0 NOTICE 12 "srv.cc" "x=%d"| 03 0c 00 00 00 06 00 73 72 76 2e 63 63 04 00 78 3d 25 64
+message 0 ERROR 0 "a" ""| 01 00 00 00 00 01 00 61 00 00
+message 0 WARNING 4294967295 "a b.h" "%d of 100%%"| 02 ff ff ff ff 05 00 61 20 62 2e 68 0b 00 25 64 20 6f 66 20 31 30 30 25 25
+message 0 DEBUG 65536 "b.h" "plain"| 04 00 00 01 00 03 00 62 2e 68 05 00 70 6c 61 69 6e"#;
+
+/// The entry of a message, if it is read as that message again, and cut nowhere.
+fn entry_of(alloc: Global, message: &Message) -> Result<Vec<u8>, Fail> {
+    let mut bytes = vec![in alloc; 0xee; entry_len(message)]?;
+    put_entry(message, &mut bytes);
+    let (again, len) = read_entry(alloc, &bytes)?;
+    if len != bytes.len() || again != *message {
+        return Err("another message is read".into());
+    }
+    for end in 0..len {
+        if !matches!(read_entry(alloc, &bytes[..end]), Err(EntryFault::Cut)) {
+            return Err("a cut entry is read".into());
+        }
+    }
+    Ok(bytes)
+}
+
+fn entry_written(alloc: Global, line: &str) -> Result<String, Fail> {
+    let dictionary = one_message(alloc, line)?;
+    let entry = entry_of(alloc, dictionary.get(0).ok_or("no message")?)?;
+    Ok(hexadecimal(alloc, &entry)?)
+}
+
+/// Names, formats, and how long the entry of such a message is.
+const LARGE: &str = "\
+255*n|64*%d| 392 bytes;;1*n|103*ten bytes.| 1040 bytes;;255*n|341*ten bytes.%%| 4356 bytes
+255*n|21*%*.*s and more, | 600 bytes;;254*n|4095*x| 4358 bytes";
+
+fn large_written(alloc: Global, row: &str) -> Result<String, Fail> {
+    let (name, format) = cut(row)?;
+    let name = text_of(alloc, name)?;
+    let format = text_of(alloc, format)?;
+    let line = format!(in alloc; "message 0 DEBUG 258 \"{name}\" \"{format}\"")?;
+    entry_written(alloc, &line)
+}
+
+/// Bytes that are no entry. Half of a length isn't judged, and the format is judged once all of it is there.
+const BAD_ENTRIES: &str = "\
+00|BadEntry;;05|BadEntry;;05 0c 00|BadEntry;;03 0c 00 00 00 00|Cut;;03 0c 00 00 00 00 00|BadEntry
+03 0c 00 00 00 00 01|BadEntry;;03 0c 00 00 00 ff 00|Cut;;03 0c 00 00 00 01 00 61 00 10|BadEntry
+03 0c 00 00 00 01 00 61 ff 0f|Cut;;03 0c 00 00 00 01 00 61 03 00 25 6e|Cut
+03 0c 00 00 00 01 00 61 02 00 25 6e|BadEntry;;03 0c 00 00 00 01 00 61 01 00 25 64|BadEntry";
+
+fn entry_fault(alloc: Global, words: &str) -> Result<String, Fail> {
+    let bytes = bytes_of(alloc, words)?;
+    let fault = read_entry(alloc, &bytes).err().ok_or("it is read")?;
+    Ok(format!(in alloc; "{fault:?}")?)
+}
+
+#[test]
+fn messages_are_written_and_read(rt: HostRuntime) -> Result<(), Fail> {
+    check_rows(&rt, LINES.trim_start(), written)?;
+    check_rows(&rt, ENTRIES.trim_start(), entry_written)?;
+    check_rows(&rt, LARGE, large_written)?;
+    check_rows(&rt, BAD_ENTRIES, entry_fault)
+}
+
+/// Lines that come behind that of `srv.cc`, and how they are answered. That a message is there comes before its id.
+const OTHER_LINES: &str = r#"
+|Err(BadEntry);;message  1 NOTICE 12 "a" "b"|Err(BadEntry);;message 01 NOTICE 12 "a" "b"|Err(BadEntry)
+message 1 FATAL 12 "a" "b"|Err(BadEntry);;message 1 NOTICE 4294967296 "a" "b"|Err(BadEntry)
+message 1 NOTICE 12 "" "b"|Err(BadEntry);;message 1 NOTICE 12 "a\q" "b"|Err(BadEntry)
+message 1 NOTICE 12 "a\x4" "b"|Err(BadEntry);;message 1 NOTICE 12 "a""b"|Err(BadEntry)
+message 2 NOTICE 12 "a" "\x00"|Err(BadEntry);;message 1 NOTICE 12 "a" "b|Err(BadEntry)
+message 1 NOTICE 12 "a" "b" |Err(BadEntry);;message 1 NOTICE 12 "a" "%5f"|Err(BadEntry)
+message 0 NOTICE 12 "a" "b"|Err(Order);;message 2 NOTICE 12 "a" "b"|Err(Order);;message 1 NOTICE 12 "a" "b"|Ok(())
+message 1 NOTICE 12 "srv.cc" "x=%d"|Err(BadEntry);;message 7 NOTICE 12 "srv.cc" "\x78=%d"|Err(BadEntry)"#;
+
+fn line_answer(alloc: Global, line: &str) -> Result<String, Fail> {
+    let mut dictionary = one_message(alloc, "message 0 NOTICE 12 \"srv.cc\" \"x=%d\"")?;
+    let answer = dictionary.read_line(line.as_bytes());
+    Ok(format!(in alloc; "{answer:?}")?)
+}
+
+/// Ids and arguments, and whether a call of a dictionary with `%d` alone may have them.
+const CALLS: &str = "0|i7|true;;0|i2147483648|false;;0|u7|false;;1|i7|false;;0||false";
+
+fn takes(alloc: Global, row: &str) -> Result<String, Fail> {
+    let (id, words) = cut(row)?;
+    let dictionary = one_message(alloc, "message 0 NOTICE 12 \"srv.cc\" \"x=%d\"")?;
+    let values = values_of(alloc, words)?;
+    let takes = dictionary.takes(id.parse()?, values.args().as_slice());
+    Ok(format!(in alloc; "{takes}")?)
+}
+
+#[test]
+fn lines_and_calls_are_judged(rt: HostRuntime) -> Result<(), Fail> {
+    check_rows(&rt, OTHER_LINES.trim_start(), line_answer)?;
+    check_rows(&rt, CALLS, takes)
+}
+
+/// What stands in a line, the length of its text and whether a byte 0 is in it, its bytes, and what follows it.
+const TEXTS: &str = r#"
+"" rest|0 false > rest;;"plain"|5 false 70 6c 61 69 6e >;;"~ !#[]^"x|7 false 7e 20 21 23 5b 5d 5e >x
+"\"\\\n\t"|4 false 22 5c 0a 09 >;;"\x00\xff\x7f\xFe\xaB" "b"|5 true 00 ff 7f fe ab > "b";;"é"|2 false c3 a9 >
+"a\\"b"|2 false 61 5c >b";;plain|none;;'a'|none;;"|none;;"a|none;;"a\"|none;;"\a"|none;;"\x"|none;;"\x4"|none
+"\x4g"|none;;"\xg4"|none;;"\X41"|none;;"\|none;;"line␊here"|none"#;
+
+fn split(alloc: Global, line: &str) -> Result<String, Fail> {
+    let line = text_of(alloc, line)?;
+    let Some((text, after)) = split_text(line.as_bytes()) else {
+        return Ok(String::from_str(alloc, "none")?);
+    };
+    let words = hexadecimal(alloc, text.to_bytes(alloc)?.as_slice())?;
+    let after = String::from_utf8(after.to_vec(alloc)?)?;
+    Ok(format!(in alloc; "{} {}{words} >{after}", text.len(), text.has_nul())?)
+}
+
+/// A field, and what it is as a number of any size, below 2^64, and from -2^63 to 2^63-1.
+const NUMBERS: &str = "\
+0|Some(Unsigned(0)) Some(0) Some(0);;7|Some(Unsigned(7)) Some(7) Some(7);;-1|Some(Signed(-1)) None Some(-1)
+18446744073709551610|Some(Unsigned(18446744073709551610)) Some(18446744073709551610) None
+18446744073709551615|Some(Unsigned(18446744073709551615)) Some(18446744073709551615) None
+18446744073709551616|Some(Beyond) None None;;18446744073709551620|Some(Beyond) None None
+99999999999999999999|Some(Beyond) None None;;-9223372036854775809|Some(Beyond) None None
+9223372036854775807|Some(Unsigned(9223372036854775807)) Some(9223372036854775807) Some(9223372036854775807)
+9223372036854775808|Some(Unsigned(9223372036854775808)) Some(9223372036854775808) None
+-9223372036854775808|Some(Signed(-9223372036854775808)) None Some(-9223372036854775808)
+-184467440737095516160000|Some(Beyond) None None;;1000000000000000000000000000000000000000|Some(Beyond) None None
+00|None None None;;007|None None None;;-0|None None None;;-01|None None None;;+1|None None None;;-|None None None
+--1|None None None;;|None None None;;1a|None None None;;99999999999999999999x|None None None;; 1|None None None
+1:|None None None;;1/|None None None";
+
+fn numbers_read(alloc: Global, field: &str) -> Result<String, Fail> {
+    let integer = read_integer(field.as_bytes());
+    let number = read_number(field.as_bytes());
+    let signed = read_signed(field.as_bytes());
+    Ok(format!(in alloc; "{integer:?} {number:?} {signed:?}")?)
+}
+
+/// A line, its first field and the rest, and how many bytes stand on both sides of its first space.
+const FIELDS: &str = "\
+12 a b|(2, 4) Some((2, 3));;12|(2, 0) None;; 12|(0, 3) Some((0, 2));;|(0, 0) None;;a  b|(1, 3) Some((1, 2))";
+
+fn fields(alloc: Global, line: &str) -> Result<String, Fail> {
+    let (field, rest) = first_field(line.as_bytes());
+    let lens = (field.len(), rest.len());
+    let sides = match split_at_byte(line.as_bytes(), b' ') {
+        Some((before, after)) => Some((before.len(), after.len())),
+        None => None,
+    };
+    Ok(format!(in alloc; "{lens:?} {sides:?}")?)
+}
+
+#[test]
+fn parts_of_lines_are_read(rt: HostRuntime) -> Result<(), Fail> {
+    check_rows(&rt, TEXTS.trim_start(), split)?;
+    check_rows(&rt, "\"del\x7fete\"|none", split)?;
+    check_rows(&rt, NUMBERS, numbers_read)?;
+    check_rows(&rt, FIELDS, fields)
+}
+
+/// The message with its number as its line.
+fn numbered(alloc: Global, number: u32) -> Result<Message, Fail> {
+    let line = hexadecimal(alloc, &number.to_le_bytes())?;
+    let words = format!(in alloc; "03{line} 06 00 73 72 76 2e 63 63 04 00 78 3d 25 64")?;
+    let (message, _) = read_entry(alloc, &bytes_of(alloc, &words)?)?;
+    Ok(message)
+}
+
+/// The dictionary with so many messages, which come by lines and by calls in turn.
+fn many_messages(alloc: Global, count: u32) -> Result<Dictionary, Fail> {
+    let mut dictionary = Dictionary::make(alloc);
+    for id in 0..count {
+        if id % 2 == 0 {
+            let line = format!(in alloc; "message {id} NOTICE {id} \"srv.cc\" \"x=%d\"")?;
+            dictionary.read_line(line.as_bytes())?;
+        } else if dictionary.add(numbered(alloc, id)?) != Ok(Added::New(id)) {
+            return Err("it isn't new".into());
+        }
+    }
+    Ok(dictionary)
+}
+
+#[test]
+fn a_dictionary_is_filled(rt: HostRuntime) -> Result<(), Fail> {
+    let alloc = rt.alloc();
+    let mut dictionary = many_messages(alloc, 65_536)?;
+    for id in [0, 1, 40_000, 65_535] {
+        assert_eq!(rt; dictionary.add(numbered(alloc, id)?), Ok(Added::Old(id)));
+    }
+    let line = b"message 0 NOTICE 0 \"srv.cc\" \"x=%d\"";
+    assert_eq!(rt; dictionary.read_line(line), Err(LineFault::TooMany));
+    assert_eq!(rt;
+        dictionary.add(numbered(alloc, 65_536)?),
+        Err(AddFault::TooMany)
+    );
+    Ok(())
+}

@@ -1,0 +1,162 @@
+//! Sources: what they are made of, and what of them is refused.
+
+use crate::tables::{check_rows, text_of};
+use preprocessor::{MAX_SOURCE, Numbering, push_refusal};
+use source_scan::{Found, literal_bytes, scan};
+use source_tokens::{TokenList, parts, tokens};
+use std::alloc::Global;
+use std::test::Fail;
+
+/// The kinds of tokens and their ends, where each begins at the end of the one before.
+fn kinds_of(alloc: Global, list: &TokenList) -> Result<String, Fail> {
+    let mut text = String::new(alloc);
+    let mut start = 0;
+    for token in list.as_slice() {
+        if token.start != start {
+            return Err("tokens don't meet".into());
+        }
+        start = token.end;
+        let kind = token.kind;
+        text.push_str(&format!(in alloc; "{kind:?} {start} ")?)?;
+    }
+    Ok(String::from_str(alloc, text.trim_end())?)
+}
+
+/// Sources, and the tokens, comments and spaces that they are made of.
+const TOKENS: &str = r#"
+/\␊/a\␊b␊c|LineComment 8 NewLine 9 Identifier 10
+\␊a\␊|Space 2 Identifier 5;;\\␊␊|Punctuator(92) 3 NewLine 4
+:\␊: :|Punctuator(58) 3 Punctuator(58) 4 Space 5 Punctuator(58) 6;;"a\\␊b"c|StringLiteral 7 Identifier 8
+R"(\␊)";|RawString 7 Punctuator(59) 8;;u\␊8R\␊"(\␊)"\␊;|RawString 15 Punctuator(59) 16
+R"x()")x"y|RawString 9 Identifier 10;;LR"(a|BrokenRawString 5;;UR"a b("|Identifier 2 StringLiteral 8
+R"\␊("|Identifier 1 StringLiteral 6;;R"0123456789abcdef()0123456789abcdef"|RawString 37
+R"0123456789abcdefg()0123456789abcdefg"|Identifier 1 StringLiteral 39;;R""(a)""|RawString 8
+aR"("u8R"()"|Identifier 2 StringLiteral 5 RawString 12;;R"|Identifier 1 BrokenString 2;;1'000|Number 5
+1'\␊a 'a'|Number 5 Space 6 CharacterConstant 9;;1''a'|Number 1 CharacterConstant 3 Identifier 4 BrokenConstant 5
+1'+'|Number 1 CharacterConstant 4;;1e+5.p-_x$|Number 9 Identifier 10
+.5e+.+.a|Number 5 Punctuator(43) 6 Punctuator(46) 7 Identifier 8;;0x1e'+1|Number 4 BrokenConstant 7
+..5é|Punctuator(46) 1 Number 3 Identifier 5;;"a\\"b|StringLiteral 5 Identifier 6
+'\\''\''|CharacterConstant 4 CharacterConstant 8;;"a␊b|BrokenString 2 NewLine 3 Identifier 4;;"a\|BrokenString 3
+'\"'"'"|CharacterConstant 4 StringLiteral 7;;"/*"*/|StringLiteral 4 Punctuator(42) 5 Punctuator(47) 6
+/*"*/"|BlockComment 5 BrokenString 6;;/*/ a|BlockComment 5
+/**/ // 'a␊|BlockComment 4 Space 5 LineComment 10 NewLine 11;;|"#;
+
+fn tokens_told(alloc: Global, source: &str) -> Result<String, Fail> {
+    let source = text_of(alloc, source)?;
+    kinds_of(alloc, &tokens(alloc, source.as_bytes())?)
+}
+
+/// The same of sources with control bytes.
+const CONTROLS: &str = "\
+/\\\r␊*a*\\␊/b|BlockComment 10 Identifier 11;;a\\␊b\\\r␊c+|Identifier 8 Punctuator(43) 9;;\
+\\\r|Punctuator(92) 1 Space 2;;R\"\x7f(a)\"|Identifier 1 StringLiteral 7";
+
+/// The same of sources with directives.
+const PARTS: &str = r#"
+#a /*␊*/ b␊c|Directive 10 NewLine 11 Identifier 12;; /**/#a\␊b|Space 1 BlockComment 5 Directive 10
+a /*␊*/#␊|Identifier 1 Space 2 BlockComment 7 Punctuator(35) 8 NewLine 9
+/*␊*/#␊#|BlockComment 5 Directive 6 NewLine 7 Directive 8;;#R"(␊)"␊;|Directive 7 NewLine 8 Punctuator(59) 9
+%:a␊#|Punctuator(37) 1 Punctuator(58) 2 Identifier 3 NewLine 4 Directive 5;;#|Directive 1"#;
+
+/// The same of sources with the byte order mark.
+const MARKS: &str = "\
+\u{feff}#a // b␊|Space 3 Directive 10 NewLine 11;;\
+a\u{feff}#|Identifier 4 Punctuator(35) 5";
+
+fn parts_told(alloc: Global, source: &str) -> Result<String, Fail> {
+    let source = text_of(alloc, source)?;
+    kinds_of(alloc, &parts(alloc, source.as_bytes())?)
+}
+
+#[test]
+fn sources_are_parted(rt: HostRuntime) -> Result<(), Fail> {
+    check_rows(&rt, TOKENS.trim_start(), tokens_told)?;
+    check_rows(&rt, CONTROLS, tokens_told)?;
+    check_rows(&rt, PARTS.trim_start(), parts_told)?;
+    check_rows(&rt, MARKS, parts_told)
+}
+
+/// What stands between the marks of literals, and the bytes that it stands for.
+const ESCAPES: &str = r#"
+|;;a bé|a b\xc3\xa9;;\0\18\0071\377|\x00\x018\x071\xff;;\0417\08|!7\x008;;\u00e9\U0010ffff|\xc3\xa9\xf4\x8f\xbf\xbf;;a\|none"#;
+
+fn escapes_told(alloc: Global, body: &str) -> Result<String, Fail> {
+    match literal_bytes(alloc, body.as_bytes())? {
+        Some(bytes) => Ok(format!(in alloc; "{}", bytes.as_slice().escape_ascii())?),
+        None => Ok(String::from_str(alloc, "none")?),
+    }
+}
+
+/// Where the statements of a source begin and end.
+fn places_told(alloc: Global, row: &str) -> Result<String, Fail> {
+    let source = text_of(alloc, row)?;
+    if source.len() > MAX_SOURCE {
+        return Err("the source is too large".into());
+    }
+    let mut text = String::new(alloc);
+    for found in &scan(alloc, b"t.cc", source.as_bytes())? {
+        if let Found::Statement(good) = found {
+            text.push_str(&format!(in alloc; "{} to {}", good.start, good.end)?)?;
+        }
+    }
+    Ok(text)
+}
+
+#[test]
+fn statements_are_found(rt: HostRuntime) -> Result<(), Fail> {
+    check_rows(&rt, ESCAPES.trim_start(), escapes_told)?;
+    check_rows(&rt, "a; NANO_LOG(DEBUG, \"b\")\\␊;|3 to 23", places_told)
+}
+
+/// Files, each with its name in front of `=`, and what of them is refused. Of a file without `=` it is known that it is
+/// too large.
+const FILES: &str = "\
+b.cc=NANO_LOG(FATAL, \"x\");§n.cc|nanolog: b.cc:1: refused: 1 Severity␊nanolog: n.cc:0: refused: 7 TooLarge␊
+a.cc=65536*NANO_LOG(DEBUG,\"\")␊§b.cc=#line 3 \"a.cc\"␊NANO_LOG(DEBUG, \"\");␊NANO_LOG(FATAL, \"x\");␊§\
+c.cc=␊NANO_LOG(DEBUG, \"\");␊NANO_LOG(FATAL, \"x\");␊§d.cc=␊NANO_LOG(DEBUG, \"\");␊NANO_LOG(FATAL, \"x\");␊|\
+nanolog: a.cc:4: refused: 1 Severity␊nanolog: c.cc:2: refused: 8 TooMany␊";
+
+/// What is refused.
+fn refusals_told(alloc: Global, numbering: &Numbering) -> Result<String, Fail> {
+    let mut out = Vec::new(alloc);
+    for refusal in &numbering.refusals {
+        push_refusal(&mut out, refusal)?;
+    }
+    Ok(String::from_utf8(out)?)
+}
+
+fn files_told(alloc: Global, row: &str) -> Result<String, Fail> {
+    let mut numbering = Numbering::make(alloc);
+    for file in row.split('§') {
+        numbering = match file.split_once('=') {
+            Some((name, source)) => {
+                let source = text_of(alloc, source)?;
+                numbering.add_source(alloc, name.as_bytes(), source.as_bytes())?
+            }
+            None => numbering.add_too_large(alloc, file.as_bytes())?,
+        };
+    }
+    refusals_told(alloc, &numbering)
+}
+
+/// What is said of a file of so many bytes, spaces behind a statement that is refused.
+fn large_told(alloc: Global, len: &str) -> Result<String, Fail> {
+    let mut source = Vec::from_slice(alloc, b"NANO_LOG(FATAL, \"x\");")?;
+    source.resize(len.parse()?, b' ')?;
+    let numbering = Numbering::make(alloc).add_source(alloc, b"l.cc", &source)?;
+    refusals_told(alloc, &numbering)
+}
+
+/// Lengths of such files.
+const LARGE: &str = "\
+16777216|nanolog: l.cc:1: refused: 1 Severity␊;;16777217|nanolog: l.cc:0: refused: 7 TooLarge␊";
+
+#[test]
+fn large_sources_are_refused(rt: HostRuntime) -> Result<(), Fail> {
+    check_rows(&rt, LARGE, large_told)
+}
+
+#[test]
+fn messages_are_numbered(rt: HostRuntime) -> Result<(), Fail> {
+    check_rows(&rt, FILES, files_told)
+}

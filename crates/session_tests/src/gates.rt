@@ -1,0 +1,371 @@
+//! Whole sessions, with gates that say what comes first.
+
+ghost use Rattle.std.specs.Prelude.{◌≡◌};
+
+use crate::late::LateStage;
+use log_dictionary::Severity;
+use log_session::{Dropped, FreeGate, Gate, Options, Outcome, Policy, RunFault, run};
+use nl_io::{MemSink, Sink};
+use ring_core::{Stage, StageDone};
+use staging_ring::QueueStage;
+use std::alloc::Global;
+use std::hint::spin_loop;
+use std::process::Abort;
+use std::sync::atomic::{AtomicU64, Ordering};
+use std::sync::{Arc, Wait};
+use std::test::Fail;
+use std::thread::Threads;
+use trace_text::{Trace, read_text};
+
+/// What a session needs of the machine that it runs on.
+trait Machine: Abort + Threads + Wait + Copy + Send + 'static {}
+
+impl<R: Abort + Threads + Wait + Copy + Send + 'static> Machine for R {}
+
+/// How many turns a gate waits at most. Then it lets go and leaves a mark.
+const TURNS: u64 = 200_000_000;
+
+/// How many bytes one call of a sink takes at most.
+const PIECE: usize = 65_536;
+
+/// How many writes the log of [`MEETING`] takes, where no round begins before all calls were answered.
+const WRITES: u64 = 8;
+
+/// How a log of two writers begins, at the clock of the traces.
+const HEADER: &[u8] =
+    b"NLOG\x01\x02\xe8\x03\0\0\0\0\0\0\0\0\x44\x5e\x8f\x86\x05\x15\0\x94\x35\x77\0\0\0\0";
+
+/// Two calls of each of two writers.
+const MEETING: &str = "nanolog-trace 1
+message 0 NOTICE 12 \"srv.cc\" \"x=%d\"
+clock 1000 1514764800000000000 2000000000
+writers 2
+call 0 1003 0 1
+call 0 1003 0 2
+call 1 1003 0 3
+call 1 1003 0 4
+end
+";
+
+/// Calls of each severity, by each of two writers. Three of each writer's are graver than DEBUG.
+const LEVELS: &str = "nanolog-trace 1
+message 0 ERROR 1 \"f\" \"e%d\"
+message 1 WARNING 2 \"f\" \"w%s\"
+message 2 NOTICE 3 \"f\" \"n%6d\"
+message 3 DEBUG 4 \"f\" \"d\"
+clock 1000 1514764800000000000 2000000000
+writers 2
+call 0 1003 3
+call 0 1003 0 1
+call 1 1003 2 2
+call 0 1004 1 \"a\"
+call 1 1004 3
+call 1 1004 3
+call 0 1005 2 -3
+call 1 1006 0 4
+call 1 1006 1 \"\"
+end
+";
+
+/// The run that a text in memory records.
+fn trace_of(alloc: Global, text: &str) -> Result<Arc<Trace, Global>, Fail> {
+    let trace = read_text(alloc, text.as_bytes())
+        .ok()
+        .ok_or("the text is a trace")?;
+    Ok(Arc::new(alloc, trace)?)
+}
+
+/// Waits until the number is as large as that; else it leaves a mark.
+fn wait_for(number: &AtomicU64, least: u64, late: &AtomicU64) {
+    for _ in 0..TURNS {
+        if number.load(Ordering::SeqCst) >= least {
+            return;
+        }
+        spin_loop();
+    }
+    late.store(1, Ordering::SeqCst);
+}
+
+/// Holds the second call of each of two writers until the other's was come to.
+#[derive(Drop)]
+struct Meeting {
+    first: AtomicU64,
+    second: AtomicU64,
+    late: AtomicU64,
+}
+
+impl Gate for Meeting {
+    fn before(&self, writer: u32, ordinal: u64) {
+        if ordinal != 1 {
+            return;
+        }
+        let (own, other) = if writer == 0 {
+            (&self.first, &self.second)
+        } else {
+            (&self.second, &self.first)
+        };
+        own.store(1, Ordering::SeqCst);
+        wait_for(other, 1, &self.late);
+    }
+
+    fn after(&self, _writer: u32, _ordinal: u64) {}
+
+    fn round(&self, _number: u64) {}
+}
+
+/// Holds the first round until so many calls were answered.
+#[derive(Drop)]
+struct HeldRound {
+    answered: AtomicU64,
+    least: u64,
+    late: AtomicU64,
+}
+
+impl HeldRound {
+    fn make(least: u64) -> HeldRound {
+        HeldRound {
+            answered: AtomicU64::new(0),
+            least,
+            late: AtomicU64::new(0),
+        }
+    }
+}
+
+impl Gate for HeldRound {
+    fn before(&self, _writer: u32, _ordinal: u64) {}
+
+    fn after(&self, _writer: u32, _ordinal: u64) {
+        self.answered.fetch_add(1, Ordering::SeqCst);
+    }
+
+    fn round(&self, number: u64) {
+        if number == 0 {
+            wait_for(&self.answered, self.least, &self.late);
+        }
+    }
+}
+
+/// A session with rings of this size.
+fn options(ring: u64, policy: Policy, level: Severity) -> Options
+    ensures { result.batch ≡ 4_096 }
+{
+    Options {
+        ring,
+        batch: 4_096,
+        policy,
+        level,
+    }
+}
+
+/// What a session came to, and its sink.
+type Ran<S> = (Result<Outcome<<S as Stage>::Done>, RunFault>, MemSink);
+
+/// Runs a session over rings of this kind. These calls of the sink fail.
+fn run_over<S: Stage, R: Machine, G: Gate + 'static>(
+    rt: &R,
+    alloc: Global,
+    trace: &Arc<Trace, Global>,
+    options: &Options,
+    failing: &[u64],
+    gate: &Arc<G, Global>,
+) -> Result<Ran<S>, Fail>
+    requires { options.now.batch ≡ 4_096 }
+{
+    let mut sink = MemSink::make(alloc, PIECE, failing)?;
+    let ran = run::<R, S, MemSink, G>(*rt, alloc, trace, options, &mut sink, gate);
+    assert_eq!(rt; sink.starved(), 0);
+    Ok((ran, sink))
+}
+
+/// How many calls were accepted, dropped and passed over, and how many rings are left.
+fn counts<D>(outcome: &Outcome<D>) -> (u64, usize, u64, usize) {
+    (
+        outcome.accepted,
+        outcome.drops.len(),
+        outcome.filtered,
+        outcome.settled.len(),
+    )
+}
+
+/// Each writer has a thread of its own: the second call of each waits for the other's.
+#[test]
+fn writers_meet(rt: HostRuntime) -> Result<(), Fail> {
+    let trace = trace_of(rt.alloc(), MEETING)?;
+    let gate = Arc::new(
+        rt.alloc(),
+        Meeting {
+            first: AtomicU64::new(0),
+            second: AtomicU64::new(0),
+            late: AtomicU64::new(0),
+        },
+    )?;
+    let given = options(1_024, Policy::Wait, Severity::Debug);
+    let (ran, _) = run_over::<QueueStage, _, _>(&rt, rt.alloc(), &trace, &given, &[], &gate)?;
+    let outcome = ran?;
+    assert_eq!(rt; counts(&outcome), (4, 0, 0, 2));
+    assert_eq!(rt; gate.late.load(Ordering::SeqCst), 0);
+    Ok(())
+}
+
+/// A level keeps the calls of its severity and of graver ones, whatever the policy is.
+#[test]
+fn a_level_keeps_graver_calls(rt: HostRuntime) -> Result<(), Fail> {
+    let trace = trace_of(rt.alloc(), LEVELS)?;
+    let gate = Arc::new(rt.alloc(), FreeGate)?;
+    for policy in [Policy::Wait, Policy::Shed] {
+        let given = options(1_024, policy, Severity::Notice);
+        let (ran, sink) = run_over::<QueueStage, _, _>(
+            &rt,
+            rt.alloc(),
+            &trace,
+            &given,
+            &[],
+            &gate,
+        )?;
+        let outcome = ran?;
+        assert_eq!(rt; counts(&outcome), (6, 0, 3, 2));
+        for left in &outcome.settled {
+            assert_eq!(rt; left.frames(), 3);
+        }
+        assert!(rt; sink.bytes().starts_with(HEADER));
+    }
+    Ok(())
+}
+
+/// Where a ring can't have the size, the sink is as it was: the first call is still to come, and fails.
+#[test]
+fn rings_of_no_size(rt: HostRuntime) -> Result<(), Fail> {
+    let trace = trace_of(rt.alloc(), MEETING)?;
+    let gate = Arc::new(rt.alloc(), FreeGate)?;
+    for ring in [1_023, 1_048_577] {
+        let given = options(ring, Policy::Wait, Severity::Debug);
+        let (ran, mut sink) = run_over::<QueueStage, _, _>(
+            &rt,
+            rt.alloc(),
+            &trace,
+            &given,
+            &[0],
+            &gate,
+        )?;
+        assert_eq!(rt; ran.err(), Some(RunFault::BadSize), "{ring} words");
+        assert!(rt; sink.bytes().is_empty());
+        assert!(rt; sink.write(b"x").is_err());
+    }
+    Ok(())
+}
+
+/// Whichever write fails, all writers end, and nothing is written behind it: of two calls that fail, which stand one
+/// behind the other, the second is still to come.
+#[test]
+fn writes_that_fail(rt: HostRuntime) -> Result<(), Fail> {
+    let trace = trace_of(rt.alloc(), MEETING)?;
+    let given = options(1_024, Policy::Wait, Severity::Debug);
+    for failing in 0..WRITES {
+        let gate = Arc::new(rt.alloc(), HeldRound::make(4))?;
+        let listed = [failing, failing + 1];
+        let (ran, mut sink) = run_over::<QueueStage, _, _>(
+            &rt,
+            rt.alloc(),
+            &trace,
+            &given,
+            &listed,
+            &gate,
+        )?;
+        assert_eq!(rt; ran.err(), Some(RunFault::SinkFault), "write {failing}");
+        assert_eq!(rt; gate.late.load(Ordering::SeqCst), 0);
+        let answered = if failing == 0 { 0 } else { 4 };
+        assert_eq!(rt; gate.answered.load(Ordering::SeqCst), answered);
+        assert!(rt; sink.write(b"x").is_err());
+        assert!(rt; sink.write(b"x").is_ok());
+    }
+    Ok(())
+}
+
+/// The session of [`writes_that_fail`] has no more writes than those that fail there.
+#[test]
+fn all_writes(rt: HostRuntime) -> Result<(), Fail> {
+    let trace = trace_of(rt.alloc(), MEETING)?;
+    let given = options(1_024, Policy::Wait, Severity::Debug);
+    let gate = Arc::new(rt.alloc(), HeldRound::make(4))?;
+    let (ran, mut sink) = run_over::<QueueStage, _, _>(
+        &rt,
+        rt.alloc(),
+        &trace,
+        &given,
+        &[WRITES],
+        &gate,
+    )?;
+    assert_eq!(rt; counts(&ran?), (4, 0, 0, 2));
+    assert_eq!(rt; gate.late.load(Ordering::SeqCst), 0);
+    assert!(rt; sink.write(b"x").is_err());
+    Ok(())
+}
+
+/// Holds the third call of a writer until two more rounds have begun.
+#[derive(Drop)]
+struct HeldCall {
+    rounds: AtomicU64,
+    late: AtomicU64,
+}
+
+impl Gate for HeldCall {
+    fn before(&self, _writer: u32, ordinal: u64) {
+        if ordinal == 2 {
+            let begun = self.rounds.load(Ordering::SeqCst);
+            wait_for(&self.rounds, begun.saturating_add(2), &self.late);
+        }
+    }
+
+    fn after(&self, _writer: u32, _ordinal: u64) {}
+
+    fn round(&self, _number: u64) {
+        self.rounds.fetch_add(1, Ordering::SeqCst);
+    }
+}
+
+/// Two calls whose frames have 512 words, and one whose frame has 3.
+fn two_long_calls(alloc: Global) -> Result<String, Fail> {
+    let long = "a".repeat(alloc, 2_032)?;
+    Ok(format!(in alloc;
+        "nanolog-trace 1
+message 0 NOTICE 1 \"f\" \"%s%s\"
+message 1 NOTICE 2 \"f\" \"%d\"
+clock 1000 1514764800000000000 2000000000
+writers 1
+call 0 1003 0 \"{long}\" \"{long}\"
+call 0 1003 0 \"{long}\" \"{long}\"
+call 0 1003 1 7
+end
+"
+    )?)
+}
+
+/// A call for which its writer knows of no room is dropped, although there would be room.
+#[test]
+fn a_writer_that_knows_of_no_room(rt: HostRuntime) -> Result<(), Fail> {
+    let text = two_long_calls(rt.alloc())?;
+    let trace = trace_of(rt.alloc(), text.as_str())?;
+    let gate = Arc::new(
+        rt.alloc(),
+        HeldCall {
+            rounds: AtomicU64::new(0),
+            late: AtomicU64::new(0),
+        },
+    )?;
+    let given = options(1_024, Policy::Shed, Severity::Debug);
+    let (ran, _) = run_over::<LateStage, _, _>(&rt, rt.alloc(), &trace, &given, &[], &gate)?;
+    let outcome = ran?;
+    assert_eq!(rt; gate.late.load(Ordering::SeqCst), 0);
+    assert_eq!(rt; counts(&outcome), (2, 1, 0, 1));
+    let dropped = Dropped {
+        writer: 0,
+        ordinal: 2,
+        need: 3,
+        room: 0,
+    };
+    assert_eq!(rt; outcome.drops.get(0), Some(&dropped));
+    for left in &outcome.settled {
+        assert_eq!(rt; left.frames(), 2);
+    }
+    Ok(())
+}

@@ -1,0 +1,150 @@
+//! A ring whose writer's end refuses a frame for which there would be room.
+
+ghost use Rattle.std.specs.Prelude.{◌≡◌, ◌≤◌, ◌+◌, ◌-◌, IfSome};
+ghost use Rattle.std.proofs.Common.{arith};
+ghost use Rattle.ring_core.specs.Answers.{IsFull};
+
+use arg_records::MAX_FRAME_WORDS;
+use log_dictionary::Dictionary;
+use ring_core::{Full, MAX_RING, MIN_RING, Stage, StageFault, StageIn, need};
+use staging_ring::{QueueDone, QueueIn, QueueOut, QueueStage};
+use std::alloc::Global;
+use std::sync::Wait;
+
+/// The writer's end of a queue. It refuses its third frame, where the room isn't enough of which it knows: it learns
+/// from refusals only what was taken.
+#[derive(Drop)]
+pub(crate) struct LateIn {
+    end: QueueIn,
+    /// Up to which position it knows that its frames were taken.
+    known: u64,
+    offers: u64,
+    looks: u64,
+    ghost within: { known ≤ end.at - end.ahead },
+}
+
+impl LateIn {
+    fn over(end: QueueIn) -> LateIn
+        ensures { (result.end ≡ end) × (result.known ≡ 0) }
+    {
+        LateIn {
+            end,
+            known: 0,
+            offers: 0,
+            looks: 0,
+        }
+    }
+
+    /// The answer to a frame of so many words for which the room isn't enough of which it knows.
+    fn wanting(&self, frame: usize) -> Option<Full>
+        ensures { IfSome result (λ full. IsFull self.now.end.at frame self.now.end.words self.now.known full) }
+    {
+        let (at, words) = (self.end.at(), self.end.words());
+        if words < MIN_RING || words > MAX_RING || frame > MAX_FRAME_WORDS {
+            return None;
+        }
+        let need = need(at, frame as u64, words);
+        let room = words.checked_sub(at - self.known)?;
+        if room < need {
+            Some(Full { need, room })
+        } else {
+            None
+        }
+    }
+
+    /// Learns from a refusal of its queue how far its frames were taken.
+    fn learn(&mut self, full: Full)
+        requires room { (full.room ≤ self.old.end.words) × (self.old.end.words - full.room ≤ self.old.end.at) }
+        requires seen { self.old.end.at - self.old.end.ahead ≡ self.old.end.at - (self.old.end.words - full.room) }
+        ensures known { self.new.known ≡ self.old.end.at - self.old.end.ahead }
+        ensures others { (self.new.end ≡ self.old.end) × (self.new.looks ≡ self.old.looks) }
+    {
+        self.known = self.end.at() - (self.end.words() - full.room);
+    }
+}
+
+impl StageIn for LateIn {
+    ghost sent = { λ late. late.end.sent };
+
+    ghost closed = { λ late. late.end.closed };
+
+    ghost at = { λ late. late.end.at };
+
+    ghost seen = { λ late. late.known };
+
+    ghost looks = { λ late. late.end.looks + late.looks };
+
+    ghost words = { λ late. late.end.words };
+
+    ghost pair = { λ late. late.end.pair };
+
+    ghost plan = { λ late. late.end.plan };
+
+    fn offer<R: Wait + Copy>(&mut self, rt: R, frame: &[u64]) -> Result<(), Full> {
+        self.offers = self.offers.saturating_add(1);
+        if self.offers == 3
+            && let Some(full) = self.wanting(frame.len())
+        {
+            self.looks = self.looks.saturating_add(1);
+            return Err(full);
+        }
+        match self.end.offer(rt, frame) {
+            Ok(()) => Ok(()),
+            Err(full) => {
+                self.learn(full);
+                Err(full)
+            }
+        }
+    }
+
+    fn close<R: Wait + Copy>(&mut self, rt: R) -> Result<(), Full> {
+        match self.end.close(rt) {
+            Ok(()) => Ok(()),
+            Err(full) => {
+                self.learn(full);
+                Err(full)
+            }
+        }
+    }
+
+    fn at(&self) -> u64 {
+        self.end.at()
+    }
+
+    fn words(&self) -> u64 {
+        self.end.words()
+    }
+
+    ghost seen_within = { λ late. Prim.omega arith };
+}
+
+/// Rings over queues, whose writers' ends refuse a frame.
+pub(crate) struct LateStage;
+
+impl Stage for LateStage {
+    type In = LateIn;
+
+    type Out = QueueOut;
+
+    type Done = QueueDone;
+
+    fn make(
+        alloc: Global,
+        words: u64,
+        dictionary: &Dictionary,
+        first: u64,
+    ) -> Result<(LateIn, QueueOut), StageFault> {
+        let (end, roamer) = QueueStage::make(alloc, words, dictionary, first)?;
+        Ok((LateIn::over(end), roamer))
+    }
+
+    fn settle<R: Wait + Copy>(rt: R, writer: LateIn, roamer: QueueOut) -> QueueDone {
+        let LateIn {
+            end,
+            known: _,
+            offers: _,
+            looks: _,
+        } = writer;
+        QueueStage::settle(rt, end, roamer)
+    }
+}

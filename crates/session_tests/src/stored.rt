@@ -1,0 +1,149 @@
+//! Positions in a ring, and stored calls that are taken from an end.
+
+ghost use Rattle.std.specs.Prelude.{◌≤◌};
+
+use arg_records::MAX_FRAME_WORDS;
+use log_dictionary::Dictionary;
+use log_session::RunFault;
+use printf_grammar::Arg;
+use ring_core::{
+    MAX_POSITION, MAX_RING, MIN_RING, StageFault, StageOut, StoreFault, StoredOut, Taken, need,
+};
+use std::alloc::Global;
+use std::process::Abort;
+use std::sync::Wait;
+use std::test::Fail;
+
+/// A dictionary of two messages, which take a number, and two texts.
+fn two_messages(alloc: Global) -> Result<Dictionary, Fail> {
+    let mut dictionary = Dictionary::make(alloc);
+    dictionary.read_line(b"message 0 NOTICE 12 \"srv.cc\" \"x=%d\"")?;
+    dictionary.read_line(b"message 1 ERROR 30 \"disk.cc\" \"%s: %s\"")?;
+    Ok(dictionary)
+}
+
+#[test]
+fn needs(rt: HostRuntime) {
+    for (at, frame, want) in [
+        (0, 512, 512),
+        (1_021, 3, 3),
+        (1_022, 3, 5),
+        (1_023, 3, 4),
+        (1_024, 3, 3),
+        (513, 512, 1_023),
+        (MAX_POSITION - 1, 2, 3),
+    ] {
+        assert!(rt; frame <= 512);
+        assert_eq!(rt; need(at, frame, MIN_RING), want);
+    }
+    assert_eq!(rt; need(MAX_RING - 1, 512, MAX_RING), 513);
+    assert_eq!(rt; need(u64::MAX, 0, 1), 0);
+    assert_eq!(rt; need(0, 512, 1), 513);
+}
+
+/// What an end answers: the words of a frame, `nothing` or `ended`.
+fn shown<S: StageOut, R: Wait + Abort + Copy>(
+    rt: R,
+    alloc: Global,
+    end: &mut S,
+) -> Result<String, Fail> {
+    let mut into = [77; MAX_FRAME_WORDS];
+    let text = match end.take(rt, &mut into) {
+        Taken::Frame(len) => format!(in alloc; "{:?}", &into[..len])?,
+        Taken::Nothing => String::from_str(alloc, "nothing")?,
+        Taken::Ended => String::from_str(alloc, "ended")?,
+    };
+    Ok(text)
+}
+
+/// Asserts the next answers of an end, one a line.
+fn expect<S: StageOut, R: Wait + Abort + Copy>(
+    rt: R,
+    alloc: Global,
+    end: &mut S,
+    answers: &str,
+) -> Result<(), Fail> {
+    for answer in answers.lines() {
+        let told = shown(rt, alloc, end)?;
+        assert_eq!(&rt; told.as_str(), answer);
+    }
+    Ok(())
+}
+
+#[test]
+fn stored_frames_come_in_order(rt: HostRuntime) -> Result<(), Fail> {
+    let dictionary = two_messages(rt.alloc())?;
+    let mut end = StoredOut::make(rt.alloc(), &dictionary, 1000);
+    expect(&rt, rt.alloc(), &mut end, "nothing")?;
+    end.push(1003, 0, &[Arg::Signed(7)])?;
+    end.push(1003, 1, &[Arg::Text(b"ab"), Arg::Text(b"")])?;
+    end.pause()?;
+    end.push(1004, 0, &[Arg::Signed(-1)])?;
+    let answers = "[3, 1003, 7]
+[65541, 1003, 2, 25185, 0]
+nothing
+[3, 1004, 18446744073709551615]
+nothing";
+    expect(&rt, rt.alloc(), &mut end, answers)?;
+    end.push(u64::MAX, 0, &[Arg::Signed(7)])?;
+    end.close();
+    let answers = "[3, 18446744073709551615, 7]\nended\nended";
+    expect(&rt, rt.alloc(), &mut end, answers)?;
+    assert_eq!(rt; end.pause(), Err(StoreFault::Closed));
+    let late = end.push(1005, 0, &[Arg::Signed(7)]);
+    assert_eq!(rt; late, Err(StoreFault::Closed));
+    Ok(())
+}
+
+/// Calls before the last stamp, of no message, and with other arguments than that of the message.
+#[test]
+fn other_calls_are_not_stored(rt: HostRuntime) -> Result<(), Fail> {
+    let dictionary = two_messages(rt.alloc())?;
+    let mut end = StoredOut::make(rt.alloc(), &dictionary, 1000);
+    let long = [b'a'; 4_000];
+    for (stamp, id, args) in [
+        (999, 0, [Arg::Signed(7)].as_slice()),
+        (1003, 2, [Arg::Signed(7)].as_slice()),
+        (1003, 0, [].as_slice()),
+        (1003, 0, [Arg::Unsigned(7)].as_slice()),
+        (1003, 0, [Arg::Signed(1 << 31)].as_slice()),
+        (1003, 1, [Arg::Text(&long), Arg::Text(&long)].as_slice()),
+    ] {
+        assert_eq!(rt; end.push(stamp, id, args), Err(StoreFault::NoCall));
+    }
+    end.push(1003, 0, &[Arg::Signed(7)])?;
+    let earlier = end.push(1002, 0, &[Arg::Signed(7)]);
+    assert_eq!(rt; earlier, Err(StoreFault::NoCall));
+    expect(&rt, rt.alloc(), &mut end, "[3, 1003, 7]\nnothing")
+}
+
+#[test]
+fn the_greatest_frame(rt: HostRuntime) -> Result<(), Fail> {
+    let dictionary = two_messages(rt.alloc())?;
+    let mut end = StoredOut::make(rt.alloc(), &dictionary, 0);
+    let (long, short) = ([b'a'; 4_000], [b'b'; 64]);
+    end.push(5, 1, &[Arg::Text(&long), Arg::Text(&short)])?;
+    end.close();
+    let mut into = [77; MAX_FRAME_WORDS];
+    assert_eq!(rt; end.take(&rt, &mut into), Taken::Frame(512));
+    let words = format!(in rt.alloc(); "{:?} {:?}", &into[..4], &into[502..506])?;
+    assert_eq!(rt;
+        words.as_str(),
+        "[66048, 5, 4000, 7016996765293437281] [7016996765293437281, 64, 7089336938131513954, 7089336938131513954]"
+    );
+    expect(&rt, rt.alloc(), &mut end, "ended")
+}
+
+/// The text of each variant names it.
+#[test]
+fn faults_name_themselves(rt: HostRuntime) -> Result<(), Fail> {
+    let [size, memory] = [StageFault::BadSize, StageFault::NoMemory];
+    let [closed, call] = [StoreFault::Closed, StoreFault::NoCall];
+    let [ring, room, sink] = [RunFault::BadSize, RunFault::NoMemory, RunFault::SinkFault];
+    let texts = format!(in rt.alloc(); "{size}|{memory}|{closed}|{call}|{ring}|{room}|{sink}")?;
+    let names = "bad size|no memory|closed|no call|bad size|no memory|sink fault";
+    for (text, name) in texts.split('|').zip(names.split('|')) {
+        assert!(rt; text.contains(name), "{text}");
+    }
+    Ok(())
+}

@@ -1,0 +1,254 @@
+//! Visits over stored calls, and the logs that they write.
+
+ghost use Rattle.std.specs.Prelude.{◌≡◌, ◌≤◌, []};
+ghost use Rattle.ring_core.specs.Plans.{plan_of};
+
+use log_dictionary::{Clock, Dictionary};
+use nl_io::MemSink;
+use printf_grammar::Arg;
+use ring_core::StoredOut;
+use roaming_consumer::{MAX_BATCH, Roamer};
+use std::alloc::{AllocError, Global};
+use std::fmt::Write;
+use std::process::Abort;
+use std::sync::Wait;
+use std::test::Fail;
+
+const CLOCK: Clock = Clock {
+    tick: 1000,
+    nanos: 1_514_764_800_000_000_000,
+    rate: 2_000_000_000,
+};
+
+/// The message of the calls that carry a number.
+const NUMBER: &[u8] = b"message 0 NOTICE 12 \"srv.cc\" \"x=%d\"";
+
+/// The header and the fragment in front of their log, in hexadecimal.
+const FRONT: &str = "4e 4c 4f 47 01 01 e8 03 00 00 00 00 00 00 00 00 44 5e 8f 86 05 15 \
+    00 94 35 77 00 00 00 00 01 00 00 00 00 01 00 03 0c 00 00 00 06 00 73 72 76 2e 63 63 \
+    04 00 78 3d 25 64 ";
+
+/// What is behind it where each of the calls has an extent of its own, and where both have one.
+const ALONE: &str = "02 00 04 00 00 00 10 03 01 07 02 00 04 00 00 00 10 03 01 08 04 00 ";
+
+const TOGETHER: &str = "02 00 07 00 00 00 10 03 01 07 00 01 08 04 00 ";
+
+/// What the beginning of a log and the visits of its one writer answered, and where the bytes went.
+#[derive(Drop)]
+struct Visited {
+    answers: String,
+    sink: MemSink,
+    faulted: bool,
+}
+
+/// A dictionary of one message.
+fn one_message(alloc: Global, line: &[u8]) -> Result<Dictionary, Fail> {
+    let mut dictionary = Dictionary::make(alloc);
+    dictionary.read_line(line)?;
+    Ok(dictionary)
+}
+
+/// Begins a log over one end, and visits that so many times.
+fn make_visits<R: Wait + Abort + Copy>(
+    rt: R,
+    end: StoredOut<'_>,
+    dictionary: &Dictionary,
+    batch: u32,
+    mut sink: MemSink,
+    visits: u32,
+    alloc: Global,
+) -> Result<Visited, Fail>
+    requires some_batch { 1 ≤ batch }
+    requires few_in_batch { batch ≤ MAX_BATCH }
+    requires untaken { end.got ≡ [] }
+    requires planned { end.plan ≡ plan_of dictionary.now 1000 }
+{
+    let mut ends = Vec::new(alloc);
+    ends.push(end)?;
+    let mut roamer = Roamer::make(alloc, ends, dictionary, CLOCK, batch)?;
+    let begun = roamer.begin(&mut sink);
+    let mut answers = format!(in alloc; "{begun:?}")?;
+    for _visit in 0..visits {
+        let answer = roamer.visit(rt, 0, &mut sink);
+        write!(answers, " {answer:?}")?;
+    }
+    Ok(Visited {
+        answers,
+        sink,
+        faulted: roamer.faulted(),
+    })
+}
+
+/// The bytes in hexadecimal, a space behind each.
+fn hexadecimal(alloc: Global, bytes: &[u8]) -> Result<String, AllocError> {
+    let mut text = String::new(alloc);
+    for byte in bytes {
+        write!(text, "{byte:02x} ")?;
+    }
+    Ok(text)
+}
+
+/// Visits of two calls with the numbers 7 and 8, over a sink of which these calls fail.
+fn two_calls<R: Wait + Abort + Copy>(
+    rt: R,
+    alloc: Global,
+    batch: u32,
+    failing: &[u64],
+    visits: u32,
+) -> Result<Visited, Fail>
+    requires some_batch { 1 ≤ batch }
+    requires few_in_batch { batch ≤ MAX_BATCH }
+{
+    let dictionary = one_message(alloc, NUMBER)?;
+    let mut end = StoredOut::make(alloc, &dictionary, 1000);
+    end.push(1003, 0, &[Arg::Signed(7)])?;
+    end.push(1003, 0, &[Arg::Signed(8)])?;
+    end.close();
+    let sink = MemSink::make(alloc, 100, failing)?;
+    make_visits(rt, end, &dictionary, batch, sink, visits, alloc)
+}
+
+#[test]
+fn logs(rt: HostRuntime) -> Result<(), Fail> {
+    for (batch, visits, answers, behind) in [
+        (
+            1,
+            4,
+            "Ok(()) Ok(Wrote(1)) Ok(Wrote(1)) Ok(Ended) Ok(Ended)",
+            ALONE,
+        ),
+        (
+            65_536,
+            3,
+            "Ok(()) Ok(Wrote(2)) Ok(Ended) Ok(Ended)",
+            TOGETHER,
+        ),
+    ] {
+        let got = two_calls(&rt, rt.alloc(), batch, &[], visits)?;
+        let log = hexadecimal(rt.alloc(), got.sink.bytes())?;
+        let want = format!(in rt.alloc(); "{FRONT}{behind}")?;
+        assert_eq!(rt; got.answers.as_str(), answers);
+        assert_eq!(rt; log.as_str(), want.as_str());
+        assert!(rt; !got.faulted);
+    }
+    Ok(())
+}
+
+/// What went out in front of a failed write stays, and what comes behind it is thrown away. Each row has the number of
+/// the write, what the log's beginning and four visits answer, and how many bytes went out.
+#[test]
+fn faults(rt: HostRuntime) -> Result<(), Fail> {
+    let want = format!(in rt.alloc(); "{FRONT}{ALONE}")?;
+    for row in "0|Err(SinkFault) Ok(Discarded(1)) Ok(Discarded(1)) Ok(Ended) Ok(Ended)|0
+1|Ok(()) Err(SinkFault) Ok(Discarded(1)) Ok(Ended) Ok(Ended)|30
+2|Ok(()) Err(SinkFault) Ok(Discarded(1)) Ok(Ended) Ok(Ended)|56
+3|Ok(()) Err(SinkFault) Ok(Discarded(1)) Ok(Ended) Ok(Ended)|62
+4|Ok(()) Ok(Wrote(1)) Err(SinkFault) Ok(Ended) Ok(Ended)|66
+5|Ok(()) Ok(Wrote(1)) Err(SinkFault) Ok(Ended) Ok(Ended)|72
+6|Ok(()) Ok(Wrote(1)) Ok(Wrote(1)) Err(SinkFault) Ok(Ended)|76
+7|Ok(()) Ok(Wrote(1)) Ok(Wrote(1)) Ok(Ended) Ok(Ended)|78"
+        .lines()
+    {
+        let (write, row) = row.split_once('|').ok_or("a row without answers")?;
+        let (answers, len) = row.split_once('|').ok_or("a row without a length")?;
+        let write = write.parse::<u64>()?;
+        let got = two_calls(&rt, rt.alloc(), 1, &[write], 4)?;
+        let log = hexadecimal(rt.alloc(), got.sink.bytes())?;
+        assert!(rt; got.answers.as_str() == answers, "write {write}");
+        assert_eq!(rt; got.sink.bytes().len(), len.parse::<usize>()?);
+        assert!(rt; want.as_str().starts_with(log.as_str()));
+        assert_eq!(rt; got.faulted, write < 7);
+    }
+    Ok(())
+}
+
+/// As many calls of 512 words as are asked for.
+fn long_calls<R: Wait + Abort + Copy>(
+    rt: R,
+    alloc: Global,
+    calls: u32,
+    visits: u32,
+) -> Result<Visited, Fail> {
+    let dictionary = one_message(alloc, b"message 0 NOTICE 12 \"srv.cc\" \"%s%s\"")?;
+    let text = [97; 4000];
+    let args = [Arg::Text(&text), Arg::Text(&text[..64])];
+    let mut end = StoredOut::make(alloc, &dictionary, 1000);
+    for _call in 0..calls {
+        end.push(1003, 0, &args)?;
+    }
+    end.close();
+    let sink = MemSink::make(alloc, 100_000, &[])?;
+    make_visits(rt, end, &dictionary, MAX_BATCH, sink, visits, alloc)
+}
+
+/// Behind 15 records of 512 words fewer than 8,192 bytes of a body are free. The first record of an extent has 4,070
+/// bytes, and each other one 4,069.
+#[test]
+fn full_bodies(rt: HostRuntime) -> Result<(), Fail> {
+    for (calls, visits, answers, len) in [
+        (15, 2, "Ok(()) Ok(Wrote(15)) Ok(Ended)", 61_100),
+        (20, 3, "Ok(()) Ok(Wrote(15)) Ok(Wrote(5)) Ok(Ended)", 81_452),
+    ] {
+        let got = long_calls(&rt, rt.alloc(), calls, visits)?;
+        assert_eq!(rt; got.answers.as_str(), answers);
+        assert_eq!(rt; got.sink.bytes().len(), len);
+    }
+    Ok(())
+}
+
+/// A writer that has nothing at first, and whose call has two words.
+#[test]
+fn pauses(rt: HostRuntime) -> Result<(), Fail> {
+    let alloc = rt.alloc();
+    let dictionary = one_message(alloc, b"message 0 NOTICE 12 \"srv.cc\" \"up\"")?;
+    let mut end = StoredOut::make(alloc, &dictionary, 1000);
+    end.pause()?;
+    end.push(1000, 0, &[])?;
+    end.pause()?;
+    end.close();
+    let sink = MemSink::make(alloc, 100, &[])?;
+    let got = make_visits(&rt, end, &dictionary, 4, sink, 4, alloc)?;
+    let answers = "Ok(()) Ok(Idle) Ok(Wrote(1)) Ok(Ended) Ok(Ended)";
+    assert_eq!(rt; got.answers.as_str(), answers);
+    assert_eq!(rt; got.sink.bytes().len(), 63);
+    Ok(())
+}
+
+/// A dictionary of as many messages as there can be, each with an entry of 11 bytes.
+fn full_dictionary(alloc: Global) -> Result<Dictionary, Fail> {
+    let mut dictionary = Dictionary::make(alloc);
+    for id in 0..65_536 {
+        let line = format!(in alloc; "message {id} NOTICE {id} \"f\" \"x\"")?;
+        dictionary.read_line(line.as_bytes())?;
+    }
+    Ok(dictionary)
+}
+
+/// Where the last of all messages is used first, 4,096 fragments of 16 messages and of 183 bytes stand in front of the
+/// extent. Each row has a place in the log and what stands there.
+#[test]
+fn all_messages_at_once(rt: HostRuntime) -> Result<(), Fail> {
+    let alloc = rt.alloc();
+    let dictionary = full_dictionary(alloc)?;
+    let mut end = StoredOut::make(alloc, &dictionary, 1000);
+    end.push(1003, 65_535, &[])?;
+    end.close();
+    let sink = MemSink::make(alloc, 100_000, &[])?;
+    let got = make_visits(&rt, end, &dictionary, 1, sink, 2, alloc)?;
+    assert_eq!(rt; got.answers.as_str(), "Ok(()) Ok(Wrote(1)) Ok(Ended)");
+    assert_eq!(rt; got.sink.bytes().len(), 749_610);
+    for row in "30|01 00 00 00 00 10 00 03 00 00 00 00 01 00 66 01 00 78 
+202|03 0f 00 00 00 01 00 66 01 00 78 01 10 00 00 00 10 00 
+749415|01 f0 ff 00 00 10 00 03 f0 ff 00 00 01 00 66 01 00 78 
+749587|03 ff ff 00 00 01 00 66 01 00 78 02 00 04 00 00 00 12 
+749604|12 ff ff 03 04 00 "
+        .lines()
+    {
+        let (place, want) = row.split_once('|').ok_or("a row without bytes")?;
+        let behind = got.sink.bytes().get(place.parse::<usize>()?..);
+        let front = behind.ok_or("the log is longer")?;
+        let told = hexadecimal(alloc, &front[..front.len().min(want.len() / 3)])?;
+        assert_eq!(rt; told.as_str(), want);
+    }
+    Ok(())
+}
