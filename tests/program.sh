@@ -35,8 +35,8 @@ holds() {
     cmp -s -- "$1" <(printf '%s' "$2") || fail "$1 holds: $(cat -- "$1")"
 }
 
-# The first run builds the program, where that is needed, and tells how far it is.
-./nanolog direct examples/first.trace >out || fail "the program isn't built, or doesn't run"
+# The program is built, where that is needed. What a trial run prints isn't judged here.
+./nanolog --build || exit 1
 
 cat >t <<'END'
 nanolog-trace 1
@@ -289,6 +289,8 @@ expect 4 '' $'nanolog: folder: read fault\n' direct folder
 expect 4 '' $'nanolog: folder: read fault\n' decompress folder
 expect 4 '' $'nanolog: folder: read fault\n' replay folder m
 expect 4 '' $'nanolog: t/t: read fault\n' direct t/t
+long=$(printf '%256s' '' | tr ' ' n)
+expect 4 '' "nanolog: $long: read fault"$'\n' direct "$long"
 if [ "$(id -u)" != 0 ]; then
     : >closed
     chmod 000 closed
@@ -438,6 +440,18 @@ if [ -n "$compiler" ]; then
         expect 0 $'messages 0 statements 0\n' '' preprocess none "${headers[@]:at:1024}"
     done
 fi
+
+# ---- a trial run
+
+# Where the program isn't built its sources are tried, and what they write comes to the folder of the call.
+mkdir trial
+cp -r -- "$top/crates.txt" "$top/HANDLES" "$top/nanolog" trial
+(cd -- "$top" && find crates -name out -prune -o -type f -print0 | xargs -0 cp --parents -t "$room/trial" --)
+trial/nanolog replay t trial.log >out 2>err
+judge "a trial run of replay" $? 0 \
+    $'nanolog: a trial run, in which nothing is proved; ./nanolog --build proves and builds the program\n'
+holds out "$accepted"
+cmp -s l trial.log || fail "a trial run of replay: another log"
 
 # ---- pages
 
