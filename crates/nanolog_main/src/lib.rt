@@ -1,6 +1,4 @@
 //! The program `nanolog` but for its `main`: its words, its files and its outputs.
-//!
-//! Two programs are made of it: `nanolog`, and `nanolog_absent`, which is there for a second stored run.
 #![tactic(auto)]
 
 ghost use Rattle.std.specs.Prelude.{◌≡◌, Option};
