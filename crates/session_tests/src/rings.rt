@@ -21,7 +21,7 @@ use std::thread::{self, Threads};
 const TICK: u64 = 1_000;
 
 /// How many calls go from one thread to the other.
-const MANY: u64 = 1_000_000;
+const MANY: u64 = 100_000;
 
 fn clock() -> Clock
     ensures { (result.tick ≡ TICK) × (result.rate ≡ 2_000_000_000) }
@@ -262,7 +262,7 @@ fn calls_between_two_threads(rt: HostRuntime) -> Result<(), Fail> {
     let text = format!(in rt.alloc(); "{totals:?}")?;
     assert_eq!(rt;
         text.as_str(),
-        "Totals { count: 1000000, range: Some((0, 999999)), sum: 499999500000 }"
+        "Totals { count: 100000, range: Some((0, 99999)), sum: 4999950000 }"
     );
     Ok(())
 }
