@@ -11,7 +11,7 @@ use Rattle.aggregation.specs.declared.totals.Totals.{Totals}
 use Rattle.aggregation.specs.declared.fault.AggregateFault.{AggregateFault}
 use Rattle.aggregation.specs.declared.fault.AggregateFault.TheVariants.{NoSuchMessage, NoSuchArgument}
 use Rattle.aggregation.specs.Totals.{is_numeric, has_number, totals_where}
-use Rattle.aggregation.specs.Answers.{answer_for}
+use Rattle.aggregation.specs.Aggregating.{answer_for}
 
 get_front : {A : Type 0} (xs others : List A) (place : ℕ) → place < length xs → slice_get (xs ++ others) place ≡ slice_get xs place
 get_front [] others place within = absurd (omega (arith, within))

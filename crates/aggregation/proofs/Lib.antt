@@ -2,7 +2,6 @@ pub mod Sums
 pub mod Entries
 pub mod Tallying
 pub mod Arguments
-pub mod Endings
 pub mod Outcomes
 pub mod TotalsLaws
 pub mod Worked

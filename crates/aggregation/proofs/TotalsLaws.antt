@@ -16,7 +16,9 @@ use Rattle.aggregation.specs.declared.fault.AggregateFault.{AggregateFault}
 use Rattle.aggregation.specs.declared.fault.AggregateFault.TheVariants.{ReadFault, Damaged, NoSuchMessage, NoSuchArgument, NoMemory}
 use Rattle.aggregation.specs.Totals.{range_of, argument_totals, totals_in, HasBlocks, TotalsOf}
 use Rattle.aggregation.specs.Totals.HasBlocks.{of_front, of_nothing}
-use Rattle.aggregation.specs.Answers.{IsWhole, answer_for, Answers}
+use Rattle.log_scan.specs.Parts.{LogPart, blocks_read}
+use Rattle.log_scan.specs.Scans.{IsWholeScan, HasFront}
+use Rattle.aggregation.specs.Aggregating.{answer_for, AnswersTotals}
 use Rattle.aggregation.proofs.Arguments.{some_answer, no_argument, no_message}
 
 -- ---- ranges
@@ -69,23 +71,28 @@ whole_totals header blocks bytes id nth file valid = record {
 -- ---- one answer
 
 module _ (header : Header) (blocks : List Block) (bytes : List ℕ) (id nth : ℕ) (file : FileOf header blocks bytes) (valid : Valid header blocks) (short : length bytes ≤ 134217728) where
-  these : (others : List Block) → IsWhole bytes others → others ≡ blocks
-  these others whole = (one_front bytes whole.header header others blocks (length bytes) (length bytes) whole.front (whole_is_front header blocks bytes file valid)).1
+  these : (part : LogPart) → IsWholeScan bytes part → part.blocks ≡ blocks
+  these part whole = (one_front bytes part.header header part.blocks blocks (length bytes) (length bytes) whole.front (whole_is_front header blocks bytes file valid)).1
 
-  pub one_answer : (answer : Result Totals AggregateFault) → Answers (Some bytes) id nth answer → ¬ (IsErrOf answer ReadFault) → ¬ (IsErrOf answer NoMemory) → answer ≡ answer_for (messages_of blocks) id nth (argument_totals blocks id nth)
-  one_answer (Ok totals) (others, whole, is) read memory =
-      some_answer (messages_of blocks) id nth (argument_totals blocks id nth) totals (ap (λ (bs : List Block). totals_in bs id nth) (sym (these others whole)) ∙ is)
-  one_answer (Err (Damaged offset cause front)) (others, damaged, is) read memory = absurd (whole_or_break header blocks bytes offset cause file valid (damaged.breaks short))
-  one_answer (Err NoSuchMessage) (others, whole, past) read memory =
-      no_message (messages_of blocks) id nth (argument_totals blocks id nth) (subst (λ (bs : List Block). length (messages_of bs) ≤ id) (these others whole) past)
-  one_answer (Err NoSuchArgument) (others, whole, within, is) read memory =
-      no_argument (messages_of blocks) id nth (argument_totals blocks id nth) (subst (λ (bs : List Block). id < length (messages_of bs)) (these others whole) within)
-      (ap (λ (bs : List Block). totals_in bs id nth) (sym (these others whole)) ∙ is)
+  pub one_answer : (answer : Result Totals AggregateFault) → AnswersTotals (Some bytes) id nth answer → ¬ (IsErrOf answer ReadFault) → ¬ (IsErrOf answer NoMemory) → answer ≡ answer_for (messages_of blocks) id nth (argument_totals blocks id nth)
+  one_answer (Ok totals) (part, whole, is) read memory =
+      some_answer (messages_of blocks) id nth (argument_totals blocks id nth) totals (ap (λ (bs : List Block). totals_in bs id nth) (sym (these part whole)) ∙ is)
+  one_answer (Err (Damaged offset cause front)) (part, damaged, is) read memory = absurd (whole_or_break header blocks bytes offset cause file valid (damaged.breaks short))
+  one_answer (Err NoSuchMessage) (part, whole, past) read memory =
+      no_message (messages_of blocks) id nth (argument_totals blocks id nth) (subst (λ (bs : List Block). length (messages_of bs) ≤ id) (these part whole) past)
+  one_answer (Err NoSuchArgument) (part, whole, within, is) read memory =
+      no_argument (messages_of blocks) id nth (argument_totals blocks id nth) (subst (λ (bs : List Block). id < length (messages_of bs)) (these part whole) within)
+      (ap (λ (bs : List Block). totals_in bs id nth) (sym (these part whole)) ∙ is)
   one_answer (Err ReadFault) said read memory = absurd (read refl)
   one_answer (Err NoMemory) said read memory = absurd (memory refl)
 
-pub tells_whole : (bytes : List ℕ) (id nth : ℕ) (totals : Totals) → Answers (Some bytes) id nth (Ok totals) → TotalsOf bytes id nth (Some totals)
-tells_whole bytes id nth totals (blocks, whole, is) = record { blocks = blocks; of_file = of_front whole.header (length bytes) whole.front; are = sym is }
+pub tells_whole : (bytes : List ℕ) (id nth : ℕ) (totals : Totals) → AnswersTotals (Some bytes) id nth (Ok totals) → TotalsOf bytes id nth (Some totals)
+tells_whole bytes id nth totals (part, whole, is) = record { blocks = part.blocks; of_file = of_front part.header (length bytes) whole.front; are = sym is }
 
-pub tells_front : (bytes : List ℕ) (id nth offset : ℕ) (cause : Cause) (front : Option Totals) → length bytes ≤ 134217728 → Answers (Some bytes) id nth (Err (Damaged offset cause front)) → TotalsOf bytes id nth front
-tells_front bytes id nth offset cause front short (blocks, damaged, is) = record { blocks = blocks; of_file = damaged.all short; are = sym is }
+-- the blocks of the front that was read
+front_blocks : (bytes : List ℕ) (part : Option LogPart) → HasFront bytes part → HasBlocks bytes (blocks_read part)
+front_blocks bytes None none = of_nothing none refl
+front_blocks bytes (Some part) (count, front) = of_front part.header count front
+
+pub tells_front : (bytes : List ℕ) (id nth offset : ℕ) (cause : Cause) (front : Option Totals) → length bytes ≤ 134217728 → AnswersTotals (Some bytes) id nth (Err (Damaged offset cause front)) → TotalsOf bytes id nth front
+tells_front bytes id nth offset cause front short (part, damaged, is) = record { blocks = blocks_read part; of_file = front_blocks bytes part (damaged.all short); are = sym is }

@@ -1,4 +1,4 @@
 pub mod Totals
-pub mod Reading
-pub mod Answers
+pub mod Tallying
+pub mod Aggregating
 pub mod Rows

@@ -48,15 +48,15 @@ pub record Adds (old new : Totals) (numbers : List ℤ) (most : ℕ) : Type 0 wh
 -- ---- the numbers of records
 
 -- the number that an argument is, as it was given; a text is none
-abbrev pub number_of : Value → Option ℤ
-number_of (values.Signed number) = Some number
-number_of (values.Unsigned number) = Some (pos number)
-number_of (values.Text bytes) = None
+abbrev pub numeric_value : Value → Option ℤ
+numeric_value (values.Signed number) = Some number
+numeric_value (values.Unsigned number) = Some (pos number)
+numeric_value (values.Text bytes) = None
 
 -- the number at a place of the arguments, counted from 0, of a record of the message with this id; any other record
 -- gives none
 abbrev pub number_in : ℕ → ℕ → Call → Option ℤ
-number_in id nth entry = if entry.id == id then option_and_then number_of (slice_get entry.args nth) else None
+number_in id nth entry = if entry.id == id then option_and_then numeric_value (slice_get entry.args nth) else None
 
 -- those of all records of the message
 abbrev pub numbers_in : ℕ → ℕ → List Call → List ℤ

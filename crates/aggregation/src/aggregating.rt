@@ -1,37 +1,22 @@
 //! Totals over a log.
 
-ghost use Rattle.std.specs.Prelude.{◌≡◌, ◌≤◌, ℕ, List, [], ◌++◌, length, false, Some, None, if◌then◌else◌, IsErrOf, OnOk};
+ghost use Rattle.std.specs.Prelude.{◌≡◌, ◌≤◌, Option, IsErrOf, OnOk};
 ghost use Rattle.nl_io.specs.Count.{Rose};
 ghost use Rattle.nl_io.specs.Content.{IsAtEnd};
-ghost use Rattle.log_dictionary.specs.declared.message.Message.{Message};
-ghost use Rattle.checkpoint_io.specs.Places.{with_front};
-ghost use Rattle.checkpoint_io.specs.Readers.{StandsFor};
-ghost use Rattle.aggregation.specs.Totals.{is_numeric as numeric, has_number, totals_where};
-ghost use Rattle.aggregation.specs.Answers.{fault_at, answer_for, Answers, Says};
+ghost use Rattle.log_scan.specs.Parts.{LogPart, blocks_read};
+ghost use Rattle.log_scan.specs.Scans.{IsReaderOf};
+ghost use Rattle.aggregation.specs.Totals.{is_numeric as numeric, has_number, totals_in};
+ghost use Rattle.aggregation.specs.Tallying.{IsTally};
+ghost use Rattle.aggregation.specs.Aggregating.{answer_at, AnswersTotals};
 
 use crate::fault::AggregateFault;
-use crate::reading::{Tally, read_blocks};
+use crate::tally::Tally;
 use crate::totals::Totals;
-use checkpoint_io::{BlockFault, Reader};
 use log_dictionary::Dictionary;
+use log_scan::{Scan, ScanEnd, scan_log};
 use nl_io::Source;
 use printf_grammar::ArgType;
 use std::alloc::Global;
-
-// Why the block at this offset wasn't read, with the totals of what stands in front.
-fn fault_of(fault: BlockFault, offset: u64, front: Option<Totals>) -> AggregateFault
-    ensures { result ≡ fault_at offset front fault }
-{
-    match fault {
-        BlockFault::Damaged(cause) => AggregateFault::Damaged {
-            offset,
-            cause,
-            front,
-        },
-        BlockFault::ReadFault => AggregateFault::ReadFault,
-        BlockFault::NoMemory => AggregateFault::NoMemory,
-    }
-}
 
 // Whether arguments of the type are numbers.
 fn is_numeric(kind: ArgType) -> bool
@@ -57,12 +42,12 @@ fn takes_number(dictionary: &Dictionary, id: u32, nth: u32) -> bool
 }
 
 // The totals, where the whole blocks define such an argument.
-fn totals_of_tally(reader: &Reader, id: u32, nth: u32, tally: &Tally) -> Option<Totals>
-    ensures { (defined others : List Message) → reader.now.messages ≡ defined ++ others
-        → tally.now.defined ≡ length defined
-        → result ≡ totals_where defined id nth tally.now.totals }
+fn totals_of_tally(scan: &Scan, tally: &Tally) -> Option<Totals>
+    ensures { (part : Option LogPart) → IsReaderOf scan.now.reader part → IsTally (blocks_read part) tally.now
+        → result ≡ totals_in (blocks_read part) tally.now.id tally.now.nth }
 {
-    if id < tally.defined && takes_number(reader.dictionary(), id, nth) {
+    let reader = scan.reader.as_ref()?;
+    if tally.id < tally.defined && takes_number(reader.dictionary(), tally.id, tally.nth) {
         Some(tally.totals)
     } else {
         None
@@ -70,45 +55,30 @@ fn totals_of_tally(reader: &Reader, id: u32, nth: u32, tally: &Tally) -> Option<
 }
 
 // The answer of a log that is whole.
-fn answer_of(reader: &Reader, id: u32, nth: u32, tally: &Tally) -> Result<Totals, AggregateFault>
-    ensures { (defined others : List Message) → reader.now.messages ≡ defined ++ others
-        → tally.now.defined ≡ length defined
-        → result ≡ answer_for defined id nth tally.now.totals }
+fn whole_answer(scan: &Scan, tally: &Tally) -> Result<Totals, AggregateFault>
+    ensures { (part : Option LogPart) → IsReaderOf scan.now.reader part → IsTally (blocks_read part) tally.now
+        → result ≡ answer_at (blocks_read part) tally.now.id tally.now.nth ScanEnd.Whole }
 {
-    match totals_of_tally(reader, id, nth, tally) {
+    match totals_of_tally(scan, tally) {
         Some(totals) => Ok(totals),
-        None if id < tally.defined => Err(AggregateFault::NoSuchArgument),
+        None if tally.id < tally.defined => Err(AggregateFault::NoSuchArgument),
         None => Err(AggregateFault::NoSuchMessage),
     }
 }
 
-// The totals of the log whose header was read.
-fn aggregate_blocks<S: Source>(
-    reader: &mut Reader,
-    source: &mut S,
-    id: u32,
-    nth: u32,
-) -> Result<Totals, AggregateFault>
-    requires right { reader.old.failed ≡ false }
-    requires begun { (taken : List ℕ) × (read : StandsFor reader.old taken) × (read.blocks ≡ []) }
-    ensures says { (taken : List ℕ) (read : StandsFor reader.old taken) → read.blocks ≡ []
-        → Says (with_front (taken ++ reader.old.waiting.bytes) (S.left source.old)) id nth
-        (S.faults source.old) (S.faults source.new) result }
-    ensures end { OnOk result (IsAtEnd (S.left source.new)) }
-    ensures end_no_message { IsErrOf result AggregateFault.NoSuchMessage → IsAtEnd (S.left source.new) }
-    ensures end_no_argument { IsErrOf result AggregateFault.NoSuchArgument → IsAtEnd (S.left source.new) }
-    ensures others { S.rest source.old source.new }
+// The answer of a log, by how its scan ended.
+fn answer_of(scan: &Scan, tally: &Tally) -> Result<Totals, AggregateFault>
+    ensures { (part : Option LogPart) → IsReaderOf scan.now.reader part → IsTally (blocks_read part) tally.now
+        → result ≡ answer_at (blocks_read part) tally.now.id tally.now.nth scan.now.end }
 {
-    let mut tally = Tally {
-        defined: 0,
-        totals: Totals::none(),
-    };
-    match read_blocks(reader, source, id, nth, &mut tally) {
-        Ok(()) => answer_of(reader, id, nth, &tally),
-        Err(fault) => {
-            let front = totals_of_tally(reader, id, nth, &tally);
-            Err(fault_of(fault, reader.offset(), front))
-        }
+    match scan.end {
+        ScanEnd::Whole => whole_answer(scan, tally),
+        ScanEnd::Damaged { offset, cause } => Err(AggregateFault::Damaged {
+            offset,
+            cause,
+            front: totals_of_tally(scan, tally),
+        }),
+        ScanEnd::ReadFault => Err(AggregateFault::ReadFault),
     }
 }
 
@@ -127,7 +97,7 @@ pub fn aggregate<S: Source>(
     nth: u32,
 ) -> Result<Totals, AggregateFault>
     // What the answer says of the bytes that the source had left.
-    ensures answer { Answers (S.left source.old) id nth result }
+    ensures answer { AnswersTotals (S.left source.old) id nth result }
 
     // Where the file is whole nothing of it is left.
     ensures end { OnOk result (IsAtEnd (S.left source.new)) }
@@ -142,9 +112,7 @@ pub fn aggregate<S: Source>(
     // All else is as it was.
     ensures others { S.rest source.old source.new }
 {
-    let mut reader = match Reader::start(alloc, source) {
-        Ok(reader) => reader,
-        Err(fault) => return Err(fault_of(fault, 0, None)),
-    };
-    aggregate_blocks(&mut reader, source, id, nth)
+    let mut tally = Tally::none(id, nth);
+    let scan = scan_log(alloc, source, &mut tally)?;
+    answer_of(&scan, &tally)
 }

@@ -2,7 +2,7 @@
 
 ghost use Rattle.std.specs.Prelude.{◌≡◌, ◌<◌, ◌≤◌, ◌+◌, [], ◌∷◌, length, IfSome};
 ghost use Rattle.checkpoint_io.specs.declared.heads.TheConstants.{MAX_LOG};
-ghost use Rattle.aggregation.specs.Totals.{number_of, number_in, numbers_in, IsNumber, IsWithin, Adds};
+ghost use Rattle.aggregation.specs.Totals.{numeric_value, number_in, numbers_in, IsNumber, IsWithin, Adds};
 
 use crate::totals::Totals;
 use buffer_extent::{LogRecord, Records};
@@ -10,7 +10,7 @@ use printf_grammar::Value;
 
 // The number that an argument is, if it is one.
 fn number_of_value(value: &Value) -> Option<i128>
-    ensures number { result ≡ number_of value.now }
+    ensures number { result ≡ numeric_value value.now }
     ensures fits { IfSome result IsNumber }
 {
     match value {

@@ -1,5 +1,9 @@
+ghost use Rattle.std.specs.Prelude.{◌≡◌};
+ghost use Rattle.aggregation.specs.declared.fault.AggregateFault.TheVariants.{NoMemory};
+
 use crate::totals::Totals;
 use checkpoint_io::Cause;
+use std::alloc::AllocError;
 
 /// Why there are no totals of an argument over a whole log.
 #[derive(Clone, Copy, Debug, PartialEq, Eq)]
@@ -18,4 +22,12 @@ pub enum AggregateFault {
     /// The message has no argument there, or one that is a text.
     NoSuchArgument,
     NoMemory,
+}
+
+impl From<AllocError> for AggregateFault {
+    ghost from_gives = { λ _ fault. fault ≡ NoMemory };
+
+    fn from(_error: AllocError) -> AggregateFault {
+        AggregateFault::NoMemory
+    }
 }

@@ -9,7 +9,7 @@ ghost use Rattle.checkpoint_io.specs.Validity.{Valid};
 ghost use Rattle.aggregation.specs.declared.totals.Totals.{Totals as LogTotals};
 ghost use Rattle.aggregation.specs.declared.fault.AggregateFault.{AggregateFault as LogFault};
 ghost use Rattle.aggregation.specs.Totals.{range_of, totals_of, argument_totals, totals_in, has_number, TotalsOf};
-ghost use Rattle.aggregation.specs.Answers.{Answers, answer_for};
+ghost use Rattle.aggregation.specs.Aggregating.{AnswersTotals, answer_for};
 ghost use Rattle.aggregation.specs.Rows.{total_blocks, plain_totals, width_totals, long_totals, no_totals, long_numbers, long_number_totals};
 
 /// The totals of 7, -3 and 7 are a count of 3, from -3 to 7, and a sum of 11. A width is an argument, a length narrows
@@ -70,7 +70,7 @@ pub fn whole_logs_have_one_answer()
         → FileOf header blocks bytes
         → Valid header blocks
         → length bytes ≤ MAX_LOG
-        → Answers (Some bytes) id nth answer
+        → AnswersTotals (Some bytes) id nth answer
         → ¬ (IsErrOf answer LogFault.ReadFault)
         → ¬ (IsErrOf answer LogFault.NoMemory)
         → answer ≡ answer_for (messages_of blocks) id nth (argument_totals blocks id nth) }
@@ -78,10 +78,10 @@ pub fn whole_logs_have_one_answer()
 
 /// What is answered of a file within that limit is its totals.
 pub fn answers_tell_totals()
-    ensures whole { (bytes : List ℕ) (id nth : ℕ) (totals : LogTotals) → Answers (Some bytes) id nth (Ok totals)
+    ensures whole { (bytes : List ℕ) (id nth : ℕ) (totals : LogTotals) → AnswersTotals (Some bytes) id nth (Ok totals)
         → TotalsOf bytes id nth (Some totals) }
     ensures damaged { (bytes : List ℕ) (id nth offset : ℕ) (cause : LogCause) (front : Option LogTotals)
         → length bytes ≤ MAX_LOG
-        → Answers (Some bytes) id nth (Err (LogFault.Damaged offset cause front))
+        → AnswersTotals (Some bytes) id nth (Err (LogFault.Damaged offset cause front))
         → TotalsOf bytes id nth front }
 {}

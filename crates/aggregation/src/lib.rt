@@ -5,7 +5,7 @@ mod aggregating;
 mod counting;
 mod fault;
 pub mod laws;
-mod reading;
+mod tally;
 mod totals;
 
 pub use aggregating::aggregate;

@@ -1,17 +1,18 @@
 -- The words of arguments, one argument behind another.
 use Rattle.std.proofs.Common.{◌≡◌, ℕ, ◌+◌, ◌*◌, ◌<◌, ◌≤◌, List, ◌∷◌, ◌++◌, length, take, drop, get_or, sym, ap, subst, ◌∙◌, arith}
 use Rattle.std.proofs.Math.ListN.{set}
-use Rattle.std.specs.Prelude.{sum_by}
+use Rattle.std.specs.Prelude.{All, sum_by}
 use Rattle.std.specs.List.{flat_map}
 use Rattle.std.proofs.lemmas.List.{drop_more, get_or-map, length-set, length-map, take_at, drop_at}
 use Rattle.std.proofs.lemmas.List.Sums.{sum_by-cons, sum_by-le}
 use Rattle.std.proofs.lemmas.List.Concat.{flat_map-cons}
-use Rattle.std.proofs.lemmas.List.Elements.{All-weaker}
+use Rattle.std.proofs.lemmas.List.Elements.{All-map, All-weaker}
 use Rattle.printf_grammar.specs.declared.argument.Arg.{Arg}
 use Rattle.printf_grammar.specs.declared.argument.Value.{Value}
 use Rattle.printf_grammar.specs.declared.argument.Value.TheVariants as values
-use Rattle.printf_grammar.specs.Types.{value_of, values_of}
+use Rattle.printf_grammar.specs.Types.{argument_value, values_of}
 use Rattle.arg_records.specs.Frames.{IsShort, AreArguments, words_of_argument, argument_words, FrameLen, Frame}
+use Rattle.arg_records.specs.Kinds.{HoldsBytes}
 use Rattle.arg_records.specs.Places.{with_words}
 use Rattle.arg_records.proofs.Lengths.{length-words_of_argument, length-Frame}
 use Rattle.arg_records.proofs.Places.{word_first, words_first}
@@ -27,26 +28,26 @@ FrameLen-bound args are = omega (arith, are.few, sum_by-le argument_words 501 ar
 
 -- the lengths of the arguments from a place on
 pub words_from : (args : List Arg) (place : ℕ) (other : Arg) → place < length args
-    → sum_by argument_words (values_of (drop place args)) ≡ argument_words (value_of (get_or args place other)) + sum_by argument_words (values_of (drop (place + 1) args))
+    → sum_by argument_words (values_of (drop place args)) ≡ argument_words (argument_value (get_or args place other)) + sum_by argument_words (values_of (drop (place + 1) args))
 words_from args place other within =
     ap (λ (rest : List Arg). sum_by argument_words (values_of rest)) (drop_more args place other within)
-    ∙ sum_by-cons argument_words (value_of (get_or args place other)) (values_of (drop (place + 1) args))
+    ∙ sum_by-cons argument_words (argument_value (get_or args place other)) (values_of (drop (place + 1) args))
 
 spelled_from : (args : List Arg) (place : ℕ) (other : Arg) → place < length args
-    → flat_map words_of_argument (values_of (drop place args)) ≡ words_of_argument (value_of (get_or args place other)) ++ flat_map words_of_argument (values_of (drop (place + 1) args))
+    → flat_map words_of_argument (values_of (drop place args)) ≡ words_of_argument (argument_value (get_or args place other)) ++ flat_map words_of_argument (values_of (drop (place + 1) args))
 spelled_from args place other within =
     ap (λ (rest : List Arg). flat_map words_of_argument (values_of rest)) (drop_more args place other within)
-    ∙ flat_map-cons words_of_argument (value_of (get_or args place other)) (values_of (drop (place + 1) args))
+    ∙ flat_map-cons words_of_argument (argument_value (get_or args place other)) (values_of (drop (place + 1) args))
 
 -- an argument was written, and the others behind it are left
 pub others_left : (args : List Arg) (place : ℕ) (other : Arg) (list new : List ℕ) (at end : ℕ) → place < length args → at ≤ length list
-    → new ≡ with_words list at (words_of_argument (value_of (get_or args place other))) → end ≡ at + argument_words (value_of (get_or args place other))
+    → new ≡ with_words list at (words_of_argument (argument_value (get_or args place other))) → end ≡ at + argument_words (argument_value (get_or args place other))
     → with_words new end (flat_map words_of_argument (values_of (drop (place + 1) args))) ≡ with_words list at (flat_map words_of_argument (values_of (drop place args)))
 others_left args place other list new at end within inside written is =
-    let words : List ℕ = words_of_argument (value_of (get_or args place other)) in
+    let words : List ℕ = words_of_argument (argument_value (get_or args place other)) in
     let rest : List ℕ = flat_map words_of_argument (values_of (drop (place + 1) args)) in
     ap (λ (l : List ℕ). with_words l end rest) written
-    ∙ words_first list at end words rest (omega (arith, length-words_of_argument (value_of (get_or args place other)))) inside
+    ∙ words_first list at end words rest (omega (arith, length-words_of_argument (argument_value (get_or args place other)))) inside
     ∙ ap (with_words list at) (sym (spelled_from args place other within))
 
 -- the head and the arguments are the frame, and the words behind it are as before
@@ -69,3 +70,9 @@ frame_written old new id stamp wide len n args two wide_is len_is n_is written =
       ap (take n) whole ∙ take_at (Frame id stamp args) (drop (length (Frame id stamp args)) old) n long,
       ap (drop n) whole ∙ drop_at (Frame id stamp args) (drop (length (Frame id stamp args)) old) n long ∙ ap (λ (k : ℕ). drop k old) long,
     )
+
+-- ---- the texts
+
+-- what holds of the values of arguments, one by one, holds of them in a list
+pub bytes_of_all : (args : List Arg) → All (λ arg. HoldsBytes (argument_value arg)) args → All HoldsBytes (values_of args)
+bytes_of_all args all = All-map HoldsBytes argument_value args all

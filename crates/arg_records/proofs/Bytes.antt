@@ -1,31 +1,22 @@
 -- Bytes as words.
-use Rattle.std.proofs.Common.{◌≡◌, ℕ, ◌<◌, ◌≤◌, List, [], ◌∷◌, ◌++◌, length, take, drop, refl, sym, ap, ◌∙◌, arith}
+use Rattle.std.proofs.Common.{◌≡◌, ℕ, ◌-◌, ◌<◌, ◌≤◌, List, [], ◌∷◌, ◌++◌, length, take, drop, replicate, refl, sym, ap, ◌∙◌, arith}
 use Rattle.std.specs.Int.{w64, from_le_bytes}
-use Rattle.arg_records.specs.Frames.{number_of_bytes, words_of_bytes}
+use Rattle.std.proofs.lemmas.List.{length-append, length-take-le, length-replicate, drop-replicate}
+use Rattle.nibble_pack.specs.Bytes.{number_of_bytes, number_of_bytes-zeros, from_le_bytes-number}
+use Rattle.arg_records.specs.Frames.{words_of_bytes}
 
 -- the number of the first eight bytes
 pub eight : (bytes : List ℕ) → 8 ≤ length bytes → from_le_bytes w64 (take 8 bytes) ≡ number_of_bytes (take 8 bytes)
-eight [] long = absurd omega arith
-eight (a ∷ []) long = absurd omega arith
-eight (a ∷ b ∷ []) long = absurd omega arith
-eight (a ∷ b ∷ c ∷ []) long = absurd omega arith
-eight (a ∷ b ∷ c ∷ d ∷ []) long = absurd omega arith
-eight (a ∷ b ∷ c ∷ d ∷ e ∷ []) long = absurd omega arith
-eight (a ∷ b ∷ c ∷ d ∷ e ∷ f ∷ []) long = absurd omega arith
-eight (a ∷ b ∷ c ∷ d ∷ e ∷ f ∷ g ∷ []) long = absurd omega arith
-eight (a ∷ b ∷ c ∷ d ∷ e ∷ f ∷ g ∷ h ∷ bytes) long = omega arith
+eight bytes long = from_le_bytes-number (take 8 bytes) (length-take-le 8 bytes long)
 
 -- zeros behind bytes add nothing
 filled : (bytes : List ℕ) → length bytes < 8 → from_le_bytes w64 (bytes ++ drop (length bytes) (0 ∷ 0 ∷ 0 ∷ 0 ∷ 0 ∷ 0 ∷ 0 ∷ 0 ∷ [])) ≡ number_of_bytes bytes
-filled [] short = omega arith
-filled (a ∷ []) short = omega arith
-filled (a ∷ b ∷ []) short = omega arith
-filled (a ∷ b ∷ c ∷ []) short = omega arith
-filled (a ∷ b ∷ c ∷ d ∷ []) short = omega arith
-filled (a ∷ b ∷ c ∷ d ∷ e ∷ []) short = omega arith
-filled (a ∷ b ∷ c ∷ d ∷ e ∷ f ∷ []) short = omega arith
-filled (a ∷ b ∷ c ∷ d ∷ e ∷ f ∷ g ∷ []) short = omega arith
-filled (a ∷ b ∷ c ∷ d ∷ e ∷ f ∷ g ∷ h ∷ bytes) short = absurd omega arith
+filled bytes short =
+    let zeros : ℕ = 8 - length bytes in
+    let all : List ℕ = bytes ++ replicate zeros 0 in
+    ap (λ (z : List ℕ). from_le_bytes w64 (bytes ++ z)) (drop-replicate (length bytes) 8 0)
+    ∙ from_le_bytes-number all (omega (arith, short, length-append bytes (replicate zeros 0), length-replicate {A = ℕ} zeros 0))
+    ∙ number_of_bytes-zeros bytes zeros
 
 pub last_word_is : (bytes written : List ℕ) → length bytes < 8 → written ≡ bytes → from_le_bytes w64 (written ++ drop (length bytes) (0 ∷ 0 ∷ 0 ∷ 0 ∷ 0 ∷ 0 ∷ 0 ∷ 0 ∷ [])) ≡ number_of_bytes bytes
 last_word_is bytes written short is = ap (λ (w : List ℕ). from_le_bytes w64 (w ++ drop (length bytes) (0 ∷ 0 ∷ 0 ∷ 0 ∷ 0 ∷ 0 ∷ 0 ∷ 0 ∷ []))) is ∙ filled bytes short

@@ -1,38 +1,30 @@
 -- The words of a text, and the bytes of words.
 use Rattle.std.proofs.Common.{◌≡◌, ◌≢◌, inl, inr, ℕ, zero, suc, ◌+◌, ◌-◌, ◌*◌, ◌^◌, ◌<◌, ◌≤◌, List, [], ◌∷◌, ◌++◌, length, take, drop, min, replicate, refl, sym, ap, ◌∙◌, arith}
 use Rattle.std.specs.Prelude.{All}
-use Rattle.std.specs.Int.{w64, byte_at, bytes_low_first, to_le_bytes}
+use Rattle.std.specs.Int.{w64, to_le_bytes}
 use Rattle.std.proofs.Math.Seq.{take-append-add}
 use Rattle.std.proofs.lemmas.Bool.{cases_lt}
-use Rattle.std.proofs.lemmas.Nat.{from_le_bytes-to_le_bytes_8}
 use Rattle.std.proofs.lemmas.List.{length-append, length-replicate, length-take-le, length-drop, append-nil, take-append-drop, take_all, drop_all, take_at, drop_at, take-append-le, drop-append-le, drop-drop}
 use Rattle.std.proofs.lemmas.List.Elements.{All-nil, All-cons, All-head, All-tail, All-same, All-append, All-take, All-drop, All-replicate}
-use Rattle.arg_records.specs.Frames.{number_of_bytes, words_of_bytes}
+use Rattle.nibble_pack.specs.Bytes.{number_of_bytes, number_of_bytes-low_first, number_of_bytes-zeros, bytes_low_first-below}
+use Rattle.arg_records.specs.Frames.{words_of_bytes}
 use Rattle.arg_records.specs.Reading.{bytes_of_words, IsPadded}
-use Rattle.arg_records.proofs.Bytes.{eight, first_bytes, only_word}
+use Rattle.arg_records.proofs.Bytes.{first_bytes, only_word}
 use Rattle.arg_records.proofs.Lengths.{length-words_of_bytes}
 use Rattle.arg_records.proofs.Unique.{bytes_same}
 
 -- ---- the bytes of words
 
-byte_below : (i n : ℕ) → byte_at i n < 256
-byte_below zero n = omega arith
-byte_below (suc i) n = omega arith
-
-low_first_below : (i k n : ℕ) → All (λ b. b < 256) (bytes_low_first i k n)
-low_first_below i zero n = All-nil (λ (b : ℕ). b < 256)
-low_first_below i (suc k) n = All-cons (λ (b : ℕ). b < 256) (byte_at i n) (bytes_low_first (suc i) k n) (byte_below i n) (low_first_below (suc i) k n)
-
 pub bytes_below : (words : List ℕ) → All (λ b. b < 256) (bytes_of_words words)
 bytes_below [] = All-nil (λ (b : ℕ). b < 256)
-bytes_below (word ∷ words) = All-append (λ (b : ℕ). b < 256) (to_le_bytes w64 word) (bytes_of_words words) (low_first_below 0 8 word) (bytes_below words)
+bytes_below (word ∷ words) = All-append (λ (b : ℕ). b < 256) (to_le_bytes w64 word) (bytes_of_words words) (bytes_low_first-below 0 8 word) (bytes_below words)
 
 pub length-bytes_of_words : (words : List ℕ) → length (bytes_of_words words) ≡ 8 * length words
 length-bytes_of_words [] = refl
 length-bytes_of_words (word ∷ words) = omega (arith, length-bytes_of_words words)
 
 number_again : (word : ℕ) → word < 2 ^ 64 → number_of_bytes (to_le_bytes w64 word) ≡ word
-number_again word below = sym (eight (to_le_bytes w64 word) (omega arith)) ∙ from_le_bytes-to_le_bytes_8 word below
+number_again word below = number_of_bytes-low_first 8 word (omega (arith, below))
 
 -- the bytes of words are these words
 pub words_again : (words : List ℕ) → All (λ w. w < 2 ^ 64) words → words_of_bytes (bytes_of_words words) ≡ words
@@ -42,11 +34,6 @@ words_again (word ∷ words) below =
     ∙ ap (λ (ws : List ℕ). word ∷ ws) (words_again words (All-tail (λ (w : ℕ). w < 2 ^ 64) word words below))
 
 -- ---- zeros behind bytes
-
-number_of_bytes-zeros : (bytes : List ℕ) (zeros : ℕ) → number_of_bytes (bytes ++ replicate zeros 0) ≡ number_of_bytes bytes
-number_of_bytes-zeros [] zero = refl
-number_of_bytes-zeros [] (suc zeros) = omega (arith, number_of_bytes-zeros [] zeros)
-number_of_bytes-zeros (b ∷ bytes) zeros = omega (arith, number_of_bytes-zeros bytes zeros)
 
 one_filled : (bytes : List ℕ) (zeros count : ℕ) → 0 < length bytes → length bytes < 8 → zeros < 8 → length bytes + zeros ≡ 8 * count → words_of_bytes (bytes ++ replicate zeros 0) ≡ words_of_bytes bytes
 one_filled bytes zeros count some short few is =

@@ -10,21 +10,10 @@ use Rattle.std.proofs.lemmas.List.Concat.{flat_map-cons}
 use Rattle.std.proofs.lemmas.List.Elements.{All-head, All-tail, All-take, All-drop}
 use Rattle.printf_grammar.specs.declared.argument.Value.{Value}
 use Rattle.printf_grammar.specs.declared.argument.Value.TheVariants as values
-use Rattle.arg_records.specs.Frames.{number_of_bytes, words_of_bytes, words_of_argument, FrameLen, Frame}
+use Rattle.nibble_pack.specs.Bytes.{number_of_bytes, number_of_bytes-unique}
+use Rattle.arg_records.specs.Frames.{words_of_bytes, words_of_argument, FrameLen, Frame}
 use Rattle.arg_records.specs.Kinds.{arg_kind, IsArgument}
 use Rattle.arg_records.proofs.Bytes.{first_bytes, only_word}
-
--- a number has one spelling in so many bytes
-numbers_same : (xs ys : List ℕ) → length xs ≡ length ys → All (λ byte. byte < 256) xs → All (λ byte. byte < 256) ys → number_of_bytes xs ≡ number_of_bytes ys → xs ≡ ys
-numbers_same [] [] same left right e = refl
-numbers_same [] (y ∷ ys) same left right e = absurd omega (arith, same)
-numbers_same (x ∷ xs) [] same left right e = absurd omega (arith, same)
-numbers_same (x ∷ xs) (y ∷ ys) same left right e =
-    let x_byte : x < 256 = All-head (λ byte. byte < 256) x xs left in
-    let y_byte : y < 256 = All-head (λ byte. byte < 256) y ys right in
-    let first : x ≡ y = omega (arith, e) in
-    let rest : xs ≡ ys = numbers_same xs ys (omega (arith, same)) (All-tail (λ byte. byte < 256) x xs left) (All-tail (λ byte. byte < 256) y ys right) (omega (arith, e)) in
-    cc
 
 -- words of as many bytes begin equal lists only where the bytes are the same
 pub bytes_same : (most : ℕ) (xs ys vs ws : List ℕ) → length xs ≤ most → length xs ≡ length ys → All (λ byte. byte < 256) xs → All (λ byte. byte < 256) ys
@@ -38,12 +27,12 @@ bytes_same (suc most) (x ∷ xs) (y ∷ ys) vs ws few same left right e =
     (λ (short : length (x ∷ xs) < 8).
     let one : number_of_bytes (x ∷ xs) ∷ vs ≡ number_of_bytes (y ∷ ys) ∷ ws =
     ap (λ (words : List ℕ). words ++ vs) (sym (only_word (x ∷ xs) short (omega arith))) ∙ e ∙ ap (λ (words : List ℕ). words ++ ws) (only_word (y ∷ ys) (omega (arith, same, short)) (omega arith)) in
-    (numbers_same (x ∷ xs) (y ∷ ys) same left right cc, cc))
+    (number_of_bytes-unique (x ∷ xs) (y ∷ ys) same left right cc, cc))
     (λ (long : 8 ≤ length (x ∷ xs)).
     let more : number_of_bytes (take 8 (x ∷ xs)) ∷ (words_of_bytes (drop 8 (x ∷ xs)) ++ vs) ≡ number_of_bytes (take 8 (y ∷ ys)) ∷ (words_of_bytes (drop 8 (y ∷ ys)) ++ ws) =
     ap (λ (words : List ℕ). words ++ vs) (sym (first_bytes (x ∷ xs) long)) ∙ e ∙ ap (λ (words : List ℕ). words ++ ws) (first_bytes (y ∷ ys) (omega (arith, same, long))) in
     let front : take 8 (x ∷ xs) ≡ take 8 (y ∷ ys) =
-    numbers_same (take 8 (x ∷ xs)) (take 8 (y ∷ ys)) (length-take-le 8 (x ∷ xs) long ∙ sym (length-take-le 8 (y ∷ ys) (omega (arith, same, long)))) (All-take (λ byte. byte < 256) 8 (x ∷ xs) left) (All-take (λ byte. byte < 256) 8 (y ∷ ys) right) cc in
+    number_of_bytes-unique (take 8 (x ∷ xs)) (take 8 (y ∷ ys)) (length-take-le 8 (x ∷ xs) long ∙ sym (length-take-le 8 (y ∷ ys) (omega (arith, same, long)))) (All-take (λ byte. byte < 256) 8 (x ∷ xs) left) (All-take (λ byte. byte < 256) 8 (y ∷ ys) right) cc in
     let back = bytes_same most (drop 8 (x ∷ xs)) (drop 8 (y ∷ ys)) vs ws (omega (arith, few, length-drop 8 (x ∷ xs))) (omega (arith, same, length-drop 8 (x ∷ xs), length-drop 8 (y ∷ ys))) (All-drop (λ byte. byte < 256) 8 (x ∷ xs) left) (All-drop (λ byte. byte < 256) 8 (y ∷ ys) right) cc in
     let left_whole = take-append-drop 8 (x ∷ xs) in
     let right_whole = take-append-drop 8 (y ∷ ys) in

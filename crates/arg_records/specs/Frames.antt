@@ -2,16 +2,12 @@
 use Rattle.std.specs.Prelude.{◌≡◌, ℕ, ◌+◌, ◌*◌, ◌/◌, ◌^◌, ◌<◌, ◌≤◌, List, [], ◌∷◌, length, sum_by, ⊤, All}
 use Rattle.std.specs.List.{flat_map}
 use Rattle.std.specs.Int.{w64, cast_unsigned}
+use Rattle.nibble_pack.specs.Bytes.{number_of_bytes}
 use Rattle.log_dictionary.specs.declared.dictionary.TheConstants.{MAX_MESSAGES}
 use Rattle.arg_records.specs.declared.frame.TheConstants.{MAX_FRAME_WORDS}
 use Rattle.printf_grammar.specs.declared.limits.TheConstants.{MAX_ARGUMENTS, MAX_TEXT}
 use Rattle.printf_grammar.specs.declared.argument.Value.{Value}
 use Rattle.printf_grammar.specs.declared.argument.Value.TheVariants as values
-
--- the number that bytes represent, the lowest first
-abbrev pub number_of_bytes : List ℕ → ℕ
-number_of_bytes [] = 0
-number_of_bytes (b ∷ bytes) = b + 256 * number_of_bytes bytes
 
 -- bytes as words, eight to a word, the lowest first; the last word is filled up with zeros
 abbrev pub words_of_bytes : List ℕ → List ℕ

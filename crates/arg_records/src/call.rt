@@ -9,9 +9,6 @@ use std::alloc::{AllocError, Global};
 use std::marker::Model;
 use std::slice;
 
-/// The most writers of a run, and of a log.
-pub const MAX_WRITERS: u32 = 64;
-
 /// A call of a log statement: when it was made, by the ticks of the clock, the id of its message,
 /// and the values that it was given. A trace has calls, and a log keeps them as records.
 #[derive(Debug, Drop)]

@@ -1,11 +1,12 @@
 //! Frames: how long they are, writing one, and reading its head.
 
-ghost use Rattle.std.specs.Prelude.{◌≡◌, ◌+◌, ◌<◌, ◌≤◌, ◌↔◌, ◌^◌, ℕ, List, length, take, drop, IfOk, OnErr, IsErr};
+ghost use Rattle.std.specs.Prelude.{◌≡◌, ◌+◌, ◌<◌, ◌≤◌, ◌↔◌, ◌^◌, ℕ, List, length, take, drop, All, IfOk, OnOk, OnErr, IsErr};
 ghost use Rattle.std.specs.List.{flat_map};
 ghost use Rattle.printf_grammar.specs.declared.argument.Value.{Value};
 ghost use Rattle.printf_grammar.specs.Types.{values_of};
 ghost use Rattle.log_dictionary.specs.declared.dictionary.TheConstants.{MAX_MESSAGES};
 ghost use Rattle.arg_records.specs.Frames.{AreArguments, IsStaged, IsFrame, words_of_argument, FrameLen, Frame};
+ghost use Rattle.arg_records.specs.Kinds.{HoldsBytes};
 ghost use Rattle.arg_records.specs.Places.{with_words};
 
 use crate::words::{put_argument, word_count};
@@ -35,6 +36,7 @@ fn put_arguments(args: &[Arg], into: &mut [u64; MAX_FRAME_WORDS]) -> usize
     requires { FrameLen (values_of args.now) ≤ MAX_FRAME_WORDS }
     ensures written { into.new ≡ with_words into.old 2 (flat_map words_of_argument (values_of args.now)) }
     ensures end { result ≡ FrameLen (values_of args.now) }
+    ensures bytes { All HoldsBytes (values_of args.now) }
 {
     let mut end = 2;
     for arg in args {
@@ -56,6 +58,9 @@ pub fn frame_words(
         (len ≡ FrameLen (values_of args.now))
         × (take len into.new ≡ Frame id stamp (values_of args.now))
         × (drop len into.new ≡ drop len into.old)) }
+
+    // What texts hold is below 256, since they are bytes.
+    ensures bytes { OnOk result (All HoldsBytes (values_of args.now)) }
     ensures too_long { IsErr result ↔ (MAX_FRAME_WORDS < FrameLen (values_of args.now)) }
     ensures unchanged { OnErr result (into.new ≡ into.old) }
 {

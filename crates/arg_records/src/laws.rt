@@ -9,7 +9,6 @@ ghost use Rattle.printf_grammar.specs.declared.argument.Value.TheVariants.{Signe
 ghost use Rattle.printf_grammar.specs.Types.{Types, Fits};
 ghost use Rattle.log_dictionary.specs.declared.message.Message.{Message};
 ghost use Rattle.arg_records.specs.declared.call.Call.{Call};
-ghost use Rattle.arg_records.specs.declared.call.TheConstants.{MAX_WRITERS};
 ghost use Rattle.arg_records.specs.declared.frame.TheConstants.{MAX_FRAME_WORDS};
 ghost use Rattle.arg_records.specs.Calls.{IsCall, NeverFalls, calls_by_writer};
 ghost use Rattle.arg_records.specs.Rows.{row_call, full_message, mixed_calls, mixed_log_calls, texts_message, texts_call};
@@ -41,10 +40,9 @@ pub fn an_integer_takes_a_word()
     ensures { (n : ℕ) (args : List Value) → FrameLen (Unsigned n ∷ args) ≡ FrameLen args + 1 }
 {}
 
-/// A frame has at most 512 words, and a run has at most 64 writers.
-pub fn frames_and_writers_have_limits()
+/// A frame has at most 512 words.
+pub fn frames_have_a_limit()
     ensures words { MAX_FRAME_WORDS ≡ 512 }
-    ensures writers { MAX_WRITERS ≡ 64 }
 {}
 
 /// No frame begins with 0.

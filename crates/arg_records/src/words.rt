@@ -1,9 +1,11 @@
 //! The words of one argument.
 
-ghost use Rattle.std.specs.Prelude.{◌≡◌, ◌+◌, ◌/◌, ◌<◌, ◌≤◌, length};
+ghost use Rattle.std.specs.Prelude.{◌≡◌, ◌+◌, ◌/◌, ◌<◌, ◌≤◌, length, All};
 ghost use Rattle.printf_grammar.specs.declared.argument.Value.TheVariants.{Text as TextValue};
-ghost use Rattle.printf_grammar.specs.Types.{value_of};
-ghost use Rattle.arg_records.specs.Frames.{number_of_bytes, words_of_bytes, words_of_text, words_of_argument, argument_words};
+ghost use Rattle.printf_grammar.specs.Types.{argument_value};
+ghost use Rattle.nibble_pack.specs.Bytes.{number_of_bytes};
+ghost use Rattle.arg_records.specs.Frames.{words_of_bytes, words_of_text, words_of_argument, argument_words};
+ghost use Rattle.arg_records.specs.Kinds.{HoldsBytes};
 ghost use Rattle.arg_records.specs.Places.{with_words};
 
 use crate::frame::MAX_FRAME_WORDS;
@@ -18,7 +20,7 @@ pub fn text_words(len: usize) -> u64
 
 /// How many words an argument takes.
 pub(crate) fn word_count(arg: Arg) -> u64
-    ensures { result ≡ argument_words (value_of arg.entry) }
+    ensures { result ≡ argument_words (argument_value arg.entry) }
 {
     match arg {
         Arg::Signed(_) | Arg::Unsigned(_) => 1,
@@ -61,6 +63,7 @@ fn put_text(text: &[u8], into: &mut [u64; MAX_FRAME_WORDS], at: usize) -> usize
     requires { at + argument_words (TextValue text.now) ≤ MAX_FRAME_WORDS }
     ensures written { into.new ≡ with_words into.old at (words_of_argument (TextValue text.now)) }
     ensures end { result ≡ at + argument_words (TextValue text.now) }
+    ensures bytes { All (λ byte. byte < 256) text.now }
 {
     into[at] = text.len() as u64;
     put_bytes(text, into, at + 1)
@@ -68,9 +71,10 @@ fn put_text(text: &[u8], into: &mut [u64; MAX_FRAME_WORDS], at: usize) -> usize
 
 /// Writes an argument's words from a place on. It answers the place behind them.
 pub(crate) fn put_argument(arg: Arg, into: &mut [u64; MAX_FRAME_WORDS], at: usize) -> usize
-    requires { at + argument_words (value_of arg) ≤ MAX_FRAME_WORDS }
-    ensures written { into.new ≡ with_words into.old at (words_of_argument (value_of arg.entry)) }
-    ensures end { result ≡ at + argument_words (value_of arg.entry) }
+    requires { at + argument_words (argument_value arg) ≤ MAX_FRAME_WORDS }
+    ensures written { into.new ≡ with_words into.old at (words_of_argument (argument_value arg.entry)) }
+    ensures end { result ≡ at + argument_words (argument_value arg.entry) }
+    ensures bytes { HoldsBytes (argument_value arg.entry) }
 {
     match arg {
         Arg::Signed(number) => {

@@ -20,11 +20,12 @@ use Rattle.buffer_extent.specs.declared.numbers.Number.{Number}
 use Rattle.buffer_extent.specs.declared.numbers.Number.TheVariants.{Signed, Unsigned}
 use Rattle.buffer_extent.specs.Records.{kind_of}
 use Rattle.buffer_extent.specs.Parts.{codes_in, HoldCodes, BeginsWithCodes}
-use Rattle.buffer_extent.specs.Steps.{integer_of, kind_of_number, number_for, FitsNumber, FitNumbers, BeginsWithKind, BeginsWithArgument, BeginsWithNumbers, BeginsWithCodedNumbers, BeginsWithValue, BeginsWithTexts}
+use Rattle.buffer_extent.specs.Steps.{number_value, kind_of_number, number_for, FitsNumber, FitNumbers, BeginsWithKind, BeginsWithArgument, BeginsWithNumbers, BeginsWithCodedNumbers, BeginsWithValue, BeginsWithTexts}
 use Rattle.buffer_extent.proofs.Codes.{codes_take, last_code_of_bytes, codes_taken}
 use Rattle.buffer_extent.proofs.Numbering.{value_number, BeginsWithValue-unique, texts_whole, texts_again}
 use Rattle.buffer_extent.proofs.Arguments.{BeginsWithKind-unique, argument_kind, BeginsWithArgument-unique, coded_codes, coded_made, coded_read}
-use Rattle.buffer_extent.proofs.Deciding.{AreBytes, back_bytes, IsDecided, decided_by, all_decided}
+use Rattle.nibble_pack.specs.Bytes.{AreBytes, back_bytes}
+use Rattle.buffer_extent.proofs.Deciding.{IsDecided, decided_by, all_decided}
 use Rattle.buffer_extent.proofs.NumberCases.{number_decided}
 
 -- ---- ranges
@@ -66,7 +67,7 @@ fits_or_not (Unsigned n) types.Text = at_most_or_not n MAX_TEXT
 -- ---- numbers
 
 -- the number of a kind that an integer is
-number_from : (kind : Kind) (z : ℤ) (code : ℕ) (front : List ℕ) → Packed kind z code front → (number : Number) × (z ≡ integer_of number) × (kind_of_number number ≡ kind)
+number_from : (kind : Kind) (z : ℤ) (code : ℕ) (front : List ℕ) → Packed kind z code front → (number : Number) × (z ≡ number_value number) × (kind_of_number number ≡ kind)
 number_from unsigned z code front (n, is, packs) = (Unsigned n, is, refl)
 number_from signed z code front packs = (Signed z, refl, refl)
 
@@ -83,7 +84,7 @@ kind_decided type code bytes small = elim (number_decided (kind_of type) code by
           kind = number.2;
         },
       )
-  | inr none ↦ inr (λ number back begins. none (integer_of number) back begins.packed)
+  | inr none ↦ inr (λ number back begins. none (number_value number) back begins.packed)
 ]
 
 argument_decided : (type : ArgType) (code : ℕ) (bytes : List ℕ) → AreBytes bytes → IsDecided (BeginsWithArgument type code bytes)

@@ -15,7 +15,7 @@ use Rattle.buffer_extent.specs.declared.fault.Cause.{Cause}
 use Rattle.buffer_extent.specs.declared.fault.Cause.TheVariants as causes
 use Rattle.buffer_extent.specs.declared.numbers.Number.{Number}
 use Rattle.buffer_extent.specs.declared.take.HeadCodes.{HeadCodes}
-use Rattle.buffer_extent.specs.declared.take.Head.{Head}
+use Rattle.buffer_extent.specs.declared.take.RecordHeader.{RecordHeader}
 use Rattle.buffer_extent.specs.Bodies.{IsBody, BodyBreak}
 use Rattle.buffer_extent.specs.Parts.{BeginsWithNumber, BeginsWithHead, BeginsWithRecord, BeginsWithRightRecord}
 use Rattle.buffer_extent.specs.Steps.{number_for, words_taken, BeginsWithHeadCodes, BeginsWithId, BeginsWithStep, BeginsWithRightHead, BeginsWithCodedNumbers, BeginsWithTexts, BeginsWithStart}
@@ -24,7 +24,8 @@ use Rattle.buffer_extent.proofs.Heads.{head_parts, codes_known, id_known, head_m
 use Rattle.buffer_extent.proofs.Numbering.{FitNumbers-length}
 use Rattle.buffer_extent.proofs.Starts.{start_head, numbers_left, staged_numbers, right_parts, texts_left, right_made}
 use Rattle.buffer_extent.proofs.Bodies.{AreReadSoFar, none_read, one_read, one_left, all_read}
-use Rattle.buffer_extent.proofs.Deciding.{AreBytes, back_bytes, IsDecided, decided_by}
+use Rattle.nibble_pack.specs.Bytes.{AreBytes, back_bytes}
+use Rattle.buffer_extent.proofs.Deciding.{IsDecided, decided_by}
 use Rattle.buffer_extent.proofs.NumberCases.{unsigned_decided}
 use Rattle.buffer_extent.proofs.ArgumentCases.{coded_decided, texts_decided}
 
@@ -126,7 +127,7 @@ start_decided : (messages : List Message) (before least : ℕ) (bytes : List ℕ
 start_decided messages before least bytes small =
     decided_by (BeginsWithStart messages before least bytes) (BeginsWithRightHead (length messages) before least bytes) (start_head messages before least bytes) behind_head (head_decided (length messages) before least bytes small)
   where
-    staged : (head : Head) (message : Message) (rest : List ℕ) → BeginsWithRightHead (length messages) before least bytes head rest → slice_get messages head.id ≡ Some message
+    staged : (head : RecordHeader) (message : Message) (rest : List ℕ) → BeginsWithRightHead (length messages) before least bytes head rest → slice_get messages head.id ≡ Some message
         → (numbers : List Number) (back : List ℕ) → BeginsWithCodedNumbers (Types message.format.pieces) rest numbers back → IsDecided (BeginsWithStart messages before least bytes)
     staged head message rest right known numbers back coded =
         let types : List ArgType = Types message.format.pieces in
@@ -152,7 +153,7 @@ start_decided messages before least bytes small =
               )
         ]
 
-    behind_head : (head : Head) (rest : List ℕ) → BeginsWithRightHead (length messages) before least bytes head rest → IsDecided (BeginsWithStart messages before least bytes)
+    behind_head : (head : RecordHeader) (rest : List ℕ) → BeginsWithRightHead (length messages) before least bytes head rest → IsDecided (BeginsWithStart messages before least bytes)
     behind_head head rest right =
         let (message, known) = message_of messages head.id right.known in
         decided_by (BeginsWithStart messages before least bytes) (BeginsWithCodedNumbers (Types message.format.pieces) rest)
@@ -167,7 +168,7 @@ record_decided messages before least bytes small =
     (λ entry back begins. let parted = right_parts messages before least bytes entry back begins in ((record { id = entry.id; stamp = entry.stamp }, map number_for entry.args), parted.middle, parted.start))
     behind_start (start_decided messages before least bytes small)
   where
-    behind_start : (start : Head × List Number) (behind : List ℕ) → BeginsWithStart messages before least bytes start behind → IsDecided (BeginsWithRightRecord messages before least bytes)
+    behind_start : (start : RecordHeader × List Number) (behind : List ℕ) → BeginsWithStart messages before least bytes start behind → IsDecided (BeginsWithRightRecord messages before least bytes)
     behind_start (head, numbers) behind begins =
         let types : List ArgType = Types begins.message.format.pieces in
         decided_by (BeginsWithRightRecord messages before least bytes) (BeginsWithTexts types (take (length types) numbers) behind)

@@ -1,19 +1,8 @@
 -- Whether bytes begin with a thing: where each part is decided, so is the whole.
-use Rattle.std.proofs.Common.{◌≡◌, ◌⊎◌, inl, inr, ℕ, ◌<◌, List, [], ◌∷◌, ◌++◌, length, drop, All, refl, ap, subst, ◌∙◌}
-use Rattle.std.proofs.lemmas.List.{drop_at}
-use Rattle.std.proofs.lemmas.List.Elements.{All-drop}
+use Rattle.std.proofs.Common.{◌≡◌, ◌⊎◌, inl, inr, ℕ, List, [], ◌∷◌, ◌++◌, refl, subst}
 use Rattle.printf_grammar.specs.declared.arg_type.ArgType.{ArgType}
 use Rattle.buffer_extent.specs.Steps.{OneBehindAnother}
 use Rattle.buffer_extent.proofs.OneByOne.{Step, IsFunctional, first_and_more}
-
--- ---- bytes
-
-abbrev pub AreBytes : List ℕ → Type 0
-AreBytes bytes = All (λ byte. byte < 256) bytes
-
--- what follows in bytes is bytes
-pub back_bytes : (bytes front back : List ℕ) → bytes ≡ front ++ back → AreBytes bytes → AreBytes back
-back_bytes bytes front back is small = subst AreBytes (ap (drop (length front)) is ∙ drop_at front back (length front) refl) (All-drop (λ byte. byte < 256) (length front) bytes small)
 
 -- ---- decisions
 

@@ -4,18 +4,18 @@ use Rattle.std.specs.Prelude.{pos}
 use Rattle.nibble_pack.specs.Packing.{unsigned}
 use Rattle.nibble_pack.specs.PackingLaws.{Packed-code}
 use Rattle.buffer_extent.specs.declared.take.HeadCodes.{HeadCodes}
-use Rattle.buffer_extent.specs.declared.take.Head.{Head}
+use Rattle.buffer_extent.specs.declared.take.RecordHeader.{RecordHeader}
 use Rattle.buffer_extent.specs.Steps.{BeginsWithHeadCodes, BeginsWithId, BeginsWithStep, BeginsWithRightHead}
 use Rattle.buffer_extent.specs.RecordLaws.{BeginsWithNumber-unique}
 
 -- what is left of a head behind its codes
-pub record IsLeft (messages before least : ℕ) (codes : HeadCodes) (behind : List ℕ) (head : Head) (back : List ℕ) : Type 0 where
+pub record IsLeft (messages before least : ℕ) (codes : HeadCodes) (behind : List ℕ) (head : RecordHeader) (back : List ℕ) : Type 0 where
   pub middle : List ℕ
   pub of_id : BeginsWithId messages codes.id behind head.id middle
   pub of_step : BeginsWithStep before least codes.step middle head.stamp back
 
 -- a head has codes, and the id and the step behind them
-pub head_parts : (messages before least : ℕ) (bytes : List ℕ) (head : Head) (back : List ℕ) → BeginsWithRightHead messages before least bytes head back
+pub head_parts : (messages before least : ℕ) (bytes : List ℕ) (head : RecordHeader) (back : List ℕ) → BeginsWithRightHead messages before least bytes head back
     → (codes : HeadCodes) × (behind : List ℕ) × BeginsWithHeadCodes bytes codes behind × IsLeft messages before least codes behind head back
 head_parts messages before least bytes head back begins =
     let parts = begins.parts in (
@@ -46,7 +46,7 @@ HeadCodes-unique bytes a b r s p q =
     (two.0, two.1, behind)
 
 -- where the codes are known, the id and the step are left
-pub codes_known : (messages before least : ℕ) (bytes : List ℕ) (codes : HeadCodes) (behind : List ℕ) (head : Head) (back : List ℕ) → BeginsWithHeadCodes bytes codes behind → BeginsWithRightHead messages before least bytes head back
+pub codes_known : (messages before least : ℕ) (bytes : List ℕ) (codes : HeadCodes) (behind : List ℕ) (head : RecordHeader) (back : List ℕ) → BeginsWithHeadCodes bytes codes behind → BeginsWithRightHead messages before least bytes head back
     → IsLeft messages before least codes behind head back
 codes_known messages before least bytes codes behind head back known begins =
     let parts = head_parts messages before least bytes head back begins in
@@ -56,7 +56,7 @@ codes_known messages before least bytes codes behind head back known begins =
     record { middle = left.middle; of_id = of_id; of_step = subst (λ (c : ℕ). BeginsWithStep before least c left.middle head.stamp back) same.1 left.of_step }
 
 -- where the id is known too, the step is left
-pub id_known : (messages before least : ℕ) (bytes : List ℕ) (codes : HeadCodes) (behind : List ℕ) (id : ℕ) (middle : List ℕ) (head : Head) (back : List ℕ) → BeginsWithHeadCodes bytes codes behind → BeginsWithId messages codes.id behind id middle
+pub id_known : (messages before least : ℕ) (bytes : List ℕ) (codes : HeadCodes) (behind : List ℕ) (id : ℕ) (middle : List ℕ) (head : RecordHeader) (back : List ℕ) → BeginsWithHeadCodes bytes codes behind → BeginsWithId messages codes.id behind id middle
     → BeginsWithRightHead messages before least bytes head back → BeginsWithStep before least codes.step middle head.stamp back
 id_known messages before least bytes codes behind id middle head back known here begins =
     let left = codes_known messages before least bytes codes behind head back known begins in
@@ -64,7 +64,7 @@ id_known messages before least bytes codes behind id middle head back known here
     subst (λ (b : List ℕ). BeginsWithStep before least codes.step b head.stamp back) same.1 left.of_step
 
 -- codes, and an id and a step that have them, are a head
-pub head_made : (messages before least : ℕ) (bytes : List ℕ) (codes : HeadCodes) (behind middle : List ℕ) (head : Head) (back : List ℕ) → BeginsWithHeadCodes bytes codes behind → BeginsWithId messages codes.id behind head.id middle
+pub head_made : (messages before least : ℕ) (bytes : List ℕ) (codes : HeadCodes) (behind middle : List ℕ) (head : RecordHeader) (back : List ℕ) → BeginsWithHeadCodes bytes codes behind → BeginsWithId messages codes.id behind head.id middle
     → BeginsWithStep before least codes.step middle head.stamp back → BeginsWithRightHead messages before least bytes head back
 head_made messages before least bytes codes behind middle head back known of_id of_step =
     let parts = of_id.number.parts ∙ ap (λ (m : List ℕ). of_id.number.front ++ m) of_step.number.parts in

@@ -10,7 +10,8 @@ use Rattle.nibble_pack.proofs.Counts.{pow256, pow-mono}
 use Rattle.nibble_pack.proofs.Fronts.{read_spells, Packed-at_front, Packed-stands}
 use Rattle.nibble_pack.proofs.SignedForms.{signed_from_unsigned, unsigned_from_signed, signed_from_count, count_from_signed, reads_wide, reads_no_wide}
 use Rattle.buffer_extent.specs.Parts.{BeginsWithNumber}
-use Rattle.buffer_extent.proofs.Deciding.{AreBytes, IsDecided}
+use Rattle.nibble_pack.specs.Bytes.{AreBytes}
+use Rattle.buffer_extent.proofs.Deciding.{IsDecided}
 
 -- ---- unsigned numbers
 

@@ -12,8 +12,8 @@ use Rattle.printf_grammar.specs.Types.{FitsType, Fits, text_of}
 use Rattle.arg_records.specs.Frames.{argument_words}
 use Rattle.buffer_extent.specs.declared.numbers.Number.{Number}
 use Rattle.buffer_extent.specs.declared.numbers.Number.TheVariants.{Signed, Unsigned}
-use Rattle.buffer_extent.specs.Records.{PackedNumber, number_of, PacksArguments}
-use Rattle.buffer_extent.specs.Steps.{OneBehindAnother, integer_of, number_for, FitsNumber, FitNumbers, PacksNumbers, number_words, words_taken, BeginsWithValue, BeginsWithTexts}
+use Rattle.buffer_extent.specs.Records.{PackedNumber, packed_value, PacksArguments}
+use Rattle.buffer_extent.specs.Steps.{OneBehindAnother, number_value, number_for, FitsNumber, FitNumbers, PacksNumbers, number_words, words_taken, BeginsWithValue, BeginsWithTexts}
 use Rattle.buffer_extent.specs.RecordLaws.{same_length_front, variant_fits}
 
 -- ---- at a place
@@ -58,7 +58,7 @@ numbers_fit [] [] fits = tt
 numbers_fit (type ∷ types) (arg ∷ args) fits = (value_number type arg fits.0, numbers_fit types args fits.1)
 numbers_fit _ _ fits = absurd fits
 
-same_integer : (value : Value) → integer_of (number_for value) ≡ number_of value
+same_integer : (value : Value) → number_value (number_for value) ≡ packed_value value
 same_integer (values.Signed z) = refl
 same_integer (values.Unsigned n) = refl
 same_integer (values.Text bytes) = refl

@@ -18,9 +18,9 @@ use Rattle.arg_records.specs.Kinds.{HoldsBytes}
 use Rattle.nibble_pack.specs.declared.pack.Packed.{Packed as PackedBytes}
 use Rattle.nibble_pack.specs.Packing.{Kind, unsigned, signed, byte_count, Packed}
 use Rattle.nibble_pack.specs.PackingLaws.{Packed-length}
-use Rattle.buffer_extent.specs.Records.{PackedNumber, kind_of, number_of, PacksArguments, code_bytes}
+use Rattle.buffer_extent.specs.Records.{PackedNumber, kind_of, packed_value, PacksArguments, code_bytes}
 use Rattle.buffer_extent.specs.RecordLaws.{codes_of}
-use Rattle.buffer_extent.specs.Writing.{AreWordsOf, BeginsWithWords, packed_number, packed_numbers, IsWhole, PacksWord}
+use Rattle.buffer_extent.specs.Writing.{AreWordsOf, BeginsWithWords, packed_number, packed_numbers, HasItsBytes, PacksWord}
 use Rattle.buffer_extent.proofs.Codes.{length-code_bytes}
 
 -- ---- one word
@@ -37,7 +37,7 @@ signed_fits argument_types.Precision z fits = record { sfits = omega arith }
 signed_fits _ z fits = absurd fits
 
 signed_value_packed : (type : ArgType) (word : ℕ) (code : ℕ) (bytes : List ℕ) → kind_of type ≡ signed → Packed signed (cast_signed w64 word) code bytes
-    → (value : Value) (more : List ℕ) → FitsType value type → words_of_argument value ≡ word ∷ more → Packed (kind_of type) (number_of value) code bytes
+    → (value : Value) (more : List ℕ) → FitsType value type → words_of_argument value ≡ word ∷ more → Packed (kind_of type) (packed_value value) code bytes
 signed_value_packed type word code bytes kind packed (values.Signed z) more fits is =
     let of_word : cast_unsigned w64 z ≡ word = cc in
     let number : z ≡ cast_signed w64 word = sym (to_z-of_z w64 z (signed_fits type z fits)) ∙ ap (cast_signed w64) of_word in
@@ -47,7 +47,7 @@ signed_value_packed argument_types.ULong word code bytes kind packed _ more fits
 signed_value_packed argument_types.Text word code bytes kind packed _ more fits is = cc
 signed_value_packed _ word code bytes kind packed _ more fits is = absurd fits
 
-is_whole : (kind : Kind) (z : ℤ) (packed : PackedBytes) → Packed kind z packed.code (take packed.len packed.bytes) → packed.len ≡ byte_count kind packed.code → packed.len ≤ 8 → IsWhole packed
+is_whole : (kind : Kind) (z : ℤ) (packed : PackedBytes) → Packed kind z packed.code (take packed.len packed.bytes) → packed.len ≡ byte_count kind packed.code → packed.len ≤ 8 → HasItsBytes packed
 is_whole kind z packed packs len room = record { room = room; whole = Packed-length kind z packed.code (take packed.len packed.bytes) packs ∙ sym len }
 
 pub signed_word : (type : ArgType) (word : ℕ) (number : ℤ) (packed : PackedBytes) → kind_of type ≡ signed → number ≡ cast_signed w64 word → word < 2 ^ 64
@@ -58,7 +58,7 @@ signed_word type word number packed kind is below packs len room =
     record { packs = signed_value_packed type word packed.code (take packed.len packed.bytes) kind of_word; whole = is_whole signed (cast_signed w64 word) packed of_word len room }
 
 unsigned_value_packed : (type : ArgType) (word code : ℕ) (bytes : List ℕ) → kind_of type ≡ unsigned → Packed unsigned (pos word) code bytes
-    → (value : Value) (more : List ℕ) → FitsType value type → words_of_argument value ≡ word ∷ more → Packed (kind_of type) (number_of value) code bytes
+    → (value : Value) (more : List ℕ) → FitsType value type → words_of_argument value ≡ word ∷ more → Packed (kind_of type) (packed_value value) code bytes
 unsigned_value_packed argument_types.UInt word code bytes kind packed (values.Unsigned n) more fits is = let same : word ≡ n = cc in subst (λ (k : ℕ). Packed unsigned (pos k) code bytes) same packed
 unsigned_value_packed argument_types.ULong word code bytes kind packed (values.Unsigned n) more fits is = let same : word ≡ n = cc in subst (λ (k : ℕ). Packed unsigned (pos k) code bytes) same packed
 unsigned_value_packed argument_types.Text word code bytes kind packed (values.Text text) more fits is = let same : word ≡ length text = cc in subst (λ (k : ℕ). Packed unsigned (pos k) code bytes) same packed
@@ -113,7 +113,7 @@ pub record ArePackedSoFar (types : List ArgType) (args : List Value) (numbers : 
 pub none_packed : (types : List ArgType) (args : List Value) (words : List ℕ) (numbers : List PackedBytes) → AreWordsOf types args words → ArePackedSoFar types args numbers 0 words
 none_packed types args words numbers are = record { rest_is = are.is; packs = tt }
 
-PacksArguments-push : (types : List ArgType) (args : List Value) (numbers : List PackedNumber) (type : ArgType) (arg : Value) (number : PackedNumber) → PacksArguments types args numbers → Packed (kind_of type) (number_of arg) number.code number.bytes
+PacksArguments-push : (types : List ArgType) (args : List Value) (numbers : List PackedNumber) (type : ArgType) (arg : Value) (number : PackedNumber) → PacksArguments types args numbers → Packed (kind_of type) (packed_value arg) number.code number.bytes
     → PacksArguments (types ++ type ∷ []) (args ++ arg ∷ []) (numbers ++ number ∷ [])
 PacksArguments-push [] [] [] type arg number so_far here = (here, tt)
 PacksArguments-push (t ∷ types) (a ∷ args) (n ∷ numbers) type arg number so_far here = (so_far.0, PacksArguments-push types args numbers type arg number so_far.1 here)
@@ -136,11 +136,11 @@ one_packed types args numbers place rest argument more packed fits so_far within
       packs = rw (types_more, args_more, numbers_more) (PacksArguments-push (take place types) (take place args) (packed_numbers (take place numbers)) (get_or types place argument_types.Int) value (packed_number packed) so_far.packs one);
     }
 
-whole_push : (numbers : List PackedBytes) (packed : PackedBytes) → AllByRecursion IsWhole numbers → IsWhole packed → AllByRecursion IsWhole (numbers ++ packed ∷ [])
+whole_push : (numbers : List PackedBytes) (packed : PackedBytes) → AllByRecursion HasItsBytes numbers → HasItsBytes packed → AllByRecursion HasItsBytes (numbers ++ packed ∷ [])
 whole_push [] packed all here = (here, tt)
 whole_push (number ∷ numbers) packed all here = (all.0, whole_push numbers packed all.1 here)
 
-pub one_whole : (numbers : List PackedBytes) (place : ℕ) (packed : PackedBytes) → place < length numbers → AllByRecursion IsWhole (take place numbers) → IsWhole packed → AllByRecursion IsWhole (take (place + 1) (set numbers place packed))
+pub one_whole : (numbers : List PackedBytes) (place : ℕ) (packed : PackedBytes) → place < length numbers → AllByRecursion HasItsBytes (take place numbers) → HasItsBytes packed → AllByRecursion HasItsBytes (take (place + 1) (set numbers place packed))
 one_whole numbers place packed room all here = rw (take_more_set numbers place packed room) (whole_push (take place numbers) packed all here)
 
 -- all words were packed

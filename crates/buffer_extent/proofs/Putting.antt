@@ -20,8 +20,8 @@ use Rattle.arg_records.proofs.Places.{words_first}
 use Rattle.nibble_pack.specs.Packing.{Kind, unsigned, signed, IsWide, PacksSigned, small, negative, wide, Packed}
 use Rattle.nibble_pack.specs.Bytes.{length-bytes_low_first}
 use Rattle.nibble_pack.specs.PackingLaws.{Packed-code, Packed-length, byte_count-le}
-use Rattle.buffer_extent.specs.Records.{PackedNumber, kind_of, number_of, PacksArguments, code_bytes, RecordBytes}
-use Rattle.buffer_extent.specs.RecordLaws.{codes_of, bytes_of}
+use Rattle.buffer_extent.specs.Records.{PackedNumber, kind_of, packed_value, PacksArguments, code_bytes, RecordBytes}
+use Rattle.buffer_extent.specs.RecordLaws.{codes_of, packed_bytes}
 use Rattle.buffer_extent.specs.Writing.{AreWordsOf, IsFrameSince, HeadBytes, number_room, record_room}
 
 -- ---- the call of a frame
@@ -99,21 +99,21 @@ width_room z code bytes fits packed =
 most_bytes : (kind : Kind) (z : ℤ) (code : ℕ) (bytes : List ℕ) → Packed kind z code bytes → length bytes ≤ 8
 most_bytes kind z code bytes packed = omega (arith, Packed-length kind z code bytes packed, byte_count-le kind code (Packed-code kind z code bytes packed))
 
-room_of_number : (type : ArgType) (value : Value) (code : ℕ) (bytes : List ℕ) → FitsType value type → Packed (kind_of type) (number_of value) code bytes → length bytes ≤ number_room type
+room_of_number : (type : ArgType) (value : Value) (code : ℕ) (bytes : List ℕ) → FitsType value type → Packed (kind_of type) (packed_value value) code bytes → length bytes ≤ number_room type
 room_of_number argument_types.Int (values.Signed z) code bytes fits packed = int_room z code bytes fits packed
 room_of_number argument_types.UInt (values.Unsigned n) code bytes fits packed = unsigned_room n code 4 bytes packed (omega arith)
-room_of_number argument_types.Long value code bytes fits packed = most_bytes signed (number_of value) code bytes packed
-room_of_number argument_types.ULong value code bytes fits packed = most_bytes unsigned (number_of value) code bytes packed
+room_of_number argument_types.Long value code bytes fits packed = most_bytes signed (packed_value value) code bytes packed
+room_of_number argument_types.ULong value code bytes fits packed = most_bytes unsigned (packed_value value) code bytes packed
 room_of_number argument_types.Width (values.Signed z) code bytes fits packed = width_room z code bytes fits packed
 room_of_number argument_types.Precision (values.Signed z) code bytes fits packed = int_room z code bytes fits.0 packed
 room_of_number argument_types.Text (values.Text text) code bytes fits packed = let short = fits.short in unsigned_room (length text) code 2 bytes packed (omega arith)
 room_of_number _ _ code bytes fits packed = absurd fits
 
 -- the numbers of arguments have room
-pub numbers_room : (types : List ArgType) (args : List Value) (numbers : List PackedNumber) → Fits args types → PacksArguments types args numbers → length (bytes_of numbers) ≤ sum_by number_room types
+pub numbers_room : (types : List ArgType) (args : List Value) (numbers : List PackedNumber) → Fits args types → PacksArguments types args numbers → length (packed_bytes numbers) ≤ sum_by number_room types
 numbers_room [] [] [] fits packed = omega arith
 numbers_room (type ∷ types) (arg ∷ args) (number ∷ numbers) fits packed =
-    omega (arith, sum_by-cons number_room type types, length-append number.bytes (bytes_of numbers), room_of_number type arg number.code number.bytes fits.0 packed.0, numbers_room types args numbers fits.1 packed.1)
+    omega (arith, sum_by-cons number_room type types, length-append number.bytes (packed_bytes numbers), room_of_number type arg number.code number.bytes fits.0 packed.0, numbers_room types args numbers fits.1 packed.1)
 numbers_room _ _ _ fits packed = absurd (search rules)
 
 -- an argument has at most eight bytes for each of its words
@@ -145,11 +145,11 @@ six_parts codes ids steps cs ns ts = refl
 pub record_written : (types : List ArgType) (id stamp before : ℕ) (args : List Value) (numbers : List PackedNumber) (head old with_head with_codes with_numbers new : List ℕ) (at p q r end : ℕ)
     → Fits args types → PacksArguments types args numbers → HeadBytes id (stamp - before) head → before ≤ stamp → stamp < 2 ^ 64 → at ≤ length old → length head ≤ 11 → length types ≤ 64 → length (code_bytes (codes_of numbers)) ≤ (length types + 1) / 2
     → with_head ≡ with_words old at head → p ≡ at + length head → with_codes ≡ with_words with_head p (code_bytes (codes_of numbers)) → q ≡ p + length (code_bytes (codes_of numbers))
-    → with_numbers ≡ with_words with_codes q (bytes_of numbers) → r ≡ q + length (bytes_of numbers) → new ≡ with_words with_numbers r (flat_map text_of args) → end ≡ r + length (flat_map text_of args)
+    → with_numbers ≡ with_words with_codes q (packed_bytes numbers) → r ≡ q + length (packed_bytes numbers) → new ≡ with_words with_numbers r (flat_map text_of args) → end ≡ r + length (flat_map text_of args)
     → (bytes : List ℕ) × RecordBytes types id stamp before args bytes × (length bytes ≤ record_room types args) × (new ≡ take at old ++ bytes ++ drop (at + length bytes) old) × (end ≡ at + length bytes)
 record_written types id stamp before args numbers head old with_head with_codes with_numbers new at p q r end fits packed is not_before in_range room short few codes_short head_is p_is codes_are q_is numbers_are r_is new_is end_is =
     let cs : List ℕ = code_bytes (codes_of numbers) in
-    let ns : List ℕ = bytes_of numbers in
+    let ns : List ℕ = packed_bytes numbers in
     let ts : List ℕ = flat_map text_of args in
     let bytes : List ℕ = head ++ cs ++ ns ++ ts in
     let len = length-append head cs in

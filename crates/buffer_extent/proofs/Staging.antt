@@ -1,6 +1,6 @@
 -- Texts as words, and the words as bytes again.
 use Rattle.std.proofs.Common.{◌≡◌, ℕ, ◌+◌, ◌-◌, ◌*◌, ◌<◌, ◌≤◌, List, [], ◌∷◌, ◌++◌, length, take, drop, get_or, min, refl, sym, ap, subst, ◌∙◌, append_assoc, arith}
-use Rattle.std.specs.Prelude.{All, replicate}
+use Rattle.std.specs.Prelude.{replicate}
 use Rattle.std.specs.Int.{bytes_low_first}
 use Rattle.std.specs.List.{flat_map}
 use Rattle.std.proofs.lemmas.List.{length-append, length-take-le, drop_more, drop_all, take_at, drop_at, take_rest}
@@ -11,37 +11,32 @@ use Rattle.printf_grammar.specs.declared.arg_type.ArgType.TheVariants as argumen
 use Rattle.printf_grammar.specs.declared.argument.Value.{Value}
 use Rattle.printf_grammar.specs.declared.argument.Value.TheVariants as values
 use Rattle.printf_grammar.specs.Types.{FitsType, text_of}
-use Rattle.arg_records.specs.Frames.{number_of_bytes, words_of_bytes, words_of_argument, words_of_text, argument_words}
+use Rattle.arg_records.specs.Frames.{words_of_bytes, words_of_argument, words_of_text, argument_words}
 use Rattle.arg_records.specs.Kinds.{HoldsBytes}
 use Rattle.arg_records.specs.Places.{with_words}
 use Rattle.arg_records.proofs.Places.{words_first, no_words}
 use Rattle.arg_records.proofs.Lengths.{length-words_of_argument}
-use Rattle.nibble_pack.specs.Bytes.{number_of_bytes as packed_number_of_bytes, length-bytes_low_first, number_of_bytes-lt, low_first-number_of_bytes, bytes_low_first-zeros}
+use Rattle.nibble_pack.specs.Bytes.{AreBytes, number_of_bytes, length-bytes_low_first, number_of_bytes-lt, low_first-number_of_bytes, bytes_low_first-zeros}
 use Rattle.arg_records.specs.Reading.{bytes_of_words}
 use Rattle.arg_records.proofs.TextWords.{take_both}
 use Rattle.buffer_extent.specs.Writing.{AreWordsOf, BeginsWithWords}
 use Rattle.buffer_extent.proofs.Packing.{no_value}
 
-same_number : (bytes : List ℕ) → number_of_bytes bytes ≡ packed_number_of_bytes bytes
-same_number [] = refl
-same_number (b ∷ bytes) = ap (λ (n : ℕ). b + 256 * n) (same_number bytes)
-
 -- the bytes of a word that at most eight bytes are, and zeros
-bytes_again : (bytes : List ℕ) → length bytes ≤ 8 → All (λ b. b < 256) bytes → bytes_low_first 0 8 (number_of_bytes bytes) ≡ bytes ++ replicate (8 - length bytes) 0
+bytes_again : (bytes : List ℕ) → length bytes ≤ 8 → AreBytes bytes → bytes_low_first 0 8 (number_of_bytes bytes) ≡ bytes ++ replicate (8 - length bytes) 0
 bytes_again bytes short are =
-    let number = same_number bytes in
-    let padded = bytes_low_first-zeros (length bytes) (8 - length bytes) 8 (packed_number_of_bytes bytes) (omega arith) (number_of_bytes-lt bytes are) in
-    ap (bytes_low_first 0 8) number ∙ padded ∙ ap (λ (front : List ℕ). front ++ replicate (8 - length bytes) 0) (low_first-number_of_bytes bytes are)
+    let padded = bytes_low_first-zeros (length bytes) (8 - length bytes) 8 (number_of_bytes bytes) (omega arith) (number_of_bytes-lt bytes are) in
+    padded ∙ ap (λ (front : List ℕ). front ++ replicate (8 - length bytes) 0) (low_first-number_of_bytes bytes are)
 
 -- at most eight bytes, from their word
-short_again : (bytes more : List ℕ) → length bytes ≤ 8 → All (λ b. b < 256) bytes → take (length bytes) (bytes_low_first 0 8 (number_of_bytes bytes) ++ more) ≡ bytes
+short_again : (bytes more : List ℕ) → length bytes ≤ 8 → AreBytes bytes → take (length bytes) (bytes_low_first 0 8 (number_of_bytes bytes) ++ more) ≡ bytes
 short_again bytes more short are =
     ap (λ (front : List ℕ). take (length bytes) (front ++ more)) (bytes_again bytes short are)
     ∙ ap (take (length bytes)) (append_assoc bytes (replicate (8 - length bytes) 0) more)
     ∙ take_at bytes (replicate (8 - length bytes) 0 ++ more) (length bytes) refl
 
 -- the bytes of a text, from its words
-pub text_again : (text : List ℕ) → All (λ b. b < 256) text → take (length text) (bytes_of_words (words_of_bytes text)) ≡ text
+pub text_again : (text : List ℕ) → AreBytes text → take (length text) (bytes_of_words (words_of_bytes text)) ≡ text
 text_again [] are = refl
 text_again (a ∷ []) are = short_again (a ∷ []) [] (omega arith) are
 text_again (a ∷ b ∷ []) are = short_again (a ∷ b ∷ []) [] (omega arith) are
@@ -176,7 +171,7 @@ text_put type words value old new at text fits bytes is written =
     let whole : words ≡ length it.0 ∷ words_of_bytes it.0 = is ∙ ap words_of_argument it.1 in
     let first : get_or words 0 0 ≡ length it.0 = ap (λ (ws : List ℕ). get_or ws 0 0) whole in
     let behind : take (length words - 1) (drop 1 words) ≡ words_of_bytes it.0 = take_rest words 1 ∙ ap (drop 1) whole in
-    let are : All (λ b. b < 256) it.0 = subst HoldsBytes it.1 bytes in
+    let are : AreBytes it.0 = subst HoldsBytes it.1 bytes in
     let again : take (get_or words 0 0) (bytes_of_words (take (length words - 1) (drop 1 words))) ≡ text_of value =
     (λ t. take (first t) (bytes_of_words (behind t))) ∙ text_again it.0 are ∙ ap text_of (sym it.1) in
     written ∙ ap (with_words old at) again

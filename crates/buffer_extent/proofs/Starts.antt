@@ -13,11 +13,11 @@ use Rattle.nibble_pack.specs.Packing.{Packed}
 use Rattle.log_dictionary.specs.declared.message.Message.{Message}
 use Rattle.arg_records.specs.declared.call.Call.{Call}
 use Rattle.buffer_extent.specs.declared.numbers.Number.{Number}
-use Rattle.buffer_extent.specs.declared.take.Head.{Head}
+use Rattle.buffer_extent.specs.declared.take.RecordHeader.{RecordHeader}
 use Rattle.buffer_extent.specs.Records.{PackedNumber, kind_of, code_bytes}
 use Rattle.buffer_extent.specs.Parts.{BeginsWithHead, BeginsWithArguments, BeginsWithRightRecord}
-use Rattle.buffer_extent.specs.Steps.{integer_of, number_for, FitNumbers, PacksNumbers, BeginsWithRightHead, BeginsWithCodedNumbers, words_taken, BeginsWithTexts, BeginsWithStart, StartsRecord}
-use Rattle.buffer_extent.specs.RecordLaws.{codes_of, bytes_of, same_code_bytes, BeginsWithHead-unique, record_parts, record_joined}
+use Rattle.buffer_extent.specs.Steps.{number_value, number_for, FitNumbers, PacksNumbers, BeginsWithRightHead, BeginsWithCodedNumbers, words_taken, BeginsWithTexts, BeginsWithStart, StartsRecord}
+use Rattle.buffer_extent.specs.RecordLaws.{codes_of, packed_bytes, same_code_bytes, BeginsWithHead-unique, record_parts, record_joined}
 use Rattle.buffer_extent.proofs.Arguments.{numbers_are_codes, numbers_are_as_many, BeginsWithArgument-unique}
 use Rattle.buffer_extent.proofs.Numbering.{numbers_fit, packs_numbers, packs_arguments, numbers_words}
 
@@ -25,14 +25,14 @@ use Rattle.buffer_extent.proofs.Numbering.{numbers_fit, packs_numbers, packs_arg
 
 -- bytes begin with one list of numbers of these codes
 same_numbers : (types : List ArgType) (xs ys : List Number) (ns ms : List PackedNumber) (r s : List ℕ) → PacksNumbers types xs ns → PacksNumbers types ys ms → FitNumbers types xs → FitNumbers types ys → codes_of ns ≡ codes_of ms
-    → bytes_of ns ++ r ≡ bytes_of ms ++ s → (xs ≡ ys) × (r ≡ s)
+    → packed_bytes ns ++ r ≡ packed_bytes ms ++ s → (xs ≡ ys) × (r ≡ s)
 same_numbers [] [] [] [] [] r s p q fits fits_too codes same = (refl, same)
 same_numbers (type ∷ types) (x ∷ xs) (y ∷ ys) (n ∷ ns) (m ∷ ms) r s p q fits fits_too codes same =
     let code : n.code ≡ m.code = cc in
     let more : codes_of ns ≡ codes_of ms = cc in
-    let parts : n.bytes ++ (bytes_of ns ++ r) ≡ m.bytes ++ (bytes_of ms ++ s) = sym (append_assoc n.bytes (bytes_of ns) r) ∙ same ∙ append_assoc m.bytes (bytes_of ms) s in
-    let here = subst (λ (c : ℕ). Packed (kind_of type) (integer_of x) c n.bytes) code p.0 in
-    let one = BeginsWithArgument-unique type m.code (n.bytes ++ (bytes_of ns ++ r)) x y (bytes_of ns ++ r) (bytes_of ms ++ s) (record { packed = record { front = n.bytes; parts = refl; packed = here }; fits = fits.0 })
+    let parts : n.bytes ++ (packed_bytes ns ++ r) ≡ m.bytes ++ (packed_bytes ms ++ s) = sym (append_assoc n.bytes (packed_bytes ns) r) ∙ same ∙ append_assoc m.bytes (packed_bytes ms) s in
+    let here = subst (λ (c : ℕ). Packed (kind_of type) (number_value x) c n.bytes) code p.0 in
+    let one = BeginsWithArgument-unique type m.code (n.bytes ++ (packed_bytes ns ++ r)) x y (packed_bytes ns ++ r) (packed_bytes ms ++ s) (record { packed = record { front = n.bytes; parts = refl; packed = here }; fits = fits.0 })
     (record { packed = record { front = m.bytes; parts = parts; packed = q.0 }; fits = fits_too.0 }) in
     let rest = same_numbers types xs ys ns ms r s p.1 q.1 fits.1 fits_too.1 more one.1 in
     ((λ t. one.0 t ∷ rest.0 t), rest.1)
@@ -42,24 +42,24 @@ same_numbers _ _ _ _ _ r s p q fits fits_too codes same = absurd (search rules)
 BeginsWithCodedNumbers-unique : (types : List ArgType) (bytes : List ℕ) (xs ys : List Number) (r s : List ℕ) → BeginsWithCodedNumbers types bytes xs r → BeginsWithCodedNumbers types bytes ys s → (xs ≡ ys) × (r ≡ s)
 BeginsWithCodedNumbers-unique types bytes xs ys r s a b =
     let many : length (codes_of a.packed) ≡ length (codes_of b.packed) = numbers_are_as_many types xs a.packed a.packs ∙ sym (numbers_are_as_many types ys b.packed b.packs) in
-    let codes = same_code_bytes (codes_of a.packed) (codes_of b.packed) (bytes_of a.packed ++ r) (bytes_of b.packed ++ s) many (numbers_are_codes types xs a.packed a.packs) (numbers_are_codes types ys b.packed b.packs) (sym a.parts ∙ b.parts) in
+    let codes = same_code_bytes (codes_of a.packed) (codes_of b.packed) (packed_bytes a.packed ++ r) (packed_bytes b.packed ++ s) many (numbers_are_codes types xs a.packed a.packs) (numbers_are_codes types ys b.packed b.packs) (sym a.parts ∙ b.parts) in
     same_numbers types xs ys a.packed b.packed r s a.packs b.packs a.fits b.fits codes.0 codes.1
 
 -- ---- starts
 
 -- a start has a right head
-pub start_head : (messages : List Message) (before least : ℕ) (bytes : List ℕ) (start : Head × List Number) (back : List ℕ) → BeginsWithStart messages before least bytes start back
-    → (head : Head) × (rest : List ℕ) × BeginsWithRightHead (length messages) before least bytes head rest
+pub start_head : (messages : List Message) (before least : ℕ) (bytes : List ℕ) (start : RecordHeader × List Number) (back : List ℕ) → BeginsWithStart messages before least bytes start back
+    → (head : RecordHeader) × (rest : List ℕ) × BeginsWithRightHead (length messages) before least bytes head rest
 start_head messages before least bytes start back begins = (start.0, begins.rest, record { parts = begins.head; known = slice_get_within messages start.0.id begins.message begins.known; rises = begins.rises })
 
 -- the numbers of a start whose head and message are known
-pub record AreNumbersLeft (types : List ArgType) (rest : List ℕ) (head : Head) (start : Head × List Number) (back : List ℕ) : Type 0 where
+pub record AreNumbersLeft (types : List ArgType) (rest : List ℕ) (head : RecordHeader) (start : RecordHeader × List Number) (back : List ℕ) : Type 0 where
   pub same_id : start.0.id ≡ head.id
   pub same_stamp : start.0.stamp ≡ head.stamp
   pub numbers : BeginsWithCodedNumbers types rest (take (length types) start.1) back
   pub staged : 2 + words_taken types (take (length types) start.1) ≤ 512
 
-pub numbers_left : (messages : List Message) (before least : ℕ) (bytes : List ℕ) (head : Head) (message : Message) (rest : List ℕ) (start : Head × List Number) (back : List ℕ) → BeginsWithHead before bytes head.id head.stamp rest
+pub numbers_left : (messages : List Message) (before least : ℕ) (bytes : List ℕ) (head : RecordHeader) (message : Message) (rest : List ℕ) (start : RecordHeader × List Number) (back : List ℕ) → BeginsWithHead before bytes head.id head.stamp rest
     → slice_get messages head.id ≡ Some message → BeginsWithStart messages before least bytes start back → AreNumbersLeft (Types message.format.pieces) rest head start back
 numbers_left messages before least bytes head message rest start back here known begins =
     let same = BeginsWithHead-unique before bytes start.0.id head.id start.0.stamp head.stamp begins.rest rest begins.head here in
@@ -74,7 +74,7 @@ numbers_left messages before least bytes head message rest start back here known
     }
 
 -- a start has as many words as the numbers that were read
-pub staged_numbers : (types : List ArgType) (rest : List ℕ) (numbers : List Number) (behind : List ℕ) (head : Head) (start : Head × List Number) (back : List ℕ) → BeginsWithCodedNumbers types rest numbers behind → AreNumbersLeft types rest head start back
+pub staged_numbers : (types : List ArgType) (rest : List ℕ) (numbers : List Number) (behind : List ℕ) (head : RecordHeader) (start : RecordHeader × List Number) (back : List ℕ) → BeginsWithCodedNumbers types rest numbers behind → AreNumbersLeft types rest head start back
     → 2 + words_taken types numbers ≤ 512
 staged_numbers types rest numbers behind head start back here left =
     let same = BeginsWithCodedNumbers-unique types rest (take (length types) start.1) numbers back behind left.numbers here in
@@ -103,7 +103,7 @@ arguments_made types bytes numbers middle args back coded texts = record {
   numbers = coded.packed;
   packed = packs_arguments types args coded.packed (subst (λ (ns : List Number). PacksNumbers types ns coded.packed) (sym texts.numbered) coded.packs);
   fits = texts.fits;
-  parts = coded.parts ∙ ap (λ (m : List ℕ). code_bytes (codes_of coded.packed) ++ (bytes_of coded.packed ++ m)) texts.parts;
+  parts = coded.parts ∙ ap (λ (m : List ℕ). code_bytes (codes_of coded.packed) ++ (packed_bytes coded.packed ++ m)) texts.parts;
 }
 
 -- what a right record has in front of its texts, and the texts
@@ -142,7 +142,7 @@ right_parts messages before least bytes entry back begins =
     }
 
 -- the texts of a record whose start is known
-pub texts_left : (messages : List Message) (before least : ℕ) (bytes : List ℕ) (head : Head) (numbers : List Number) (message : Message) (behind : List ℕ) (entry : Call) (back : List ℕ) → BeginsWithStart messages before least bytes (head, numbers) behind
+pub texts_left : (messages : List Message) (before least : ℕ) (bytes : List ℕ) (head : RecordHeader) (numbers : List Number) (message : Message) (behind : List ℕ) (entry : Call) (back : List ℕ) → BeginsWithStart messages before least bytes (head, numbers) behind
     → slice_get messages head.id ≡ Some message → BeginsWithRightRecord messages before least bytes entry back
     → BeginsWithTexts (Types message.format.pieces) (take (length (Types message.format.pieces)) numbers) behind entry.args back
 texts_left messages before least bytes head numbers message behind entry back start known begins =
@@ -159,7 +159,7 @@ texts_left messages before least bytes head numbers message behind entry back st
     subst (λ (m : Message). BeginsWithTexts (Types m.format.pieces) (take (length (Types m.format.pieces)) numbers) behind entry.args back) mine behind_is
 
 -- a start, and the texts of arguments that have its numbers, are a right record
-pub right_made : (messages : List Message) (before least : ℕ) (bytes : List ℕ) (head : Head) (numbers : List Number) (message : Message) (behind : List ℕ) (args : List Value) (back : List ℕ) → BeginsWithStart messages before least bytes (head, numbers) behind
+pub right_made : (messages : List Message) (before least : ℕ) (bytes : List ℕ) (head : RecordHeader) (numbers : List Number) (message : Message) (behind : List ℕ) (args : List Value) (back : List ℕ) → BeginsWithStart messages before least bytes (head, numbers) behind
     → slice_get messages head.id ≡ Some message → BeginsWithTexts (Types message.format.pieces) (take (length (Types message.format.pieces)) numbers) behind args back
     → BeginsWithRightRecord messages before least bytes (record { stamp = head.stamp; id = head.id; args = args }) back
 right_made messages before least bytes head numbers message behind args back start known texts =

@@ -7,8 +7,8 @@ use Rattle.std.specs.List.{AllByRecursion}
 use Rattle.arg_records.specs.Places.{with_words}
 use Rattle.arg_records.proofs.Places.{word_first, words_first, no_words, one_word}
 use Rattle.buffer_extent.specs.Records.{code_bytes}
-use Rattle.buffer_extent.specs.RecordLaws.{codes_of, bytes_of}
-use Rattle.buffer_extent.specs.Writing.{packed_numbers, IsWhole}
+use Rattle.buffer_extent.specs.RecordLaws.{codes_of, packed_bytes}
+use Rattle.buffer_extent.specs.Writing.{packed_numbers, HasItsBytes}
 
 -- a byte, and two numbers behind it
 pub head_written : (body : List ℕ) (at end codes : ℕ) (xs ys : List ℕ) → at < length body → at + 1 + length xs ≡ end → with_words (with_words (set body at codes) (at + 1) xs) end ys ≡ with_words body at (codes ∷ (xs ++ ys))
@@ -26,31 +26,31 @@ last_alone body end (last ∷ []) d one within = one_word body end last.code wit
 last_alone body end (last ∷ other ∷ rest) d one within = absurd (omega arith)
 
 -- whole numbers
-pub whole_at : (numbers : List PackedBytes) (place : ℕ) (d : PackedBytes) → place < length numbers → AllByRecursion IsWhole numbers → IsWhole (get_or numbers place d)
+pub whole_at : (numbers : List PackedBytes) (place : ℕ) (d : PackedBytes) → place < length numbers → AllByRecursion HasItsBytes numbers → HasItsBytes (get_or numbers place d)
 whole_at [] place d within whole = absurd (omega arith)
 whole_at (number ∷ numbers) zero d within whole = whole.0
 whole_at (number ∷ numbers) (suc place) d within whole = whole_at numbers place d (omega arith) whole.1
 
 -- the number at a place, and those behind it
 number_first : (numbers : List PackedBytes) (place : ℕ) (d : PackedBytes) → place < length numbers
-    → bytes_of (packed_numbers (drop place numbers)) ≡ take (get_or numbers place d).len (get_or numbers place d).bytes ++ bytes_of (packed_numbers (drop (place + 1) numbers))
-number_first numbers place d within = ap (λ (r : List PackedBytes). bytes_of (packed_numbers r)) (drop_more numbers place d within)
+    → packed_bytes (packed_numbers (drop place numbers)) ≡ take (get_or numbers place d).len (get_or numbers place d).bytes ++ packed_bytes (packed_numbers (drop (place + 1) numbers))
+number_first numbers place d within = ap (λ (r : List PackedBytes). packed_bytes (packed_numbers r)) (drop_more numbers place d within)
 
 -- how many bytes are left before and behind it
-pub bytes_left : (numbers : List PackedBytes) (place : ℕ) (d : PackedBytes) → place < length numbers → AllByRecursion IsWhole numbers
-    → length (bytes_of (packed_numbers (drop place numbers))) ≡ (get_or numbers place d).len + length (bytes_of (packed_numbers (drop (place + 1) numbers)))
+pub bytes_left : (numbers : List PackedBytes) (place : ℕ) (d : PackedBytes) → place < length numbers → AllByRecursion HasItsBytes numbers
+    → length (packed_bytes (packed_numbers (drop place numbers))) ≡ (get_or numbers place d).len + length (packed_bytes (packed_numbers (drop (place + 1) numbers)))
 bytes_left numbers place d within whole =
     let here = whole_at numbers place d within whole in
-    ap length (number_first numbers place d within) ∙ omega (arith, here.whole, length-append (take (get_or numbers place d).len (get_or numbers place d).bytes) (bytes_of (packed_numbers (drop (place + 1) numbers))))
+    ap length (number_first numbers place d within) ∙ omega (arith, here.whole, length-append (take (get_or numbers place d).len (get_or numbers place d).bytes) (packed_bytes (packed_numbers (drop (place + 1) numbers))))
 
 -- one number more was written
-pub one_written : (body new : List ℕ) (end behind : ℕ) (numbers : List PackedBytes) (place : ℕ) (d : PackedBytes) → place < length numbers → AllByRecursion IsWhole numbers → end ≤ length body
+pub one_written : (body new : List ℕ) (end behind : ℕ) (numbers : List PackedBytes) (place : ℕ) (d : PackedBytes) → place < length numbers → AllByRecursion HasItsBytes numbers → end ≤ length body
     → new ≡ with_words body end (take (get_or numbers place d).len (get_or numbers place d).bytes) → behind ≡ end + (get_or numbers place d).len
-    → with_words new behind (bytes_of (packed_numbers (drop (place + 1) numbers))) ≡ with_words body end (bytes_of (packed_numbers (drop place numbers)))
+    → with_words new behind (packed_bytes (packed_numbers (drop (place + 1) numbers))) ≡ with_words body end (packed_bytes (packed_numbers (drop place numbers)))
 one_written body new end behind numbers place d within whole room written is =
     let number : PackedBytes = get_or numbers place d in
     let here = whole_at numbers place d within whole in
-    let more : List ℕ = bytes_of (packed_numbers (drop (place + 1) numbers)) in
+    let more : List ℕ = packed_bytes (packed_numbers (drop (place + 1) numbers)) in
     ap (λ (b : List ℕ). with_words b behind more) written
     ∙ words_first body end behind (take number.len number.bytes) more (omega (arith, here.whole)) room
     ∙ ap (with_words body end) (sym (number_first numbers place d within))

@@ -13,7 +13,7 @@ use Rattle.log_dictionary.specs.declared.message.Message.{Message}
 use Rattle.nibble_pack.specs.Packing.{Kind, unsigned, Packed}
 use Rattle.nibble_pack.specs.PackingLaws.{Packed-code, IsCode-lt, same_front}
 use Rattle.arg_records.specs.declared.call.Call.{Call}
-use Rattle.buffer_extent.specs.Records.{PackedNumber, kind_of, number_of, PacksArguments, code_bytes, RecordBytes}
+use Rattle.buffer_extent.specs.Records.{PackedNumber, kind_of, packed_value, PacksArguments, code_bytes, RecordBytes}
 use Rattle.buffer_extent.specs.declared.fault.Cause.{Cause}
 use Rattle.buffer_extent.specs.Bodies.{SpellsRecord, SpellsRecords, IsBody, BodyBreak}
 use Rattle.arg_records.specs.Calls.{IsCall}
@@ -61,14 +61,14 @@ same_code_bytes _ _ r s len p q same = absurd (omega arith)
 abbrev pub codes_of : List PackedNumber → List ℕ
 codes_of numbers = map (λ number. number.code) numbers
 
-abbrev pub bytes_of : List PackedNumber → List ℕ
-bytes_of numbers = flat_map (λ number. number.bytes) numbers
+abbrev pub packed_bytes : List PackedNumber → List ℕ
+packed_bytes numbers = flat_map (λ number. number.bytes) numbers
 
 pub numbers_are_codes : (types : List ArgType) (args : List Value) (numbers : List PackedNumber)
     → PacksArguments types args numbers → AreCodes (codes_of numbers)
 numbers_are_codes [] [] [] packed = tt
 numbers_are_codes (type ∷ types) (arg ∷ args) (number ∷ numbers) packed =
-    (IsCode-lt (kind_of type) number.code (Packed-code (kind_of type) (number_of arg) number.code number.bytes packed.0), numbers_are_codes types args numbers packed.1)
+    (IsCode-lt (kind_of type) number.code (Packed-code (kind_of type) (packed_value arg) number.code number.bytes packed.0), numbers_are_codes types args numbers packed.1)
 numbers_are_codes _ _ _ packed = absurd packed
 
 pub numbers_are_as_many : (types : List ArgType) (args : List Value) (numbers : List PackedNumber)
@@ -81,15 +81,15 @@ numbers_are_as_many _ _ _ packed = absurd packed
 -- bytes begin with the numbers of one list of arguments
 same_numbers : (types : List ArgType) (xs ys : List Value) (ns ms : List PackedNumber) (r s : List ℕ)
     → PacksArguments types xs ns → PacksArguments types ys ms → codes_of ns ≡ codes_of ms
-    → bytes_of ns ++ r ≡ bytes_of ms ++ s → (map number_of xs ≡ map number_of ys) × (r ≡ s)
+    → packed_bytes ns ++ r ≡ packed_bytes ms ++ s → (map packed_value xs ≡ map packed_value ys) × (r ≡ s)
 same_numbers [] [] [] [] [] r s p q codes same = (refl, same)
 same_numbers (type ∷ types) (x ∷ xs) (y ∷ ys) (n ∷ ns) (m ∷ ms) r s p q codes same =
     let code : n.code ≡ m.code = cc in
     let more : codes_of ns ≡ codes_of ms = cc in
-    let parts : n.bytes ++ (bytes_of ns ++ r) ≡ m.bytes ++ (bytes_of ms ++ s) = sym (append_assoc n.bytes (bytes_of ns) r) ∙ same ∙ append_assoc m.bytes (bytes_of ms) s in
-    let here = subst (λ (c : ℕ). Packed (kind_of type) (number_of x) c n.bytes) code p.0 in
-    let first = same_front (kind_of type) (number_of x) (number_of y) m.code n.bytes m.bytes (bytes_of ns ++ r) (bytes_of ms ++ s) here q.0 parts in
-    let rest = same_numbers types xs ys ns ms r s p.1 q.1 more (same_back n.bytes m.bytes (bytes_of ns ++ r) (bytes_of ms ++ s) first.0 parts) in
+    let parts : n.bytes ++ (packed_bytes ns ++ r) ≡ m.bytes ++ (packed_bytes ms ++ s) = sym (append_assoc n.bytes (packed_bytes ns) r) ∙ same ∙ append_assoc m.bytes (packed_bytes ms) s in
+    let here = subst (λ (c : ℕ). Packed (kind_of type) (packed_value x) c n.bytes) code p.0 in
+    let first = same_front (kind_of type) (packed_value x) (packed_value y) m.code n.bytes m.bytes (packed_bytes ns ++ r) (packed_bytes ms ++ s) here q.0 parts in
+    let rest = same_numbers types xs ys ns ms r s p.1 q.1 more (same_back n.bytes m.bytes (packed_bytes ns ++ r) (packed_bytes ms ++ s) first.0 parts) in
     ((λ t. first.1 t ∷ rest.0 t), rest.1)
 same_numbers _ _ _ _ _ r s p q codes same = absurd (search rules)
 
@@ -119,7 +119,7 @@ variant_fits types.Precision (values.Signed z) fits = refl
 variant_fits types.Text (values.Text bytes) fits = refl
 variant_fits _ _ fits = absurd fits
 
-same_text_length : (x y : Value) → variant_of x ≡ variant_of y → number_of x ≡ number_of y
+same_text_length : (x y : Value) → variant_of x ≡ variant_of y → packed_value x ≡ packed_value y
     → length (text_of x) ≡ length (text_of y)
 same_text_length (values.Text xs) (values.Text ys) variant same = cc
 same_text_length (values.Signed a) (values.Signed b) variant same = refl
@@ -127,7 +127,8 @@ same_text_length (values.Unsigned a) (values.Unsigned b) variant same = refl
 same_text_length _ _ variant same = absurd (omega arith)
 
 -- a number and a text are of one argument
-pub same_argument : (x y : Value) → variant_of x ≡ variant_of y → number_of x ≡ number_of y → text_of x ≡ text_of y
+pub same_argument : (x y : Value) → variant_of x ≡ variant_of y → packed_value x ≡ packed_value y
+    → text_of x ≡ text_of y
     → x ≡ y
 same_argument (values.Text xs) (values.Text ys) variant number text = ap values.Text text
 same_argument (values.Signed a) (values.Signed b) variant number text = ap values.Signed number
@@ -136,13 +137,13 @@ same_argument _ _ variant number text = absurd (omega arith)
 
 -- bytes begin with the texts of one list of arguments that fit and have these numbers
 same_texts : (types : List ArgType) (xs ys : List Value) (r s : List ℕ) → Fits xs types → Fits ys types
-    → map number_of xs ≡ map number_of ys → flat_map text_of xs ++ r ≡ flat_map text_of ys ++ s
+    → map packed_value xs ≡ map packed_value ys → flat_map text_of xs ++ r ≡ flat_map text_of ys ++ s
     → (xs ≡ ys) × (r ≡ s)
 same_texts [] [] [] r s p q numbers same = (refl, same)
 same_texts (type ∷ types) (x ∷ xs) (y ∷ ys) r s p q numbers same =
     let variant = variant_fits type x p.0 ∙ sym (variant_fits type y q.0) in
-    let number : number_of x ≡ number_of y = cc in
-    let more : map number_of xs ≡ map number_of ys = cc in
+    let number : packed_value x ≡ packed_value y = cc in
+    let more : map packed_value xs ≡ map packed_value ys = cc in
     let parts : text_of x ++ (flat_map text_of xs ++ r) ≡ text_of y ++ (flat_map text_of ys ++ s) =
     sym (append_assoc (text_of x) (flat_map text_of xs) r) ∙ same ∙ append_assoc (text_of y) (flat_map text_of ys) s in
     let first = same_length_front (text_of x) (text_of y) (flat_map text_of xs ++ r) (flat_map text_of ys ++ s) (same_text_length x y variant number) parts in
@@ -189,8 +190,8 @@ BeginsWithHead-unique before bytes i j s t r q a b =
 pub BeginsWithArguments-unique : (types : List ArgType) (bytes : List ℕ) (xs ys : List Value) (r s : List ℕ)
     → BeginsWithArguments types bytes xs r → BeginsWithArguments types bytes ys s → (xs ≡ ys) × (r ≡ s)
 BeginsWithArguments-unique types bytes xs ys r s a b =
-    let behind : List ℕ = bytes_of a.numbers ++ (flat_map text_of xs ++ r) in
-    let behind_too : List ℕ = bytes_of b.numbers ++ (flat_map text_of ys ++ s) in
+    let behind : List ℕ = packed_bytes a.numbers ++ (flat_map text_of xs ++ r) in
+    let behind_too : List ℕ = packed_bytes b.numbers ++ (flat_map text_of ys ++ s) in
     let many : length (codes_of a.numbers) ≡ length (codes_of b.numbers) = numbers_are_as_many types xs a.numbers a.packed ∙ sym (numbers_are_as_many types ys b.numbers b.packed) in
     let codes = same_code_bytes (codes_of a.numbers) (codes_of b.numbers) behind behind_too many (numbers_are_codes types xs a.numbers a.packed) (numbers_are_codes types ys b.numbers b.packed) (sym a.parts ∙ b.parts) in
     let numbers = same_numbers types xs ys a.numbers b.numbers (flat_map text_of xs ++ r) (flat_map text_of ys ++ s) a.packed b.packed codes.0 codes.1 in
@@ -208,9 +209,9 @@ pub record_begins : (types : List ArgType) (id stamp before : ℕ) (args : List 
     → (rest : List ℕ) × BeginsWithHead before bytes id stamp rest × BeginsWithArguments types rest args back
 record_begins types id stamp before args bytes front back spelled fits parts =
     let texts : List ℕ = flat_map text_of args ++ back in
-    let rest : List ℕ = code_bytes (codes_of spelled.numbers) ++ (bytes_of spelled.numbers ++ texts) in
+    let rest : List ℕ = code_bytes (codes_of spelled.numbers) ++ (packed_bytes spelled.numbers ++ texts) in
     let head : ℕ = spelled.id_number.code + 16 * spelled.step_number.code in
-    let apart = five_parts head spelled.id_number.bytes spelled.step_number.bytes (code_bytes (codes_of spelled.numbers)) (bytes_of spelled.numbers) (flat_map text_of args) back in (
+    let apart = five_parts head spelled.id_number.bytes spelled.step_number.bytes (code_bytes (codes_of spelled.numbers)) (packed_bytes spelled.numbers) (flat_map text_of args) back in (
       rest,
       record {
         id_number = spelled.id_number;
@@ -230,8 +231,8 @@ pub record_joined : (types : List ArgType) (id stamp before : ℕ) (args : List 
     → (front : List ℕ) × (bytes ≡ front ++ back) × RecordBytes types id stamp before args front
 record_joined types id stamp before args bytes rest back head arguments =
     let codes : ℕ = head.id_number.code + 16 * head.step_number.code in
-    let front : List ℕ = codes ∷ head.id_number.bytes ++ head.step_number.bytes ++ code_bytes (codes_of arguments.numbers) ++ bytes_of arguments.numbers ++ flat_map text_of args in
-    let apart = five_parts codes head.id_number.bytes head.step_number.bytes (code_bytes (codes_of arguments.numbers)) (bytes_of arguments.numbers) (flat_map text_of args) back in (
+    let front : List ℕ = codes ∷ head.id_number.bytes ++ head.step_number.bytes ++ code_bytes (codes_of arguments.numbers) ++ packed_bytes arguments.numbers ++ flat_map text_of args in
+    let apart = five_parts codes head.id_number.bytes head.step_number.bytes (code_bytes (codes_of arguments.numbers)) (packed_bytes arguments.numbers) (flat_map text_of args) back in (
       front,
       head.parts ∙ ap (λ (r : List ℕ). codes ∷ (head.id_number.bytes ++ (head.step_number.bytes ++ r))) arguments.parts ∙ sym apart,
       record {

@@ -24,16 +24,16 @@ abbrev pub kind_of : ArgType → Kind
 kind_of type = number_kind (type_kind type)
 
 -- the number that stands for an argument: an integer for itself, a length for a text
-abbrev pub number_of : Value → ℤ
-number_of (values.Signed z) = z
-number_of (values.Unsigned n) = pos n
-number_of (values.Text bytes) = pos (length bytes)
+abbrev pub packed_value : Value → ℤ
+packed_value (values.Signed z) = z
+packed_value (values.Unsigned n) = pos n
+packed_value (values.Text bytes) = pos (length bytes)
 
 -- the numbers stand for the arguments, in order, each packed as its type's kind
 abbrev pub PacksArguments : List ArgType → List Value → List PackedNumber → Type 0
 PacksArguments [] [] [] = ⊤
 PacksArguments (type ∷ types) (value ∷ values) (number ∷ numbers) =
-    Packed (kind_of type) (number_of value) number.code number.bytes × PacksArguments types values numbers
+    Packed (kind_of type) (packed_value value) number.code number.bytes × PacksArguments types values numbers
 PacksArguments _ _ _ = ⊥
 
 -- codes in bytes, two to a byte, the first one in the low four bits; where one is left over, the high four bits are 0

@@ -15,7 +15,7 @@ use Rattle.arg_records.specs.Frames.{words_of_text}
 use Rattle.buffer_extent.specs.declared.numbers.Number.{Number}
 use Rattle.buffer_extent.specs.declared.numbers.Number.TheVariants.{Signed, Unsigned}
 use Rattle.buffer_extent.specs.declared.take.HeadCodes.{HeadCodes}
-use Rattle.buffer_extent.specs.declared.take.Head.{Head}
+use Rattle.buffer_extent.specs.declared.take.RecordHeader.{RecordHeader}
 use Rattle.buffer_extent.specs.Records.{PackedNumber, kind_of, code_bytes}
 use Rattle.buffer_extent.specs.Parts.{BeginsWithNumber, BeginsWithHead}
 
@@ -49,16 +49,17 @@ pub record BeginsWithStep (before least code : ℕ) (bytes : List ℕ) (stamp : 
   pub rises : least ≤ stamp
 
 -- the bytes begin with a head that has the id of one of so many messages, and a stamp that isn't below the least
-pub record BeginsWithRightHead (messages before least : ℕ) (bytes : List ℕ) (head : Head) (back : List ℕ) : Type 0 where
+pub record BeginsWithRightHead (messages before least : ℕ) (bytes : List ℕ) (head : RecordHeader)
+    (back : List ℕ) : Type 0 where
   pub parts : BeginsWithHead before bytes head.id head.stamp back
   pub known : head.id < messages
   pub rises : least ≤ head.stamp
 
 -- ---- numbers
 
-abbrev pub integer_of : Number → ℤ
-integer_of (Signed z) = z
-integer_of (Unsigned n) = pos n
+abbrev pub number_value : Number → ℤ
+number_value (Signed z) = z
+number_value (Unsigned n) = pos n
 
 abbrev pub kind_of_number : Number → Kind
 kind_of_number (Signed z) = signed
@@ -84,13 +85,13 @@ FitNumbers _ _ = ⊥
 
 -- the bytes begin with a number of the kind that the type asks for, and these bytes follow
 pub record BeginsWithKind (type : ArgType) (code : ℕ) (bytes : List ℕ) (number : Number) (back : List ℕ) : Type 0 where
-  pub packed : BeginsWithNumber (kind_of type) code bytes (integer_of number) back
+  pub packed : BeginsWithNumber (kind_of type) code bytes (number_value number) back
   pub kind : kind_of_number number ≡ kind_of type
 
 -- the bytes begin with a number that an argument of the type may have, and these bytes follow
 pub record BeginsWithArgument (type : ArgType) (code : ℕ) (bytes : List ℕ) (number : Number)
     (back : List ℕ) : Type 0 where
-  pub packed : BeginsWithNumber (kind_of type) code bytes (integer_of number) back
+  pub packed : BeginsWithNumber (kind_of type) code bytes (number_value number) back
   pub fits : FitsNumber number type
 
 -- the bytes begin with numbers that arguments of these types may have, one behind another, and these bytes follow
@@ -101,7 +102,7 @@ BeginsWithNumbers types codes bytes numbers back = OneBehindAnother BeginsWithAr
 abbrev pub PacksNumbers : List ArgType → List Number → List PackedNumber → Type 0
 PacksNumbers [] [] [] = ⊤
 PacksNumbers (type ∷ types) (number ∷ numbers) (packed ∷ others) =
-    Packed (kind_of type) (integer_of number) packed.code packed.bytes × PacksNumbers types numbers others
+    Packed (kind_of type) (number_value number) packed.code packed.bytes × PacksNumbers types numbers others
 PacksNumbers _ _ _ = ⊥
 
 -- the bytes begin with such numbers, all their codes in front of them, and these bytes follow
@@ -149,7 +150,7 @@ pub record BeginsWithTexts (types : List ArgType) (numbers : List Number) (bytes
 -- The bytes begin with all that a record has in front of its texts, and these bytes follow: a head, and the numbers of
 -- arguments that its message takes and that a frame has room for. There may be more numbers than the record has.
 pub record BeginsWithStart (messages : List Message) (before least : ℕ) (bytes : List ℕ)
-    (start : Head × List Number) (back : List ℕ) : Type 0 where
+    (start : RecordHeader × List Number) (back : List ℕ) : Type 0 where
   pub message : Message
   pub rest : List ℕ
   pub head : BeginsWithHead before bytes start.0.id start.0.stamp rest
@@ -162,6 +163,6 @@ pub record BeginsWithStart (messages : List Message) (before least : ℕ) (bytes
 
 -- the bytes begin with what a record has in front of its texts
 pub record StartsRecord (messages : List Message) (before least : ℕ) (bytes : List ℕ) : Type 0 where
-  pub start : Head × List Number
+  pub start : RecordHeader × List Number
   pub back : List ℕ
   pub begins : BeginsWithStart messages before least bytes start back

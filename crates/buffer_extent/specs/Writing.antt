@@ -11,7 +11,7 @@ use Rattle.arg_records.specs.Frames.{words_of_argument, FrameLen, Frame}
 use Rattle.arg_records.specs.Kinds.{HoldsBytes}
 use Rattle.nibble_pack.specs.declared.pack.Packed.{Packed as PackedBytes}
 use Rattle.nibble_pack.specs.Packing.{unsigned, Packed}
-use Rattle.buffer_extent.specs.Records.{PackedNumber, kind_of, number_of}
+use Rattle.buffer_extent.specs.Records.{PackedNumber, kind_of, packed_value}
 
 -- the words are the frame of a call that was made at this stamp or later, with arguments that fit the types
 pub record IsFrameSince (types : List ArgType) (before : ℕ) (frame : List ℕ) : Type 0 where
@@ -44,15 +44,15 @@ abbrev pub packed_numbers : List PackedBytes → List PackedNumber
 packed_numbers numbers = map packed_number numbers
 
 -- it has as many bytes as it says
-pub record IsWhole (packed : PackedBytes) : Type 0 where
+pub record HasItsBytes (packed : PackedBytes) : Type 0 where
   pub room : packed.len ≤ 8
   pub whole : length (take packed.len packed.bytes) ≡ packed.len
 
 -- of whatever argument of the type this is the first word, this is the packed number
 pub record PacksWord (type : ArgType) (word : ℕ) (packed : PackedBytes) : Type 0 where
   pub packs : (value : Value) (more : List ℕ) → FitsType value type → words_of_argument value ≡ word ∷ more
-      → Packed (kind_of type) (number_of value) packed.code (take packed.len packed.bytes)
-  pub whole : IsWhole packed
+      → Packed (kind_of type) (packed_value value) packed.code (take packed.len packed.bytes)
+  pub whole : HasItsBytes packed
 
 -- the bytes of a head, which has the id and the step
 pub record HeadBytes (id step : ℕ) (bytes : List ℕ) : Type 0 where

@@ -9,7 +9,7 @@ ghost use Rattle.buffer_extent.specs.Bodies.{IsBody, BodyBreak};
 
 use crate::fault::{BodyFault, Cause};
 use crate::numbers::{NO_NUMBERS, Number, is_staged};
-use crate::take::{Head, take_coded_numbers, take_head};
+use crate::take::{RecordHeader, take_coded_numbers, take_head};
 use crate::texts::take_texts;
 use arg_records::{Call, Calls};
 use log_dictionary::Dictionary;
@@ -24,7 +24,7 @@ fn take_start<'a>(
     least: u64,
     bytes: &'a [u8],
     numbers: &mut [Number; MAX_ARGUMENTS],
-) -> Result<(Head, &'a [u8]), Cause>
+) -> Result<(RecordHeader, &'a [u8]), Cause>
     ensures { MatchResult result
         (λ pair. BeginsWithStart dictionary.now before least bytes.now (pair.0, numbers.new) pair.1.now)
         (Lacks (BeginsWithStart dictionary.now before least bytes.now)) }

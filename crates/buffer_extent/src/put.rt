@@ -11,8 +11,8 @@ ghost use Rattle.arg_records.specs.Kinds.{HoldsBytes};
 ghost use Rattle.arg_records.specs.Places.{with_words};
 ghost use Rattle.buffer_extent.specs.Records.{code_bytes, PacksArguments, RecordBytes};
 ghost use Rattle.buffer_extent.specs.Parts.{AreCodes};
-ghost use Rattle.buffer_extent.specs.RecordLaws.{codes_of, bytes_of};
-ghost use Rattle.buffer_extent.specs.Writing.{IsFrameSince, AreWordsOf, packed_numbers, IsWhole, HeadBytes, record_room};
+ghost use Rattle.buffer_extent.specs.RecordLaws.{codes_of, packed_bytes};
+ghost use Rattle.buffer_extent.specs.Writing.{IsFrameSince, AreWordsOf, packed_numbers, HasItsBytes, HeadBytes, record_room};
 
 use crate::staged::{pack_word, put_argument_text, put_slice, split_argument};
 use arg_records::{frame_id, frame_stamp};
@@ -35,7 +35,7 @@ fn pack_words(types: &[ArgType], words: &[u64]) -> [Packed; MAX_ARGUMENTS]
     requires few { length types.now ≤ MAX_ARGUMENTS }
     ensures packs { (args : List Value) → AreWordsOf types.now args words.now
         → PacksArguments types.now args (packed_numbers (take (length types.now) result)) }
-    ensures whole { AllByRecursion IsWhole (take (length types.now) result) }
+    ensures whole { AllByRecursion HasItsBytes (take (length types.now) result) }
 {
     let mut numbers = [NOTHING; MAX_ARGUMENTS];
     let mut rest = words;
@@ -95,10 +95,10 @@ fn put_codes(numbers: &[Packed], body: &mut [u8], at: usize) -> usize
 
 /// Writes the bytes of numbers.
 fn put_numbers(numbers: &[Packed], body: &mut [u8], at: usize) -> usize
-    requires whole { AllByRecursion IsWhole numbers.now }
-    requires room { at + length (bytes_of (packed_numbers numbers.now)) ≤ length body.old }
-    ensures written { body.new ≡ with_words body.old at (bytes_of (packed_numbers numbers.now)) }
-    ensures end { result ≡ at + length (bytes_of (packed_numbers numbers.now)) }
+    requires whole { AllByRecursion HasItsBytes numbers.now }
+    requires room { at + length (packed_bytes (packed_numbers numbers.now)) ≤ length body.old }
+    ensures written { body.new ≡ with_words body.old at (packed_bytes (packed_numbers numbers.now)) }
+    ensures end { result ≡ at + length (packed_bytes (packed_numbers numbers.now)) }
 {
     let mut end = at;
     for number in numbers {

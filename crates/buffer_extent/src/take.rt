@@ -24,7 +24,7 @@ pub(crate) struct HeadCodes {
 
 /// What a record begins with.
 #[derive(Clone, Copy)]
-pub(crate) struct Head {
+pub(crate) struct RecordHeader {
     pub(crate) id: u32,
     pub(crate) stamp: u64,
 }
@@ -84,7 +84,7 @@ pub(crate) fn take_head(
     before: u64,
     least: u64,
     bytes: &[u8],
-) -> Result<(Head, &[u8]), Cause>
+) -> Result<(RecordHeader, &[u8]), Cause>
     ensures { MatchResult result
         (λ pair. BeginsWithRightHead messages before least bytes.now pair.0 pair.1.now)
         (Lacks (BeginsWithRightHead messages before least bytes.now)) }
@@ -92,7 +92,7 @@ pub(crate) fn take_head(
     let (codes, rest) = take_head_codes(bytes)?;
     let (id, rest) = take_id(messages, codes.id, rest)?;
     let (stamp, rest) = take_step(before, least, codes.step, rest)?;
-    Ok((Head { id, stamp }, rest))
+    Ok((RecordHeader { id, stamp }, rest))
 }
 
 /// The bytes that hold `count` codes.

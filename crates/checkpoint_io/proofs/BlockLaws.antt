@@ -5,7 +5,7 @@ use Rattle.nibble_pack.specs.Bytes.{length-bytes_low_first}
 use Rattle.nibble_pack.specs.PackingLaws.{same_number}
 use Rattle.printf_grammar.specs.Spelling.{Spells}
 use Rattle.log_dictionary.specs.declared.message.Message.{Message}
-use Rattle.log_dictionary.specs.BinaryEntries.{RawEntry, raw_bytes, raw_of, SpellsEntry}
+use Rattle.log_dictionary.specs.BinaryEntries.{RawEntry, raw_entry_bytes, raw_of, SpellsEntry}
 use Rattle.log_dictionary.proofs.SameMessages.{same_message}
 pub use Rattle.log_dictionary.proofs.BinaryLaws.{same_fronts}
 use Rattle.log_dictionary.proofs.BinaryLaws.{first_is, others_are, same_formats, same_raw, entry_in_range}
@@ -16,7 +16,7 @@ use Rattle.buffer_extent.specs.RecordLaws.{IsBody-unique}
 use Rattle.checkpoint_io.specs.declared.header.Header.{Header}
 use Rattle.checkpoint_io.specs.Blocks.{Block, Fragment, Extent, Close, messages_of, fragment_head_bytes, extent_head_bytes, close_bytes, SpellsEntries, SpellsFragment, SpellsExtent, SpellsClose, SpellsBlock}
 use Rattle.printf_grammar.proofs.Unique.{spells_once}
-use Rattle.checkpoint_io.specs.Validity.{records_of, last_stamp, GoesOn, IsRightAfter}
+use Rattle.checkpoint_io.specs.Validity.{records_of, last_stamp, ContinuesWriter, IsRightAfter}
 
 -- ---- numbers
 
@@ -60,12 +60,12 @@ tag_is messages tick (Close writer) front back s = ap (λ (f : List ℕ). get_or
 -- bytes begin with one entry, of one message
 pub one_entry : (a b : Message) (front other rest more : List ℕ) → SpellsEntry front a → SpellsEntry other b → front ++ rest ≡ other ++ more → (a ≡ b) × (front ≡ other)
 one_entry a b front other rest more p q e =
-    let whole : raw_bytes (raw_of a) ++ rest ≡ raw_bytes (raw_of b) ++ more = ap (λ (f : List ℕ). f ++ rest) (sym p.spelled) ∙ e ∙ ap (λ (f : List ℕ). f ++ more) q.spelled in
+    let whole : raw_entry_bytes (raw_of a) ++ rest ≡ raw_entry_bytes (raw_of b) ++ more = ap (λ (f : List ℕ). f ++ rest) (sym p.spelled) ∙ e ∙ ap (λ (f : List ℕ). f ++ more) q.spelled in
     let raws = (same_raw (raw_of a) (raw_of b) rest more (entry_in_range front a p) (entry_in_range other b q) whole).0 in
     let bytes : a.format.bytes ≡ b.format.bytes = ap (λ (r : RawEntry). r.format) raws in
     let pieces = spells_once b.format.bytes a.format.pieces b.format.pieces (subst (λ (l : List ℕ). Spells l a.format.pieces) bytes p.formed) q.formed in
     let formats = same_formats a.format b.format bytes pieces in
-    (same_message a b (ap (λ (r : RawEntry). r.file) raws) (ap (λ (r : RawEntry). r.line) raws) (ap (λ (r : RawEntry). r.severity) raws) formats, p.spelled ∙ ap raw_bytes raws ∙ sym q.spelled)
+    (same_message a b (ap (λ (r : RawEntry). r.file) raws) (ap (λ (r : RawEntry). r.line) raws) (ap (λ (r : RawEntry). r.severity) raws) formats, p.spelled ∙ ap raw_entry_bytes raws ∙ sym q.spelled)
 
 same_entries : (messages others : List Message) (front other rest more : List ℕ) → length messages ≡ length others → SpellsEntries messages front → SpellsEntries others other → front ++ rest ≡ other ++ more → (messages ≡ others) × (front ≡ other)
 same_entries [] [] front other rest more count p q e = (refl, p ∙ sym q)
@@ -89,7 +89,7 @@ same_fragments first second a b front other rest more p q e =
     let entries = same_entries a b p.entries q.entries rest more counts.0 p.entries_spelled q.entries_spelled counts.1 in
     ((λ i. Fragment (firsts.0 i) (entries.0 i)), p.joined ∙ (λ i. fragment_head_bytes (firsts.0 i) (counts.0 i) ++ entries.1 i) ∙ sym q.joined)
 
-same_extents : (header : Header) (before : List Block) (writer writer2 : ℕ) (a b : List Call) (front other rest more : List ℕ) → GoesOn header before writer a → GoesOn header before writer2 b → SpellsExtent (messages_of before) header.clock.tick writer a front → SpellsExtent (messages_of before) header.clock.tick writer2 b other → front ++ rest ≡ other ++ more → (Extent writer a ≡ Extent writer2 b) × (front ≡ other)
+same_extents : (header : Header) (before : List Block) (writer writer2 : ℕ) (a b : List Call) (front other rest more : List ℕ) → ContinuesWriter header before writer a → ContinuesWriter header before writer2 b → SpellsExtent (messages_of before) header.clock.tick writer a front → SpellsExtent (messages_of before) header.clock.tick writer2 b other → front ++ rest ≡ other ++ more → (Extent writer a ≡ Extent writer2 b) × (front ≡ other)
 same_extents header before writer writer2 a b front other rest more a_right b_right p q e =
     let p_short = p.short in
     let q_short = q.short in

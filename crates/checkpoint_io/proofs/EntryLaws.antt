@@ -7,7 +7,7 @@ use Rattle.nl_io.specs.Content.{Told, IsAtEnd}
 use Rattle.log_dictionary.specs.declared.message.Message.{Message}
 use Rattle.log_dictionary.specs.declared.severity.Severity.{Severity}
 use Rattle.log_dictionary.specs.Severities.{severity_number}
-use Rattle.log_dictionary.specs.BinaryEntries.{SpellsEntry, head_bytes, text_bytes, IsCutText, IsCutEntry, IsBadEntry}
+use Rattle.log_dictionary.specs.BinaryEntries.{SpellsEntry, entry_head_bytes, text_bytes, IsCutText, IsCutEntry, IsBadEntry}
 use Rattle.log_dictionary.specs.BinaryEntries.IsCutText.{in_length, in_text}
 use Rattle.log_dictionary.specs.BinaryEntries.IsCutEntry.{in_severity, in_line, in_file, in_format}
 use Rattle.log_dictionary.proofs.BinaryCases.{stays_bad}
@@ -15,7 +15,7 @@ use Rattle.checkpoint_io.specs.declared.cause.Cause.{Cause}
 use Rattle.checkpoint_io.specs.declared.cause.Cause.TheVariants as causes
 use Rattle.checkpoint_io.specs.declared.fault.BlockFault.{BlockFault}
 use Rattle.checkpoint_io.specs.declared.fault.BlockFault.TheVariants.{Damaged, ReadFault, NoMemory}
-use Rattle.checkpoint_io.specs.Places.{Waiting, Place, with_front, place_of, further}
+use Rattle.checkpoint_io.specs.Places.{UnreadBytes, LogPlace, with_front, log_place, further}
 use Rattle.checkpoint_io.specs.Entries.{BeginsWithNone, BeginsWithOld, BreaksNoEntry, BreaksEntry, TakesEntry}
 use Rattle.log_dictionary.specs.Messages.{HasMessage}
 use Rattle.checkpoint_io.proofs.StepLaws.{front_taken}
@@ -27,7 +27,7 @@ cut_text_short : (least most : ℕ) (bytes : List ℕ) → 1 ≤ most → IsCutT
 cut_text_short least most bytes some (in_length short) = omega (arith, some, short)
 cut_text_short least most bytes some (in_text n part low high short is) = omega (arith, high, short, ap length is, length-append (le_bytes 2 n) part, le_length 2 n)
 
-head_long : (severity : Severity) (line : ℕ) (part : List ℕ) → length (head_bytes severity line ++ part) ≡ 5 + length part
+head_long : (severity : Severity) (line : ℕ) (part : List ℕ) → length (entry_head_bytes severity line ++ part) ≡ 5 + length part
 head_long severity line part = omega (arith, length-append (severity_number severity ∷ le_bytes 4 line) part, le_length 4 line)
 
 pub cut_short : (bytes : List ℕ) → IsCutEntry bytes → length bytes < 4359
@@ -55,14 +55,14 @@ no_entry_told told None bytes cause same there = subst (λ (t : Told). IfSome t 
 no_entry_told told (Some rest) bytes cause same there = subst (λ (t : Told). IfSome t (BeginsWithNone cause)) same (there rest refl)
 
 -- bytes that begin with a bad entry, whatever follows
-pub bad_entry : (from mid : Waiting) (left now : Told) → with_front mid.bytes now ≡ with_front from.bytes left → IsBadEntry mid.bytes → BreaksNoEntry (place_of from left) (Damaged causes.BadEntry)
+pub bad_entry : (from mid : UnreadBytes) (left now : Told) → with_front mid.bytes now ≡ with_front from.bytes left → IsBadEntry mid.bytes → BreaksNoEntry (log_place from left) (Damaged causes.BadEntry)
 bad_entry from mid left now same bad = no_entry_told (with_front from.bytes left) now mid.bytes causes.BadEntry same (λ rest is. inr (stays_bad mid.bytes rest bad, refl))
 
 apart : (told : Told) (rest : List ℕ) → told ≡ None → told ≡ Some rest → ⊥
 apart told rest none some = cc
 
 -- bytes that end inside an entry, at the end of the source
-pub cut_entry : (from mid to : Waiting) (left now behind : Told) → with_front mid.bytes now ≡ with_front from.bytes left → with_front to.bytes behind ≡ with_front mid.bytes now → length to.bytes ≡ length mid.bytes → IsAtEnd behind → IsCutEntry mid.bytes → BreaksNoEntry (place_of from left) (Damaged causes.Cut)
+pub cut_entry : (from mid to : UnreadBytes) (left now behind : Told) → with_front mid.bytes now ≡ with_front from.bytes left → with_front to.bytes behind ≡ with_front mid.bytes now → length to.bytes ≡ length mid.bytes → IsAtEnd behind → IsCutEntry mid.bytes → BreaksNoEntry (log_place from left) (Damaged causes.Cut)
 cut_entry from mid to left None behind same step len at_end cut = no_entry_told (with_front from.bytes left) None mid.bytes causes.Cut same (λ rest is. absurd (apart None rest refl is))
 cut_entry from mid to left (Some rest) None same step len at_end cut = absurd (apart None (mid.bytes ++ rest) refl step)
 cut_entry from mid to left (Some rest) (Some others) same step len at_end cut =
@@ -78,7 +78,7 @@ cut_entry from mid to left (Some rest) (Some others) same step len at_end cut =
 
 -- ---- no new entry
 
-pub none_breaks : {T : Type 0} (r : Result T BlockFault) (defined : List Message) (from : Place) → IfErr r (BreaksNoEntry from) → IfErr r (BreaksEntry defined from)
+pub none_breaks : {T : Type 0} (r : Result T BlockFault) (defined : List Message) (from : LogPlace) → IfErr r (BreaksNoEntry from) → IfErr r (BreaksEntry defined from)
 none_breaks (Ok x) defined from none = tt
 none_breaks (Err (Damaged cause)) defined from none = told from.ahead none
   where
@@ -89,7 +89,7 @@ none_breaks (Err ReadFault) defined from none = tt
 none_breaks (Err NoMemory) defined from none = tt
 
 -- the message whose entry waits is there already
-pub old_entry : (defined : List Message) (message : Message) (len : ℕ) (from mid : Waiting) (left now : Told) → with_front mid.bytes now ≡ with_front from.bytes left → SpellsEntry (take len mid.bytes) message → HasMessage defined message → BreaksEntry defined (place_of from left) (Damaged causes.BadEntry)
+pub old_entry : (defined : List Message) (message : Message) (len : ℕ) (from mid : UnreadBytes) (left now : Told) → with_front mid.bytes now ≡ with_front from.bytes left → SpellsEntry (take len mid.bytes) message → HasMessage defined message → BreaksEntry defined (log_place from left) (Damaged causes.BadEntry)
 old_entry defined message len from mid left None same spelled there = subst (λ (t : Told). IfSome t (λ bytes. BeginsWithNone causes.BadEntry bytes ⊎ (BeginsWithOld defined bytes × (causes.BadEntry ≡ causes.BadEntry)))) same tt
 old_entry defined message len from mid left (Some rest) same spelled there =
     let joined : mid.bytes ++ rest ≡ take len mid.bytes ++ (drop len mid.bytes ++ rest) = ap (λ (b : List ℕ). b ++ rest) (sym (take-append-drop len mid.bytes)) ∙ append_assoc (take len mid.bytes) (drop len mid.bytes) rest in
@@ -97,8 +97,8 @@ old_entry defined message len from mid left (Some rest) same spelled there =
     subst (λ (t : Told). IfSome t (λ bytes. BeginsWithNone causes.BadEntry bytes ⊎ (BeginsWithOld defined bytes × (causes.BadEntry ≡ causes.BadEntry)))) same (inr (old, refl))
 
 -- the message whose entry waits is new
-pub new_entry : (before after : List Message) (message : Message) (len : ℕ) (from mid to : Waiting) (left behind : Told) → with_front mid.bytes behind ≡ with_front from.bytes left → mid.offset ≡ from.offset → len ≤ length mid.bytes → SpellsEntry (take len mid.bytes) message → to.bytes ≡ drop len mid.bytes → to.offset ≡ further mid.offset len → ¬ (HasMessage before message) → after ≡ before ++ message ∷ []
-    → TakesEntry before after (place_of from left) (place_of to behind)
+pub new_entry : (before after : List Message) (message : Message) (len : ℕ) (from mid to : UnreadBytes) (left behind : Told) → with_front mid.bytes behind ≡ with_front from.bytes left → mid.offset ≡ from.offset → len ≤ length mid.bytes → SpellsEntry (take len mid.bytes) message → to.bytes ≡ drop len mid.bytes → to.offset ≡ further mid.offset len → ¬ (HasMessage before message) → after ≡ before ++ message ∷ []
+    → TakesEntry before after (log_place from left) (log_place to behind)
 new_entry before after message len from mid to left behind same start within spelled moved offset new added = record {
   message = message;
   front = take len mid.bytes;

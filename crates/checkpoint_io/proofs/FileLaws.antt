@@ -11,10 +11,10 @@ use Rattle.checkpoint_io.specs.declared.block.Block.{Block as ReadBlock}
 use Rattle.checkpoint_io.specs.declared.block.Block.TheVariants as read
 use Rattle.checkpoint_io.specs.Blocks.{Block, Fragment, Extent, Close, FileOf}
 use Rattle.checkpoint_io.specs.Validity.{Valid}
-use Rattle.checkpoint_io.specs.Fronts.{BeginsWith, Front, HasNoHeader, Break}
+use Rattle.checkpoint_io.specs.Fronts.{BeginsWithLog, Front, HasNoHeader, Break}
 use Rattle.checkpoint_io.specs.Places.{with_front}
 use Rattle.checkpoint_io.specs.Readers.{ReaderState, StandsFor}
-use Rattle.checkpoint_io.specs.NextBlocks.{Tells, TakesNext, IsTooLarge}
+use Rattle.checkpoint_io.specs.NextBlocks.{Describes, TakesNext, IsTooLarge}
 use Rattle.checkpoint_io.proofs.FrontLaws.{whole_is_front, one_front, short_bytes}
 use Rattle.checkpoint_io.proofs.BreakLaws.{front_of_break}
 use Rattle.checkpoint_io.proofs.ValidityLaws.{AreRightAfter-split}
@@ -54,16 +54,16 @@ longer : (blocks : List Block) (block : Block) → blocks ≡ blocks ++ block �
 longer blocks block same = omega (arith, ap length same, length-append blocks (block ∷ []))
 
 -- up to an offset bytes begin with one log
-pub one_start : (bytes : List ℕ) (header other : Header) (blocks others : List Block) (offset : ℕ) → BeginsWith bytes header blocks offset → BeginsWith bytes other others offset → (header ≡ other) × (blocks ≡ others)
+pub one_start : (bytes : List ℕ) (header other : Header) (blocks others : List Block) (offset : ℕ) → BeginsWithLog bytes header blocks offset → BeginsWithLog bytes other others offset → (header ≡ other) × (blocks ≡ others)
 one_start bytes header other blocks others offset p q =
     let prefixes = (same_fronts p.prefix q.prefix p.rest q.rest (sym p.taken ∙ q.taken) (sym p.whole ∙ q.whole)).0 in
     one_log header other blocks others p.prefix p.file p.valid (subst (FileOf other others) (sym prefixes) q.file) q.valid
 
-pub no_more_than : (bytes : List ℕ) (header : Header) (blocks : List Block) (count : ℕ) → BeginsWith bytes header blocks count → count ≤ length bytes
+pub no_more_than : (bytes : List ℕ) (header : Header) (blocks : List Block) (count : ℕ) → BeginsWithLog bytes header blocks count → count ≤ length bytes
 no_more_than bytes header blocks count b = omega (arith, b.taken, ap length b.whole, length-append b.prefix b.rest)
 
 -- a log has bytes
-pub no_log : (bytes : List ℕ) (header : Header) (blocks : List Block) → BeginsWith bytes header blocks 0 → ⊥
+pub no_log : (bytes : List ℕ) (header : Header) (blocks : List Block) → BeginsWithLog bytes header blocks 0 → ⊥
 no_log bytes header blocks b = at_prefix b.prefix b.taken b.file
   where
     at_prefix : (prefix : List ℕ) → 0 ≡ length prefix → FileOf header blocks prefix → ⊥
@@ -71,7 +71,7 @@ no_log bytes header blocks b = at_prefix b.prefix b.taken b.file
     at_prefix (byte ∷ prefix) none file = omega (arith, none)
 
 -- the front of bytes that break behind such a start is that start
-pub broken_there : (bytes : List ℕ) (header : Header) (blocks : List Block) (offset : ℕ) (cause : Cause) → BeginsWith bytes header blocks offset → Break bytes offset cause → Front bytes header blocks offset
+pub broken_there : (bytes : List ℕ) (header : Header) (blocks : List Block) (offset : ℕ) (cause : Cause) → BeginsWithLog bytes header blocks offset → Break bytes offset cause → Front bytes header blocks offset
 broken_there bytes header blocks offset cause begun breaks = at_front (front_of_break bytes offset cause breaks)
   where
     at_front : (HasNoHeader bytes × (offset ≡ 0)) ⊎ ((other : Header) × (others : List Block) × Front bytes other others offset) → Front bytes header blocks offset
@@ -81,10 +81,10 @@ broken_there bytes header blocks offset cause begun breaks = at_front (front_of_
         subst (λ (h : Header). Front bytes h blocks offset) same.0 (subst (λ (bs : List Block). Front bytes other bs offset) same.1 front)
 
 -- the block that ends past the most bytes stands behind such a start
-pub large_there : (bytes : List ℕ) (header : Header) (blocks : List Block) (offset : ℕ) → BeginsWith bytes header blocks offset → (large : IsTooLarge bytes offset) → BeginsWith bytes header (blocks ++ large.block ∷ []) large.count
+pub large_there : (bytes : List ℕ) (header : Header) (blocks : List Block) (offset : ℕ) → BeginsWithLog bytes header blocks offset → (large : IsTooLarge bytes offset) → BeginsWithLog bytes header (blocks ++ large.block ∷ []) large.count
 large_there bytes header blocks offset begun large =
     let right = AreRightAfter-split large.header [] large.blocks (large.block ∷ []) large.begins.valid.blocks_right in
-    let start : BeginsWith bytes large.header large.blocks offset = record {
+    let start : BeginsWithLog bytes large.header large.blocks offset = record {
       prefix = large.front;
       rest = large.rest;
       whole = large.joined;
@@ -93,7 +93,7 @@ large_there bytes header blocks offset begun large =
       valid = record { header_right = large.begins.valid.header_right; blocks_right = right.0 };
     } in
     let same = one_start bytes large.header header large.blocks blocks offset start begun in
-    subst (λ (h : Header). BeginsWith bytes h (blocks ++ large.block ∷ []) large.count) same.0 (subst (λ (bs : List Block). BeginsWith bytes large.header (bs ++ large.block ∷ []) large.count) same.1 large.begins)
+    subst (λ (h : Header). BeginsWithLog bytes h (blocks ++ large.block ∷ []) large.count) same.0 (subst (λ (bs : List Block). BeginsWithLog bytes large.header (bs ++ large.block ∷ []) large.count) same.1 large.begins)
 
 -- then the bytes are more than are read
 pub more_than_read : (bytes : List ℕ) (offset : ℕ) → IsTooLarge bytes offset → length bytes ≤ 134217728 → ⊥
@@ -109,7 +109,7 @@ no_header bytes cause breaks = at_start (front_of_break bytes 0 cause breaks)
 
 -- ---- a block that was read
 
-pub is_extent : (writer : ℕ) (entries : List Call) (block : Block) → Tells (read.Extent writer entries) block → block ≡ Extent writer entries
+pub is_extent : (writer : ℕ) (entries : List Call) (block : Block) → Describes (read.Extent writer entries) block → block ≡ Extent writer entries
 is_extent writer entries (Fragment first messages) tells = cc
 is_extent writer entries (Extent w es) tells = cc
 is_extent writer entries (Close w) tells = cc

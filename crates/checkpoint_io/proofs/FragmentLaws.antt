@@ -13,7 +13,7 @@ use Rattle.checkpoint_io.specs.declared.fault.BlockFault.TheVariants.{Damaged, R
 use Rattle.checkpoint_io.specs.declared.block.Block.TheVariants as read
 use Rattle.checkpoint_io.specs.Blocks.{Fragment}
 use Rattle.checkpoint_io.specs.Reading.{broken, ReadsEntries, IsBadCount, ReadsCount, ReadsFragment}
-use Rattle.checkpoint_io.specs.Places.{Place, Passes, Takes, Refuses}
+use Rattle.checkpoint_io.specs.Places.{LogPlace, BytesBetween, StandsBetween, Refuses}
 use Rattle.checkpoint_io.specs.Entries.{BeginsWithNone, BeginsWithOld, BreaksEntry, TakesEntry, TakesEntries, TakesFragment}
 use Rattle.checkpoint_io.proofs.StepLaws.{GoesOnBehind, refused_behind, taken_behind, gives_taken, err_behind}
 
@@ -23,22 +23,22 @@ entries_on : (before : List Message) (first : ℕ) (read : List Message) (less :
 entries_on before first read less message front spelled new rest outcome goes = inr (inr (message, front, rest, spelled, refl, inr (new, goes)))
 
 -- no more entries
-pub no_entries : (before : List Message) (first : ℕ) (read defined : List Message) (at : Place) → defined ≡ before ++ read → at.offset < 2 ^ 64 → TakesEntries before first read 0 defined at at
+pub no_entries : (before : List Message) (first : ℕ) (read defined : List Message) (at : LogPlace) → defined ≡ before ++ read → at.offset < 2 ^ 64 → TakesEntries before first read 0 defined at at
 no_entries before first read defined at is fits = record {
   messages = [];
   many = refl;
   added = is ∙ sym (append-nil (before ++ read));
-  takes = subst (λ (r : List Message). Takes (ReadsEntries before first read 0) (Fragment first r) at at) (sym (append-nil read)) (gives_taken (Fragment first read) at fits);
+  takes = subst (λ (r : List Message). StandsBetween (ReadsEntries before first read 0) (Fragment first r) at at) (sym (append-nil read)) (gives_taken (Fragment first read) at fits);
 }
 
-one_entry_more : (before : List Message) (first : ℕ) (read : List Message) (less : ℕ) (after : List Message) (from mid to : Place) (message : Message) (front : List ℕ) → Passes front from mid → SpellsEntry front message → ¬ (HasMessage (before ++ read) message) → TakesEntries before first (read ++ message ∷ []) less after mid to → TakesEntries before first read (suc less) after from to
+one_entry_more : (before : List Message) (first : ℕ) (read : List Message) (less : ℕ) (after : List Message) (from mid to : LogPlace) (message : Message) (front : List ℕ) → BytesBetween front from mid → SpellsEntry front message → ¬ (HasMessage (before ++ read) message) → TakesEntries before first (read ++ message ∷ []) less after mid to → TakesEntries before first read (suc less) after from to
 one_entry_more before first read less after from mid to message front passes spelled new takes =
     let all : (read ++ message ∷ []) ++ takes.messages ≡ read ++ message ∷ takes.messages = append_assoc read (message ∷ []) takes.messages in
     record {
       messages = message ∷ takes.messages;
       many = omega (arith, takes.many);
       added = takes.added ∙ ap (λ (l : List Message). l ++ takes.messages) (sym (append_assoc before read (message ∷ []))) ∙ append_assoc (before ++ read) (message ∷ []) takes.messages;
-      takes = subst (λ (r : List Message). Takes (ReadsEntries before first read (suc less)) (Fragment first r) from to) all
+      takes = subst (λ (r : List Message). StandsBetween (ReadsEntries before first read (suc less)) (Fragment first r) from to) all
           (taken_behind (ReadsEntries before first read (suc less)) (ReadsEntries before first (read ++ message ∷ []) less) (Fragment first ((read ++ message ∷ []) ++ takes.messages)) front from mid to (entries_on before first read less message front spelled new) passes takes.takes);
     }
 
@@ -46,7 +46,7 @@ positive : (count : ℕ) → ¬ (count ≡ 0) → count ≡ suc (count - 1)
 positive zero some = absurd (some refl)
 positive (suc count) some = omega arith
 
-pub entries_ok : (r : Result (Unit {0}) BlockFault) (before read : List Message) (first count : ℕ) (defined now after : List Message) (from mid to : Place) → ¬ (count ≡ 0) → TakesEntry defined now from mid → ((b r' : List Message) (f : ℕ) → now ≡ b ++ r' → OnOk r (TakesEntries b f r' (count - 1) after mid to)) → defined ≡ before ++ read → OnOk r (TakesEntries before first read count after from to)
+pub entries_ok : (r : Result (Unit {0}) BlockFault) (before read : List Message) (first count : ℕ) (defined now after : List Message) (from mid to : LogPlace) → ¬ (count ≡ 0) → TakesEntry defined now from mid → ((b r' : List Message) (f : ℕ) → now ≡ b ++ r' → OnOk r (TakesEntries b f r' (count - 1) after mid to)) → defined ≡ before ++ read → OnOk r (TakesEntries before first read count after from to)
 entries_ok (Ok _) before read first count defined now after from mid to some takes others is =
     let all : now ≡ before ++ (read ++ takes.message ∷ []) = takes.added ∙ ap (λ (l : List Message). l ++ takes.message ∷ []) is ∙ append_assoc before read (takes.message ∷ []) in
     let new : ¬ (HasMessage (before ++ read) takes.message) = subst (λ (l : List Message). ¬ (HasMessage l takes.message)) is takes.new in
@@ -54,7 +54,7 @@ entries_ok (Ok _) before read first count defined now after from mid to some tak
     (one_entry_more before first read (count - 1) after from mid to takes.message takes.front takes.passes takes.spelled new (others before (read ++ takes.message ∷ []) first all))
 entries_ok (Err fault) before read first count defined now after from mid to some takes others is = tt
 
-pub entries_err : (r : Result (Unit {0}) BlockFault) (before read : List Message) (first count : ℕ) (defined now : List Message) (from mid : Place) → ¬ (count ≡ 0) → TakesEntry defined now from mid → ((b r' : List Message) (f : ℕ) → now ≡ b ++ r' → IfErr r (Refuses (ReadsEntries b f r' (count - 1)) mid)) → defined ≡ before ++ read → IfErr r (Refuses (ReadsEntries before first read count) from)
+pub entries_err : (r : Result (Unit {0}) BlockFault) (before read : List Message) (first count : ℕ) (defined now : List Message) (from mid : LogPlace) → ¬ (count ≡ 0) → TakesEntry defined now from mid → ((b r' : List Message) (f : ℕ) → now ≡ b ++ r' → IfErr r (Refuses (ReadsEntries b f r' (count - 1)) mid)) → defined ≡ before ++ read → IfErr r (Refuses (ReadsEntries before first read count) from)
 entries_err (Ok _) before read first count defined now from mid some takes others is = tt
 entries_err (Err fault) before read first count defined now from mid some takes others is =
     let all : now ≡ before ++ (read ++ takes.message ∷ []) = takes.added ∙ ap (λ (l : List Message). l ++ takes.message ∷ []) is ∙ append_assoc before read (takes.message ∷ []) in
@@ -63,7 +63,7 @@ entries_err (Err fault) before read first count defined now from mid some takes 
     (refused_behind (ReadsEntries before first read (suc (count - 1))) (ReadsEntries before first (read ++ takes.message ∷ []) (count - 1)) takes.front from mid fault (entries_on before first read (count - 1) takes.message takes.front takes.spelled new) takes.passes (others before (read ++ takes.message ∷ []) first all))
 
 -- where the next entry is broken
-pub entry_err : {T : Type 0} (r : Result T BlockFault) (before read : List Message) (first count : ℕ) (defined : List Message) (from : Place) → ¬ (count ≡ 0) → IfErr r (BreaksEntry defined from) → defined ≡ before ++ read → IfErr r (Refuses (ReadsEntries before first read count) from)
+pub entry_err : {T : Type 0} (r : Result T BlockFault) (before read : List Message) (first count : ℕ) (defined : List Message) (from : LogPlace) → ¬ (count ≡ 0) → IfErr r (BreaksEntry defined from) → defined ≡ before ++ read → IfErr r (Refuses (ReadsEntries before first read count) from)
 entry_err (Ok x) before read first count defined from some breaks is = tt
 entry_err (Err ReadFault) before read first count defined from some breaks is = tt
 entry_err (Err NoMemory) before read first count defined from some breaks is = tt
@@ -88,10 +88,10 @@ count_on : (before : List Message) (first count : ℕ) → count < 256 ^ 2 → �
 count_on before first count fits good rest outcome goes = inr (count, rest, fits, refl, inr (good, goes))
 
 -- the fragment behind its tag
-pub fragment_taken : (before after : List Message) (first count : ℕ) (from mid start to : Place) → first < 256 ^ 4 → count < 256 ^ 2 → first ≡ length before → ¬ (IsBadCount before count) → Passes (le_bytes 4 first) from mid → Passes (le_bytes 2 count) mid start → TakesEntries before first [] count after start to → TakesFragment before (read.Fragment first count) after from to
+pub fragment_taken : (before after : List Message) (first count : ℕ) (from mid start to : LogPlace) → first < 256 ^ 4 → count < 256 ^ 2 → first ≡ length before → ¬ (IsBadCount before count) → BytesBetween (le_bytes 4 first) from mid → BytesBetween (le_bytes 2 count) mid start → TakesEntries before first [] count after start to → TakesFragment before (read.Fragment first count) after from to
 fragment_taken before after first count from mid start to fits count_fits is good p q takes =
     let fragment = Fragment first takes.messages in
-    let counts : Takes (ReadsCount before first) fragment mid to = taken_behind (ReadsCount before first) (ReadsEntries before first [] count) fragment (le_bytes 2 count) mid start to (count_on before first count count_fits good) q takes.takes in
+    let counts : StandsBetween (ReadsCount before first) fragment mid to = taken_behind (ReadsCount before first) (ReadsEntries before first [] count) fragment (le_bytes 2 count) mid start to (count_on before first count count_fits good) q takes.takes in
     record {
       first = first;
       messages = takes.messages;
@@ -100,7 +100,7 @@ fragment_taken before after first count from mid start to fits count_fits is goo
       takes = taken_behind (ReadsFragment before) (ReadsCount before first) fragment (le_bytes 4 first) from mid to (first_on before first fits is) p counts;
     }
 
-pub fragment_err : {T : Type 0} (r : Result T BlockFault) (before : List Message) (first count : ℕ) (from mid start : Place) → first < 256 ^ 4 → count < 256 ^ 2 → first ≡ length before → ¬ (IsBadCount before count) → Passes (le_bytes 4 first) from mid → Passes (le_bytes 2 count) mid start → IfErr r (Refuses (ReadsEntries before first [] count) start) → IfErr r (Refuses (ReadsFragment before) from)
+pub fragment_err : {T : Type 0} (r : Result T BlockFault) (before : List Message) (first count : ℕ) (from mid start : LogPlace) → first < 256 ^ 4 → count < 256 ^ 2 → first ≡ length before → ¬ (IsBadCount before count) → BytesBetween (le_bytes 4 first) from mid → BytesBetween (le_bytes 2 count) mid start → IfErr r (Refuses (ReadsEntries before first [] count) start) → IfErr r (Refuses (ReadsFragment before) from)
 fragment_err r before first count from mid start fits count_fits is good p q refused =
     err_behind r (ReadsFragment before) (ReadsCount before first) (le_bytes 4 first) from mid (first_on before first fits is) p
     (err_behind r (ReadsCount before first) (ReadsEntries before first [] count) (le_bytes 2 count) mid start (count_on before first count count_fits good) q refused)

@@ -7,7 +7,7 @@ use Rattle.log_dictionary.specs.declared.message.Message.{Message}
 use Rattle.checkpoint_io.specs.declared.header.Header.{Header}
 use Rattle.checkpoint_io.specs.Blocks.{Block, Fragment, Extent, Close, messages_of, header_bytes, SpellsBlock, SpellsBlocks, FileOf}
 use Rattle.checkpoint_io.specs.Validity.{IsRightAfter, AreRightAfter, IsHeader, Valid}
-use Rattle.checkpoint_io.specs.Fronts.{BeginsWith, Front, HasNoHeader}
+use Rattle.checkpoint_io.specs.Fronts.{BeginsWithLog, Front, HasNoHeader}
 use Rattle.log_dictionary.proofs.BinaryLaws.{same_fronts, first_is, others_are}
 use Rattle.checkpoint_io.proofs.BlockLaws.{le_length, same_numbers, one_block}
 
@@ -99,7 +99,7 @@ file_goes_on header blocks block bytes spelled file is = record {
 
 -- ---- fronts
 
-pub begins_apart : (bytes : List ℕ) (header : Header) (blocks : List Block) (count : ℕ) → (b : BeginsWith bytes header blocks count) → bytes ≡ header_bytes header ++ (b.file.block_bytes ++ b.rest)
+pub begins_apart : (bytes : List ℕ) (header : Header) (blocks : List Block) (count : ℕ) → (b : BeginsWithLog bytes header blocks count) → bytes ≡ header_bytes header ++ (b.file.block_bytes ++ b.rest)
 begins_apart bytes header blocks count b = b.whole ∙ ap (λ (f : List ℕ). f ++ b.rest) b.file.joined ∙ append_assoc (header_bytes header) b.file.block_bytes b.rest
 
 -- a log behind which no right block stands is the front

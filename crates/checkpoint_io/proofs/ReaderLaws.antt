@@ -16,7 +16,7 @@ use Rattle.checkpoint_io.specs.Blocks.{Block, Fragment, Extent, Close, messages_
 use Rattle.checkpoint_io.specs.Validity.{closes, IsRightAfter, AreRightAfter, Valid}
 use Rattle.checkpoint_io.specs.Reading.{broken, ReadsBlock}
 use Rattle.checkpoint_io.specs.Fronts.{Break, at_block}
-use Rattle.checkpoint_io.specs.Places.{Waiting, Place, with_front, place_of, Takes, Refuses}
+use Rattle.checkpoint_io.specs.Places.{UnreadBytes, LogPlace, with_front, log_place, StandsBetween, Refuses}
 use Rattle.checkpoint_io.specs.Writers.{WriterStates, AreStatesOf}
 use Rattle.checkpoint_io.specs.Readers.{ReaderState, StandsFor}
 use Rattle.checkpoint_io.specs.NextBlocks.{TakesBlock, TakesNext, EndsThere, StopsAt}
@@ -63,18 +63,18 @@ record IsRight (header : Header) (before : List Block) (block : Block) (front : 
   spelled : SpellsBlock (messages_of before) header.clock.tick block front
   right : IsRightAfter header before block
 
-is_right : (header : Header) (before : List Block) (block : Block) (from to : Place) → Valid header before → (takes : Takes (ReadsBlock header before) block from to) → IsRight header before block takes.front
+is_right : (header : Header) (before : List Block) (block : Block) (from to : LogPlace) → Valid header before → (takes : StandsBetween (ReadsBlock header before) block from to) → IsRight header before block takes.front
 is_right header before block from to valid takes =
     let read = read_block_right header before (takes.front ++ []) block [] valid.header_right.few_writers (messages_differ header before valid).distinct (takes.found []) in
     let same : read.front ≡ takes.front = sym (append-nil read.front) ∙ sym read.joined ∙ append-nil takes.front in
     record { spelled = subst (SpellsBlock (messages_of before) header.clock.tick block) same read.spelled; right = read.right }
 
-pub takes_next : (old new : ReaderState) (taken : List ℕ) (before : StandsFor old taken) (told : ReadBlock) (mid : Waiting) (left between behind : Told) → with_front mid.bytes between ≡ with_front old.waiting.bytes left → mid.offset ≡ old.waiting.offset → new.header ≡ old.header → new.offset ≡ new.waiting.offset → new.waiting.offset ≤ 134217728
-    → TakesBlock old.header before.blocks told new.messages new.writers (place_of mid between) (place_of new.waiting behind) → TakesNext old new taken before told left behind
+pub takes_next : (old new : ReaderState) (taken : List ℕ) (before : StandsFor old taken) (told : ReadBlock) (mid : UnreadBytes) (left between behind : Told) → with_front mid.bytes between ≡ with_front old.waiting.bytes left → mid.offset ≡ old.waiting.offset → new.header ≡ old.header → new.offset ≡ new.waiting.offset → new.waiting.offset ≤ 134217728
+    → TakesBlock old.header before.blocks told new.messages new.writers (log_place mid between) (log_place new.waiting behind) → TakesNext old new taken before told left behind
 takes_next old new taken before told mid left between behind same start header offset within takes =
     let block = takes.block in
     let front = takes.takes.front in
-    let is = is_right old.header before.blocks block (place_of mid between) (place_of new.waiting behind) before.valid takes.takes in
+    let is = is_right old.header before.blocks block (log_place mid between) (log_place new.waiting behind) before.valid takes.takes in
     let passes = takes.takes.passes.offset in
     let at = before.at in
     let len = length-append taken front in
@@ -113,7 +113,7 @@ in_file : (taken waiting : List ℕ) (left : Told) (P : List ℕ → Type 0) →
 in_file taken waiting None P there = tt
 in_file taken waiting (Some content) P there = subst P (sym (append_assoc taken waiting content)) there
 
-pub breaks_next : (old : ReaderState) (taken : List ℕ) (before : StandsFor old taken) (mid : Waiting) (left between : Told) (cause : Cause) → with_front mid.bytes between ≡ with_front old.waiting.bytes left → 1 ≤ length mid.bytes → Refuses (ReadsBlock old.header before.blocks) (place_of mid between) (Damaged cause)
+pub breaks_next : (old : ReaderState) (taken : List ℕ) (before : StandsFor old taken) (mid : UnreadBytes) (left between : Told) (cause : Cause) → with_front mid.bytes between ≡ with_front old.waiting.bytes left → 1 ≤ length mid.bytes → Refuses (ReadsBlock old.header before.blocks) (log_place mid between) (Damaged cause)
     → IfSome (with_front (taken ++ old.waiting.bytes) left) (λ bytes. StopsAt bytes old.offset cause)
 breaks_next old taken before mid left between cause same some refused =
     in_file taken old.waiting.bytes left (λ bytes. StopsAt bytes old.offset cause) (subst (λ (told : Told). IfSome told (λ bytes. StopsAt (taken ++ bytes) old.offset cause)) same (there between refused))
@@ -124,7 +124,7 @@ breaks_next old taken before mid left between cause same some refused =
         inl (subst (λ (n : ℕ). Break (taken ++ (mid.bytes ++ content)) n cause) (sym before.offset)
         (at_block old.header before.blocks taken (mid.bytes ++ content) cause refl before.file before.valid (omega (arith, some, length-append mid.bytes content)) reads))
 
-pub too_large : (old : ReaderState) (taken : List ℕ) (before : StandsFor old taken) (told : ReadBlock) (mid : Waiting) (left between : Told) (to : Place) (messages : List Message) (writers : WriterStates) → with_front mid.bytes between ≡ with_front old.waiting.bytes left → mid.offset ≡ old.waiting.offset → 134217728 < to.offset → TakesBlock old.header before.blocks told messages writers (place_of mid between) to
+pub too_large : (old : ReaderState) (taken : List ℕ) (before : StandsFor old taken) (told : ReadBlock) (mid : UnreadBytes) (left between : Told) (to : LogPlace) (messages : List Message) (writers : WriterStates) → with_front mid.bytes between ≡ with_front old.waiting.bytes left → mid.offset ≡ old.waiting.offset → 134217728 < to.offset → TakesBlock old.header before.blocks told messages writers (log_place mid between) to
     → IfSome (with_front (taken ++ old.waiting.bytes) left) (λ bytes. StopsAt bytes old.offset causes.TooLarge)
 too_large old taken before told mid left between to messages writers same start large takes =
     in_file taken old.waiting.bytes left (λ bytes. StopsAt bytes old.offset causes.TooLarge)
@@ -134,7 +134,7 @@ too_large old taken before told mid left between to messages writers same start 
     there None = tt
     there (Some rest) =
         let front = takes.takes.front in
-        let is = is_right old.header before.blocks takes.block (place_of mid between) to before.valid takes.takes in
+        let is = is_right old.header before.blocks takes.block (log_place mid between) to before.valid takes.takes in
         let passes = takes.takes.passes.offset in
         let at = before.at in
         inr (

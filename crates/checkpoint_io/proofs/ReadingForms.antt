@@ -16,14 +16,14 @@ use Rattle.checkpoint_io.specs.declared.cause.Cause.TheVariants as causes
 use Rattle.checkpoint_io.specs.declared.header.Header.{Header}
 use Rattle.checkpoint_io.specs.declared.heads.TheConstants.{MAX_BODY}
 use Rattle.checkpoint_io.specs.Blocks.{Block, Fragment, Extent, Close, messages_of, header_bytes, fragment_head_bytes, extent_head_bytes, SpellsEntries, SpellsFragment, SpellsBlock}
-use Rattle.checkpoint_io.specs.Validity.{records_of, last_stamp, IsClosed, IsOpen, DefinesNext, GoesOn, IsRightAfter, IsHeader}
-use Rattle.checkpoint_io.specs.Reading.{Outcome, found, broken, Reads, Gives, Unless, ByteThen, NumberThen, MagicThen, ReadsClock, ReadsVersion, ReadsHeader, ReadsEntries, IsBadCount, ReadsCount, ReadsFragment, WriterThen, ReadsBody, ReadsLength, ReadsExtent, ReadsClose, ReadsTagged, ReadsBlock}
+use Rattle.checkpoint_io.specs.Validity.{records_of, last_stamp, IsClosed, MayStillWrite, DefinesNext, ContinuesWriter, IsRightAfter, IsHeader}
+use Rattle.checkpoint_io.specs.Reading.{ReadOutcome, found, broken, Reads, ReadsNoMore, Unless, ByteThen, NumberThen, MagicThen, ReadsClock, ReadsVersion, ReadsHeader, ReadsEntries, IsBadCount, ReadsCount, ReadsFragment, WriterThen, ReadsBody, ReadsLength, ReadsExtent, ReadsClose, ReadsTagged, ReadsBlock}
 use Rattle.checkpoint_io.proofs.BlockLaws.{fragment_nested, extent_nested}
 use Rattle.checkpoint_io.proofs.FrontLaws.{header_nested}
 
 -- ---- right headers are read
 
-magic_read : {A : Type 0} (letters : List ℕ) (next : Reads A) (rest : List ℕ) (outcome : Outcome A) → next rest outcome → MagicThen letters next (letters ++ rest) outcome
+magic_read : {A : Type 0} (letters : List ℕ) (next : Reads A) (rest : List ℕ) (outcome : ReadOutcome A) → next rest outcome → MagicThen letters next (letters ++ rest) outcome
 magic_read [] next rest outcome goes_on = goes_on
 magic_read (letter ∷ letters) next rest outcome goes_on = inr (letter, letters ++ rest, refl, inr ((λ wrong. wrong refl), magic_read letters next rest outcome goes_on))
 
@@ -88,14 +88,14 @@ fragment_read before first messages entries rest right some few fits spelled =
 known_writer : (header : Header) (writer : ℕ) → writer < header.writers → ¬ (header.writers ≤ writer)
 known_writer header writer known wrong = omega (arith, known, wrong)
 
-writer_read : (header : Header) (before : List Block) (writer : ℕ) (next : ℕ → Reads Block) (rest : List ℕ) (outcome : Outcome Block) → IsOpen header before writer → next writer rest outcome → WriterThen header before next (writer ∷ rest) outcome
+writer_read : (header : Header) (before : List Block) (writer : ℕ) (next : ℕ → Reads Block) (rest : List ℕ) (outcome : ReadOutcome Block) → MayStillWrite header before writer → next writer rest outcome → WriterThen header before next (writer ∷ rest) outcome
 writer_read header before writer next rest outcome right goes_on = inr (writer, rest, refl, inr (known_writer header writer right.known, inr (right.unclosed, goes_on)))
 
 good_length : (len : ℕ) → 1 ≤ len → len ≤ 65536 → ¬ ((len ≡ 0) ⊎ (MAX_BODY < len))
 good_length len some short (inl none) = omega (arith, none, some)
 good_length len some short (inr many) = omega (arith, many, short)
 
-extent_read : (header : Header) (before : List Block) (writer : ℕ) (entries : List Call) (body rest : List ℕ) → GoesOn header before writer entries → 1 ≤ length body → length body ≤ 65536 → IsBody (messages_of before) header.clock.tick (last_stamp header.clock.tick (records_of writer before)) entries body
+extent_read : (header : Header) (before : List Block) (writer : ℕ) (entries : List Call) (body rest : List ℕ) → ContinuesWriter header before writer entries → 1 ≤ length body → length body ≤ 65536 → IsBody (messages_of before) header.clock.tick (last_stamp header.clock.tick (records_of writer before)) entries body
     → ReadsExtent header before (writer ∷ (le_bytes 4 (length body) ++ (body ++ rest))) (found (Extent writer entries) rest)
 extent_read header before writer entries body rest right some short is =
     writer_read header before writer (ReadsLength header before) _ _ right.writer_open (inr (length body, _, omega (arith, short), refl, inr (good_length (length body) some short, inr (body, rest, refl, refl, inr (entries, is, refl)))))
@@ -111,7 +111,7 @@ block_read header before (Extent writer entries) front rest right spelled =
     (inr (2, _, refl, inr (inl (refl, extent_read header before writer entries spelled.body rest right spelled.some spelled.short is))))
 block_read header before (Close writer) front rest right spelled =
     subst (λ (bytes : List ℕ). ReadsBlock header before bytes (found (Close writer) rest)) (sym (ap (λ (f : List ℕ). f ++ rest) spelled.joined))
-    (inr (4, _, refl, inr (inr (inl (refl, writer_read header before writer (λ w. Gives (Close w)) rest (found (Close writer) rest) right refl)))))
+    (inr (4, _, refl, inr (inr (inl (refl, writer_read header before writer (λ w. ReadsNoMore (Close w)) rest (found (Close writer) rest) right refl)))))
 
 -- ---- what is read is right
 
@@ -132,7 +132,7 @@ found_rest : (a b : Block) (x y : List ℕ) → found a x ≡ found b y → x �
 found_rest a b x y e = cc
 
 -- how a step went on where something was found
-pub passed : {A : Type 0} (wrong : Type 0) (cause : Cause) (next : Outcome A → Type 0) (thing : A) (rest : List ℕ) → Unless wrong cause next (found thing rest) → (¬ wrong) × next (found thing rest)
+pub passed : {A : Type 0} (wrong : Type 0) (cause : Cause) (next : ReadOutcome A → Type 0) (thing : A) (rest : List ℕ) → Unless wrong cause next (found thing rest) → (¬ wrong) × next (found thing rest)
 passed wrong cause next thing rest (inl p) = absurd (not_broken thing rest cause p.1)
 passed wrong cause next thing rest (inr p) = p
 
@@ -227,7 +227,7 @@ record IsWriterRead (header : Header) (before : List Block) (next : ℕ → Read
   writer : ℕ
   behind : List ℕ
   joined : bytes ≡ writer ∷ behind
-  right : IsOpen header before writer
+  right : MayStillWrite header before writer
   then : next writer behind (found block rest)
 
 writer_passed : (header : Header) (before : List Block) (next : ℕ → Reads Block) (bytes : List ℕ) (block : Block) (rest : List ℕ) → WriterThen header before next bytes (found block rest) → IsWriterRead header before next bytes block rest
@@ -248,7 +248,7 @@ writer_passed header before next bytes block rest reads =
 
 close_right : (header : Header) (before : List Block) (bytes : List ℕ) (block : Block) (rest : List ℕ) → header.writers ≤ 64 → ReadsClose header before bytes (found block rest) → IsReadRight header before (4 ∷ bytes) block rest
 close_right header before bytes block rest few reads =
-    let read = writer_passed header before (λ writer. Gives (Close writer)) bytes block rest reads in
+    let read = writer_passed header before (λ writer. ReadsNoMore (Close writer)) bytes block rest reads in
     let known = read.right.known in
     let joined : 4 ∷ bytes ≡ 4 ∷ read.writer ∷ rest = ap (λ (b : List ℕ). 4 ∷ b) (read.joined ∙ ap (λ (b : List ℕ). read.writer ∷ b) (sym (found_rest block (Close read.writer) rest read.behind read.then))) in
     let close : IsReadRight header before (4 ∷ bytes) (Close read.writer) rest = record {
@@ -259,7 +259,7 @@ close_right header before bytes block rest few reads =
     } in
     subst (λ (b : Block). IsReadRight header before (4 ∷ bytes) b rest) (sym (found_block block (Close read.writer) rest read.behind read.then)) close
 
-extent_is : (header : Header) (before : List Block) (writer len : ℕ) (bytes behind behind_len body rest : List ℕ) (entries : List Call) → header.writers ≤ 64 → IsOpen header before writer → bytes ≡ writer ∷ behind → behind ≡ le_bytes 4 len ++ behind_len → ¬ ((len ≡ 0) ⊎ (MAX_BODY < len)) → length body ≡ len → behind_len ≡ body ++ rest → IsBody (messages_of before) header.clock.tick (last_stamp header.clock.tick (records_of writer before)) entries body
+extent_is : (header : Header) (before : List Block) (writer len : ℕ) (bytes behind behind_len body rest : List ℕ) (entries : List Call) → header.writers ≤ 64 → MayStillWrite header before writer → bytes ≡ writer ∷ behind → behind ≡ le_bytes 4 len ++ behind_len → ¬ ((len ≡ 0) ⊎ (MAX_BODY < len)) → length body ≡ len → behind_len ≡ body ++ rest → IsBody (messages_of before) header.clock.tick (last_stamp header.clock.tick (records_of writer before)) entries body
     → IsReadRight header before (2 ∷ bytes) (Extent writer entries) rest
 extent_is header before writer len bytes behind behind_len body rest entries few right is_writer is_len good whole is_body is =
     let known = right.known in
@@ -286,7 +286,7 @@ extent_right header before bytes block rest few reads =
     let within = passed ((lens.0 ≡ 0) ⊎ (MAX_BODY < lens.0)) causes.BadLength (ReadsBody (messages_of before) header.clock.tick last read.writer lens.0 lens.1) block rest lens.4 in
     judged read.writer lens.0 read.behind lens.1 read.right read.joined lens.3 within.0 within.1
   where
-    judged : (writer len : ℕ) (behind behind_len : List ℕ) → IsOpen header before writer → bytes ≡ writer ∷ behind → behind ≡ le_bytes 4 len ++ behind_len → ¬ ((len ≡ 0) ⊎ (MAX_BODY < len)) → ReadsBody (messages_of before) header.clock.tick (last_stamp header.clock.tick (records_of writer before)) writer len behind_len (found block rest) → IsReadRight header before (2 ∷ bytes) block rest
+    judged : (writer len : ℕ) (behind behind_len : List ℕ) → MayStillWrite header before writer → bytes ≡ writer ∷ behind → behind ≡ le_bytes 4 len ++ behind_len → ¬ ((len ≡ 0) ⊎ (MAX_BODY < len)) → ReadsBody (messages_of before) header.clock.tick (last_stamp header.clock.tick (records_of writer before)) writer len behind_len (found block rest) → IsReadRight header before (2 ∷ bytes) block rest
     judged writer len behind behind_len right is_writer is_len good (inl p) = absurd (not_broken block rest causes.Cut p.1)
     judged writer len behind behind_len right is_writer is_len good (inr (body, more, whole, is_body, inl (cause, breaks, e))) = absurd (not_broken block rest (causes.Body cause) e)
     judged writer len behind behind_len right is_writer is_len good (inr (body, more, whole, is_body, inr (entries, is, e))) =

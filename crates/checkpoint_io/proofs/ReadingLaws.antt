@@ -16,19 +16,19 @@ use Rattle.checkpoint_io.specs.declared.header.Header.{Header}
 use Rattle.checkpoint_io.specs.Blocks.{Block, Fragment, Extent, Close, messages_of}
 use Rattle.checkpoint_io.specs.Validity.{records_of, last_stamp, IsClosed}
 use Rattle.checkpoint_io.specs.declared.heads.TheConstants.{MAX_BODY}
-use Rattle.checkpoint_io.specs.Reading.{IsBadCount, Outcome, found, broken, Reads, Unless, ByteThen, NumberThen, MagicThen, ReadsClock, ReadsWriters, ReadsVersion, ReadsHeader, EntryThen, ReadsEntries, ReadsCount, ReadsFragment, WriterThen, ReadsBody, ReadsLength, ReadsExtent, ReadsClose, ReadsTagged, ReadsBlock}
+use Rattle.checkpoint_io.specs.Reading.{IsBadCount, ReadOutcome, found, broken, Reads, Unless, ByteThen, NumberThen, MagicThen, ReadsClock, ReadsWriters, ReadsVersion, ReadsHeader, EntryThen, ReadsEntries, ReadsCount, ReadsFragment, WriterThen, ReadsBody, ReadsLength, ReadsExtent, ReadsClose, ReadsTagged, ReadsBlock}
 use Rattle.checkpoint_io.proofs.BlockLaws.{le_length, same_numbers, one_entry}
 
 -- what is read gives at most one outcome
-abbrev pub GivesOne : {A : Type 0} → (Outcome A → Type 0) → Type 0
-GivesOne {A} gives = (a b : Outcome A) → gives a → gives b → a ≡ b
+abbrev pub GivesOne : {A : Type 0} → (ReadOutcome A → Type 0) → Type 0
+GivesOne {A} gives = (a b : ReadOutcome A) → gives a → gives b → a ≡ b
 
 -- ---- steps
 
-same_end : {A : Type 0} (end : Outcome A) → GivesOne (λ outcome. outcome ≡ end)
+same_end : {A : Type 0} (end : ReadOutcome A) → GivesOne (λ outcome. outcome ≡ end)
 same_end end a b p q = p ∙ sym q
 
-pub one_unless : {A : Type 0} (wrong : Type 0) (cause : Cause) (next : Outcome A → Type 0) → GivesOne next → GivesOne (Unless wrong cause next)
+pub one_unless : {A : Type 0} (wrong : Type 0) (cause : Cause) (next : ReadOutcome A → Type 0) → GivesOne next → GivesOne (Unless wrong cause next)
 one_unless wrong cause next one a b (inl p) (inl q) = p.1 ∙ sym q.1
 one_unless wrong cause next one a b (inl p) (inr q) = absurd (q.0 p.0)
 one_unless wrong cause next one a b (inr p) (inl q) = absurd (p.0 q.0)
@@ -116,7 +116,7 @@ one_writer : (header : Header) (before : List Block) (next : ℕ → Reads Block
 one_writer header before next bytes one =
     one_byte _ bytes (λ writer rest. one_unless (header.writers ≤ writer) causes.UnknownWriter _ (one_unless (IsClosed writer before) causes.AfterClose (next writer rest) (one writer rest)))
 
-abbrev JudgesBody : List Message → ℕ → ℕ → ℕ → List ℕ → List ℕ → Outcome Block → Type 0
+abbrev JudgesBody : List Message → ℕ → ℕ → ℕ → List ℕ → List ℕ → ReadOutcome Block → Type 0
 JudgesBody messages tick last writer body rest outcome =
     ((cause : BodyCause) × BodyBreak messages tick last body cause × (outcome ≡ broken (causes.Body cause)))
     ⊎ ((entries : List Call) × IsBody messages tick last entries body × (outcome ≡ found (Extent writer entries) rest))

@@ -7,14 +7,13 @@ use Rattle.std.specs.Prelude.{codes}
 use Rattle.std.specs.Hash.{le_bytes}
 use Rattle.std.specs.Int.{bytes_low_first}
 use Rattle.std.specs.List.{list_any}
-use Rattle.nibble_pack.specs.Bytes.{number_of_bytes, number_of_bytes-lt, low_first-number_of_bytes}
+use Rattle.nibble_pack.specs.Bytes.{AreBytes, back_bytes, number_of_bytes, number_of_bytes-lt, low_first-number_of_bytes}
 use Rattle.log_dictionary.specs.declared.message.Message.{Message}
 use Rattle.log_dictionary.specs.declared.dictionary.TheConstants.{MAX_MESSAGES}
 use Rattle.log_dictionary.specs.Messages.{HasMessage, is_same}
 use Rattle.log_dictionary.proofs.BinaryCases.{entry_cases}
 use Rattle.log_dictionary.proofs.Distinct.{there_from_test, none_from_test}
-use Rattle.arg_records.specs.declared.call.TheConstants.{MAX_WRITERS}
-use Rattle.buffer_extent.proofs.Deciding.{AreBytes, back_bytes}
+use Rattle.session_options.specs.declared.limits.TheConstants.{MAX_WRITERS}
 use Rattle.buffer_extent.proofs.BodyCases.{body_or_break}
 use Rattle.checkpoint_io.specs.declared.cause.Cause.{Cause}
 use Rattle.checkpoint_io.specs.declared.cause.Cause.TheVariants as causes
@@ -22,11 +21,11 @@ use Rattle.checkpoint_io.specs.declared.header.Header.{Header}
 use Rattle.checkpoint_io.specs.declared.heads.TheConstants.{MAX_FRAGMENT_MESSAGES, MAX_BODY}
 use Rattle.checkpoint_io.specs.Blocks.{Block, Fragment, Extent, Close, messages_of}
 use Rattle.checkpoint_io.specs.Validity.{records_of, last_stamp, closes, IsClosed}
-use Rattle.checkpoint_io.specs.Reading.{Outcome, found, broken, Reads, Unless, ByteThen, NumberThen, MagicThen, ReadsClock, ReadsWriters, ReadsVersion, ReadsHeader, EntryThen, ReadsEntries, IsBadCount, ReadsCount, ReadsFragment, WriterThen, ReadsBody, ReadsRecords, ReadsLength, ReadsExtent, ReadsClose, ReadsTagged, ReadsBlock}
+use Rattle.checkpoint_io.specs.Reading.{ReadOutcome, found, broken, Reads, Unless, ByteThen, NumberThen, MagicThen, ReadsClock, ReadsWriters, ReadsVersion, ReadsHeader, EntryThen, ReadsEntries, IsBadCount, ReadsCount, ReadsFragment, WriterThen, ReadsBody, ReadsRecords, ReadsLength, ReadsExtent, ReadsClose, ReadsTagged, ReadsBlock}
 
 -- what is read gives an outcome
-abbrev pub HasOutcome : {A : Type 0} → (Outcome A → Type 0) → Type 0
-HasOutcome {A} gives = (outcome : Outcome A) × gives outcome
+abbrev pub HasOutcome : {A : Type 0} → (ReadOutcome A → Type 0) → Type 0
+HasOutcome {A} gives = (outcome : ReadOutcome A) × gives outcome
 
 -- ---- what holds or doesn't
 
@@ -60,7 +59,7 @@ either_or_not {A} {B} (inr none) (inr no_other) = inr neither
 
 -- ---- steps
 
-some_unless : {A : Type 0} (wrong : Type 0) (cause : Cause) (next : Outcome A → Type 0) → wrong ⊎ ¬ wrong → HasOutcome next → HasOutcome (Unless wrong cause next)
+some_unless : {A : Type 0} (wrong : Type 0) (cause : Cause) (next : ReadOutcome A → Type 0) → wrong ⊎ ¬ wrong → HasOutcome next → HasOutcome (Unless wrong cause next)
 some_unless wrong cause next (inl is) behind = (broken cause, inl (is, refl))
 some_unless wrong cause next (inr right) behind = (behind.0, inr (right, behind.1))
 

@@ -4,17 +4,17 @@ use Rattle.std.specs.Prelude.{codes, IfSome, IfErr, Result, Err}
 use Rattle.std.specs.Hash.{le_bytes}
 use Rattle.std.proofs.lemmas.List.{append-nil, length-append}
 use Rattle.nl_io.specs.Content.{Told}
+use Rattle.session_options.specs.declared.limits.TheConstants.{MAX_WRITERS}
 use Rattle.checkpoint_io.specs.declared.cause.Cause.{Cause}
 use Rattle.checkpoint_io.specs.declared.cause.Cause.TheVariants as causes
 use Rattle.checkpoint_io.specs.declared.fault.BlockFault.{BlockFault}
 use Rattle.checkpoint_io.specs.declared.fault.BlockFault.TheVariants.{Damaged}
 use Rattle.checkpoint_io.specs.declared.header.Header.{Header}
-use Rattle.arg_records.specs.declared.call.TheConstants.{MAX_WRITERS}
 use Rattle.checkpoint_io.specs.Blocks.{header_bytes}
 use Rattle.checkpoint_io.specs.Validity.{IsHeader}
-use Rattle.checkpoint_io.specs.Reading.{found, broken, Reads, Gives, Unless, MagicThen, header_of, ReadsRate, ReadsNanos, ReadsClock, ReadsWriters, ReadsVersion, ReadsHeader}
+use Rattle.checkpoint_io.specs.Reading.{found, broken, Reads, ReadsNoMore, Unless, MagicThen, header_of, ReadsRate, ReadsNanos, ReadsClock, ReadsWriters, ReadsVersion, ReadsHeader}
 use Rattle.checkpoint_io.specs.Fronts.{Break, at_header}
-use Rattle.checkpoint_io.specs.Places.{Waiting, with_front, place_of, Takes}
+use Rattle.checkpoint_io.specs.Places.{UnreadBytes, with_front, log_place, StandsBetween}
 use Rattle.checkpoint_io.specs.Writers.{AreStatesOf}
 use Rattle.checkpoint_io.specs.Readers.{ReaderState, StandsFor}
 use Rattle.checkpoint_io.proofs.BlockLaws.{le_length}
@@ -60,8 +60,8 @@ clock_passed : (writers : ℕ) (bytes behind rest : List ℕ) (header : Header) 
 clock_passed writers bytes behind rest header few is reads =
     let ticks = number_passed 8 (ReadsNanos writers) behind header rest reads in
     let nanos = number_passed 8 (ReadsRate writers ticks.0) ticks.1 header rest ticks.4 in
-    let rates = number_passed 8 (λ rate rest outcome. Unless (rate ≡ 0) causes.BadHeader (Gives (header_of writers ticks.0 nanos.0 rate) rest) outcome) nanos.1 header rest nanos.4 in
-    let ends = passed (rates.0 ≡ 0) causes.BadHeader (Gives (header_of writers ticks.0 nanos.0 rates.0) rates.1) header rest rates.4 in
+    let rates = number_passed 8 (λ rate rest outcome. Unless (rate ≡ 0) causes.BadHeader (ReadsNoMore (header_of writers ticks.0 nanos.0 rate) rest) outcome) nanos.1 header rest nanos.4 in
+    let ends = passed (rates.0 ≡ 0) causes.BadHeader (ReadsNoMore (header_of writers ticks.0 nanos.0 rates.0) rates.1) header rest rates.4 in
     let same = same_found header (header_of writers ticks.0 nanos.0 rates.0) rest rates.1 ends.1 in
     let parts : behind ≡ le_bytes 8 ticks.0 ++ (le_bytes 8 nanos.0 ++ (le_bytes 8 rates.0 ++ rest)) =
     ticks.3 ∙ ap (λ (b : List ℕ). le_bytes 8 ticks.0 ++ b) (nanos.3 ∙ ap (λ (b : List ℕ). le_bytes 8 nanos.0 ++ b) (rates.3 ∙ ap (λ (b : List ℕ). le_bytes 8 rates.0 ++ b) (sym same.1))) in
@@ -102,7 +102,7 @@ no_front : (told : Told) → with_front [] told ≡ told
 no_front None = refl
 no_front (Some content) = refl
 
-pub started : (reader : ReaderState) (none : Waiting) (from to : Told) → none.bytes ≡ [] → none.offset ≡ 0 → reader.messages ≡ [] → AreStatesOf reader.writers reader.header.clock.tick [] → reader.offset ≡ reader.waiting.offset → Takes ReadsHeader reader.header (place_of none from) (place_of reader.waiting to) → (taken : List ℕ) × (read : StandsFor reader taken) × (read.blocks ≡ []) × (from ≡ with_front (taken ++ reader.waiting.bytes) to)
+pub started : (reader : ReaderState) (none : UnreadBytes) (from to : Told) → none.bytes ≡ [] → none.offset ≡ 0 → reader.messages ≡ [] → AreStatesOf reader.writers reader.header.clock.tick [] → reader.offset ≡ reader.waiting.offset → StandsBetween ReadsHeader reader.header (log_place none from) (log_place reader.waiting to) → (taken : List ℕ) × (read : StandsFor reader taken) × (read.blocks ≡ []) × (from ≡ with_front (taken ++ reader.waiting.bytes) to)
 started reader none from to no_bytes front messages states offset takes =
     let header = reader.header in
     let read = header_right (takes.front ++ []) header [] (takes.found []) in

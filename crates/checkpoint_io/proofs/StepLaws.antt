@@ -9,14 +9,14 @@ use Rattle.byteorder.specs.Endian.{little_number}
 use Rattle.byteorder.specs.Numbers.{little_from-cons}
 use Rattle.nibble_pack.specs.Bytes.{number_of_bytes, low_first-number_of_bytes}
 use Rattle.nl_io.specs.Content.{Told, without_front, IsFront}
+use Rattle.session_options.specs.declared.limits.TheConstants.{MAX_WRITERS}
 use Rattle.checkpoint_io.specs.declared.cause.Cause.{Cause}
 use Rattle.checkpoint_io.specs.declared.cause.Cause.TheVariants as causes
 use Rattle.checkpoint_io.specs.declared.fault.BlockFault.{BlockFault}
 use Rattle.checkpoint_io.specs.declared.fault.BlockFault.TheVariants.{Damaged, ReadFault, NoMemory}
-use Rattle.arg_records.specs.declared.call.TheConstants.{MAX_WRITERS}
 use Rattle.checkpoint_io.specs.declared.header.Header.{Header}
-use Rattle.checkpoint_io.specs.Reading.{Outcome, found, broken, Reads, Gives, Unless, ByteThen, NumberThen, MagicThen, header_of, ReadsRate, ReadsNanos, ReadsClock, ReadsWriters, ReadsVersion}
-use Rattle.checkpoint_io.specs.Places.{Waiting, Place, with_front, place_of, further, Passes, Takes, Refuses, EndsBefore}
+use Rattle.checkpoint_io.specs.Reading.{ReadOutcome, found, broken, Reads, ReadsNoMore, Unless, ByteThen, NumberThen, MagicThen, header_of, ReadsRate, ReadsNanos, ReadsClock, ReadsWriters, ReadsVersion}
+use Rattle.checkpoint_io.specs.Places.{UnreadBytes, LogPlace, with_front, log_place, further, BytesBetween, StandsBetween, Refuses, EndsBefore}
 use Rattle.checkpoint_io.proofs.BlockLaws.{le_length}
 
 -- ---- numbers at the front of bytes
@@ -48,8 +48,8 @@ front_parted front back None = refl
 front_parted front back (Some content) = ap Some (append_assoc front back content)
 
 -- the front of the bytes that wait was taken
-pub front_taken : (front : List ℕ) (size : ℕ) (from mid to : Waiting) (left behind : Told) → with_front mid.bytes behind ≡ with_front from.bytes left → mid.offset ≡ from.offset → take size mid.bytes ≡ front → length front ≡ size → to.bytes ≡ drop size mid.bytes → to.offset ≡ further mid.offset size
-    → Passes front (place_of from left) (place_of to behind)
+pub front_taken : (front : List ℕ) (size : ℕ) (from mid to : UnreadBytes) (left behind : Told) → with_front mid.bytes behind ≡ with_front from.bytes left → mid.offset ≡ from.offset → take size mid.bytes ≡ front → length front ≡ size → to.bytes ≡ drop size mid.bytes → to.offset ≡ further mid.offset size
+    → BytesBetween front (log_place from left) (log_place to behind)
 front_taken front size from mid to left behind same start is len moved offset =
     let parts : mid.bytes ≡ front ++ to.bytes = sym (take-append-drop size mid.bytes) ∙ ap (λ (b : List ℕ). b ++ drop size mid.bytes) is ∙ ap (λ (b : List ℕ). front ++ b) (sym moved) in
     record {
@@ -57,21 +57,21 @@ front_taken front size from mid to left behind same start is len moved offset =
       offset = offset ∙ ap (λ (o : ℕ). further o size) start ∙ ap (further from.offset) (sym len);
     }
 
-pub number_taken : (size n : ℕ) (from mid to : Waiting) (left behind : Told) → with_front mid.bytes behind ≡ with_front from.bytes left → mid.offset ≡ from.offset → take size mid.bytes ≡ le_bytes size n → to.bytes ≡ drop size mid.bytes → to.offset ≡ further mid.offset size
-    → Passes (le_bytes size n) (place_of from left) (place_of to behind)
+pub number_taken : (size n : ℕ) (from mid to : UnreadBytes) (left behind : Told) → with_front mid.bytes behind ≡ with_front from.bytes left → mid.offset ≡ from.offset → take size mid.bytes ≡ le_bytes size n → to.bytes ≡ drop size mid.bytes → to.offset ≡ further mid.offset size
+    → BytesBetween (le_bytes size n) (log_place from left) (log_place to behind)
 number_taken size n from mid to left behind same start is moved offset = front_taken (le_bytes size n) size from mid to left behind same start is (le_length size n) moved offset
 
 -- ---- one step behind another
 
 -- how reading goes on behind a front
 abbrev pub GoesOnBehind : {A : Type 0} → Reads A → List ℕ → Reads A → Type 0
-GoesOnBehind {A} reads front tail = (rest : List ℕ) (outcome : Outcome A) → tail rest outcome → reads (front ++ rest) outcome
+GoesOnBehind {A} reads front tail = (rest : List ℕ) (outcome : ReadOutcome A) → tail rest outcome → reads (front ++ rest) outcome
 
 refused_told : {A : Type 0} (reads tail : Reads A) (front : List ℕ) (from to : Told) (cause : Cause) → from ≡ with_front front to → GoesOnBehind reads front tail → IfSome to (λ bytes. tail bytes (broken cause)) → IfSome from (λ bytes. reads bytes (broken cause))
 refused_told reads tail front from None cause is on refused = subst (λ (told : Told). IfSome told (λ bytes. reads bytes (broken cause))) (sym is) tt
 refused_told reads tail front from (Some bytes) cause is on refused = subst (λ (told : Told). IfSome told (λ bytes. reads bytes (broken cause))) (sym is) (on bytes (broken cause) refused)
 
-pub refused_behind : {A : Type 0} (reads tail : Reads A) (front : List ℕ) (from to : Place) (fault : BlockFault) → GoesOnBehind reads front tail → Passes front from to → Refuses tail to fault → Refuses reads from fault
+pub refused_behind : {A : Type 0} (reads tail : Reads A) (front : List ℕ) (from to : LogPlace) (fault : BlockFault) → GoesOnBehind reads front tail → BytesBetween front from to → Refuses tail to fault → Refuses reads from fault
 refused_behind reads tail front from to (Damaged cause) on passes refused = refused_told reads tail front from.ahead to.ahead cause passes.ahead on refused
 refused_behind reads tail front from to ReadFault on passes refused = tt
 refused_behind reads tail front from to NoMemory on passes refused = tt
@@ -79,13 +79,13 @@ refused_behind reads tail front from to NoMemory on passes refused = tt
 further-add : (offset a b : ℕ) → further (further offset a) b ≡ further offset (a + b)
 further-add offset a b = omega arith
 
-pub passes_both : (front back : List ℕ) (from mid to : Place) → Passes front from mid → Passes back mid to → Passes (front ++ back) from to
+pub passes_both : (front back : List ℕ) (from mid to : LogPlace) → BytesBetween front from mid → BytesBetween back mid to → BytesBetween (front ++ back) from to
 passes_both front back from mid to p q = record {
   ahead = p.ahead ∙ ap (with_front front) q.ahead ∙ sym (front_parted front back to.ahead);
   offset = q.offset ∙ ap (λ (o : ℕ). further o (length back)) p.offset ∙ further-add from.offset (length front) (length back) ∙ ap (further from.offset) (sym (length-append front back));
 }
 
-pub taken_behind : {A : Type 0} (reads tail : Reads A) (thing : A) (front : List ℕ) (from mid to : Place) → GoesOnBehind reads front tail → Passes front from mid → Takes tail thing mid to → Takes reads thing from to
+pub taken_behind : {A : Type 0} (reads tail : Reads A) (thing : A) (front : List ℕ) (from mid to : LogPlace) → GoesOnBehind reads front tail → BytesBetween front from mid → StandsBetween tail thing mid to → StandsBetween reads thing from to
 taken_behind reads tail thing front from mid to on passes takes = record {
   front = front ++ takes.front;
   passes = passes_both front takes.front from mid to passes takes.passes;
@@ -100,7 +100,7 @@ byte_on next byte rest outcome goes = inr (byte, rest, refl, goes)
 pub number_on : {A : Type 0} (size : ℕ) (next : ℕ → Reads A) (n : ℕ) → n < 256 ^ size → GoesOnBehind (NumberThen size next) (le_bytes size n) (next n)
 number_on size next n fits rest outcome goes = inr (n, rest, fits, refl, goes)
 
-pub unless_on : {A : Type 0} (wrong : Type 0) (cause : Cause) (next : Outcome A → Type 0) (outcome : Outcome A) → ¬ wrong → next outcome → Unless wrong cause next outcome
+pub unless_on : {A : Type 0} (wrong : Type 0) (cause : Cause) (next : ReadOutcome A → Type 0) (outcome : ReadOutcome A) → ¬ wrong → next outcome → Unless wrong cause next outcome
 unless_on wrong cause next outcome right goes = inr (right, goes)
 
 ends_told : (told : Told) (count : ℕ) (P : List ℕ → Type 0) → ((bytes : List ℕ) → length bytes < count → P bytes) → IfSome told (λ bytes. length bytes < count) → IfSome told P
@@ -111,12 +111,12 @@ no_byte : (bytes : List ℕ) → length bytes < 1 → bytes ≡ []
 no_byte [] short = refl
 no_byte (byte ∷ bytes) short = absurd (omega (arith, short))
 
-pub byte_ends : {A : Type 0} (next : ℕ → Reads A) (from : Place) (fault : BlockFault) → EndsBefore 1 from fault → Refuses (ByteThen next) from fault
+pub byte_ends : {A : Type 0} (next : ℕ → Reads A) (from : LogPlace) (fault : BlockFault) → EndsBefore 1 from fault → Refuses (ByteThen next) from fault
 byte_ends next from (Damaged cause) ends = ends_told from.ahead 1 (λ bytes. ByteThen next bytes (broken cause)) (λ bytes short. inl (no_byte bytes short, ap broken ends.0)) ends.1
 byte_ends next from ReadFault ends = tt
 byte_ends next from NoMemory ends = tt
 
-pub number_ends : {A : Type 0} (size : ℕ) (next : ℕ → Reads A) (from : Place) (fault : BlockFault) → EndsBefore size from fault → Refuses (NumberThen size next) from fault
+pub number_ends : {A : Type 0} (size : ℕ) (next : ℕ → Reads A) (from : LogPlace) (fault : BlockFault) → EndsBefore size from fault → Refuses (NumberThen size next) from fault
 number_ends size next from (Damaged cause) ends = ends_told from.ahead size (λ bytes. NumberThen size next bytes (broken cause)) (λ bytes short. inl (short, ap broken ends.0)) ends.1
 number_ends size next from ReadFault ends = tt
 number_ends size next from NoMemory ends = tt
@@ -126,11 +126,11 @@ wrong_told None P always = tt
 wrong_told (Some bytes) P always = always bytes
 
 -- where a step is wrong it is refused, whatever follows
-pub wrong_refused : {A : Type 0} (wrong : Type 0) (cause : Cause) (next : Reads A) (from : Place) → wrong → Refuses (λ bytes outcome. Unless wrong cause (next bytes) outcome) from (Damaged cause)
+pub wrong_refused : {A : Type 0} (wrong : Type 0) (cause : Cause) (next : Reads A) (from : LogPlace) → wrong → Refuses (λ bytes outcome. Unless wrong cause (next bytes) outcome) from (Damaged cause)
 wrong_refused wrong cause next from is = wrong_told from.ahead (λ bytes. Unless wrong cause (next bytes) (broken cause)) (λ bytes. inl (is, refl))
 
 -- nothing more is read
-pub gives_taken : {A : Type 0} (thing : A) (at : Place) → at.offset < 2 ^ 64 → Takes (λ bytes outcome. outcome ≡ found thing bytes) thing at at
+pub gives_taken : {A : Type 0} (thing : A) (at : LogPlace) → at.offset < 2 ^ 64 → StandsBetween (λ bytes outcome. outcome ≡ found thing bytes) thing at at
 gives_taken thing at fits = record { front = []; passes = record { ahead = no_front at.ahead; offset = omega (arith, fits) }; found = λ rest. refl }
   where
     no_front : (told : Told) → told ≡ with_front [] told
@@ -139,11 +139,11 @@ gives_taken thing at fits = record { front = []; passes = record { ahead = no_fr
 
 -- ---- answers of calls
 
-pub ok_behind : {A : Type 0} (r : Result A BlockFault) (reads tail : Reads A) (front : List ℕ) (from mid to : Place) → GoesOnBehind reads front tail → Passes front from mid → IfOk r (λ thing. Takes tail thing mid to) → IfOk r (λ thing. Takes reads thing from to)
+pub ok_behind : {A : Type 0} (r : Result A BlockFault) (reads tail : Reads A) (front : List ℕ) (from mid to : LogPlace) → GoesOnBehind reads front tail → BytesBetween front from mid → IfOk r (λ thing. StandsBetween tail thing mid to) → IfOk r (λ thing. StandsBetween reads thing from to)
 ok_behind (Ok thing) reads tail front from mid to on passes takes = taken_behind reads tail thing front from mid to on passes takes
 ok_behind (Err fault) reads tail front from mid to on passes takes = tt
 
-pub err_behind : {A T : Type 0} (r : Result T BlockFault) (reads tail : Reads A) (front : List ℕ) (from mid : Place) → GoesOnBehind reads front tail → Passes front from mid → IfErr r (Refuses tail mid) → IfErr r (Refuses reads from)
+pub err_behind : {A T : Type 0} (r : Result T BlockFault) (reads tail : Reads A) (front : List ℕ) (from mid : LogPlace) → GoesOnBehind reads front tail → BytesBetween front from mid → IfErr r (Refuses tail mid) → IfErr r (Refuses reads from)
 err_behind (Ok thing) reads tail front from mid on passes refused = tt
 err_behind (Err fault) reads tail front from mid on passes refused = refused_behind reads tail front from mid fault on passes refused
 
@@ -163,20 +163,20 @@ writers_on byte writers is some few rest outcome goes = inr (byte, rest, refl, i
     good (inr many) = omega (arith, many, few, is)
 
 -- the clock, where it ticks
-pub clock_taken : (writers tick nanos rate : ℕ) (from first second to : Place) → tick < 2 ^ 64 → nanos < 2 ^ 64 → rate < 2 ^ 64 → ¬ (rate ≡ 0) → Passes (le_bytes 8 tick) from first → Passes (le_bytes 8 nanos) first second → Passes (le_bytes 8 rate) second to → Takes (ReadsClock writers) (header_of writers tick nanos rate) from to
+pub clock_taken : (writers tick nanos rate : ℕ) (from first second to : LogPlace) → tick < 2 ^ 64 → nanos < 2 ^ 64 → rate < 2 ^ 64 → ¬ (rate ≡ 0) → BytesBetween (le_bytes 8 tick) from first → BytesBetween (le_bytes 8 nanos) first second → BytesBetween (le_bytes 8 rate) second to → StandsBetween (ReadsClock writers) (header_of writers tick nanos rate) from to
 clock_taken writers tick nanos rate from first second to tick_fits nanos_fits rate_fits ticks p q r =
     let header = header_of writers tick nanos rate in
     let offset = r.offset in
-    let end : Takes (Gives header) header to to = gives_taken header to (omega (arith, offset)) in
-    let rates : Takes (ReadsRate writers tick nanos) header second to = taken_behind (ReadsRate writers tick nanos) (Gives header) header (le_bytes 8 rate) second to to (λ rest outcome goes. inr (rate, rest, rate_fits, refl, inr (ticks, goes))) r end in
-    let all_nanos : Takes (ReadsNanos writers tick) header first to = taken_behind (ReadsNanos writers tick) (ReadsRate writers tick nanos) header (le_bytes 8 nanos) first second to (number_on 8 (ReadsRate writers tick) nanos nanos_fits) q rates in
+    let end : StandsBetween (ReadsNoMore header) header to to = gives_taken header to (omega (arith, offset)) in
+    let rates : StandsBetween (ReadsRate writers tick nanos) header second to = taken_behind (ReadsRate writers tick nanos) (ReadsNoMore header) header (le_bytes 8 rate) second to to (λ rest outcome goes. inr (rate, rest, rate_fits, refl, inr (ticks, goes))) r end in
+    let all_nanos : StandsBetween (ReadsNanos writers tick) header first to = taken_behind (ReadsNanos writers tick) (ReadsRate writers tick nanos) header (le_bytes 8 nanos) first second to (number_on 8 (ReadsRate writers tick) nanos nanos_fits) q rates in
     taken_behind (ReadsClock writers) (ReadsNanos writers tick) header (le_bytes 8 tick) from first to (number_on 8 (ReadsNanos writers) tick tick_fits) p all_nanos
 
 -- and where it doesn't
-pub clock_refused : (writers tick nanos rate : ℕ) (from first second to : Place) → tick < 2 ^ 64 → nanos < 2 ^ 64 → rate < 2 ^ 64 → rate ≡ 0 → Passes (le_bytes 8 tick) from first → Passes (le_bytes 8 nanos) first second → Passes (le_bytes 8 rate) second to → Refuses (ReadsClock writers) from (Damaged causes.BadHeader)
+pub clock_refused : (writers tick nanos rate : ℕ) (from first second to : LogPlace) → tick < 2 ^ 64 → nanos < 2 ^ 64 → rate < 2 ^ 64 → rate ≡ 0 → BytesBetween (le_bytes 8 tick) from first → BytesBetween (le_bytes 8 nanos) first second → BytesBetween (le_bytes 8 rate) second to → Refuses (ReadsClock writers) from (Damaged causes.BadHeader)
 clock_refused writers tick nanos rate from first second to tick_fits nanos_fits rate_fits none p q r =
-    let next : ℕ → Reads Header = λ rate bytes outcome. Unless (rate ≡ 0) causes.BadHeader (Gives (header_of writers tick nanos rate) bytes) outcome in
-    let end : Refuses (next rate) to (Damaged causes.BadHeader) = wrong_refused (rate ≡ 0) causes.BadHeader (Gives (header_of writers tick nanos rate)) to none in
+    let next : ℕ → Reads Header = λ rate bytes outcome. Unless (rate ≡ 0) causes.BadHeader (ReadsNoMore (header_of writers tick nanos rate) bytes) outcome in
+    let end : Refuses (next rate) to (Damaged causes.BadHeader) = wrong_refused (rate ≡ 0) causes.BadHeader (ReadsNoMore (header_of writers tick nanos rate)) to none in
     let rates : Refuses (ReadsRate writers tick nanos) second (Damaged causes.BadHeader) = refused_behind (ReadsRate writers tick nanos) (next rate) (le_bytes 8 rate) second to (Damaged causes.BadHeader) (number_on 8 next rate rate_fits) r end in
     let all_nanos : Refuses (ReadsNanos writers tick) first (Damaged causes.BadHeader) = refused_behind (ReadsNanos writers tick) (ReadsRate writers tick nanos) (le_bytes 8 nanos) first second (Damaged causes.BadHeader) (number_on 8 (ReadsRate writers tick) nanos nanos_fits) q rates in
     refused_behind (ReadsClock writers) (ReadsNanos writers tick) (le_bytes 8 tick) from first (Damaged causes.BadHeader) (number_on 8 (ReadsNanos writers) tick tick_fits) p all_nanos

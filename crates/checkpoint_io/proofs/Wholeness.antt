@@ -2,12 +2,12 @@
 use Rattle.std.proofs.Common.{◌≡◌, ◌⊎◌, inl, inr, ℕ, zero, suc, ◌≤◌, List, [], ◌∷◌, ◌++◌, length, sym, ap, subst, ◌∙◌, append_assoc, arith}
 use Rattle.std.proofs.lemmas.List.{length-append, append-nil}
 use Rattle.log_dictionary.specs.declared.message.Message.{Message}
-use Rattle.buffer_extent.proofs.Deciding.{AreBytes, back_bytes}
+use Rattle.nibble_pack.specs.Bytes.{AreBytes, back_bytes}
 use Rattle.checkpoint_io.specs.declared.cause.Cause.{Cause}
 use Rattle.checkpoint_io.specs.declared.header.Header.{Header}
 use Rattle.checkpoint_io.specs.Blocks.{Block, Fragment, Extent, Close, header_bytes, SpellsBlock, FileOf}
 use Rattle.checkpoint_io.specs.Validity.{Valid}
-use Rattle.checkpoint_io.specs.Reading.{Outcome, found, broken, ReadsHeader, ReadsBlock}
+use Rattle.checkpoint_io.specs.Reading.{ReadOutcome, found, broken, ReadsHeader, ReadsBlock}
 use Rattle.checkpoint_io.specs.Fronts.{Front, HasNoHeader, Break, at_header, at_block}
 use Rattle.checkpoint_io.proofs.FrontLaws.{empty_file, file_goes_on, whole_is_front}
 use Rattle.checkpoint_io.proofs.ValidityLaws.{goes_on, messages_differ}
@@ -23,7 +23,7 @@ IsWholeOrBreaks bytes =
     ⊎ ((offset : ℕ) × (cause : Cause) × Break bytes offset cause)
 
 -- what is read is a thing, or broken
-found_or_broken : {A : Type 0} (gives : Outcome A → Type 0) → HasOutcome gives → ((thing : A) × (rest : List ℕ) × gives (found thing rest)) ⊎ ((cause : Cause) × gives (broken cause))
+found_or_broken : {A : Type 0} (gives : ReadOutcome A → Type 0) → HasOutcome gives → ((thing : A) × (rest : List ℕ) × gives (found thing rest)) ⊎ ((cause : Cause) × gives (broken cause))
 found_or_broken gives (found thing rest, reads) = inl (thing, rest, reads)
 found_or_broken gives (broken cause, reads) = inr (cause, reads)
 

@@ -10,7 +10,7 @@ use Rattle.arg_records.specs.Calls.{IsCall}
 use Rattle.checkpoint_io.specs.Blocks.{Fragment, Close, SpellsFragment, SpellsExtent, FileOf}
 use Rattle.checkpoint_io.specs.Validity.{Valid}
 use Rattle.checkpoint_io.specs.Logs.{IsLaidOut, ends, extent, close, LogOf}
-use Rattle.checkpoint_io.specs.Rows.{row_record, row_header, row_blocks, row_entry_bytes, row_fragment_bytes, row_body, row_extent_bytes, row_bytes, full_record, mixed_blocks}
+use Rattle.checkpoint_io.specs.Rows.{row_record, row_header, row_blocks, row_entry_bytes, row_fragment_bytes, row_body, row_extent_bytes, row_bytes, full_record, late_fragments}
 use Rattle.arg_records.specs.Rows.{full_message}
 use Rattle.log_dictionary.specs.Rows.{row_message}
 
@@ -108,7 +108,7 @@ log batch some = record {
 
 -- ---- two writers
 
-pub mixed : IsLaidOut (row_message ∷ full_message ∷ []) 2 [] mixed_blocks
+pub mixed : IsLaidOut (row_message ∷ full_message ∷ []) 2 [] late_fragments
 mixed =
     extent [] (Fragment 0 (row_message ∷ []) ∷ []) 0 (row_record ∷ []) _ ([], refl, refl, inl refl, refl) (lit≤ tt)
     (extent _ (Fragment 1 (full_message ∷ []) ∷ []) 1 (full_record ∷ row_record ∷ []) _ ([], refl, refl, inl refl, refl) (lit≤ tt)

@@ -10,7 +10,7 @@ use Rattle.checkpoint_io.specs.Blocks.{Fragment}
 use Rattle.checkpoint_io.specs.declared.block.Block.{Block as ReadBlock}
 use Rattle.checkpoint_io.specs.declared.block.Block.TheVariants as read
 use Rattle.checkpoint_io.specs.Reading.{ReadsEntries, ReadsFragment}
-use Rattle.checkpoint_io.specs.Places.{Place, Passes, Takes, IfDamaged}
+use Rattle.checkpoint_io.specs.Places.{LogPlace, BytesBetween, StandsBetween, IfDamaged}
 
 -- the bytes begin with no entry, for this cause
 abbrev pub BeginsWithNone : Cause → List ℕ → Type 0
@@ -26,37 +26,37 @@ pub record BeginsWithOld (defined : List Message) (bytes : List ℕ) : Type 0 wh
   pub there : HasMessage defined message
 
 -- no entry is ahead
-abbrev pub BreaksNoEntry : Place → BlockFault → Type 0
+abbrev pub BreaksNoEntry : LogPlace → BlockFault → Type 0
 BreaksNoEntry from fault = IfDamaged (λ cause. IfSome from.ahead (BeginsWithNone cause)) fault
 
 -- no entry of a new message is ahead
-abbrev pub BreaksEntry : List Message → Place → BlockFault → Type 0
+abbrev pub BreaksEntry : List Message → LogPlace → BlockFault → Type 0
 BreaksEntry defined from fault =
     IfDamaged (λ cause. IfSome from.ahead (λ bytes.
     BeginsWithNone cause bytes ⊎ (BeginsWithOld defined bytes × (cause ≡ causes.BadEntry)))) fault
 
 -- the entry of a new message stands between the two places, which was added
-pub record TakesEntry (before after : List Message) (from to : Place) : Type 0 where
+pub record TakesEntry (before after : List Message) (from to : LogPlace) : Type 0 where
   pub message : Message
   pub front : List ℕ
-  pub passes : Passes front from to
+  pub passes : BytesBetween front from to
   pub spelled : SpellsEntry front message
   pub new : ¬ (HasMessage before message)
   pub added : after ≡ before ++ message ∷ []
 
 -- so many new messages behind those that were read stand between the two places, and were added
 pub record TakesEntries (before : List Message) (first : ℕ) (read : List Message) (count : ℕ) (after : List Message)
-    (from to : Place) : Type 0 where
+    (from to : LogPlace) : Type 0 where
   pub messages : List Message
   pub many : length messages ≡ count
   pub added : after ≡ (before ++ read) ++ messages
-  pub takes : Takes (ReadsEntries before first read count) (Fragment first (read ++ messages)) from to
+  pub takes : StandsBetween (ReadsEntries before first read count) (Fragment first (read ++ messages)) from to
 
 -- a fragment stands between the two places, whose messages were added
 pub record TakesFragment (before : List Message) (block : ReadBlock) (after : List Message)
-    (from to : Place) : Type 0 where
+    (from to : LogPlace) : Type 0 where
   pub first : ℕ
   pub messages : List Message
   pub is : block ≡ read.Fragment first (length messages)
   pub added : after ≡ before ++ messages
-  pub takes : Takes (ReadsFragment before) (Fragment first messages) from to
+  pub takes : StandsBetween (ReadsFragment before) (Fragment first messages) from to

@@ -7,7 +7,7 @@ use Rattle.checkpoint_io.specs.Validity.{Valid}
 use Rattle.checkpoint_io.specs.Reading.{broken, ReadsHeader, ReadsBlock}
 
 -- the bytes begin with a log of this header and these blocks, which takes so many bytes
-pub record BeginsWith (bytes : List ℕ) (header : Header) (blocks : List Block) (count : ℕ) : Type 0 where
+pub record BeginsWithLog (bytes : List ℕ) (header : Header) (blocks : List Block) (count : ℕ) : Type 0 where
   pub prefix : List ℕ
   pub rest : List ℕ
   pub whole : bytes ≡ prefix ++ rest
@@ -17,12 +17,13 @@ pub record BeginsWith (bytes : List ℕ) (header : Header) (blocks : List Block)
 
 -- the header, and the longest list of blocks with which the bytes begin
 pub record Front (bytes : List ℕ) (header : Header) (blocks : List Block) (count : ℕ) : Type 0 where
-  pub begins : BeginsWith bytes header blocks count
-  pub longest : (others : List Block) (less : ℕ) → BeginsWith bytes header others less → length others ≤ length blocks
+  pub begins : BeginsWithLog bytes header blocks count
+  pub longest : (others : List Block) (less : ℕ) → BeginsWithLog bytes header others less
+      → length others ≤ length blocks
 
 -- the bytes begin with no header of a log, so that the front is empty
 abbrev pub HasNoHeader : List ℕ → Type 0
-HasNoHeader bytes = (header : Header) (blocks : List Block) (count : ℕ) → ¬ (BeginsWith bytes header blocks count)
+HasNoHeader bytes = (header : Header) (blocks : List Block) (count : ℕ) → ¬ (BeginsWithLog bytes header blocks count)
 
 -- The file is broken at this offset, from this cause: it has no right header, or bytes stand behind its header and its
 -- blocks, which are right, and are no right block.

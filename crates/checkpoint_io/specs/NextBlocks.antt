@@ -10,42 +10,42 @@ use Rattle.checkpoint_io.specs.Blocks.{Block, Fragment, Extent, Close, messages_
 use Rattle.checkpoint_io.specs.declared.cause.Cause.{Cause}
 use Rattle.checkpoint_io.specs.declared.cause.Cause.TheVariants as causes
 use Rattle.checkpoint_io.specs.declared.heads.TheConstants.{MAX_LOG}
-use Rattle.checkpoint_io.specs.Validity.{IsOpen}
+use Rattle.checkpoint_io.specs.Validity.{MayStillWrite}
 use Rattle.checkpoint_io.specs.Reading.{ReadsExtent, ReadsClose, ReadsBlock}
-use Rattle.checkpoint_io.specs.Fronts.{BeginsWith, Break}
-use Rattle.checkpoint_io.specs.Places.{Place, with_front, Passes, Takes}
+use Rattle.checkpoint_io.specs.Fronts.{BeginsWithLog, Break}
+use Rattle.checkpoint_io.specs.Places.{LogPlace, with_front, BytesBetween, StandsBetween}
 use Rattle.checkpoint_io.specs.Writers.{WriterStates, AreStatesOf}
 use Rattle.checkpoint_io.specs.Readers.{ReaderState, StandsFor}
 
 -- a writer that may still write stands between the two places
-pub record TakesWriter (header : Header) (before : List Block) (writer : ℕ) (from to : Place) : Type 0 where
-  pub passes : Passes (writer ∷ []) from to
-  pub right : IsOpen header before writer
+pub record TakesWriter (header : Header) (before : List Block) (writer : ℕ) (from to : LogPlace) : Type 0 where
+  pub passes : BytesBetween (writer ∷ []) from to
+  pub right : MayStillWrite header before writer
 
 -- the rest of the writer's close mark stands between the two places, and what is kept is that behind it
 pub record TakesClose (header : Header) (before : List Block) (writer : ℕ) (after : WriterStates)
-    (from to : Place) : Type 0 where
-  pub takes : Takes (ReadsClose header before) (Close writer) from to
+    (from to : LogPlace) : Type 0 where
+  pub takes : StandsBetween (ReadsClose header before) (Close writer) from to
   pub states : AreStatesOf after header.clock.tick (before ++ Close writer ∷ [])
 
 -- the rest of the writer's extent stands between the two places, and what is kept is that behind it
 pub record TakesExtent (header : Header) (before : List Block) (writer : ℕ) (entries : List Call)
-    (after : WriterStates) (from to : Place) : Type 0 where
-  pub takes : Takes (ReadsExtent header before) (Extent writer entries) from to
+    (after : WriterStates) (from to : LogPlace) : Type 0 where
+  pub takes : StandsBetween (ReadsExtent header before) (Extent writer entries) from to
   pub states : AreStatesOf after header.clock.tick (before ++ Extent writer entries ∷ [])
 
 -- what is told of a block that was read
-abbrev pub Tells : ReadBlock → Block → Type 0
-Tells told (Fragment first messages) = told ≡ read.Fragment first (length messages)
-Tells told (Extent writer entries) = told ≡ read.Extent writer entries
-Tells told (Close writer) = told ≡ read.Closed writer
+abbrev pub Describes : ReadBlock → Block → Type 0
+Describes told (Fragment first messages) = told ≡ read.Fragment first (length messages)
+Describes told (Extent writer entries) = told ≡ read.Extent writer entries
+Describes told (Close writer) = told ≡ read.Closed writer
 
 -- the block stands between the two places, and what is kept is that behind it
 pub record TakesBlock (header : Header) (before : List Block) (told : ReadBlock) (messages : List Message)
-    (after : WriterStates) (from to : Place) : Type 0 where
+    (after : WriterStates) (from to : LogPlace) : Type 0 where
   pub block : Block
-  pub tells : Tells told block
-  pub takes : Takes (ReadsBlock header before) block from to
+  pub tells : Describes told block
+  pub takes : StandsBetween (ReadsBlock header before) block from to
   pub defined : messages ≡ messages_of (before ++ block ∷ [])
   pub states : AreStatesOf after header.clock.tick (before ++ block ∷ [])
 
@@ -55,7 +55,7 @@ pub record TakesBlock (header : Header) (before : List Block) (told : ReadBlock)
 pub record TakesNext (old new : ReaderState) (taken : List ℕ) (before : StandsFor old taken) (told : ReadBlock)
     (left behind : Told) : Type 0 where
   pub block : Block
-  pub tells : Tells told block
+  pub tells : Describes told block
   pub front : List ℕ
   pub joined : with_front old.waiting.bytes left ≡ with_front (front ++ new.waiting.bytes) behind
   pub stands : StandsFor new (taken ++ front)
@@ -87,7 +87,7 @@ pub record IsTooLarge (bytes : List ℕ) (offset : ℕ) : Type 0 where
   pub file : FileOf header blocks front
   pub ends : offset ≡ length front
   pub count : ℕ
-  pub begins : BeginsWith bytes header (blocks ++ block ∷ []) count
+  pub begins : BeginsWithLog bytes header (blocks ++ block ∷ []) count
   pub large : MAX_LOG < count
 
 -- the file breaks at this offset, or the block there ends past the most bytes that are read

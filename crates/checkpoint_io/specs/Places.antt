@@ -8,12 +8,12 @@ use Rattle.checkpoint_io.specs.declared.fault.BlockFault.TheVariants.{Damaged, R
 use Rattle.checkpoint_io.specs.Reading.{found, broken, Reads}
 
 -- bytes that came from a source and weren't read yet, and the offset of the first of them
-pub record Waiting : Type 0 where
+pub record UnreadBytes : Type 0 where
   pub bytes : List ℕ
   pub offset : ℕ
 
 -- the bytes from a place in a file on, where they are told, and its offset
-pub record Place : Type 0 where
+pub record LogPlace : Type 0 where
   pub ahead : Told
   pub offset : ℕ
 
@@ -22,22 +22,22 @@ abbrev pub with_front : List ℕ → Told → Told
 with_front bytes told = option_map (λ content. bytes ++ content) told
 
 -- behind the bytes that wait stand those that the source has left
-abbrev pub place_of : Waiting → Told → Place
-place_of waiting left = record { ahead = with_front waiting.bytes left; offset = waiting.offset }
+abbrev pub log_place : UnreadBytes → Told → LogPlace
+log_place waiting left = record { ahead = with_front waiting.bytes left; offset = waiting.offset }
 
 -- the offset so many bytes further on; a count of 64 bits stops at its last value
 abbrev pub further : ℕ → ℕ → ℕ
 further offset count = min (offset + count) (2 ^ 64 - 1)
 
 -- these bytes stand between the two places
-pub record Passes (front : List ℕ) (from to : Place) : Type 0 where
+pub record BytesBetween (front : List ℕ) (from to : LogPlace) : Type 0 where
   pub ahead : from.ahead ≡ with_front front to.ahead
   pub offset : to.offset ≡ further from.offset (length front)
 
 -- what stands between the two places is read as this, whatever follows
-pub record Takes {A : Type 0} (reads : Reads A) (thing : A) (from to : Place) : Type 0 where
+pub record StandsBetween {A : Type 0} (reads : Reads A) (thing : A) (from to : LogPlace) : Type 0 where
   pub front : List ℕ
-  pub passes : Passes front from to
+  pub passes : BytesBetween front from to
   pub found : (rest : List ℕ) → reads (front ++ rest) (found thing rest)
 
 -- ---- faults
@@ -49,7 +49,7 @@ IfDamaged says ReadFault = ⊤
 IfDamaged says NoMemory = ⊤
 
 -- the bytes ahead are broken so
-abbrev pub Refuses : {A : Type 0} → Reads A → Place → BlockFault → Type 0
+abbrev pub Refuses : {A : Type 0} → Reads A → LogPlace → BlockFault → Type 0
 Refuses reads from fault = IfDamaged (λ cause. IfSome from.ahead (λ bytes. reads bytes (broken cause))) fault
 
 -- the fault is no damage
@@ -57,6 +57,6 @@ abbrev pub IsNoDamage : BlockFault → Type 0
 IsNoDamage fault = IfDamaged (λ cause. ⊥) fault
 
 -- fewer bytes than this are ahead, and that is told as cut off
-abbrev pub EndsBefore : ℕ → Place → BlockFault → Type 0
+abbrev pub EndsBefore : ℕ → LogPlace → BlockFault → Type 0
 EndsBefore count from fault =
     IfDamaged (λ cause. (cause ≡ causes.Cut) × IfSome from.ahead (λ bytes. length bytes < count)) fault

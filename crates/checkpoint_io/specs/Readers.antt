@@ -5,7 +5,7 @@ use Rattle.checkpoint_io.specs.declared.header.Header.{Header}
 use Rattle.checkpoint_io.specs.Blocks.{Block, messages_of, FileOf}
 use Rattle.checkpoint_io.specs.Validity.{Valid}
 use Rattle.checkpoint_io.specs.declared.heads.TheConstants.{MAX_LOG}
-use Rattle.checkpoint_io.specs.Places.{Waiting}
+use Rattle.checkpoint_io.specs.Places.{UnreadBytes}
 use Rattle.checkpoint_io.specs.Writers.{WriterStates, AreStatesOf}
 
 pub record ReaderState : Type 0 where
@@ -14,7 +14,7 @@ pub record ReaderState : Type 0 where
   pub messages : List Message
   pub writers : WriterStates
   -- bytes that came from the source and weren't read yet
-  pub waiting : Waiting
+  pub waiting : UnreadBytes
   -- where the next block begins, or the one that failed
   pub offset : ℕ
   pub failed : Bool

@@ -5,8 +5,8 @@ use Rattle.log_dictionary.specs.declared.message.Message.{Message}
 use Rattle.log_dictionary.specs.declared.dictionary.TheConstants.{MAX_MESSAGES}
 use Rattle.log_dictionary.specs.Messages.{HasMessage}
 use Rattle.log_dictionary.specs.BinaryEntries.{SpellsEntry, IsCutEntry, IsBadEntry}
+use Rattle.session_options.specs.declared.limits.TheConstants.{MAX_WRITERS}
 use Rattle.arg_records.specs.declared.call.Call.{Call}
-use Rattle.arg_records.specs.declared.call.TheConstants.{MAX_WRITERS}
 use Rattle.buffer_extent.specs.declared.fault.Cause.{Cause as BodyCause}
 use Rattle.buffer_extent.specs.Bodies.{IsBody, BodyBreak}
 use Rattle.checkpoint_io.specs.declared.cause.Cause.{Cause}
@@ -17,18 +17,18 @@ use Rattle.checkpoint_io.specs.Blocks.{Block, Fragment, Extent, Close, messages_
 use Rattle.checkpoint_io.specs.Validity.{records_of, last_stamp, IsClosed}
 
 -- what reading gives: what stands at the front and the bytes behind it, or the cause that breaks it
-pub data Outcome (A : Type 0) : Type 0 where
-  found : (thing : A) (rest : List ℕ) → Outcome A
-  broken : (cause : Cause) → Outcome A
+pub data ReadOutcome (A : Type 0) : Type 0 where
+  found : (thing : A) (rest : List ℕ) → ReadOutcome A
+  broken : (cause : Cause) → ReadOutcome A
 
 -- what bytes give, read in some way
 abbrev pub Reads : Type 0 → Type 1
-Reads A = List ℕ → Outcome A → Type 0
+Reads A = List ℕ → ReadOutcome A → Type 0
 
 -- ---- steps: what is read next, and how it goes on from there
 
 -- where this is wrong it is broken for the cause, and else it goes on
-abbrev pub Unless : {A : Type 0} → Type 0 → Cause → (Outcome A → Type 0) → Outcome A → Type 0
+abbrev pub Unless : {A : Type 0} → Type 0 → Cause → (ReadOutcome A → Type 0) → ReadOutcome A → Type 0
 Unless wrong cause next outcome = (wrong × (outcome ≡ broken cause)) ⊎ ((¬ wrong) × next outcome)
 
 -- a byte, and what it gives with the bytes behind it; the bytes may end first
@@ -44,8 +44,8 @@ NumberThen size next bytes outcome =
     ⊎ ((n : ℕ) × (rest : List ℕ) × (n < 256 ^ size) × (bytes ≡ le_bytes size n ++ rest) × next n rest outcome)
 
 -- this, and nothing more is read
-abbrev pub Gives : {A : Type 0} → A → Reads A
-Gives thing bytes outcome = outcome ≡ found thing bytes
+abbrev pub ReadsNoMore : {A : Type 0} → A → Reads A
+ReadsNoMore thing bytes outcome = outcome ≡ found thing bytes
 
 -- ---- the header
 
@@ -64,7 +64,7 @@ header_of writers tick nanos rate =
 abbrev pub ReadsRate : ℕ → ℕ → ℕ → Reads Header
 ReadsRate writers tick nanos bytes outcome =
     NumberThen 8 (λ rate rest outcome.
-    Unless (rate ≡ 0) causes.BadHeader (Gives (header_of writers tick nanos rate) rest) outcome)
+    Unless (rate ≡ 0) causes.BadHeader (ReadsNoMore (header_of writers tick nanos rate) rest) outcome)
     bytes outcome
 
 abbrev pub ReadsNanos : ℕ → ℕ → Reads Header
@@ -99,7 +99,7 @@ EntryThen defined next bytes outcome =
 
 -- so many new messages behind those that were read
 abbrev pub ReadsEntries : List Message → ℕ → List Message → ℕ → Reads Block
-ReadsEntries before first read zero bytes outcome = Gives (Fragment first read) bytes outcome
+ReadsEntries before first read zero bytes outcome = ReadsNoMore (Fragment first read) bytes outcome
 ReadsEntries before first read (suc count) bytes outcome =
     EntryThen (before ++ read) (λ message rest outcome.
     ReadsEntries before first (read ++ message ∷ []) count rest outcome)
@@ -133,7 +133,7 @@ WriterThen header before next bytes outcome =
 
 -- a writer that may still write, and nothing more
 abbrev pub ReadsWriter : Header → List Block → Reads ℕ
-ReadsWriter header before bytes outcome = WriterThen header before Gives bytes outcome
+ReadsWriter header before bytes outcome = WriterThen header before ReadsNoMore bytes outcome
 
 -- a body of so many bytes, which is judged once all of it is there
 abbrev pub ReadsBody : List Message → ℕ → ℕ → ℕ → ℕ → Reads Block
@@ -160,7 +160,7 @@ abbrev pub ReadsExtent : Header → List Block → Reads Block
 ReadsExtent header before bytes outcome = WriterThen header before (ReadsLength header before) bytes outcome
 
 abbrev pub ReadsClose : Header → List Block → Reads Block
-ReadsClose header before bytes outcome = WriterThen header before (λ writer. Gives (Close writer)) bytes outcome
+ReadsClose header before bytes outcome = WriterThen header before (λ writer. ReadsNoMore (Close writer)) bytes outcome
 
 -- ---- blocks
 

@@ -24,8 +24,8 @@ abbrev pub full_record : Call
 full_record = full_call 1004
 
 -- each message stands right in front of the first extent that wants it
-abbrev pub mixed_blocks : List Block
-mixed_blocks =
+abbrev pub late_fragments : List Block
+late_fragments =
     Fragment 0 (row_message ∷ [])
     ∷ Extent 0 (row_record ∷ [])
     ∷ Fragment 1 (full_message ∷ [])

@@ -7,7 +7,7 @@ use Rattle.arg_records.specs.declared.call.Call.{Call}
 use Rattle.arg_records.specs.Calls.{IsCall, NeverFalls}
 pub use Rattle.arg_records.specs.Calls.{last_stamp}
 use Rattle.log_dictionary.specs.declared.dictionary.TheConstants.{MAX_MESSAGES}
-use Rattle.arg_records.specs.declared.call.TheConstants.{MAX_WRITERS}
+use Rattle.session_options.specs.declared.limits.TheConstants.{MAX_WRITERS}
 use Rattle.checkpoint_io.specs.declared.header.Header.{Header}
 use Rattle.checkpoint_io.specs.Blocks.{Block, Fragment, Extent, Close, messages_of}
 
@@ -38,7 +38,7 @@ IsOf writer (Extent w entries) = w ≡ writer
 IsOf writer (Close w) = w ≡ writer
 
 -- the writer may still write: it is one of the log's, and no close mark of it stands before
-pub record IsOpen (header : Header) (before : List Block) (writer : ℕ) : Type 0 where
+pub record MayStillWrite (header : Header) (before : List Block) (writer : ℕ) : Type 0 where
   pub known : writer < header.writers
   pub unclosed : ¬ (IsClosed writer before)
 
@@ -50,16 +50,16 @@ pub record DefinesNext (before : List Block) (first : ℕ) (messages : List Mess
 
 -- The records are those of a writer that may still write. Each names a message that was defined before, and no stamp
 -- falls.
-pub record GoesOn (header : Header) (before : List Block) (writer : ℕ) (entries : List Call) : Type 0 where
-  pub writer_open : IsOpen header before writer
+pub record ContinuesWriter (header : Header) (before : List Block) (writer : ℕ) (entries : List Call) : Type 0 where
+  pub writer_open : MayStillWrite header before writer
   pub right : AllByRecursion (IsCall (messages_of before)) entries
   pub rising : NeverFalls (last_stamp header.clock.tick (records_of writer before)) entries
 
 -- the block keeps the rules behind the blocks before it
 abbrev pub IsRightAfter : Header → List Block → Block → Type 0
 IsRightAfter header before (Fragment first messages) = DefinesNext before first messages
-IsRightAfter header before (Extent writer entries) = GoesOn header before writer entries
-IsRightAfter header before (Close writer) = IsOpen header before writer
+IsRightAfter header before (Extent writer entries) = ContinuesWriter header before writer entries
+IsRightAfter header before (Close writer) = MayStillWrite header before writer
 
 -- each of the blocks keeps the rules behind those before it
 abbrev pub AreRightAfter : Header → List Block → List Block → Type 0

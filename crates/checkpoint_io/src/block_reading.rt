@@ -3,7 +3,7 @@
 ghost use Rattle.std.specs.Prelude.{◌≡◌, ◌≤◌, ℕ, List, length, take, IfOk, IfErr, IsErrOf};
 ghost use Rattle.nl_io.specs.Count.{Rose};
 ghost use Rattle.checkpoint_io.specs.Blocks.{Block as LogBlock, Extent, messages_of};
-ghost use Rattle.checkpoint_io.specs.Places.{place_of, Takes, Refuses};
+ghost use Rattle.checkpoint_io.specs.Places.{log_place, StandsBetween, Refuses};
 ghost use Rattle.checkpoint_io.specs.Reading.{ReadsWriter, ReadsClose, ReadsBody, ReadsRecords, ReadsExtent, ReadsBlock};
 ghost use Rattle.checkpoint_io.specs.Writers.{AreStatesOf};
 ghost use Rattle.checkpoint_io.specs.NextBlocks.{TakesWriter, TakesClose, TakesExtent, TakesBlock};
@@ -31,9 +31,9 @@ fn take_writer<S: Source>(
 ) -> Result<u8, BlockFault>
     ensures ok { (before : List LogBlock) → AreStatesOf writers.now header.now.clock.tick before
         → IfOk result (λ writer. TakesWriter header.now before writer
-        (place_of pending.old (S.left source.old)) (place_of pending.new (S.left source.new))) }
+        (log_place pending.old (S.left source.old)) (log_place pending.new (S.left source.new))) }
     ensures err { (before : List LogBlock) → AreStatesOf writers.now header.now.clock.tick before
-        → IfErr result (Refuses (ReadsWriter header.now before) (place_of pending.old (S.left source.old))) }
+        → IfErr result (Refuses (ReadsWriter header.now before) (log_place pending.old (S.left source.old))) }
     ensures read_fault { IsErrOf result BlockFault.ReadFault
         → Rose (S.faults source.old) (S.faults source.new) }
     ensures counted { ¬ (IsErrOf result BlockFault.ReadFault)
@@ -60,9 +60,9 @@ fn read_close<S: Source>(
 ) -> Result<u8, BlockFault>
     ensures ok { (before : List LogBlock) → AreStatesOf writers.old header.now.clock.tick before
         → IfOk result (λ writer. TakesClose header.now before writer writers.new
-        (place_of pending.old (S.left source.old)) (place_of pending.new (S.left source.new))) }
+        (log_place pending.old (S.left source.old)) (log_place pending.new (S.left source.new))) }
     ensures err { (before : List LogBlock) → AreStatesOf writers.old header.now.clock.tick before
-        → IfErr result (Refuses (ReadsClose header.now before) (place_of pending.old (S.left source.old))) }
+        → IfErr result (Refuses (ReadsClose header.now before) (log_place pending.old (S.left source.old))) }
     ensures read_fault { IsErrOf result BlockFault.ReadFault
         → Rose (S.faults source.old) (S.faults source.new) }
     ensures counted { ¬ (IsErrOf result BlockFault.ReadFault)
@@ -86,10 +86,10 @@ fn take_body<S: Source>(
     len: usize,
 ) -> Result<Records, BlockFault>
     ensures ok { (writer : ℕ) → IfOk result (λ records.
-        Takes (ReadsBody dictionary.now tick last writer len) (Extent writer records)
-        (place_of pending.old (S.left source.old)) (place_of pending.new (S.left source.new))) }
+        StandsBetween (ReadsBody dictionary.now tick last writer len) (Extent writer records)
+        (log_place pending.old (S.left source.old)) (log_place pending.new (S.left source.new))) }
     ensures err { (writer : ℕ) → IfErr result (Refuses (ReadsBody dictionary.now tick last writer len)
-        (place_of pending.old (S.left source.old))) }
+        (log_place pending.old (S.left source.old))) }
     ensures read_fault { IsErrOf result BlockFault.ReadFault
         → Rose (S.faults source.old) (S.faults source.new) }
     ensures counted { ¬ (IsErrOf result BlockFault.ReadFault)
@@ -119,10 +119,10 @@ fn read_records<S: Source>(
     last: u64,
 ) -> Result<Records, BlockFault>
     ensures ok { (writer : ℕ) → IfOk result (λ records.
-        Takes (ReadsRecords dictionary.now tick last writer) (Extent writer records)
-        (place_of pending.old (S.left source.old)) (place_of pending.new (S.left source.new))) }
+        StandsBetween (ReadsRecords dictionary.now tick last writer) (Extent writer records)
+        (log_place pending.old (S.left source.old)) (log_place pending.new (S.left source.new))) }
     ensures err { (writer : ℕ) → IfErr result (Refuses (ReadsRecords dictionary.now tick last writer)
-        (place_of pending.old (S.left source.old))) }
+        (log_place pending.old (S.left source.old))) }
     ensures read_fault { IsErrOf result BlockFault.ReadFault
         → Rose (S.faults source.old) (S.faults source.new) }
     ensures counted { ¬ (IsErrOf result BlockFault.ReadFault)
@@ -149,10 +149,10 @@ fn read_extent<S: Source>(
     ensures ok { (before : List LogBlock) → dictionary.now ≡ messages_of before
         → AreStatesOf writers.old header.now.clock.tick before
         → IfOk result (λ extent. TakesExtent header.now before extent.0 extent.1 writers.new
-        (place_of pending.old (S.left source.old)) (place_of pending.new (S.left source.new))) }
+        (log_place pending.old (S.left source.old)) (log_place pending.new (S.left source.new))) }
     ensures err { (before : List LogBlock) → dictionary.now ≡ messages_of before
         → AreStatesOf writers.old header.now.clock.tick before
-        → IfErr result (Refuses (ReadsExtent header.now before) (place_of pending.old (S.left source.old))) }
+        → IfErr result (Refuses (ReadsExtent header.now before) (log_place pending.old (S.left source.old))) }
     ensures read_fault { IsErrOf result BlockFault.ReadFault
         → Rose (S.faults source.old) (S.faults source.new) }
     ensures counted { ¬ (IsErrOf result BlockFault.ReadFault)
@@ -180,10 +180,10 @@ pub fn read_block<S: Source>(
     ensures ok { (before : List LogBlock) → dictionary.old ≡ messages_of before
         → AreStatesOf writers.old header.now.clock.tick before
         → IfOk result (λ block. TakesBlock header.now before block dictionary.new writers.new
-        (place_of pending.old (S.left source.old)) (place_of pending.new (S.left source.new))) }
+        (log_place pending.old (S.left source.old)) (log_place pending.new (S.left source.new))) }
     ensures err { (before : List LogBlock) → dictionary.old ≡ messages_of before
         → AreStatesOf writers.old header.now.clock.tick before
-        → IfErr result (Refuses (ReadsBlock header.now before) (place_of pending.old (S.left source.old))) }
+        → IfErr result (Refuses (ReadsBlock header.now before) (log_place pending.old (S.left source.old))) }
     ensures defined { take (length dictionary.old) dictionary.new ≡ dictionary.old }
     ensures read_fault { IsErrOf result BlockFault.ReadFault
         → Rose (S.faults source.old) (S.faults source.new) }

@@ -5,7 +5,7 @@ ghost use Rattle.nl_io.specs.Count.{Rose};
 ghost use Rattle.log_dictionary.specs.declared.message.Message.{Message};
 ghost use Rattle.log_dictionary.specs.declared.dictionary.TheConstants.{MAX_MESSAGES};
 ghost use Rattle.log_dictionary.specs.BinaryEntries.{SpellsEntry};
-ghost use Rattle.checkpoint_io.specs.Places.{place_of, with_front, Refuses};
+ghost use Rattle.checkpoint_io.specs.Places.{log_place, with_front, Refuses};
 ghost use Rattle.checkpoint_io.specs.Reading.{ReadsEntries, IsBadCount, ReadsFragment};
 ghost use Rattle.checkpoint_io.specs.Entries.{TakesEntry, BreaksNoEntry, BreaksEntry, TakesEntries, TakesFragment};
 
@@ -30,7 +30,7 @@ fn next_entry<S: Source>(
     ensures offset { pending.new.offset ≡ pending.old.offset }
     ensures within { IfOk result (λ entry. entry.1 ≤ length pending.new.bytes) }
     ensures spelled { IfOk result (λ entry. SpellsEntry (take entry.1 pending.new.bytes) entry.0) }
-    ensures err { IfErr result (BreaksNoEntry (place_of pending.old (S.left source.old))) }
+    ensures err { IfErr result (BreaksNoEntry (log_place pending.old (S.left source.old))) }
     ensures read_fault { IsErrOf result BlockFault.ReadFault
         → Rose (S.faults source.old) (S.faults source.new) }
     ensures counted { ¬ (IsErrOf result BlockFault.ReadFault)
@@ -61,8 +61,8 @@ fn take_entry<S: Source>(
 ) -> Result<(), BlockFault>
     requires { length dictionary.old < MAX_MESSAGES }
     ensures ok { OnOk result (TakesEntry dictionary.old dictionary.new
-        (place_of pending.old (S.left source.old)) (place_of pending.new (S.left source.new))) }
-    ensures err { IfErr result (BreaksEntry dictionary.old (place_of pending.old (S.left source.old))) }
+        (log_place pending.old (S.left source.old)) (log_place pending.new (S.left source.new))) }
+    ensures err { IfErr result (BreaksEntry dictionary.old (log_place pending.old (S.left source.old))) }
     ensures defined { take (length dictionary.old) dictionary.new ≡ dictionary.old }
     ensures read_fault { IsErrOf result BlockFault.ReadFault
         → Rose (S.faults source.old) (S.faults source.new) }
@@ -92,10 +92,10 @@ fn read_entries<S: Source>(
     requires fits { pending.old.offset < 2 ^ 64 }
     ensures ok { (before read : List Message) (first : ℕ) → dictionary.old ≡ before ++ read
         → OnOk result (TakesEntries before first read count dictionary.new
-        (place_of pending.old (S.left source.old)) (place_of pending.new (S.left source.new))) }
+        (log_place pending.old (S.left source.old)) (log_place pending.new (S.left source.new))) }
     ensures err { (before read : List Message) (first : ℕ) → dictionary.old ≡ before ++ read
         → IfErr result (Refuses (ReadsEntries before first read count)
-        (place_of pending.old (S.left source.old))) }
+        (log_place pending.old (S.left source.old))) }
     ensures defined { take (length dictionary.old) dictionary.new ≡ dictionary.old }
     ensures read_fault { IsErrOf result BlockFault.ReadFault
         → Rose (S.faults source.old) (S.faults source.new) }
@@ -127,9 +127,9 @@ pub fn read_fragment<S: Source>(
     dictionary: &mut Dictionary,
 ) -> Result<Block, BlockFault>
     ensures ok { IfOk result (λ block. TakesFragment dictionary.old block dictionary.new
-        (place_of pending.old (S.left source.old)) (place_of pending.new (S.left source.new))) }
+        (log_place pending.old (S.left source.old)) (log_place pending.new (S.left source.new))) }
     ensures err { IfErr result (Refuses (ReadsFragment dictionary.old)
-        (place_of pending.old (S.left source.old))) }
+        (log_place pending.old (S.left source.old))) }
     ensures defined { take (length dictionary.old) dictionary.new ≡ dictionary.old }
     ensures read_fault { IsErrOf result BlockFault.ReadFault
         → Rose (S.faults source.old) (S.faults source.new) }

@@ -2,7 +2,7 @@
 
 ghost use Rattle.std.specs.Prelude.{IfOk, IfErr, IsErrOf, ◌≡◌, ◌≤◌};
 ghost use Rattle.nl_io.specs.Count.{Rose};
-ghost use Rattle.checkpoint_io.specs.Places.{place_of, Takes, Refuses};
+ghost use Rattle.checkpoint_io.specs.Places.{log_place, StandsBetween, Refuses};
 ghost use Rattle.checkpoint_io.specs.Reading.{MagicThen, ReadsClock, ReadsWriters, ReadsVersion, ReadsHeader};
 
 use crate::cause::Cause;
@@ -11,18 +11,18 @@ use crate::header::Header;
 use crate::heads::{MAGIC, VERSION};
 use crate::pending::Pending;
 use crate::steps::{take_byte, take_number};
-use arg_records::MAX_WRITERS;
 use log_dictionary::Clock;
 use nl_io::Source;
+use session_options::MAX_WRITERS;
 
 fn read_clock<S: Source>(
     pending: &mut Pending,
     source: &mut S,
     writers: u32,
 ) -> Result<Header, BlockFault>
-    ensures ok { IfOk result (λ header. Takes (ReadsClock writers) header
-        (place_of pending.old (S.left source.old)) (place_of pending.new (S.left source.new))) }
-    ensures err { IfErr result (Refuses (ReadsClock writers) (place_of pending.old (S.left source.old))) }
+    ensures ok { IfOk result (λ header. StandsBetween (ReadsClock writers) header
+        (log_place pending.old (S.left source.old)) (log_place pending.new (S.left source.new))) }
+    ensures err { IfErr result (Refuses (ReadsClock writers) (log_place pending.old (S.left source.old))) }
     ensures read_fault { IsErrOf result BlockFault.ReadFault
         → Rose (S.faults source.old) (S.faults source.new) }
     ensures counted { ¬ (IsErrOf result BlockFault.ReadFault)
@@ -41,9 +41,9 @@ fn read_clock<S: Source>(
 }
 
 fn read_writers<S: Source>(pending: &mut Pending, source: &mut S) -> Result<Header, BlockFault>
-    ensures ok { IfOk result (λ header. Takes ReadsWriters header
-        (place_of pending.old (S.left source.old)) (place_of pending.new (S.left source.new))) }
-    ensures err { IfErr result (Refuses ReadsWriters (place_of pending.old (S.left source.old))) }
+    ensures ok { IfOk result (λ header. StandsBetween ReadsWriters header
+        (log_place pending.old (S.left source.old)) (log_place pending.new (S.left source.new))) }
+    ensures err { IfErr result (Refuses ReadsWriters (log_place pending.old (S.left source.old))) }
     ensures read_fault { IsErrOf result BlockFault.ReadFault
         → Rose (S.faults source.old) (S.faults source.new) }
     ensures counted { ¬ (IsErrOf result BlockFault.ReadFault)
@@ -59,9 +59,9 @@ fn read_writers<S: Source>(pending: &mut Pending, source: &mut S) -> Result<Head
 }
 
 fn read_version<S: Source>(pending: &mut Pending, source: &mut S) -> Result<Header, BlockFault>
-    ensures ok { IfOk result (λ header. Takes ReadsVersion header
-        (place_of pending.old (S.left source.old)) (place_of pending.new (S.left source.new))) }
-    ensures err { IfErr result (Refuses ReadsVersion (place_of pending.old (S.left source.old))) }
+    ensures ok { IfOk result (λ header. StandsBetween ReadsVersion header
+        (log_place pending.old (S.left source.old)) (log_place pending.new (S.left source.new))) }
+    ensures err { IfErr result (Refuses ReadsVersion (log_place pending.old (S.left source.old))) }
     ensures read_fault { IsErrOf result BlockFault.ReadFault
         → Rose (S.faults source.old) (S.faults source.new) }
     ensures counted { ¬ (IsErrOf result BlockFault.ReadFault)
@@ -81,10 +81,10 @@ fn read_letters<S: Source>(
     source: &mut S,
     letters: &[u8],
 ) -> Result<Header, BlockFault>
-    ensures ok { IfOk result (λ header. Takes (MagicThen letters.now ReadsVersion) header
-        (place_of pending.old (S.left source.old)) (place_of pending.new (S.left source.new))) }
+    ensures ok { IfOk result (λ header. StandsBetween (MagicThen letters.now ReadsVersion) header
+        (log_place pending.old (S.left source.old)) (log_place pending.new (S.left source.new))) }
     ensures err { IfErr result (Refuses (MagicThen letters.now ReadsVersion)
-        (place_of pending.old (S.left source.old))) }
+        (log_place pending.old (S.left source.old))) }
     ensures read_fault { IsErrOf result BlockFault.ReadFault
         → Rose (S.faults source.old) (S.faults source.new) }
     ensures counted { ¬ (IsErrOf result BlockFault.ReadFault)
@@ -103,9 +103,9 @@ fn read_letters<S: Source>(
 
 /// The header that the front of a file has.
 pub fn read_header<S: Source>(pending: &mut Pending, source: &mut S) -> Result<Header, BlockFault>
-    ensures ok { IfOk result (λ header. Takes ReadsHeader header
-        (place_of pending.old (S.left source.old)) (place_of pending.new (S.left source.new))) }
-    ensures err { IfErr result (Refuses ReadsHeader (place_of pending.old (S.left source.old))) }
+    ensures ok { IfOk result (λ header. StandsBetween ReadsHeader header
+        (log_place pending.old (S.left source.old)) (log_place pending.new (S.left source.new))) }
+    ensures err { IfErr result (Refuses ReadsHeader (log_place pending.old (S.left source.old))) }
     ensures read_fault { IsErrOf result BlockFault.ReadFault
         → Rose (S.faults source.old) (S.faults source.new) }
     ensures counted { ¬ (IsErrOf result BlockFault.ReadFault)

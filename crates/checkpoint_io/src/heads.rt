@@ -2,7 +2,7 @@
 //! extents, and close marks. Numbers stand with the low byte first.
 
 ghost use Rattle.std.specs.Prelude.{◌≡◌, ◌+◌, ◌<◌, ◌≤◌, ◌++◌, length, take, drop};
-ghost use Rattle.arg_records.specs.declared.call.TheConstants.{MAX_WRITERS};
+ghost use Rattle.session_options.specs.declared.limits.TheConstants.{MAX_WRITERS};
 ghost use Rattle.checkpoint_io.specs.Blocks.{header_bytes, fragment_head_bytes, extent_head_bytes, close_bytes};
 
 use crate::header::Header;

@@ -17,8 +17,8 @@ ghost use Rattle.checkpoint_io.specs.Blocks.{Block, Fragment, Extent, Close, IsF
 ghost use Rattle.checkpoint_io.specs.Causes.{cause_number, cause_name};
 ghost use Rattle.checkpoint_io.specs.Fronts.{Front, HasNoHeader, Break};
 ghost use Rattle.checkpoint_io.specs.Logs.{ids_used, new_messages, AreFragments, HasAtMost, IsLaidOut, LogOf};
-ghost use Rattle.checkpoint_io.specs.Reading.{Outcome, found, ReadsHeader, ReadsBlock};
-ghost use Rattle.checkpoint_io.specs.Rows.{all_causes, row_header, row_blocks, row_bytes, row_record, full_record, mixed_blocks};
+ghost use Rattle.checkpoint_io.specs.Reading.{ReadOutcome, found, ReadsHeader, ReadsBlock};
+ghost use Rattle.checkpoint_io.specs.Rows.{all_causes, row_header, row_blocks, row_bytes, row_record, full_record, late_fragments};
 ghost use Rattle.arg_records.specs.Rows.{full_message};
 ghost use Rattle.log_dictionary.specs.Rows.{row_message};
 ghost use Rattle.checkpoint_io.specs.Validity.{records_of, last_stamp, IsClosed, IsOf, IsRightAfter, IsHeader, Valid};
@@ -195,7 +195,7 @@ pub fn extents_have_the_records_of_their_writers()
         (others : List Block) → another ≢ writer
         → records_of writer (before ++ Extent another entries ∷ others)
         ≡ records_of writer before ++ records_of writer others }
-    ensures worked { records_of 0 mixed_blocks ≡ row_record ∷ full_record ∷ [] }
+    ensures worked { records_of 0 late_fragments ≡ row_record ∷ full_record ∷ [] }
     ensures no_stamp { (least : ℕ) → last_stamp least [] ≡ least }
     ensures stamp { (least : ℕ) (entries : List Call) (entry : Call)
         → last_stamp least (entries ++ entry ∷ []) ≡ entry.stamp }
@@ -307,7 +307,7 @@ pub fn records_want_the_messages_up_to_their_ids()
 /// In front of an extent stand the fragments of the messages that it wants, and no others. Behind
 /// the last extent there are none.
 pub fn fragments_stand_in_front_of_their_extent()
-    ensures worked { IsLaidOut (row_message ∷ full_message ∷ []) 2 [] mixed_blocks }
+    ensures worked { IsLaidOut (row_message ∷ full_message ∷ []) 2 [] late_fragments }
     ensures wanted { (dictionary : List Message) (batch : ℕ) (before fragments : List Block) (writer : ℕ)
         (entries : List Call) (others : List Block)
         → IsLaidOut dictionary batch before (fragments ++ Extent writer entries ∷ others)
@@ -357,9 +357,9 @@ pub fn logs_tell_of_their_run()
 /// Read from left to right, bytes give one header or one cause, and behind the same blocks they give
 /// one block or one cause.
 pub fn reading_gives_one_outcome()
-    ensures header { (bytes : List ℕ) (a b : Outcome Header) → ReadsHeader bytes a → ReadsHeader bytes b
+    ensures header { (bytes : List ℕ) (a b : ReadOutcome Header) → ReadsHeader bytes a → ReadsHeader bytes b
         → a ≡ b }
-    ensures block { (header : Header) (before : List Block) (bytes : List ℕ) (a b : Outcome Block)
+    ensures block { (header : Header) (before : List Block) (bytes : List ℕ) (a b : ReadOutcome Block)
         → ReadsBlock header before bytes a → ReadsBlock header before bytes b
         → a ≡ b }
 {}

@@ -23,9 +23,9 @@ pub struct Pending {
 
 impl Model for Pending {
     ghost use Rattle.std.specs.Prelude.{◌≤◌, length, drop};
-    ghost use Rattle.checkpoint_io.specs.Places.{Waiting};
+    ghost use Rattle.checkpoint_io.specs.Places.{UnreadBytes};
 
-    ghost Value = { Waiting };
+    ghost Value = { UnreadBytes };
 
     ghost view = { λ p. record { bytes = drop p.start p.bytes.items; offset = p.offset } };
 

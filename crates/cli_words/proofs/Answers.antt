@@ -1,6 +1,6 @@
 -- What the reader answers.
-use Rattle.std.proofs.Common.{◌≡◌, ◌∙◌, ◌&&◌, ◌++◌, ◌+◌, ◌<◌, ◌≤◌, not, map, ℕ, suc, Bool, true, false, List, [], ◌∷◌, Some, None}
-use Rattle.std.proofs.Common.{Bor, add-one, arith, get_or, length, take, refl, sym, ap, ap₂, cond, codes}
+use Rattle.std.proofs.Common.{◌≡◌, ◌∙◌, ◌&&◌, ◌++◌, ◌+◌, ◌<◌, ◌≤◌, not, map, ℕ, suc, Bool, true, false, List, [], ◌∷◌, Option, Some, None}
+use Rattle.std.proofs.Common.{add-one, arith, get_or, length, take, refl, sym, ap, ap₂, cond, codes}
 use Rattle.std.proofs.Math.Seq.{take-length, take-suc}
 use Rattle.std.proofs.lemmas.List.{map-append}
 use Rattle.std.specs.Prelude.{if◌then◌else◌, fold, String}
@@ -21,11 +21,11 @@ use Rattle.clap.specs.Faults.{built_fault, check_fault, defaults_fault, fault_of
 use Rattle.clap.specs.Simple.{App, HasMatchesOf, app_of, app_of_fields, is_simple, matches_of, names_of, new_app, on_top, with_rule}
 use Rattle.clap.proofs.FaultLemmas.{leaf_fault}
 use Rattle.cli_words.specs.Apps.{app, names_argument, option_argument}
-use Rattle.cli_words.specs.Uses.{uses_in, uses_of, uses_read}
+use Rattle.cli_words.specs.Uses.{AreParsed, IsParsed, read_from}
 use Rattle.cli_words.specs.Commands.{texts_of}
 use Rattle.cli_words.proofs.Shapes.{IsPlain, names_rule, option_rule, rules, shape, app_is_free, app_is_simple, built_is, no_option, one_more}
 use Rattle.cli_words.proofs.Walks.{is_right, held, at, rows_at, ended}
-use Rattle.cli_words.proofs.Inductions.{AreTexts, idle_all}
+use Rattle.cli_words.proofs.WalkedWords.{AreTexts, all_read}
 
 -- words of the program are texts
 pub are_texts : {A : Type 0} (words : List (String A)) → AreTexts (texts_of words)
@@ -82,7 +82,7 @@ level_fault_is taken words =
 -- all is found at the end
 found_is : (taken : List Text) (words : List Text)
     → (if is_right (level_fault (shape taken) [] nothing_held words false [])
-    then Some (uses_in taken (finished (rules taken) (end taken words))) else None)
+    then Some (finished (rules taken) (end taken words)) else None)
     ≡ ended taken (at (held [] None) idle false) words
 found_is taken words =
     rw (level_fault_is taken words, all_used taken (end taken words))
@@ -91,9 +91,9 @@ found_is taken words =
   where
     go : (words_fault end_fault : Kinds)
         → (if is_right (or_else words_fault (or_else [] (or_else end_fault (or_else [] []))))
-        then Some (uses_in taken (rows_at taken (end taken words))) else None)
+        then Some (rows_at taken (end taken words)) else None)
         ≡ (if is_right words_fault
-        then (if is_right end_fault then Some (uses_in taken (rows_at taken (end taken words))) else None) else None)
+        then (if is_right end_fault then Some (rows_at taken (end taken words)) else None) else None)
     go [] [] = refl
     go [] (kind ∷ kinds) = refl
     go (kind ∷ kinds) end_fault = refl
@@ -108,49 +108,46 @@ matches_is : (taken : List Text) (words : List Text)
     → matches_of (app taken) words ≡ finished (rules taken) (end taken words)
 matches_is taken words = ap (λ (a : App). rows_after a.top.rules (names_of a) words) (built_is taken)
 
--- what is found is what the words use
+-- what is found is what is read of the words
 pub answer_is : (taken : List Text) (words : List Text) → IsPlain taken → AreTexts words
-    → (if is_right (fault_of (app taken) words) then Some (uses_in taken (matches_of (app taken) words)) else None)
-    ≡ uses_read taken words
+    → AreParsed (if is_right (fault_of (app taken) words) then Some (matches_of (app taken) words) else None)
+    (read_from taken None words)
 answer_is taken words plain texts =
-    rw (fault_is taken words, matches_is taken words)
-    (found_is taken words ∙ idle_all words texts taken false [] None plain)
+    rw (fault_is taken words, matches_is taken words, found_is taken words) (all_read taken words plain texts)
 
 -- ---- the program's calls
 
 -- where the reader finds something
-pub found_by : (a : App) (taken : List Text) (words : List Text) (found : ArgMatches) → a ≡ app taken → IsPlain taken → AreTexts words
-    → HasMatchesOf a words found → (is_simple_and_free a ≡ true → fault_of a words ≡ [])
-    → Some (uses_of taken found) ≡ uses_read taken words
+pub found_by : (a : App) (taken : List Text) (words : List Text) (found : ArgMatches) → a ≡ app taken → IsPlain taken
+    → AreTexts words → HasMatchesOf a words found → (is_simple_and_free a ≡ true → fault_of a words ≡ [])
+    → IsParsed taken words (Some found)
 found_by a taken words found same plain texts matches right =
     let simple : is_simple a ≡ true = ap is_simple same ∙ app_is_simple taken in
     let free : is_simple_and_free a ≡ true = ap is_simple_and_free same ∙ app_is_free taken in
     let rows : rows_of (found_of found) ≡ matches_of (app taken) words =
     (matches simple).0 ∙ ap (λ (x : App). matches_of x words) same in
     let no_fault : fault_of (app taken) words ≡ [] = ap (λ (x : App). fault_of x words) (sym same) ∙ right free in
-    ap (λ (r : List Row). Some (uses_in taken r)) rows
-    ∙ sym (ap (λ (kinds : Kinds). if is_right kinds then Some (uses_in taken (matches_of (app taken) words)) else None) no_fault)
-    ∙ answer_is taken words plain texts
+    subst (λ (o : Option (List Row)). AreParsed o (read_from taken None words))
+    (ap (λ (kinds : Kinds). if is_right kinds then Some (matches_of (app taken) words) else None) no_fault
+    ∙ ap (λ (r : List Row). Some r) (sym rows))
+    (answer_is taken words plain texts)
 
 -- where it refuses the words
-pub refused_by : (a : App) (taken : List Text) (words : List Text) (error : Error) → a ≡ app taken → IsPlain taken → AreTexts words
-    → (is_simple_and_free a ≡ true → HasKind (fault_of a words) error) → (kind_of error ≡ OutOfMemory → ⊥)
-    → None ≡ uses_read taken words
+pub refused_by : (a : App) (taken : List Text) (words : List Text) (error : Error) → a ≡ app taken → IsPlain taken
+    → AreTexts words → (is_simple_and_free a ≡ true → HasKind (fault_of a words) error)
+    → (kind_of error ≡ OutOfMemory → ⊥) → IsParsed taken words None
 refused_by a taken words error same plain texts wrong memory =
     let free : is_simple_and_free a ≡ true = ap is_simple_and_free same ∙ app_is_free taken in
     go (fault_of (app taken) words) refl
     (subst (λ (x : App). HasKind (fault_of x words) error) same (wrong free))
   where
-    answer : (kinds : Kinds) → fault_of (app taken) words ≡ kinds → is_right kinds ≡ false
-        → None ≡ uses_read taken words
-    answer kinds e wrong_kinds =
-        sym (ap (λ (b : Bool). if b then Some (uses_in taken (matches_of (app taken) words)) else None) (ap is_right e ∙ wrong_kinds))
-        ∙ answer_is taken words plain texts
-
-    go : (kinds : Kinds) → fault_of (app taken) words ≡ kinds → HasKind kinds error → None ≡ uses_read taken words
+    go : (kinds : Kinds) → fault_of (app taken) words ≡ kinds → HasKind kinds error → IsParsed taken words None
     go kinds e (inl is) = absurd (memory is)
     go [] e (inr among) = absurd among
-    go (kind ∷ kinds) e (inr among) = answer (kind ∷ kinds) e refl
+    go (kind ∷ kinds) e (inr among) =
+        subst (λ (o : Option (List Row)). AreParsed o (read_from taken None words))
+        (ap (λ (faults : Kinds). if is_right faults then Some (matches_of (app taken) words) else None) e)
+        (answer_is taken words plain texts)
 
 -- what the reader is told: of the names, and then of the options
 pub plain_is : (made named plain : Command) → app_of made ≡ new_app (codes "nanolog")
@@ -164,24 +161,24 @@ plain_is made named plain is_made is_named is_plain =
 
 -- ---- one option after another
 
-pub one_more_taken : (options : List (Bor Text)) (place : ℕ) (d : Bor Text) (before after : App) (rule : Rule)
-    → place < length options → after ≡ with_rule before rule → before ≡ app (map (λ option. option.now) (take place options))
-    → rule ≡ option_argument (get_or options place d).now
-    → after ≡ app (map (λ option. option.now) (take (place + 1) options))
-one_more_taken options place d before after rule below added all is =
+pub one_more_taken : {A : Type 0} (name : A → Text) (options : List A) (place : ℕ) (d : A) (before after : App)
+    (rule : Rule) → place < length options → after ≡ with_rule before rule
+    → before ≡ app (map name (take place options)) → rule ≡ option_argument (name (get_or options place d))
+    → after ≡ app (map name (take (place + 1) options))
+one_more_taken {A = A} name options place d before after rule below added all is =
     let option = get_or options place d in
     let more : take (suc place) options ≡ take place options ++ option ∷ [] = take-suc options place d below in
     added ∙ ap₂ with_rule all is
-    ∙ one_more (map (λ option. option.now) (take place options)) option.now
-    ∙ ap app (sym (map-append (λ option. option.now) (take place options) (option ∷ [])))
-    ∙ ap (λ (all : List (Bor Text)). app (map (λ option. option.now) all)) (sym more)
-    ∙ ap (λ (n : ℕ). app (map (λ option. option.now) (take n options))) (sym (add-one place))
+    ∙ one_more (map name (take place options)) (name option)
+    ∙ ap app (sym (map-append name (take place options) (option ∷ [])))
+    ∙ ap (λ (all : List A). app (map name all)) (sym more)
+    ∙ ap (λ (n : ℕ). app (map name (take n options))) (sym (add-one place))
 
-pub all_taken : (options : List (Bor Text)) (place : ℕ) (names : List Text) (a : App)
-    → a ≡ app (map (λ option. option.now) (take place options)) → place ≤ length options → length options ≤ place
-    → map (λ option. option.now) options ≡ names → a ≡ app names
-all_taken options place names a all within whole are =
+pub all_taken : {A : Type 0} (name : A → Text) (options : List A) (place : ℕ) (names : List Text) (a : App)
+    → a ≡ app (map name (take place options)) → place ≤ length options → length options ≤ place
+    → map name options ≡ names → a ≡ app names
+all_taken {A = A} name options place names a all within whole are =
     let end : place ≡ length options = omega arith in
-    all ∙ ap (λ (n : ℕ). app (map (λ option. option.now) (take n options))) end
-    ∙ ap (λ (xs : List (Bor Text)). app (map (λ option. option.now) xs)) (take-length options)
+    all ∙ ap (λ (n : ℕ). app (map name (take n options))) end
+    ∙ ap (λ (xs : List A). app (map name xs)) (take-length options)
     ∙ ap app are

@@ -1,12 +1,12 @@
 pub mod Words
 pub mod SeverityNames
 pub mod Spelled
-pub mod Taken
 pub mod Shapes
-pub mod Rows
 pub mod Walks
-pub mod Readings
-pub mod Inductions
+pub mod WalkedWords
 pub mod Answers
+pub mod Tables
+pub mod OperandValues
 pub mod Commands
 pub mod Lines
+pub mod Lawful

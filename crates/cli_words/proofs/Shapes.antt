@@ -10,7 +10,7 @@ use Rattle.clap.specs.Walk.{Rule, Text, arg_by_id, arg_by_long, arg_by_short, is
 use Rattle.clap.specs.Simple.{App, Shape, new_shape, is_buildable, is_in_order, is_ready, is_ready_leaf, is_simple}
 use Rattle.clap.specs.Simple.{new_rule, built, filled_from, with_rule}
 use Rattle.clap.specs.Faults.{has_free_rules, is_free_app, is_simple_and_free}
-use Rattle.clap.specs.declared.builder.action.ArgAction.TheVariants.{Set, Append}
+use Rattle.clap.specs.declared.builder.action.ArgAction.TheVariants.{Append}
 use Rattle.clap.specs.declared.builder.value_parser.ValueParser.TheVariants as vp
 use Rattle.cli_words.specs.Apps.{app, option_argument}
 use Rattle.cli_words.specs.Commands.{is_among}
@@ -28,7 +28,7 @@ names_rule = record (new_rule (codes "names")) {
 abbrev pub option_rule : Text → Rule
 option_rule option = record (new_rule option) {
   long = Some option;
-  action = Some Set;
+  action = Some Append;
   range = Some (record { start_inclusive = 1; end_inclusive = 1 });
   parser = Some vp.String;
 }

@@ -10,9 +10,9 @@ use Rattle.std.proofs.lemmas.Str.Parse.{IsNumeralModel, numerals_by_value, parse
 use Rattle.log_dictionary.specs.Severities.{severity_name}
 use Rattle.log_dictionary.specs.declared.severity.Severity.{Severity}
 use Rattle.log_dictionary.specs.declared.severity.Severity.TheVariants.{Error, Warning, Notice, Debug}
-use Rattle.log_session.specs.declared.options.Policy.{Policy}
-use Rattle.log_session.specs.declared.options.Policy.TheVariants.{Wait, Shed}
-use Rattle.cli_words.specs.Commands.{Text, number_within, policy_named, severity_named}
+use Rattle.session_options.specs.declared.options.Policy.{Policy}
+use Rattle.session_options.specs.declared.options.Policy.TheVariants.{Wait, Shed}
+use Rattle.cli_words.specs.Commands.{WordBytes, number_within, policy_named, severity_named}
 use Rattle.cli_words.specs.Rows.{policy_name}
 use Rattle.cli_words.specs.declared.numbers.TheConstants.{MAX_DIGITS}
 
@@ -37,12 +37,12 @@ number_spelled least most n low high small =
     ) refl
 
 -- what is true of digits, where they spell a number within these bounds
-abbrev Spells : ℕ → ℕ → Text → Option ℕ → Type 0
+abbrev Spells : ℕ → ℕ → WordBytes → Option ℕ → Type 0
 Spells least most digits None = Unit {0}
 Spells least most digits (Some n) =
     (all_ascii_digits digits ≡ true) × (0 < length digits) × (digits_value 10 digits ≡ n) × (least ≤ n) × (n ≤ most)
 
-number_spells : (least most : ℕ) (digits : Text) → Spells least most digits (number_within least most digits)
+number_spells : (least most : ℕ) (digits : WordBytes) → Spells least most digits (number_within least most digits)
 number_spells least most digits =
     go (all_ascii_digits digits) refl (nat_lt 0 (length digits)) refl (nat_le (length digits) MAX_DIGITS) refl
     (nat_le least (digits_value 10 digits)) refl (nat_le (digits_value 10 digits) most) refl
@@ -70,7 +70,7 @@ abbrev pub LiesIn : ℕ → ℕ → Option ℕ → Type 0
 LiesIn least most None = Unit {0}
 LiesIn least most (Some n) = (least ≤ n) × (n ≤ most)
 
-pub number_lies : (least most : ℕ) (digits : Text) → LiesIn least most (number_within least most digits)
+pub number_lies : (least most : ℕ) (digits : WordBytes) → LiesIn least most (number_within least most digits)
 number_lies least most digits = go (number_within least most digits) (number_spells least most digits)
   where
     go : (found : Option ℕ) → Spells least most digits found → LiesIn least most found
@@ -78,7 +78,7 @@ number_lies least most digits = go (number_within least most digits) (number_spe
     go (Some n) spells = (spells.3, spells.4)
 
 -- digits that don't begin with `+`
-pub unsigned_start : (digits : Text) (plus : Bool) → plus ≡ (slice_index digits 0 == 43) → plus ≡ false
+pub unsigned_start : (digits : WordBytes) (plus : Bool) → plus ≡ (slice_index digits 0 == 43) → plus ≡ false
     → get_or digits 0 0 ≢ 43
 unsigned_start digits plus tested none first = true≢false (sym (tested ∙ eqb-is (get_or digits 0 0) first) ∙ none)
   where
@@ -86,7 +86,7 @@ unsigned_start digits plus tested none first = true≢false (sym (tested ∙ eqb
     eqb-is byte same = rw same refl
 
 -- what `parse` reads of such digits
-pub number_read : {E : Type 0} (least most n : ℕ) (digits : Text) (r : Result ℕ E) → ParsesUnsigned 64 10 digits r
+pub number_read : {E : Type 0} (least most n : ℕ) (digits : WordBytes) (r : Result ℕ E) → ParsesUnsigned 64 10 digits r
     → get_or digits 0 0 ≢ 43 → length digits ≤ MAX_DIGITS → r ≡ Ok n → least ≤ n → n ≤ most
     → Some n ≡ number_within least most digits
 number_read least most n digits r parses unsigned few is low high =
@@ -101,7 +101,7 @@ number_read least most n digits r parses unsigned few is low high =
     ) (ap (λ (number : ℕ). Some number) value)
 
 -- what it doesn't read
-pub number_refused : {E : Type 0} (least most : ℕ) (error : E) (digits : Text) (r : Result ℕ E) → ParsesUnsigned 64 10 digits r
+pub number_refused : {E : Type 0} (least most : ℕ) (error : E) (digits : WordBytes) (r : Result ℕ E) → ParsesUnsigned 64 10 digits r
     → get_or digits 0 0 ≢ 43 → r ≡ Err error → most < 2 ^ 64 → None ≡ number_within least most digits
 number_refused least most error digits r parses unsigned is small =
     let refused = rw is at (parse_plain numerals 64 digits r parses unsigned) in

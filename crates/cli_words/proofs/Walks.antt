@@ -9,14 +9,12 @@ use Rattle.clap.specs.Simple.{Shape}
 use Rattle.clap.specs.Walk.{Row, Text, Held, Waiting, Walk, idle, option as waiting_for, positional, settled_rows, used, walked}
 use Rattle.clap.specs.Walk.{arg_by_long, positional_held, pushed, subcommand_met}
 use Rattle.clap.specs.Kinds.{Kinds, or_else}
-use Rattle.clap.specs.Faults.{flags_fault, settle_fault, turn_fault, use_fault, walk_fault}
+use Rattle.clap.specs.Faults.{flags_fault, settle_fault, turn_fault, walk_fault}
 use Rattle.clap.specs.declared.error.kind.ErrorKind.TheVariants.{UnknownArgument}
 use Rattle.std.proofs.lemmas.Str.{IsUtf8-drop, IsCharBoundary-after_ascii, encodes-chars}
 use lib.Utf8.{encodes}
-use Rattle.cli_words.specs.Uses.{Uses, uses_in}
 use Rattle.cli_words.specs.Commands.{Name, End, Awaits, Sets, Unknown, is_among}
-use Rattle.cli_words.proofs.Taken.{same_text}
-use Rattle.cli_words.proofs.Words.{Tells, dashes}
+use Rattle.cli_words.proofs.Words.{Tells, dashes, same_text}
 use Rattle.cli_words.proofs.Shapes.{IsPlain, rules, shape, names_rule, option_rule, by_id, by_long, by_short}
 
 -- there is no fault
@@ -51,16 +49,19 @@ rows_at taken h = settled_rows (rules taken) h.pending h.rows
 abbrev pub named : List Row → Text → Held
 named rows name = held rows (Some (codes "names", name ∷ []))
 
--- what is used, where the argument can be settled
-abbrev pub used_at : List Text → Held → Option Uses
-used_at taken h =
-    if is_right (settle_fault (rules taken) false h) then Some (uses_in taken (rows_at taken h)) else None
+-- what is pending can be settled, whatever the rows are
+abbrev pub CanSettle : List Text → Option (Text × List Text) → Type 0
+CanSettle taken pending = (rows : List Row) → settle_fault (rules taken) false (held rows pending) ≡ []
 
--- what is used at the end of the words, if they are right
-abbrev pub ended : List Text → Walk → List Text → Option Uses
+-- the rows, where what is pending can be settled
+abbrev pub settled_at : List Text → Held → Option (List Row)
+settled_at taken h = if is_right (settle_fault (rules taken) false h) then Some (rows_at taken h) else None
+
+-- the rows at the end of the words, if they are right
+abbrev pub ended : List Text → Walk → List Text → Option (List Row)
 ended taken w words =
     if is_right (walk_fault (shape taken) [] w words)
-    then used_at taken (fold (walked (rules taken) []) w words).held else None
+    then settled_at taken (fold (walked (rules taken) []) w words).held else None
 
 walk_fault_step : (s : Shape) (w : Walk) (word : Text) (words : List Text)
     → walk_fault s [] w (word ∷ words) ≡ or_else (turn_fault s [] w word) (walk_fault s [] (walked s.rules [] w word) words)
@@ -75,13 +76,13 @@ ended_step taken w word words fault after turn walk =
     let faults : walk_fault (shape taken) [] w (word ∷ words) ≡ or_else fault (walk_fault (shape taken) [] after words) =
     walk_fault_step (shape taken) w word words
     ∙ ap₂ or_else turn (ap (λ (x : Walk). walk_fault (shape taken) [] x words) walk) in
-    ap₂ (λ (f : Kinds) (x : Walk). if is_right f then used_at taken (fold (walked (rules taken) []) x words).held else None)
+    ap₂ (λ (f : Kinds) (x : Walk). if is_right f then settled_at taken (fold (walked (rules taken) []) x words).held else None)
     faults walk
     ∙ go fault
   where
     go : (f : Kinds)
         → (if is_right (or_else f (walk_fault (shape taken) [] after words))
-        then used_at taken (fold (walked (rules taken) []) after words).held else None)
+        then settled_at taken (fold (walked (rules taken) []) after words).held else None)
         ≡ (if is_right f then ended taken after words else None)
     go [] = refl
     go (kind ∷ kinds) = refl
@@ -173,15 +174,10 @@ unfolding walked
 awaits_walked taken true rows pending word option tells known = rw (tells.0, tells.1, long_rule taken option known) refl
 awaits_walked taken false rows pending word option tells known = rw (tells.0, tells.1, long_rule taken option known) refl
 
--- the fault of a use of an option: it was used before
-abbrev pub again_fault : Text → List Row → Kinds
-again_fault option rows = use_fault false (option_rule option) ([] ∷ []) rows
-
 -- an option, with its value
 pub sets_turn : (taken : List Text) (b : Bool) (h : Held) (word option value : Text) → Tells word (Sets option value)
     → is_among taken option ≡ true
-    → turn_fault (shape taken) [] (at h (no_option b) false) word
-    ≡ or_else (settle_fault (rules taken) false h) (again_fault option (rows_at taken h))
+    → turn_fault (shape taken) [] (at h (no_option b) false) word ≡ or_else (settle_fault (rules taken) false h) []
 sets_turn taken true h word option value tells known = rw (tells.0, tells.1, long_rule taken option known) (or_none _)
 sets_turn taken false h word option value tells known = rw (tells.0, tells.1, long_rule taken option known) (or_none _)
 
@@ -208,16 +204,20 @@ value_walked taken option rows word plain known tells =
     rw (tells.0, tells.1, tells.2, by_id taken option plain known, same_text option) refl
 
 -- the option has its value
-pub value_held : (taken : List Text) (option : Text) (rows : List Row) (word : Text) → IsPlain taken
+pub value_settles : (taken : List Text) (option word : Text) → IsPlain taken → is_among taken option ≡ true
+    → CanSettle taken (Some (option, word ∷ []))
+value_settles taken option word plain known rows = rw (by_id taken option plain known) refl
+
+-- and then its row
+pub value_row : (taken : List Text) (option : Text) (rows : List Row) (word : Text) → IsPlain taken
     → is_among taken option ≡ true
-    → used_at taken (held rows (Some (option, word ∷ [])))
-    ≡ (if is_right (again_fault option rows) then Some (uses_in taken (used (option_rule option) (word ∷ []) rows)) else None)
-value_held taken option rows word plain known = rw (by_id taken option plain known) refl
+    → rows_at taken (held rows (Some (option, word ∷ []))) ≡ used (option_rule option) (word ∷ []) rows
+value_row taken option rows word plain known = rw (by_id taken option plain known) refl
 
 -- it has none
-pub none_held : (taken : List Text) (option : Text) (rows : List Row) → IsPlain taken → is_among taken option ≡ true
-    → used_at taken (held rows (Some (option, []))) ≡ None
-none_held taken option rows plain known = rw (by_id taken option plain known) refl
+pub none_settles : (taken : List Text) (option : Text) (rows : List Row) → IsPlain taken → is_among taken option ≡ true
+    → is_right (settle_fault (rules taken) false (held rows (Some (option, [])))) ≡ false
+none_settles taken option rows plain known = rw (by_id taken option plain known) refl
 
 pub no_value_end_turn : (taken : List Text) (option : Text) (rows : List Row) (word : Text) → Tells word End
     → turn_fault (shape taken) [] (awaiting option rows) word ≡ []

@@ -2,28 +2,25 @@
 use Rattle.std.specs.Prelude.{◌≡◌, ◌≢◌, ◌==◌, ◌<◌, ◌≤◌, ℕ, List, [], ◌∷◌, length, Option, Some, true, codes}
 use Rattle.std.specs.Fmt.{decimal}
 use Rattle.std.specs.List.{All, slice_split}
-use Rattle.cli_words.specs.Commands.{Text, Command, Preprocess, Direct, Replay, Decompress}
+use Rattle.cli_words.specs.Commands.{WordBytes, Command, Preprocess, Direct, Replay, Decompress}
 use Rattle.cli_words.specs.Commands.{Aggregate, Generate, Selftest}
 use Rattle.cli_words.specs.Commands.{command_of, is_name}
-use Rattle.arg_records.specs.declared.call.TheConstants.{MAX_WRITERS}
-use Rattle.trace_text.specs.declared.generating.TheConstants.{MAX_GENERATED}
-use Rattle.cli_words.specs.declared.command.TheConstants.{MAX_SOURCES}
+use Rattle.cli_words.specs.declared.operands.TheConstants.{MAX_SOURCES}
 use Rattle.cli_words.specs.declared.numbers.TheConstants.{MAX_ID, MAX_SEED}
-use Rattle.ring_core.specs.declared.limits.TheConstants.{MIN_RING, MAX_RING}
-use Rattle.roaming_consumer.specs.declared.making.TheConstants.{MAX_BATCH}
-use Rattle.log_session.specs.declared.options.Options.{Options}
-use Rattle.log_session.specs.declared.options.Policy.{Policy}
-use Rattle.log_session.specs.declared.options.Policy.TheVariants.{Wait, Shed}
 use Rattle.log_dictionary.specs.Severities.{severity_name}
 use Rattle.log_dictionary.specs.declared.severity.Severity.{Severity}
+use Rattle.session_options.specs.declared.limits.TheConstants.{MAX_WRITERS, MAX_GENERATED, MIN_RING, MAX_RING, MAX_BATCH}
+use Rattle.session_options.specs.declared.options.Options.{Options}
+use Rattle.session_options.specs.declared.options.Policy.{Policy}
+use Rattle.session_options.specs.declared.options.Policy.TheVariants.{Wait, Shed}
 
 -- the words of a line, which one space each stands between
-abbrev pub words_of : Text → List Text
-words_of = slice_split (λ byte. byte == 32)
+abbrev pub split_words : WordBytes → List WordBytes
+split_words = slice_split (λ byte. byte == 32)
 
 -- what the line asks for
-abbrev pub meaning : Text → Option Command
-meaning line = command_of (words_of line)
+abbrev pub meaning : WordBytes → Option Command
+meaning line = command_of (split_words line)
 
 -- the command `replay` of the trace `t` into the log `l`
 abbrev pub replays : ℕ → ℕ → Policy → Severity → Option Command
@@ -55,21 +52,21 @@ IsLawful (Generate seed calls writers) = AreGenerated seed calls writers
 IsLawful (Selftest seed calls writers) = AreGenerated seed calls writers
 
 -- the name of what becomes of calls for which there is no room
-abbrev pub policy_name : Policy → Text
+abbrev pub policy_name : Policy → WordBytes
 policy_name Wait = codes "wait"
 policy_name Shed = codes "drop"
 
--- a line that asks for the command
-abbrev pub line_of : Command → List Text
-line_of (Preprocess dictionary sources) = codes "preprocess" ∷ codes "--" ∷ dictionary ∷ sources
-line_of (Direct trace) = codes "direct" ∷ codes "--" ∷ trace ∷ []
-line_of (Replay trace log options) =
+-- words that ask for the command
+abbrev pub words_for : Command → List WordBytes
+words_for (Preprocess dictionary sources) = codes "preprocess" ∷ codes "--" ∷ dictionary ∷ sources
+words_for (Direct trace) = codes "direct" ∷ codes "--" ∷ trace ∷ []
+words_for (Replay trace log options) =
     codes "replay" ∷ codes "--ring" ∷ decimal options.ring ∷ codes "--batch" ∷ decimal options.batch
     ∷ codes "--full" ∷ policy_name options.policy ∷ codes "--level" ∷ severity_name options.level
     ∷ codes "--" ∷ trace ∷ log ∷ []
-line_of (Decompress log) = codes "decompress" ∷ codes "--" ∷ log ∷ []
-line_of (Aggregate log id nth) = codes "aggregate" ∷ codes "--" ∷ log ∷ decimal id ∷ decimal nth ∷ []
-line_of (Generate seed calls writers) =
+words_for (Decompress log) = codes "decompress" ∷ codes "--" ∷ log ∷ []
+words_for (Aggregate log id nth) = codes "aggregate" ∷ codes "--" ∷ log ∷ decimal id ∷ decimal nth ∷ []
+words_for (Generate seed calls writers) =
     codes "generate" ∷ codes "--" ∷ decimal seed ∷ decimal calls ∷ decimal writers ∷ []
-line_of (Selftest seed calls writers) =
+words_for (Selftest seed calls writers) =
     codes "selftest" ∷ codes "--" ∷ decimal seed ∷ decimal calls ∷ decimal writers ∷ []

@@ -1,23 +1,21 @@
 //! The commands of the program, and which one a command line asks for.
 
-ghost use Rattle.std.specs.Prelude.{◌≡◌, ℕ, IfOk, option_map, map};
-ghost use Rattle.cli_words.specs.Commands.{command_of, texts_of, is_name, only_name, replay_of};
-ghost use Rattle.cli_words.specs.Commands.{is_source, are_sources, preprocess_of, Direct, Decompress};
-ghost use Rattle.cli_words.specs.Commands.{Command as Asked, aggregate_of, generated_of, Generate, Selftest};
-ghost use Rattle.cli_words.specs.CommandViews.{command_is};
-ghost use Rattle.cli_words.specs.Uses.{form_named, found_command, options_taken, uses_of};
+ghost use Rattle.std.specs.Prelude.{◌≡◌, IfOk, IfSome, option_map, map};
+ghost use Rattle.cli_words.specs.Commands.{command_of, texts_of, made};
+ghost use Rattle.cli_words.specs.declared.table.CommandForm.TheVariants as forms;
+ghost use Rattle.session_options.specs.declared.options.Options.{Options};
+ghost use Rattle.cli_words.specs.CommandViews.{command_is, value_is};
+ghost use Rattle.cli_words.specs.Rows.{IsLawful};
+ghost use Rattle.cli_words.specs.TableViews.{row_is};
+ghost use Rattle.cli_words.specs.Uses.{found_command, found_values};
 
-use crate::numbers::{MAX_ID, MAX_SEED, number_within, small_within};
-use crate::options::found_options;
-use crate::reading::{Form, NAMES};
-use arg_records::MAX_WRITERS;
+use crate::operands::{OperandValue, read_operands};
+use crate::options::options_in;
+use crate::reading::{NAMES, found_values, read_words};
+use crate::table::{CommandForm, CommandRow, row_named};
 use clap::ArgMatches;
-use log_session::Options;
+use session_options::Options;
 use std::alloc::{AllocError, Global};
-use trace_text::MAX_GENERATED;
-
-/// The most sources of one dictionary.
-pub const MAX_SOURCES: usize = 1_024;
 
 /// What the program is asked to do.
 #[derive(Debug, Drop, PartialEq, Eq)]
@@ -61,78 +59,32 @@ pub enum Command<'a> {
     },
 }
 
-/// The form of the command that a word names.
-fn form_named(word: &str) -> Option<Form>
-    ensures { result ≡ form_named word.now }
+/// The command `preprocess`, if these are its operands.
+fn preprocess_of<'a>(
+    alloc: Global,
+    values: &[OperandValue<'_, 'a>],
+) -> Result<Option<Command<'a>>, AllocError>
+    ensures { IfOk result (λ command. (options : Options) →
+        option_map command_is command ≡ made forms.Preprocess (map value_is values.now) options) }
 {
-    match word {
-        "preprocess" => Some(Form::Preprocess),
-        "direct" => Some(Form::Direct),
-        "replay" => Some(Form::Replay),
-        "decompress" => Some(Form::Decompress),
-        "aggregate" => Some(Form::Aggregate),
-        "generate" => Some(Form::Generate),
-        "selftest" => Some(Form::Selftest),
-        _ => None,
-    }
-}
-
-/// Whether a word that isn't an option can be a name: it isn't empty.
-fn is_name(word: &str) -> bool
-    ensures { result ≡ is_name word.now }
-{
-    !word.is_empty()
-}
-
-/// The name, where there is one and no more.
-fn only_name<'a>(names: &[&'a str]) -> Option<&'a str>
-    ensures { option_map (λ name. name.now) result ≡ only_name (map (λ name. name.now) names.now) }
-{
-    match names {
-        [name] if is_name(name) => Some(name),
-        _ => None,
-    }
-}
-
-/// Whether a dictionary may have a source of this name, which is not its own.
-fn is_source(dictionary: &str, name: &str) -> bool
-    ensures { result ≡ is_source dictionary.now name.now }
-{
-    is_name(name) && name != dictionary
-}
-
-/// Whether a dictionary may have these sources: at least one, and not too many.
-fn are_sources(dictionary: &str, sources: &[&str]) -> bool
-    ensures { result ≡ are_sources dictionary.now (map (λ name. name.now) sources.now) }
-{
-    !sources.is_empty()
-        && sources.len() <= MAX_SOURCES
-        && sources.iter().all(|name| is_source(dictionary, name))
-}
-
-/// The command `preprocess`, where the first name can be that of a dictionary of the others.
-fn preprocess_of<'a>(alloc: Global, names: &[&'a str]) -> Result<Option<Command<'a>>, AllocError>
-    ensures { IfOk result (λ command.
-        option_map command_is command ≡ preprocess_of (map (λ name. name.now) names.now)) }
-{
-    match names {
-        [dictionary, sources @ ..] if is_name(dictionary) && are_sources(dictionary, sources) => {
-            let sources = Vec::from_slice(alloc, sources)?;
-            Ok(Some(Command::Preprocess {
-                dictionary,
-                sources,
-            }))
-        }
+    match values {
+        [
+            OperandValue::File(dictionary),
+            OperandValue::Sources(sources),
+        ] => Ok(Some(Command::Preprocess {
+            dictionary,
+            sources: Vec::from_slice(alloc, sources)?,
+        })),
         _ => Ok(None),
     }
 }
 
-/// The command `replay`, where there are two names and they differ.
-fn replay_of<'a>(names: &[&'a str], options: Options) -> Option<Command<'a>>
-    ensures { option_map command_is result ≡ replay_of (map (λ name. name.now) names.now) options }
+/// The command `replay`, if these are its operands.
+fn replay_of<'a>(values: &[OperandValue<'_, 'a>], options: Options) -> Option<Command<'a>>
+    ensures { option_map command_is result ≡ made forms.Replay (map value_is values.now) options }
 {
-    match names {
-        [trace, log] if is_name(trace) && is_name(log) && trace != log => Some(Command::Replay {
+    match values {
+        [OperandValue::File(trace), OperandValue::File(log)] => Some(Command::Replay {
             trace,
             log,
             options,
@@ -141,121 +93,141 @@ fn replay_of<'a>(names: &[&'a str], options: Options) -> Option<Command<'a>>
     }
 }
 
-/// The command `direct`, where there is one name.
-fn direct_of<'a>(names: &[&'a str]) -> Option<Command<'a>>
-    ensures { option_map command_is result ≡ option_map Direct (only_name (map (λ name. name.now) names.now)) }
+/// The command `decompress`, if these are its operands.
+fn decompress_of<'a>(values: &[OperandValue<'_, 'a>]) -> Option<Command<'a>>
+    ensures { (options : Options) →
+        option_map command_is result ≡ made forms.Decompress (map value_is values.now) options }
 {
-    Some(Command::Direct {
-        trace: only_name(names)?,
-    })
+    match values {
+        [OperandValue::File(log)] => Some(Command::Decompress { log }),
+        _ => None,
+    }
 }
 
-/// The command `decompress`, where there is one name.
-fn decompress_of<'a>(names: &[&'a str]) -> Option<Command<'a>>
-    ensures { option_map command_is result ≡ option_map Decompress (only_name (map (λ name. name.now) names.now)) }
+/// The command `aggregate`, if these are its operands.
+fn aggregate_of<'a>(values: &[OperandValue<'_, 'a>]) -> Option<Command<'a>>
+    ensures { (options : Options) →
+        option_map command_is result ≡ made forms.Aggregate (map value_is values.now) options }
 {
-    Some(Command::Decompress {
-        log: only_name(names)?,
-    })
-}
-
-/// The command `aggregate`, where there are a name and two numbers.
-fn aggregate_of<'a>(names: &[&'a str]) -> Option<Command<'a>>
-    ensures { option_map command_is result ≡ aggregate_of (map (λ name. name.now) names.now) }
-{
-    match names {
-        [log, id, nth] if is_name(log) => Some(Command::Aggregate {
+    match values {
+        [
+            OperandValue::File(log),
+            OperandValue::Number(id),
+            OperandValue::Number(nth),
+        ] => Some(Command::Aggregate {
             log,
-            id: small_within(id, 0, MAX_ID)?,
-            nth: small_within(nth, 0, MAX_ID)?,
+            id: *id,
+            nth: *nth,
         }),
         _ => None,
     }
 }
 
-/// The seed of a generated trace, and how many calls and writers it has, where there are three numbers.
-fn generated_numbers(names: &[&str]) -> Option<(u64, u32, u32)>
-    ensures { (make : ℕ → ℕ → ℕ → Asked) →
-        option_map (λ numbers. make numbers.0 numbers.1 numbers.2) result
-        ≡ generated_of make (map (λ name. name.now) names.now) }
+/// The command `direct`, if these are its operands.
+fn direct_of<'a>(values: &[OperandValue<'_, 'a>]) -> Option<Command<'a>>
+    ensures { (options : Options) →
+        option_map command_is result ≡ made forms.Direct (map value_is values.now) options }
 {
-    match names {
-        [seed, calls, writers] => Some((
-            number_within(seed, 0, MAX_SEED)?,
-            small_within(calls, 0, MAX_GENERATED)?,
-            small_within(writers, 1, MAX_WRITERS)?,
-        )),
+    match values {
+        [OperandValue::File(trace)] => Some(Command::Direct { trace }),
         _ => None,
     }
 }
 
-/// The command `generate`, where there are three numbers.
-fn generate_of<'a>(names: &[&'a str]) -> Option<Command<'a>>
-    ensures { option_map command_is result ≡ generated_of Generate (map (λ name. name.now) names.now) }
+/// The command `generate`, if these are its operands.
+fn generate_of<'a>(values: &[OperandValue<'_, 'a>]) -> Option<Command<'a>>
+    ensures { (options : Options) →
+        option_map command_is result ≡ made forms.Generate (map value_is values.now) options }
 {
-    let (seed, calls, writers) = generated_numbers(names)?;
-    Some(Command::Generate {
-        seed,
-        calls,
-        writers,
-    })
+    match values {
+        [
+            OperandValue::Seed(seed),
+            OperandValue::Number(calls),
+            OperandValue::Number(writers),
+        ] => Some(Command::Generate {
+            seed: *seed,
+            calls: *calls,
+            writers: *writers,
+        }),
+        _ => None,
+    }
 }
 
-/// The command `selftest`, where there are three numbers.
-fn selftest_of<'a>(names: &[&'a str]) -> Option<Command<'a>>
-    ensures { option_map command_is result ≡ generated_of Selftest (map (λ name. name.now) names.now) }
+/// The command `selftest`, if these are its operands.
+fn selftest_of<'a>(values: &[OperandValue<'_, 'a>]) -> Option<Command<'a>>
+    ensures { (options : Options) →
+        option_map command_is result ≡ made forms.Selftest (map value_is values.now) options }
 {
-    let (seed, calls, writers) = generated_numbers(names)?;
-    Some(Command::Selftest {
-        seed,
-        calls,
-        writers,
-    })
+    match values {
+        [
+            OperandValue::Seed(seed),
+            OperandValue::Number(calls),
+            OperandValue::Number(writers),
+        ] => Some(Command::Selftest {
+            seed: *seed,
+            calls: *calls,
+            writers: *writers,
+        }),
+        _ => None,
+    }
 }
 
-/// The command of this form with what was found.
+/// The command of this form with what its operands are given.
+fn made<'a>(
+    alloc: Global,
+    form: CommandForm,
+    values: &[OperandValue<'_, 'a>],
+    options: Options,
+) -> Result<Option<Command<'a>>, AllocError>
+    ensures { IfOk result (λ command. option_map command_is command ≡ made form (map value_is values.now) options) }
+{
+    match form {
+        CommandForm::Preprocess => preprocess_of(alloc, values),
+        CommandForm::Replay => Ok(replay_of(values, options)),
+        CommandForm::Decompress => Ok(decompress_of(values)),
+        CommandForm::Aggregate => Ok(aggregate_of(values)),
+        CommandForm::Direct => Ok(direct_of(values)),
+        CommandForm::Generate => Ok(generate_of(values)),
+        CommandForm::Selftest => Ok(selftest_of(values)),
+        CommandForm::Schedule => Ok(None),
+    }
+}
+
+/// The command of a row with what was found.
 fn found_command<'a>(
     alloc: Global,
-    form: Form,
+    row: &CommandRow,
     found: &ArgMatches<'a>,
 ) -> Result<Option<Command<'a>>, AllocError>
     ensures { IfOk result (λ command.
-        option_map command_is command ≡ found_command form (uses_of (options_taken form) found.now)) }
+        option_map command_is command ≡ found_command (row_is row.now) (found_values found.now)) }
 {
-    let Some(names) = found.get_strs(NAMES) else {
+    let Some(options) = options_in(row, found) else {
         return Ok(None);
     };
-    match form {
-        Form::Preprocess => preprocess_of(alloc, names),
-        Form::Direct => Ok(direct_of(names)),
-        Form::Replay => match found_options(found) {
-            Some(options) => Ok(replay_of(names, options)),
-            None => Ok(None),
-        },
-        Form::Decompress => Ok(decompress_of(names)),
-        Form::Aggregate => Ok(aggregate_of(names)),
-        Form::Generate => Ok(generate_of(names)),
-        Form::Selftest => Ok(selftest_of(names)),
+    match read_operands(alloc, row.operands, found_values(found, NAMES))? {
+        Some(values) => made(alloc, row.form, values.as_slice(), options),
+        None => Ok(None),
     }
 }
 
 /// The command that the words after the program's name ask for, or None where the line is faulty.
 ///
-/// The first word is the command: `preprocess DICT FILE..`, `direct TRACE`,
-/// `replay TRACE LOG [--ring N] [--batch B] [--full wait|drop] [--level S]`, `decompress LOG`, `aggregate LOG ID NTH`,
-/// `generate SEED CALLS WRITERS` or `selftest SEED CALLS WRITERS`. Options stand anywhere after it, as `--level S` or
-/// `--level=S`, until a word `--`, after which every word is a name or a number.
+/// The first word is the command, and behind it stand its operands, as the usage text has them ([`usage`](crate::usage)).
+/// Options stand anywhere behind the command, as `--level S` or `--level=S`, until a word `--`, after which every word is
+/// a name or a number.
 pub fn command_of(alloc: Global, words: &[String]) -> Result<Option<Command<'_>>, AllocError>
-    ensures { IfOk result (λ command. option_map command_is command ≡ command_of (texts_of words.now)) }
+    ensures asked { IfOk result (λ command. option_map command_is command ≡ command_of (texts_of words.now)) }
+    ensures lawful { IfOk result (λ command. IfSome command (λ command. IsLawful (command_is command))) }
 {
     let Some((word, rest)) = words.split_first() else {
         return Ok(None);
     };
-    let Some(form) = form_named(word.as_str()) else {
+    let Some(row) = row_named(word.as_str()) else {
         return Ok(None);
     };
-    match form.read(alloc, rest)? {
-        Some(found) => found_command(alloc, form, &found),
+    match read_words(alloc, row, rest)? {
+        Some(found) => found_command(alloc, row, &found),
         None => Ok(None),
     }
 }

@@ -2,14 +2,15 @@
 //! ensure is proved of the definitions.
 
 ghost use Rattle.std.specs.Prelude.{◌≡◌, Some, None, List, [], ◌∷◌, ◌++◌, codes};
-ghost use Rattle.cli_words.specs.Commands.{Text, Name, Awaits, word_of, given_of, options_of, command_of};
+ghost use Rattle.cli_words.specs.Commands.{WordBytes, Name, Awaits, word_of, given_of, options_of, command_of};
 ghost use Rattle.cli_words.specs.Commands.{Command, Preprocess, Direct, Replay, Decompress};
 ghost use Rattle.cli_words.specs.Commands.{Aggregate, Generate, Selftest};
-ghost use Rattle.cli_words.specs.declared.command.TheConstants.{MAX_SOURCES};
-ghost use Rattle.cli_words.specs.Rows.{meaning, replays, IsLawful, line_of};
-ghost use Rattle.log_session.specs.Defaults.{default_options};
-ghost use Rattle.log_session.specs.declared.options.Policy.TheVariants.{Wait, Shed};
+ghost use Rattle.cli_words.specs.declared.operands.TheConstants.{MAX_SOURCES};
+ghost use Rattle.cli_words.specs.Rows.{meaning, replays, IsLawful, words_for};
+ghost use Rattle.cli_words.specs.Usage.{usage_text};
 ghost use Rattle.log_dictionary.specs.declared.severity.Severity.TheVariants.{Error, Warning, Notice, Debug};
+ghost use Rattle.session_options.specs.Defaults.{default_options};
+ghost use Rattle.session_options.specs.declared.options.Policy.TheVariants.{Wait, Shed};
 
 /// Names may be any words but the empty one, and stand for themselves after `--`.
 pub fn names_are_words()
@@ -51,6 +52,7 @@ pub fn commands_come_first()
     ensures none { command_of [] ≡ None }
     ensures empty { meaning (codes "") ≡ None }
     ensures unknown { meaning (codes "print t") ≡ None }
+    ensures not_built { meaning (codes "schedule f") ≡ None }
     ensures capital { meaning (codes "Direct t") ≡ None }
     ensures help { meaning (codes "help") ≡ None }
     ensures help_option { meaning (codes "--help") ≡ None }
@@ -188,22 +190,36 @@ pub fn values_are_names()
 
 /// An option may be moved over a name and over another option, and has two spellings of one meaning.
 pub fn options_stand_anywhere()
-    ensures moved { (name word option value : Text) (words : List Text) →
+    ensures moved { (name word option value : WordBytes) (words : List WordBytes) →
         word_of name ≡ Name → word_of word ≡ Awaits option →
         given_of (name ∷ word ∷ value ∷ words) ≡ given_of (word ∷ value ∷ name ∷ words) }
-    ensures turned { (one other : Text × Text) (options : List (Text × Text)) →
-        options_of (one ∷ other ∷ options) ≡ options_of (other ∷ one ∷ options) }
-    ensures spelled { (word option value : Text) (words : List Text) → word_of word ≡ Awaits option →
+    ensures turned { (names : List WordBytes) (one other : WordBytes
+        × WordBytes) (options : List (WordBytes × WordBytes)) →
+        options_of names (one ∷ other ∷ options) ≡ options_of names (other ∷ one ∷ options) }
+    ensures spelled { (word option value : WordBytes) (words : List WordBytes) → word_of word ≡ Awaits option →
         given_of (word ∷ value ∷ words) ≡ given_of ((word ++ (codes "=" ++ value)) ∷ words) }
 {}
 
 /// Each command that keeps the rules has a line, whatever its names begin with.
 pub fn commands_have_lines()
-    ensures { (command : Command) → IsLawful command → command_of (line_of command) ≡ Some command }
+    ensures { (command : Command) → IsLawful command → command_of (words_for command) ≡ Some command }
 {}
 
 /// The names of a command aren't empty, the log of `replay` isn't its trace, its numbers lie in their bounds, and the
 /// dictionary of `preprocess` is none of its sources, of which there are enough and not too many.
 pub fn commands_are_lawful()
-    ensures { (words : List Text) (command : Command) → command_of words ≡ Some command → IsLawful command }
+    ensures { (words : List WordBytes) (command : Command) → command_of words ≡ Some command → IsLawful command }
+{}
+
+/// The usage text names the commands with their operands and options, one in a line.
+pub fn the_usage_text_has_these_lines()
+    ensures { usage_text ≡ codes "usage:\n"
+        ++ codes "  nanolog preprocess DICT FILE..\n"
+        ++ codes "  nanolog replay TRACE LOG [--ring N] [--batch B] [--full wait|drop] [--level S]\n"
+        ++ codes "  nanolog decompress LOG\n"
+        ++ codes "  nanolog aggregate LOG ID NTH\n"
+        ++ codes "  nanolog direct TRACE\n"
+        ++ codes "  nanolog generate SEED CALLS WRITERS\n"
+        ++ codes "  nanolog selftest SEED CALLS WRITERS\n"
+        ++ codes "  nanolog schedule FILE\n" }
 {}

@@ -1,17 +1,16 @@
-//! The options of `replay`, and what their values say.
+//! The options of a session, and what their values say.
 
-ghost use Rattle.std.specs.Prelude.{◌≡◌, option_map};
+ghost use Rattle.std.specs.Prelude.{◌≡◌, map};
 ghost use Rattle.cli_words.specs.Commands.{severity_named, policy_named};
-ghost use Rattle.cli_words.specs.Commands.{ring_of, batch_of, policy_of, level_of, replay_options};
-ghost use Rattle.cli_words.specs.Uses.{found_options, uses_of};
+ghost use Rattle.cli_words.specs.Commands.{ring_by, batch_by, policy_by, level_by, options_with, options_by};
+ghost use Rattle.cli_words.specs.Uses.{found_values, options_in};
 
 use crate::numbers::{number_within, small_within};
-use crate::reading::{BATCH, FULL, LEVEL, RING};
+use crate::reading::found_values;
+use crate::table::{BATCH, CommandRow, FULL, LEVEL, RING};
 use clap::ArgMatches;
 use log_dictionary::Severity;
-use log_session::{Options, Policy};
-use ring_core::{MAX_RING, MIN_RING};
-use roaming_consumer::MAX_BATCH;
+use session_options::{MAX_BATCH, MAX_RING, MIN_RING, Options, Policy};
 
 /// The severity of this name.
 fn severity_named(name: &str) -> Option<Severity>
@@ -31,54 +30,86 @@ fn policy_named(name: &str) -> Option<Policy>
     }
 }
 
-/// The words of a ring, by the value of `--ring`, if it is given.
-fn ring_of(value: Option<&str>) -> Option<u64>
-    ensures { result ≡ ring_of (option_map (λ text. text.now) value.entry) }
+/// The words of a ring, by the values of `--ring`.
+fn ring_by(values: &[&str]) -> Option<u64>
+    ensures { result ≡ ring_by (map (λ value. value.now) values.now) }
 {
-    match value {
-        Some(digits) => number_within(digits, MIN_RING, MAX_RING),
-        None => Some(Options::default().ring),
+    match values {
+        [] => Some(Options::default().ring),
+        [digits] => number_within(digits, MIN_RING, MAX_RING),
+        _ => None,
     }
 }
 
-/// The most records of an extent, by the value of `--batch`, if it is given.
-fn batch_of(value: Option<&str>) -> Option<u32>
-    ensures { result ≡ batch_of (option_map (λ text. text.now) value.entry) }
+/// The most records of an extent, by the values of `--batch`.
+fn batch_by(values: &[&str]) -> Option<u32>
+    ensures { result ≡ batch_by (map (λ value. value.now) values.now) }
 {
-    match value {
-        Some(digits) => small_within(digits, 1, MAX_BATCH),
-        None => Some(Options::default().batch),
+    match values {
+        [] => Some(Options::default().batch),
+        [digits] => small_within(digits, 1, MAX_BATCH),
+        _ => None,
     }
 }
 
-/// The policy, by the value of `--full`, if it is given.
-fn policy_of(value: Option<&str>) -> Option<Policy>
-    ensures { result ≡ policy_of (option_map (λ text. text.now) value.entry) }
+/// The policy, by the values of `--full`.
+fn policy_by(values: &[&str]) -> Option<Policy>
+    ensures { result ≡ policy_by (map (λ value. value.now) values.now) }
 {
-    match value {
-        Some(name) => policy_named(name),
-        None => Some(Options::default().policy),
+    match values {
+        [] => Some(Options::default().policy),
+        [name] => policy_named(name),
+        _ => None,
     }
 }
 
-/// The level, by the value of `--level`, if it is given.
-fn level_of(value: Option<&str>) -> Option<Severity>
-    ensures { result ≡ level_of (option_map (λ text. text.now) value.entry) }
+/// The level, by the values of `--level`.
+fn level_by(values: &[&str]) -> Option<Severity>
+    ensures { result ≡ level_by (map (λ value. value.now) values.now) }
 {
-    match value {
-        Some(name) => severity_named(name),
-        None => Some(Options::default().level),
+    match values {
+        [] => Some(Options::default().level),
+        [name] => severity_named(name),
+        _ => None,
     }
+}
+
+/// The options together, where each is right.
+fn options_with(
+    ring: Option<u64>,
+    batch: Option<u32>,
+    policy: Option<Policy>,
+    level: Option<Severity>,
+) -> Option<Options>
+    ensures { result ≡ options_with ring batch policy level }
+{
+    Some(Options {
+        ring: ring?,
+        batch: batch?,
+        policy: policy?,
+        level: level?,
+    })
 }
 
 /// The options by what was found of each, where all their values are right.
-pub(crate) fn found_options(found: &ArgMatches<'_>) -> Option<Options>
-    ensures { result ≡ found_options (uses_of replay_options found.now) }
+fn options_by(found: &ArgMatches<'_>) -> Option<Options>
+    ensures { result ≡ options_by (found_values found.now) }
 {
-    Some(Options {
-        ring: ring_of(found.get_str(RING))?,
-        batch: batch_of(found.get_str(BATCH))?,
-        policy: policy_of(found.get_str(FULL))?,
-        level: level_of(found.get_str(LEVEL))?,
-    })
+    options_with(
+        ring_by(found_values(found, RING)),
+        batch_by(found_values(found, BATCH)),
+        policy_by(found_values(found, FULL)),
+        level_by(found_values(found, LEVEL)),
+    )
+}
+
+/// The options of the command by what was found of each, or the usual ones where it takes none.
+pub(crate) fn options_in(row: &CommandRow, found: &ArgMatches<'_>) -> Option<Options>
+    ensures { result ≡ options_in row.now.has_options (found_values found.now) }
+{
+    if row.has_options {
+        options_by(found)
+    } else {
+        Some(Options::default())
+    }
 }

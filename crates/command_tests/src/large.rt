@@ -1,14 +1,14 @@
 //! Inputs as large as they can be, and larger.
 
 use crate::runs::{PIECE, TRACE, run_gated, run_over, words_of};
-use log_session::FreeGate;
 use nanolog_cli::{Status, quick};
-use nl_io::{MemFiles, MemSink};
+use nl_io::{MAX_HELD, MemFiles, MemSink};
 use std::alloc::{AllocError, Global};
 use std::fmt::Write;
 use std::process::Abort;
 use std::sync::Arc;
 use std::test::Fail;
+use trace_session::FreeGate;
 
 /// A trace of so many messages, and so many calls of the first.
 fn counted_trace(alloc: Global, messages: u32, calls: u32) -> Result<String, AllocError> {
@@ -33,12 +33,12 @@ fn counted_lines(alloc: Global, calls: u32) -> Result<String, AllocError> {
     Ok(lines)
 }
 
-/// One call of the output takes a piece of 64 KiB, and the next one fails.
+/// One call of the output takes lines of 16 KiB at most, which a further one would exceed, and the next call fails.
 #[test]
 fn a_long_text_is_printed_in_pieces(rt: HostRuntime) -> Result<(), Fail> {
     let alloc = rt.alloc();
-    let text = counted_trace(alloc, 1, 3_000)?;
-    let lines = counted_lines(alloc, 3_000)?;
+    let text = counted_trace(alloc, 1, 1_000)?;
+    let lines = counted_lines(alloc, 1_000)?;
     let file = ("t", text.as_bytes());
     let ran = run_over(&rt, alloc, "direct t", file)?;
     assert!(rt; ran.shown() == (Status::Done, lines.as_str(), ""));
@@ -47,7 +47,9 @@ fn a_long_text_is_printed_in_pieces(rt: HostRuntime) -> Result<(), Fail> {
     let (status, out, err) = ran.shown();
     let told = "nanolog: standard output: write fault\n";
     assert_eq!(rt; (status, err), (Status::WriteFault, told));
-    assert!(rt; out.len() >= 65_536 && out.len() < 65_600 && lines.as_str().starts_with(out));
+    assert!(rt;
+        out.len() > MAX_HELD - 50 && out.len() <= MAX_HELD && lines.as_str().starts_with(out)
+    );
     Ok(())
 }
 

@@ -2,12 +2,12 @@
 
 use crate::runs::{Machine, expect_lines, run_gated, run_over};
 use crate::threads::HeldRound;
-use log_session::{FreeGate, Gate};
 use nanolog_cli::Status;
 use std::alloc::Global;
 use std::fmt::Write;
 use std::sync::Arc;
 use std::test::Fail;
+use trace_session::{FreeGate, Gate};
 
 /// A call of a made trace.
 #[derive(Drop)]

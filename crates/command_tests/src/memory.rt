@@ -2,12 +2,12 @@
 //! refuse memory, in which what they set up may fail.
 
 use crate::runs::{LINE, Machine, PIECE, TRACE, words_of};
-use log_session::FreeGate;
 use nanolog_cli::{Status, nanolog};
 use nl_io::{MemFiles, MemSink};
 use std::alloc::Global;
 use std::sync::Arc;
 use std::test::Fail;
+use trace_session::FreeGate;
 
 /// The log of [`TRACE`].
 const LOG: &[u8] =

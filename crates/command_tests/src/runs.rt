@@ -1,6 +1,5 @@
 //! Runs of words over files and outputs in memory.
 
-use log_session::{FreeGate, Gate};
 use nanolog_cli::{Status, nanolog};
 use nl_io::{MemFiles, MemSink};
 use std::alloc::{AllocError, Global};
@@ -8,6 +7,7 @@ use std::process::Abort;
 use std::sync::{Arc, Wait};
 use std::test::Fail;
 use std::thread::Threads;
+use trace_session::{FreeGate, Gate};
 
 /// What a run needs of the machine that it runs on.
 pub(crate) trait Machine: Abort + Threads + Wait + Copy + Send + 'static {}

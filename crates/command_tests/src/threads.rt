@@ -1,13 +1,13 @@
 //! Replays with gates that say what comes first.
 
 use crate::runs::{LINE, TRACE, expect_lines, run_gated};
-use log_session::Gate;
 use nanolog_cli::Status;
 use std::alloc::Global;
 use std::hint::spin_loop;
 use std::sync::Arc;
 use std::sync::atomic::{AtomicU64, Ordering};
 use std::test::Fail;
+use trace_session::Gate;
 
 /// How many turns a gate waits at most. Then it lets go and leaves a mark.
 const TURNS: u64 = 200_000_000;

@@ -1,32 +1,26 @@
 -- What was read of a file, and what its lines are.
-use Rattle.std.proofs.Common.{◌≡◌, ℕ, zero, suc, ◌+◌, ◌≤◌, List, [], ◌++◌, map, length, Some, None, refl, ap, sym, ◌∙◌, subst, inl, inr, arith}
+use Rattle.std.proofs.Common.{◌≡◌, ℕ, zero, suc, ◌+◌, ◌≤◌, List, [], ◌++◌, map, length, Option, Some, None, refl, ap, sym, ◌∙◌, subst, arith}
+use Rattle.std.specs.Prelude.{Result, IfOk}
 use Rattle.std.specs.List.{AllByRecursion, range_with_len}
-use Rattle.std.proofs.lemmas.List.{append-nil}
-use Rattle.nl_io.specs.Content.{Told, with_end}
 use Rattle.log_dictionary.specs.declared.message.Message.{Message}
 use Rattle.arg_records.specs.declared.call.Call.{Call}
 use Rattle.arg_records.specs.Calls.{IsCall, NeverFalls, writer_calls, calls_by_writer}
 use Rattle.direct_printf.specs.Lines.{Direct}
 use Rattle.checkpoint_io.specs.declared.cause.Cause.{Cause}
 use Rattle.checkpoint_io.specs.declared.header.Header.{Header}
-use Rattle.checkpoint_io.specs.Blocks.{Block, messages_of, FileOf}
+use Rattle.checkpoint_io.specs.Blocks.{Block, messages_of}
 use Rattle.checkpoint_io.specs.Validity.{records_of, Valid}
-use Rattle.checkpoint_io.specs.Fronts.{BeginsWith, Front, Break}
-use Rattle.checkpoint_io.specs.Readers.{ReaderState}
-use Rattle.checkpoint_io.specs.NextBlocks.{StopsAt}
-use Rattle.checkpoint_io.proofs.FrontLaws.{whole_is_front}
-use Rattle.checkpoint_io.proofs.BreakLaws.{whole_or_break}
-use Rattle.checkpoint_io.proofs.FileLaws.{broken_there, large_there, more_than_read, no_header}
+use Rattle.checkpoint_io.specs.Readers.{ReaderState, StandsFor}
 use Rattle.checkpoint_io.proofs.ValidityLaws.{IsCall-front, records_fit, stamps_rise}
+use Rattle.log_scan.specs.Parts.{LogPart}
+use Rattle.log_scan.specs.Scans.{HasFront, IsDamagedScan, EndsWhole, IsReaderOf, StandsForAll}
 use Rattle.decompressor.specs.declared.report.Report.{Report}
-use Rattle.decompressor.specs.Decompression.{CallsOf, all_calls, of_front, of_nothing}
-use Rattle.decompressor.specs.Decompressing.{lines_of, open_writers, LinesTo, IsWhole, IsDamaged, HasLines}
-use Rattle.decompressor.specs.Decompressing.LinesTo.{of_blocks}
-use Rattle.decompressor.specs.Decompressing.LinesWithin.{of_front as all_of_front, of_part, of_nothing as all_of_nothing}
-use Rattle.decompressor.specs.Gathering.{records_by_writer, HasRead}
-use Rattle.decompressor.specs.Printing.{HaveLines}
+use Rattle.decompressor.specs.Decompression.{CallsOf, all_calls, Decompressed, of_front, of_nothing}
+use Rattle.decompressor.specs.Decompressing.{calls_read, text_read, unclosed_read, open_writers, IsTextOfWhole, IsTextOfDamaged}
+use Rattle.decompressor.specs.Gathering.{records_by_writer, HoldRecords}
+use Rattle.decompressor.specs.Printing.{ArePrintable}
 use Rattle.decompressor.proofs.TextLaws.{same_calls, same_flat, numbered}
-use Rattle.decompressor.proofs.Gathering.{writers_are}
+use Rattle.decompressor.proofs.BlockRecords.{writers_are}
 
 -- ---- the calls of what was read
 
@@ -44,95 +38,58 @@ all_numbered : {A : Type 0} (P : A → Type 0) (f : ℕ → A) (from n : ℕ) �
 all_numbered P f from zero all = tt
 all_numbered P f from (suc n) all = (all from, all_numbered P f (from + 1) n all)
 
-pub have_lines : (reader : ReaderState) (writers : List (List Call)) (taken : List ℕ) → HasRead reader writers taken → HaveLines reader.header.clock reader.messages writers
-have_lines reader writers taken read =
-    let blocks = read.blocks in
-    let fit : (writer : ℕ) → AllByRecursion (IsCall reader.messages) (records_of writer blocks) = λ writer.
-    subst (λ (ms : List Message). AllByRecursion (IsCall ms) (records_of writer blocks)) (sym read.known) (IsCall-front (messages_of blocks) read.others (records_of writer blocks) (records_fit reader.header blocks writer read.valid)) in
+-- ---- what is printed
+
+have_lines : (messages : List Message) (part : LogPart) (writers : List (List Call)) (others : List Message) → Valid part.header part.blocks → messages ≡ messages_of part.blocks ++ others → writers ≡ records_by_writer part.header part.blocks → ArePrintable part.header.clock messages writers
+have_lines messages part writers others valid known held =
+    let blocks = part.blocks in
+    let fit : (writer : ℕ) → AllByRecursion (IsCall messages) (records_of writer blocks) = λ writer.
+    subst (λ (ms : List Message). AllByRecursion (IsCall ms) (records_of writer blocks)) (sym known) (IsCall-front (messages_of blocks) others (records_of writer blocks) (records_fit part.header blocks writer valid)) in
     record {
-      rate = read.valid.header_right.rate;
-      few = omega (arith, ap length read.gathered, writers_are reader.header blocks, read.valid.header_right.few_writers);
-      calls = subst (AllByRecursion (AllByRecursion (IsCall reader.messages))) (sym read.gathered) (all_numbered (AllByRecursion (IsCall reader.messages)) (λ (writer : ℕ). records_of writer blocks) 0 reader.header.writers fit);
-      stamps = subst (AllByRecursion (NeverFalls reader.header.clock.tick)) (sym read.gathered) (all_numbered (NeverFalls reader.header.clock.tick) (λ (writer : ℕ). records_of writer blocks) 0 reader.header.writers (λ writer. stamps_rise reader.header blocks writer read.valid));
+      rate = valid.header_right.rate;
+      few = omega (arith, ap length held, writers_are part.header blocks, valid.header_right.few_writers);
+      calls = subst (AllByRecursion (AllByRecursion (IsCall messages))) (sym held) (all_numbered (AllByRecursion (IsCall messages)) (λ (writer : ℕ). records_of writer blocks) 0 part.header.writers fit);
+      stamps = subst (AllByRecursion (NeverFalls part.header.clock.tick)) (sym held) (all_numbered (NeverFalls part.header.clock.tick) (λ (writer : ℕ). records_of writer blocks) 0 part.header.writers (λ writer. stamps_rise part.header blocks writer valid));
     }
+
+-- the records of what the reader knows have lines
+pub printable : (reader : ReaderState) (part : Option LogPart) (writers : List (List Call)) → IsReaderOf (Some reader) part → HoldRecords writers part → ArePrintable reader.header.clock reader.messages writers
+printable reader None writers knows held = absurd knows
+printable reader (Some part) writers knows held =
+    subst (λ (h : Header). ArePrintable h.clock reader.messages writers) (sym knows.header) (have_lines reader.messages part writers knows.others knows.valid knows.known held)
+
+-- their calls are those of what was read
+pub read_calls : (reader : ReaderState) (part : Option LogPart) (writers : List (List Call)) → IsReaderOf (Some reader) part → HoldRecords writers part → calls_by_writer reader.messages writers ≡ calls_read part
+read_calls reader None writers knows held = absurd knows
+read_calls reader (Some part) writers knows held = calls_are part.header part.blocks reader.messages knows.others writers knows.valid knows.known held
+
+pub read_text : (reader : ReaderState) (part : Option LogPart) (writers : List (List Call)) → IsReaderOf (Some reader) part → HoldRecords writers part → Direct reader.header.clock (calls_by_writer reader.messages writers) ≡ text_read part
+read_text reader None writers knows held = absurd knows
+read_text reader (Some part) writers knows held =
+    let calls = read_calls reader (Some part) writers knows held in
+    λ i. let header : Header = knows.header i in Direct header.clock (calls i)
 
 -- ---- how it ends
 
-module _ (bytes : List ℕ) (reader : ReaderState) (writers : List (List Call)) (taken : List ℕ) (read : HasRead reader writers taken) (begins : (rest : List ℕ) × (bytes ≡ taken ++ rest)) where
-  abbrev pub text : List ℕ
-  text = Direct reader.header.clock (calls_by_writer reader.messages writers)
+pub decompressed_read : (bytes : List ℕ) (part : Option LogPart) → HasFront bytes part → Decompressed bytes (text_read part)
+decompressed_read bytes None none = of_nothing none refl
+decompressed_read bytes (Some part) (count, front) = of_front part.header part.blocks count front refl
 
-  calls_same : calls_by_writer reader.messages writers ≡ all_calls reader.header read.blocks
-  calls_same = calls_are reader.header read.blocks reader.messages read.others writers read.valid read.known read.gathered
+pub text_of_whole : (bytes : List ℕ) (part : Option LogPart) (report : Report) → EndsWhole bytes part → report.lines ≡ length (calls_read part) → report.unclosed ≡ unclosed_read part → IsTextOfWhole bytes (text_read part) report
+text_of_whole bytes None report wrong lines unclosed = absurd wrong
+text_of_whole bytes (Some part) report whole lines unclosed = record {
+  part = part;
+  scanned = whole;
+  decompressed = of_front part.header part.blocks (length bytes) whole.front refl;
+  lines = lines;
+  unclosed = unclosed;
+}
 
-  text_is : text ≡ lines_of reader.header read.blocks
-  text_is = ap (Direct reader.header.clock) calls_same
+pub text_of_damaged : (bytes : List ℕ) (part : Option LogPart) (offset : ℕ) (cause : Cause) → IsDamagedScan bytes part offset cause → IsTextOfDamaged bytes (text_read part) offset cause
+text_of_damaged bytes part offset cause damaged = record { part = part; scanned = damaged; text_is = refl; decompressed = λ short. decompressed_read bytes part (damaged.all short) }
 
-  begun : BeginsWith bytes reader.header read.blocks reader.offset
-  begun = record { prefix = taken; rest = begins.0; whole = begins.1; taken = read.offset; file = read.file; valid = read.valid }
-
-  fits : reader.offset ≤ 134217728
-  fits = omega (arith, read.offset, read.within)
-
-  pub lines_to : LinesTo bytes text reader.offset
-  lines_to = of_blocks reader.header read.blocks reader.offset begun fits text_is
-
-  -- a whole file
-  module _ (all : bytes ≡ taken) where
-    whole_file : FileOf reader.header read.blocks bytes
-    whole_file = subst (FileOf reader.header read.blocks) (sym all) read.file
-
-    whole_front : Front bytes reader.header read.blocks (length bytes)
-    whole_front = whole_is_front reader.header read.blocks bytes whole_file read.valid
-
-    whole_within : length bytes ≤ 134217728
-    whole_within = omega (arith, ap length all, read.within)
-
-    pub is_whole : (report : Report) → report.lines ≡ length (calls_by_writer reader.messages writers) → report.unclosed ≡ open_writers reader.header read.blocks → IsWhole bytes text report
-    is_whole report lines unclosed = record {
-      within = whole_within;
-      unbroken = λ offset cause. whole_or_break reader.header read.blocks bytes offset cause whole_file read.valid;
-      decompressed = of_front reader.header read.blocks (length bytes) whole_front text_is;
-      header = reader.header;
-      blocks = read.blocks;
-      front = whole_front;
-      lines = lines ∙ ap length calls_same;
-      unclosed = unclosed;
-    }
-
-    pub whole_lines : (before after : ℕ) → HasLines bytes before after text
-    whole_lines before after = inl (length bytes, all_of_front reader.header read.blocks (length bytes) whole_front whole_within text_is, λ short. of_front reader.header read.blocks (length bytes) whole_front text_is)
-
-  -- a file that breaks
-  pub is_damaged : (cause : Cause) → StopsAt bytes reader.offset cause → IsDamaged bytes text reader.offset cause
-  is_damaged cause (inl breaks) =
-      let front = broken_there bytes reader.header read.blocks reader.offset cause begun breaks in
-      record {
-        stops = inl breaks;
-        before = all_of_front reader.header read.blocks reader.offset front fits text_is;
-        breaks = λ short. breaks;
-        decompressed = λ short. of_front reader.header read.blocks reader.offset front text_is;
-      }
-  is_damaged cause (inr (named, large)) =
-      let past = more_than_read bytes reader.offset large in
-      record {
-        stops = inr (named, large);
-        before = of_part reader.header read.blocks large.block reader.offset large.count begun fits (large_there bytes reader.header read.blocks reader.offset begun large) large.large text_is;
-        breaks = λ short. absurd (past short);
-        decompressed = λ short. absurd (past short);
-      }
-
-  pub damaged_lines : (cause : Cause) (before after : ℕ) → StopsAt bytes reader.offset cause → HasLines bytes before after text
-  damaged_lines cause before after stops = let is = is_damaged cause stops in inl (reader.offset, is.before, is.decompressed)
-
--- ---- no header
-
--- nothing was printed of a file whose header breaks
-pub header_damaged : (bytes : List ℕ) (cause : Cause) → Break bytes 0 cause → IsDamaged bytes [] 0 cause
-header_damaged bytes cause breaks =
-    let none = no_header bytes cause breaks in
-    record { stops = inl breaks; before = all_of_nothing none refl; breaks = λ short. breaks; decompressed = λ short. of_nothing none refl }
-
-pub nothing_put : (was : Told) → was ≡ with_end [] was
-nothing_put None = refl
-nothing_put (Some content) = ap Some (sym (append-nil content))
+-- the writers that the reader has as open are those of the log that it stands for
+pub unclosed_of : {E : Type 0} (reader : ReaderState) (part : Option LogPart) (r : Result (List ℕ) E) → ((taken : List ℕ) (read : StandsFor reader taken) → IfOk r (λ unclosed. unclosed ≡ open_writers reader.header read.blocks))
+    → IsReaderOf (Some reader) part → StandsForAll (Some reader) part → IfOk r (λ unclosed. unclosed ≡ unclosed_read part)
+unclosed_of reader None r said knows stands = absurd knows
+unclosed_of reader (Some part) r said knows (taken, read, same) = subst (λ (writers : List ℕ). IfOk r (λ unclosed. unclosed ≡ writers)) (λ i. open_writers (knows.header i) (same i)) (said taken read)

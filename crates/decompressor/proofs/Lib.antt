@@ -2,7 +2,7 @@ pub mod DecompressionLaws
 pub mod TextLaws
 pub mod Merging
 pub mod Taking
-pub mod Gathering
+pub mod BlockRecords
 pub mod Endings
 pub mod Lines
 pub mod Unclosed

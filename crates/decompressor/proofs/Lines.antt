@@ -1,4 +1,4 @@
--- Lines that are gathered and written in pieces.
+-- Lines that are printed one after the other.
 use Rattle.std.proofs.Common.{◌≡◌, ℕ, zero, suc, ◌+◌, ◌<◌, ◌≤◌, List, [], ◌∷◌, ◌++◌, map, length, get_or, set, take, drop, Option, Some, None, Result, Ok, Err, refl, ap, sym, ◌∙◌, subst, inl, inr, ◌⊎◌, append_assoc, arith}
 use Rattle.std.specs.Prelude.{filter, slice_get}
 use Rattle.std.specs.List.{AllByRecursion, flat_map}
@@ -6,7 +6,7 @@ use Rattle.std.specs.Result.{IsErrAnd}
 use Rattle.std.proofs.lemmas.List.{append-nil, length-map, drop_all, get_or_default}
 use Rattle.std.proofs.Math.ListN.{length-set}
 use Rattle.std.proofs.lemmas.List.Sorted.{length_permutation}
-use Rattle.nl_io.specs.Content.{Told, with_end, PutsFront}
+use Rattle.nl_io.specs.Content.{Told}
 use Rattle.log_dictionary.specs.declared.clock.Clock.{Clock}
 use Rattle.log_dictionary.specs.declared.message.Message.{Message}
 use Rattle.log_dictionary.specs.Calls.{LogCall}
@@ -15,9 +15,8 @@ use Rattle.arg_records.specs.Calls.{calls_by_writer}
 use Rattle.direct_printf.specs.Lines.{Line, in_order, Direct}
 use Rattle.direct_printf.proofs.Sorting.{in_order-permutation}
 use Rattle.trace_text.proofs.OwnCalls.{is_of}
-use Rattle.trace_text.proofs.Fronts.{with_end-both, front-first, front-second, front-whole}
 use Rattle.decompressor.specs.declared.fault.DecodeFault.{DecodeFault}
-use Rattle.decompressor.specs.Printing.{Counts, Prints, HaveLines}
+use Rattle.decompressor.specs.Printing.{CutsText, PrintsText, ArePrintable}
 use Rattle.decompressor.proofs.Taking.{IsCallOf, AreCallsOf, AreLeft, IsNext, all_left, next_left, others_left, writers_known}
 
 -- ---- the call of a turn
@@ -66,7 +65,7 @@ module _ (clock : Clock) (messages : List Message) (writers : List (List Call)) 
     pub many : length left ≡ length writers
     pub are_left : AreLeft messages clock.tick (drop place calls) left
 
-  pub first_turn : HaveLines clock messages writers → (left : List (List Call)) → left ≡ writers → IsTurn 0 left
+  pub first_turn : ArePrintable clock messages writers → (left : List (List Call)) → left ≡ writers → IsTurn 0 left
   first_turn have left same = record {
     many = ap length same;
     are_left = subst (AreLeft messages clock.tick calls) (sym same) (all_left messages clock.tick writers have.calls have.stamps);
@@ -79,7 +78,7 @@ module _ (clock : Clock) (messages : List Message) (writers : List (List Call)) 
     pub next : IsNext messages clock.tick at.call (filter (is_of writer) (drop (place + 1) calls)) (get_or left writer [])
 
   module _ (place writer : ℕ) (left : List (List Call)) (turn : IsTurn place left) where
-    pub turns : HaveLines clock messages writers → place < length (map (λ (call : LogCall). call.writer) calls) → writer ≡ get_or (map (λ (call : LogCall). call.writer) calls) place 0 → Turns place writer left
+    pub turns : ArePrintable clock messages writers → place < length (map (λ (call : LogCall). call.writer) calls) → writer ≡ get_or (map (λ (call : LogCall). call.writer) calls) place 0 → Turns place writer left
     turns have within is = record { at = at; known = known; next = next }
       where
         at : IsAt calls place writer
@@ -100,7 +99,7 @@ module _ (clock : Clock) (messages : List Message) (writers : List (List Call)) 
         next : IsNext messages clock.tick at.call (filter (is_of writer) others) (get_or left writer [])
         next = subst (λ (w : ℕ). IsNext messages clock.tick at.call (filter (is_of w) others) (get_or left w [])) at.own (next_left messages clock.tick at.call others left (omega (arith, known, at.own)) here)
 
-    pub turn_at : HaveLines clock messages writers → (order : List ℕ) → order ≡ map (λ (call : LogCall). call.writer) calls → place < length order → writer ≡ get_or order place 0 → Turns place writer left
+    pub turn_at : ArePrintable clock messages writers → (order : List ℕ) → order ≡ map (λ (call : LogCall). call.writer) calls → place < length order → writer ≡ get_or order place 0 → Turns place writer left
     turn_at have order same within is = turns have (subst (λ (ws : List ℕ). place < length ws) same within) (is ∙ ap (λ (ws : List ℕ). get_or ws place 0) same)
 
     -- behind the turn
@@ -123,7 +122,7 @@ module _ (clock : Clock) (messages : List Message) (writers : List (List Call)) 
     pub there : get_or left writer [] ≡ entry ∷ rest
     pub said : IsCallOf messages clock.tick turn.at.call entry
 
-  pub picks : (place writer : ℕ) (left : List (List Call)) → IsTurn place left → HaveLines clock messages writers → (order : List ℕ) → order ≡ map (λ (call : LogCall). call.writer) calls → place < length order → writer ≡ get_or order place 0
+  pub picks : (place writer : ℕ) (left : List (List Call)) → IsTurn place left → ArePrintable clock messages writers → (order : List ℕ) → order ≡ map (λ (call : LogCall). call.writer) calls → place < length order → writer ≡ get_or order place 0
       → (lent : List Call) → lent ≡ get_or left writer lent → (entry : Call) (rest : List Call) → lent ≡ entry ∷ rest → Picks place writer left entry rest
   picks place writer left turn have order ordered within is lent at_writer entry rest parts =
       let taken = turn_at place writer left turn have order ordered within is in
@@ -145,67 +144,24 @@ module _ (clock : Clock) (messages : List Message) (writers : List (List Call)) 
   no_lines order place same end = ap (flat_map (Line clock)) (drop_all place calls (omega (arith, end, ap length same, length-map calls (λ (call : LogCall). call.writer))))
 
   -- the printing was cut off
-  pub cut_printing : (was is : Told) (before after : ℕ) (r : Result ℕ DecodeFault) (fault : DecodeFault) → IsErrAnd r (λ e. e ≡ fault) → PutsFront (flat_map (Line clock) calls) was is → Counts fault before after
-      → Prints (Direct clock (calls_by_writer messages writers)) was is before after r
-  cut_printing was is before after (Ok lines) fault same out counts = absurd same
-  cut_printing was is before after (Err e) fault same out counts =
-      (subst (λ (text : List ℕ). PutsFront text was is) (sym text_is) out, subst (λ (f : DecodeFault). Counts f before after) (sym same) counts)
+  pub cut_printing : (was is : Told) (before after : ℕ) (r : Result ℕ DecodeFault) (fault : DecodeFault) → IsErrAnd r (λ e. e ≡ fault) → CutsText (flat_map (Line clock) calls) was is before after fault
+      → PrintsText (Direct clock (calls_by_writer messages writers)) was is before after r
+  cut_printing was is before after (Ok lines) fault same cut = absurd same
+  cut_printing was is before after (Err e) fault same cut =
+      subst (λ (f : DecodeFault). CutsText (Direct clock (calls_by_writer messages writers)) was is before after f) (sym same)
+      (subst (λ (text : List ℕ). CutsText text was is before after fault) (sym text_is) cut)
 
--- ---- pieces
-
--- a line was gathered behind what is gathered
-pub line_gathered : (whole front gathered rest line others with_line : List ℕ) → whole ≡ (front ++ gathered) ++ rest → rest ≡ line ++ others → with_line ≡ gathered ++ line → whole ≡ (front ++ with_line) ++ others
-line_gathered whole front gathered rest line others with_line joined first lined =
-    joined
-    ∙ ap (λ (bytes : List ℕ). (front ++ gathered) ++ bytes) first
-    ∙ sym (append_assoc (front ++ gathered) line others)
-    ∙ ap (λ (bytes : List ℕ). bytes ++ others) (append_assoc front gathered line ∙ ap (λ (bytes : List ℕ). front ++ bytes) (sym lined))
-
--- how much of the text went out, and what is gathered of it
-pub record IsGathered (whole : List ℕ) (gathered others : List ℕ) (was is : Told) : Type 0 where
-  pub front : List ℕ
-  pub put : is ≡ with_end front was
-  pub joined : whole ≡ (front ++ gathered) ++ others
-
--- the line of the record that is taken in a turn was gathered
-pub gathers_line : (clock : Clock) (messages : List Message) (writers : List (List Call)) (place writer : ℕ) (left : List (List Call)) (entry : Call) (rest : List Call) → Picks clock messages writers place writer left entry rest
-    → (gathered with_line : List ℕ) (was is : Told) → IsGathered (flat_map (Line clock) (calls clock messages writers)) gathered (flat_map (Line clock) (drop place (calls clock messages writers))) was is
-    → ((message : Message) (ordinal : ℕ) → slice_get messages entry.id ≡ Some message
-    → with_line ≡ gathered ++ Line clock (record { writer = writer; ordinal = ordinal; stamp = entry.stamp; message = message; args = entry.args }))
-    → IsGathered (flat_map (Line clock) (calls clock messages writers)) with_line (flat_map (Line clock) (drop (place + 1) (calls clock messages writers))) was is
-gathers_line clock messages writers place writer left entry rest picked gathered with_line was is so_far pushed =
+-- the text so far goes on with the line of the record that is taken in a turn, and with those of the calls behind it
+pub line_next : (clock : Clock) (messages : List Message) (writers : List (List Call)) (place writer : ℕ) (left : List (List Call)) (entry : Call) (rest : List Call) → Picks clock messages writers place writer left entry rest
+    → (so_far empty line : List ℕ) → flat_map (Line clock) (calls clock messages writers) ≡ so_far ++ flat_map (Line clock) (drop place (calls clock messages writers)) → empty ≡ []
+    → ((message : Message) (ordinal : ℕ) → slice_get messages entry.id ≡ Some message → line ≡ empty ++ Line clock (record { writer = writer; ordinal = ordinal; stamp = entry.stamp; message = message; args = entry.args }))
+    → flat_map (Line clock) (calls clock messages writers) ≡ so_far ++ line ++ flat_map (Line clock) (drop (place + 1) (calls clock messages writers))
+line_next clock messages writers place writer left entry rest picked so_far empty line joined none pushed =
     let at = picked.turn.at in
     let all = calls clock messages writers in
-    let lined = pushed at.call.message at.call.ordinal picked.said.message ∙ ap (λ (bytes : List ℕ). gathered ++ bytes) (line_is clock messages at.call entry writer picked.said at.own) in
-    record {
-      front = so_far.front;
-      put = so_far.put;
-      joined = line_gathered (flat_map (Line clock) all) so_far.front gathered (flat_map (Line clock) (drop place all)) (Line clock at.call) (flat_map (Line clock) (drop (place + 1) all)) with_line so_far.joined
-          (lines_more clock (drop place all) (drop (place + 1) all) at.call at.here) lined;
-    }
-
--- a front of what is gathered was written, and the rest is left
-pub emptied : (whole gathered left others : List ℕ) (was mid is : Told) → IsGathered whole gathered others was mid
-    → (front : List ℕ) × (gathered ≡ front ++ left) × (is ≡ with_end front mid) → IsGathered whole left others was is
-emptied whole gathered left others was mid is so_far (front, parts, written) = record {
-  front = so_far.front ++ front;
-  put = written ∙ ap (with_end front) so_far.put ∙ with_end-both so_far.front front was;
-  joined = so_far.joined ∙ ap (λ (bytes : List ℕ). bytes ++ others) (ap (λ (bytes : List ℕ). so_far.front ++ bytes) parts ∙ sym (append_assoc so_far.front front left));
-}
-
--- a front went out, and no more
-pub front_out : (whole gathered others : List ℕ) (was is : Told) → IsGathered whole gathered others was is → PutsFront whole was is
-front_out whole gathered others was is so_far =
-    let parts : whole ≡ so_far.front ++ (gathered ++ others) = so_far.joined ∙ append_assoc so_far.front gathered others in
-    subst (λ (bytes : List ℕ). PutsFront bytes was is) (sym parts) (front-first so_far.front (gathered ++ others) was is (front-whole so_far.front was is so_far.put))
-
--- the writing was cut off within what is gathered
-pub cut_within : (whole gathered others : List ℕ) (was mid is : Told) → IsGathered whole gathered others was mid → PutsFront gathered mid is → PutsFront whole was is
-cut_within whole gathered others was mid is so_far cut =
-    subst (λ (bytes : List ℕ). PutsFront bytes was is) (sym so_far.joined) (front-first (so_far.front ++ gathered) others was is (front-second so_far.front gathered was mid is so_far.put cut))
-
--- all that is gathered was written, and nothing is left
-pub all_out : (whole gathered others : List ℕ) (was mid is : Told) → IsGathered whole gathered others was mid → others ≡ [] → is ≡ with_end gathered mid → is ≡ with_end whole was
-all_out whole gathered others was mid is so_far none written =
-    written ∙ ap (with_end gathered) so_far.put ∙ with_end-both so_far.front gathered was
-    ∙ ap (λ (bytes : List ℕ). with_end bytes was) (sym (so_far.joined ∙ ap (λ (bytes : List ℕ). (so_far.front ++ gathered) ++ bytes) none ∙ append-nil (so_far.front ++ gathered)))
+    let lined : line ≡ Line clock at.call =
+    pushed at.call.message at.call.ordinal picked.said.message ∙ ap (λ (bytes : List ℕ). bytes ++ Line clock (record { writer = writer; ordinal = at.call.ordinal; stamp = entry.stamp; message = at.call.message; args = entry.args })) none ∙ line_is clock messages at.call entry writer picked.said at.own in
+    joined
+    ∙ ap (λ (bytes : List ℕ). so_far ++ bytes)
+    (lines_more clock (drop place all) (drop (place + 1) all) at.call at.here ∙ ap (λ (bytes : List ℕ). bytes ++ flat_map (Line clock) (drop (place + 1) all)) (sym lined))
+    ∙ sym (append_assoc so_far line (flat_map (Line clock) (drop (place + 1) all)))

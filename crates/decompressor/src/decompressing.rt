@@ -1,33 +1,25 @@
 //! Decompressing a log.
 
-ghost use Rattle.std.specs.Prelude.{◌≡◌, ◌≤◌, ◌++◌, ℕ, List, [], false, IsErrOf, IfOk, OnOk};
+ghost use Rattle.std.specs.Prelude.{◌≡◌, ◌≤◌, ◌++◌, ℕ, List, [], length, Option, Some, IsErrOf, IfOk, OnOk};
 ghost use Rattle.nl_io.specs.Count.{Rose};
 ghost use Rattle.nl_io.specs.Content.{IsAtEnd};
-ghost use Rattle.checkpoint_io.specs.Places.{with_front};
 ghost use Rattle.checkpoint_io.specs.Readers.{StandsFor};
-ghost use Rattle.decompressor.specs.Decompressing.{fault_at, open_writers as open_writers_of, Decompresses, Says};
-ghost use Rattle.decompressor.specs.Gathering.{AnswersFor};
+ghost use Rattle.log_scan.specs.Parts.{LogPart};
+ghost use Rattle.log_scan.specs.Scans.{IsReaderOf, StandsForAll};
+ghost use Rattle.decompressor.specs.Decompressing.{open_writers as open_writers_of, unclosed_read, calls_read, text_read, AnswersScan, Decompresses};
+ghost use Rattle.decompressor.specs.Gathering.{HoldRecords};
+ghost use Rattle.decompressor.specs.Printing.{PrintsText};
 
 use crate::fault::DecodeFault;
+use crate::gathering::LogRecords;
 use crate::numbers::Numbers;
 use crate::printing::print_lines;
-use crate::reading::{Ending, read_blocks};
-use crate::records::without_records;
+use crate::records::WriterRecords;
 use crate::report::Report;
-use checkpoint_io::{BlockFault, Reader};
+use checkpoint_io::Reader;
+use log_scan::{Scan, ScanEnd, scan_log};
 use nl_io::{Sink, Source};
 use std::alloc::{AllocError, Global};
-
-// Why there is no header.
-fn header_fault(fault: BlockFault) -> DecodeFault
-    ensures { result ≡ fault_at 0 fault }
-{
-    match fault {
-        BlockFault::Damaged(cause) => DecodeFault::Damaged { offset: 0, cause },
-        BlockFault::ReadFault => DecodeFault::ReadFault,
-        BlockFault::NoMemory => DecodeFault::NoMemory,
-    }
-}
 
 // The writers without a close mark, from the least number on.
 fn open_writers(alloc: Global, reader: &Reader) -> Result<Numbers, AllocError>
@@ -43,50 +35,52 @@ fn open_writers(alloc: Global, reader: &Reader) -> Result<Numbers, AllocError>
     Ok(unclosed)
 }
 
-// What is answered of a log whose lines were printed, so many.
-fn answer_of(
-    alloc: Global,
-    reader: &Reader,
-    ending: Ending,
-    lines: u64,
-) -> Result<Report, DecodeFault>
-    ensures answers { AnswersFor reader.now lines ending result }
-    ensures whole { OnOk result (ending ≡ Ending.Whole) }
+// Those of a whole log.
+fn unclosed_writers(alloc: Global, scan: &Scan) -> Result<Numbers, AllocError>
+    ensures { (part : Option LogPart) → IsReaderOf scan.now.reader part → StandsForAll scan.now.reader part
+        → IfOk result (λ unclosed. unclosed ≡ unclosed_read part) }
 {
-    match ending {
-        Ending::Whole => Ok(Report {
-            lines,
-            unclosed: open_writers(alloc, reader)?,
-        }),
-        Ending::Damaged(cause) => Err(DecodeFault::Damaged {
-            offset: reader.offset(),
-            cause,
-        }),
-        Ending::ReadFault => Err(DecodeFault::ReadFault),
+    match &scan.reader {
+        Some(reader) => open_writers(alloc, reader),
+        None => Ok(Numbers::make(alloc)),
     }
 }
 
-// Prints the lines of the log whose header was read.
-fn decompress_blocks<S: Source, K: Sink>(
-    alloc: Global,
-    reader: &mut Reader,
-    source: &mut S,
-    out: &mut K,
-) -> Result<Report, DecodeFault>
-    requires right { reader.old.failed ≡ false }
-    requires begun { (taken : List ℕ) × (read : StandsFor reader.old taken) × (read.blocks ≡ []) }
-    ensures says { (taken : List ℕ) (read : StandsFor reader.old taken) → read.blocks ≡ []
-        → Says (with_front (taken ++ reader.old.waiting.bytes) (S.left source.old))
-        (S.faults source.old) (S.faults source.new) (K.put out.old) (K.put out.new)
-        (K.faults out.old) (K.faults out.new) result }
-    ensures end { OnOk result (IsAtEnd (S.left source.new)) }
-    ensures out_others { K.rest out.old out.new }
-    ensures source_others { S.rest source.old source.new }
+// What is answered of a log whose lines were printed, so many.
+fn answer_of(alloc: Global, scan: &Scan, lines: u64) -> Result<Report, DecodeFault>
+    ensures answers { (part : Option LogPart) → IsReaderOf scan.now.reader part
+        → (scan.now.end ≡ ScanEnd.Whole → StandsForAll scan.now.reader part)
+        → AnswersScan part lines scan.now.end result }
+    ensures whole { OnOk result (scan.now.end ≡ ScanEnd.Whole) }
 {
-    let mut writers = without_records(alloc, reader.header().writers)?;
-    let ending = read_blocks(reader, source, &mut writers)?;
-    let lines = print_lines(alloc, reader, &writers, out)?;
-    answer_of(alloc, reader, ending, lines)
+    match scan.end {
+        ScanEnd::Whole => Ok(Report {
+            lines,
+            unclosed: unclosed_writers(alloc, scan)?,
+        }),
+        ScanEnd::Damaged { offset, cause } => Err(DecodeFault::Damaged { offset, cause }),
+        ScanEnd::ReadFault => Err(DecodeFault::ReadFault),
+    }
+}
+
+// Prints the lines of what was read, and answers how many there are. Without a header there are none.
+fn print_read<K: Sink>(
+    alloc: Global,
+    scan: &Scan,
+    writers: &[WriterRecords],
+    out: &mut K,
+) -> Result<u64, DecodeFault>
+    requires { (part : Option LogPart) × IsReaderOf scan.now.reader part × HoldRecords writers.now part }
+    ensures printed { (part : Option LogPart) → IsReaderOf scan.now.reader part → HoldRecords writers.now part
+        → PrintsText (text_read part) (K.put out.old) (K.put out.new) (K.faults out.old) (K.faults out.new) result }
+    ensures lines { (part : Option LogPart) → IsReaderOf scan.now.reader part → HoldRecords writers.now part
+        → IfOk result (λ lines. lines ≡ length (calls_read part)) }
+    ensures others { K.rest out.old out.new }
+{
+    match &scan.reader {
+        Some(reader) => print_lines(alloc, reader, writers, out),
+        None => Ok(0),
+    }
 }
 
 /// Prints the lines of the records of a log, which is all that the source has left: by stamp, those of one stamp by
@@ -122,9 +116,8 @@ pub fn decompress<S: Source, K: Sink>(
     ensures out_others { K.rest out.old out.new }
     ensures source_others { S.rest source.old source.new }
 {
-    let mut reader = match Reader::start(alloc, source) {
-        Ok(reader) => reader,
-        Err(fault) => return Err(header_fault(fault)),
-    };
-    decompress_blocks(alloc, &mut reader, source, out)
+    let mut records = LogRecords::none(alloc);
+    let scan = scan_log(alloc, source, &mut records)?;
+    let lines = print_read(alloc, &scan, &records.writers, out)?;
+    answer_of(alloc, &scan, lines)
 }

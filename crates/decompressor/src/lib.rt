@@ -3,11 +3,11 @@
 
 mod decompressing;
 mod fault;
+mod gathering;
 pub mod laws;
 mod numbers;
 mod order;
 mod printing;
-mod reading;
 mod records;
 mod report;
 

@@ -4,7 +4,7 @@ ghost use Rattle.std.specs.Prelude.{◌≡◌, ◌≤◌, ◌++◌, ℕ, length,
 ghost use Rattle.log_dictionary.specs.declared.message.Message.{Message};
 ghost use Rattle.arg_records.specs.Calls.{IsCall, calls_by_writer};
 ghost use Rattle.direct_printf.specs.Lines.{Line, Direct};
-ghost use Rattle.decompressor.specs.Printing.{HaveLines, Prints};
+ghost use Rattle.decompressor.specs.Printing.{ArePrintable, PrintsText};
 
 use crate::fault::DecodeFault;
 use crate::order::print_order;
@@ -12,7 +12,7 @@ use crate::records::{Remaining, WriterRecords};
 use buffer_extent::LogRecord;
 use checkpoint_io::Reader;
 use direct_printf::line;
-use nl_io::{Sink, write_all, write_long};
+use nl_io::{Sink, TextWriter};
 use std::alloc::{AllocError, Global};
 
 // The line of a record.
@@ -61,23 +61,25 @@ pub fn print_lines<K: Sink>(
     writers: &[WriterRecords],
     out: &mut K,
 ) -> Result<u64, DecodeFault>
-    requires { HaveLines reader.now.header.clock reader.now.messages writers.now }
-    ensures printed { Prints (Direct reader.now.header.clock (calls_by_writer reader.now.messages writers.now))
+    requires { ArePrintable reader.now.header.clock reader.now.messages writers.now }
+    ensures printed { PrintsText (Direct reader.now.header.clock (calls_by_writer reader.now.messages writers.now))
         (K.put out.old) (K.put out.new) (K.faults out.old) (K.faults out.new) result }
     ensures lines { IfOk result (λ lines. lines ≡ length (calls_by_writer reader.now.messages writers.now)) }
     ensures others { K.rest out.old out.new }
 {
     let order = print_order(alloc, writers)?;
     let mut remaining = all_remaining(alloc, writers)?;
-    let mut text = Vec::new(alloc);
+    let mut text = TextWriter::make();
+    let mut buffer = Vec::new(alloc);
     for writer in &order {
         // A writer stands in the order once for each of its records.
         let Some(record) = remaining[*writer as usize].next() else {
             continue;
         };
-        push_line(reader, *writer, record, &mut text)?;
-        write_long(out, &mut text)?;
+        buffer.clear();
+        push_line(reader, *writer, record, &mut buffer)?;
+        text.put(out, &buffer)?;
     }
-    write_all(out, &text)?;
+    text.flush(out)?;
     Ok(order.len() as u64)
 }

@@ -8,7 +8,7 @@ use Rattle.printf_grammar.specs.declared.arg_type.ArgType.{ArgType}
 use Rattle.printf_grammar.specs.declared.arg_type.ArgType.TheVariants.{Width, Precision}
 use Rattle.printf_grammar.specs.declared.argument.Arg.{Arg}
 use Rattle.printf_grammar.specs.declared.argument.Value.{Value}
-use Rattle.printf_grammar.specs.Types.{Fits, size_types, field_types, value_of, values_of}
+use Rattle.printf_grammar.specs.Types.{Fits, size_types, field_types, argument_value, values_of}
 use Rattle.printf_grammar.proofs.Fitting.{Fits-length_of_args}
 use Rattle.direct_printf.specs.Fields.{Field, padded, converted, is_integer, width_of, is_left_star, precision_of, stars, argument_at, argument_count, signed_of}
 
@@ -27,9 +27,9 @@ pub argument_count-args : (spec : Spec) (args : List Arg) → Fits (values_of ar
 argument_count-args spec args fits = omega (arith, Fits-length_of_args args (field_types spec) fits, argument_count-types spec)
 
 -- the argument at a place
-pub argument_at-args : (args : List Arg) (n m : ℕ) (d : Arg) → n ≡ m → n < length args → value_of (get_or args n d) ≡ argument_at (values_of args) m
+pub argument_at-args : (args : List Arg) (n m : ℕ) (d : Arg) → n ≡ m → n < length args → argument_value (get_or args n d) ≡ argument_at (values_of args) m
 argument_at-args args n m d same inside =
-    sym (get_or-map value_of args n d _ inside) ∙ ap (argument_at (values_of args)) same
+    sym (get_or-map argument_value args n d _ inside) ∙ ap (argument_at (values_of args)) same
 
 -- a field is its converted argument, padded
 pub Field-appended : (spec : Spec) (values : List Value) (left zeros : Bool) (width : ℕ) (precision : Option ℕ) (argument : Value) (old new : List ℕ) → precision ≡ precision_of spec.precision (signed_of (argument_at values (stars spec.width))) → width ≡ width_of spec.width (signed_of (argument_at values 0)) → left ≡ (spec.minus || is_left_star spec.width (signed_of (argument_at values 0))) → zeros ≡ (spec.zero && is_integer spec.conversion && is_none precision) → argument ≡ argument_at values (stars spec.width + stars spec.precision) → new ≡ old ++ padded left zeros width (converted spec.conversion spec precision argument) → new ≡ old ++ Field spec values

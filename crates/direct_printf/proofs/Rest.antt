@@ -11,7 +11,7 @@ use Rattle.printf_grammar.specs.declared.argument.Arg.{Arg}
 use Rattle.printf_grammar.specs.declared.argument.Value.{Value}
 use Rattle.printf_grammar.specs.Pieces.{Parsed}
 use Rattle.printf_grammar.specs.Spelling.{Spells, SpelledFrom, SpellsPiece}
-use Rattle.printf_grammar.specs.Types.{Types, Fits, field_types, value_of, values_of}
+use Rattle.printf_grammar.specs.Types.{Types, Fits, field_types, argument_value, values_of}
 use Rattle.direct_printf.specs.Fields.{Field, Text, argument_count, pieces_text}
 use Rattle.direct_printf.proofs.Arguments.{argument_count-types}
 
@@ -87,13 +87,13 @@ Rest-own bytes spec list values front whole rest =
 own_values : (args : List Arg) (n m count : ℕ) → m ≡ count → values_of (take (n + m - n) (drop n args)) ≡ take count (drop n (values_of args))
 own_values args n m count same =
     let many : n + m - n ≡ count = omega arith in
-    ap (λ k. values_of (take k (drop n args))) many ∙ sym (take-map value_of count (drop n args)) ∙ ap (take count) (sym (drop-map value_of n args))
+    ap (λ k. values_of (take k (drop n args))) many ∙ sym (take-map argument_value count (drop n args)) ∙ ap (take count) (sym (drop-map argument_value n args))
 
 -- they are arguments of the call
 pub own_inside : (bytes : List ℕ) (spec : Spec) (list : List Piece) (args : List Arg) (n count : ℕ) (front whole : List ℕ) → count ≡ argument_count spec → Rest bytes (pieces.Field spec ∷ list) (drop n (values_of args)) front whole → n + count ≤ length args
 own_inside bytes spec list args n count front whole count_is rest =
     let own : IsOwn spec (drop n (values_of args)) = Rest-own bytes spec list (drop n (values_of args)) front whole rest in
-    omega (arith, own.enough, length-drop n (values_of args), length-map args value_of)
+    omega (arith, own.enough, length-drop n (values_of args), length-map args argument_value)
 
 pub own_fitting : (bytes : List ℕ) (spec : Spec) (list : List Piece) (args : List Arg) (n count : ℕ) (front whole : List ℕ) → count ≡ argument_count spec → Rest bytes (pieces.Field spec ∷ list) (drop n (values_of args)) front whole → Fits (values_of (take (n + count - n) (drop n args))) (field_types spec)
 own_fitting bytes spec list args n count front whole count_is rest =

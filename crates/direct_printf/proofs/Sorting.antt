@@ -1,58 +1,32 @@
--- Calls put in order are the same calls, and no call comes before the one in front of it.
-use Rattle.std.proofs.Common.{◌≡◌, Bool, true, false, List, [], ◌∷◌, if◌then◌else◌, refl, arith}
-use Rattle.std.proofs.lemmas.Bool.Decides.{nat_tests}
-use Rattle.std.specs.List.Sorted.{IsPermutation}
-use Rattle.std.proofs.lemmas.List.Sorted.{IsPermutation-refl, IsPermutation-sym, IsPermutation-cons, IsPermutation-middle, IsPermutation-trans}
+-- The order of calls.
+use Rattle.std.proofs.Common.{◌≡◌, ◌≤◌, Bool, false, List}
+use Rattle.std.specs.Cmp.{IsStrictWeakOrder, IsTotalOrder}
+use Rattle.std.specs.Ordering.{nat_cmp, ordering_then}
+use Rattle.std.specs.List.Sorted.{IsPermutation, IsSortedBy}
+use Rattle.std.proofs.lemmas.Cmp.{then_total, on_total, nat_cmp_total}
+use Rattle.std.proofs.lemmas.List.MinMax.{ranks_by}
+use Rattle.std.proofs.lemmas.List.Sorted.{IsPermutation-sym}
 use Rattle.log_dictionary.specs.Calls.{LogCall}
-use Rattle.direct_printf.specs.Lines.{comes_before, insert_call, in_order}
-use Rattle.direct_printf.specs.InOrder.{IsNotAfter, IsInOrder}
+use Rattle.stamp_merge.proofs.Comparing.{not_less, none_less}
+use Rattle.stamp_merge.proofs.Ordering.{in_order_by-permutation, in_order_by-rises}
+use Rattle.direct_printf.specs.Lines.{call_cmp, call_before, in_order}
 
--- of two calls at most one comes before the other
-pub comes_before-one_way : (a b : LogCall) → comes_before a b ≡ true → comes_before b a ≡ false
-comes_before-one_way a b h = grind (arith, nat_tests)
+call_total : IsTotalOrder call_cmp
+call_total = then_total (on_total (λ c. c.stamp) nat_cmp_total) (then_total (on_total (λ c. c.writer) nat_cmp_total) (on_total (λ c. c.ordinal) nat_cmp_total))
 
--- ---- the same calls
-
-inserted : (call first : LogCall) (others : List LogCall) (before : Bool) → IsPermutation (call ∷ others) (insert_call call others)
-    → IsPermutation (call ∷ first ∷ others) (if before then first ∷ insert_call call others else call ∷ first ∷ others)
-inserted call first others true h =
-    IsPermutation-trans (call ∷ first ∷ others) (first ∷ call ∷ others) (first ∷ insert_call call others) (IsPermutation-middle (call ∷ []) first others) (IsPermutation-cons first (call ∷ others) (insert_call call others) h)
-inserted call first others false h = IsPermutation-refl (call ∷ first ∷ others)
-
-insert_call-permutation : (call : LogCall) (calls : List LogCall) → IsPermutation (call ∷ calls) (insert_call call calls)
-unfolding insert_call
-insert_call-permutation call [] = IsPermutation-refl (call ∷ [])
-insert_call-permutation call (first ∷ others) = inserted call first others (comes_before first call) (insert_call-permutation call others)
-
-in_order-moves : (calls : List LogCall) → IsPermutation calls (in_order calls)
-unfolding in_order
-in_order-moves [] = IsPermutation-refl []
-in_order-moves (call ∷ calls) =
-    IsPermutation-trans (call ∷ calls) (call ∷ in_order calls) (insert_call call (in_order calls)) (IsPermutation-cons call calls (in_order calls) (in_order-moves calls)) (insert_call-permutation call (in_order calls))
+pub call_order : IsStrictWeakOrder call_before
+call_order = ranks_by call_total (λ c. c)
 
 -- the calls in order are the same calls
 pub in_order-permutation : (calls : List LogCall) → IsPermutation (in_order calls) calls
-in_order-permutation calls = IsPermutation-sym calls (in_order calls) (in_order-moves calls)
-
--- ---- in order
-
-not_after_inserted : (first call : LogCall) (others : List LogCall) → comes_before first call ≡ true → IsNotAfter first others → IsNotAfter first (insert_call call others)
-unfolding insert_call
-not_after_inserted first call [] before h = comes_before-one_way first call before
-not_after_inserted first call (next ∷ others) before h =
-    elim (comes_before next call) as (λ (b : Bool). IsNotAfter first (if b then next ∷ insert_call call others else call ∷ next ∷ others)) [ true ↦ h | false ↦ comes_before-one_way first call before ]
-
-in_order_inserted : (call : LogCall) (calls : List LogCall) → IsInOrder calls → IsInOrder (insert_call call calls)
-unfolding insert_call
-in_order_inserted call [] h = (tt, tt)
-in_order_inserted call (first ∷ others) h = at_first (comes_before first call) refl (in_order_inserted call others h.1)
-  where
-    at_first : (b : Bool) → comes_before first call ≡ b → IsInOrder (insert_call call others) → IsInOrder (if b then first ∷ insert_call call others else call ∷ first ∷ others)
-    at_first true before behind = (not_after_inserted first call others before h.0, behind)
-    at_first false before behind = (before, h)
+in_order-permutation calls = IsPermutation-sym calls (in_order calls) (in_order_by-permutation call_before calls)
 
 -- no call comes before the one in front of it
-pub in_order-is_in_order : (calls : List LogCall) → IsInOrder (in_order calls)
-unfolding in_order
-in_order-is_in_order [] = tt
-in_order-is_in_order (call ∷ calls) = in_order_inserted call (in_order calls) (in_order-is_in_order calls)
+pub in_order-rises : (calls : List LogCall) → IsSortedBy call_before (in_order calls)
+in_order-rises calls = in_order_by-rises call_before call_order calls
+
+-- a later call of the same writer, whose stamp is no smaller, does not come before this one
+pub later_not_before : (call next : LogCall) → call.stamp ≤ next.stamp → call.writer ≤ next.writer → call.ordinal ≤ next.ordinal → call_before next call ≡ false
+later_not_before call next stamps writers ordinals =
+    none_less (nat_cmp next.stamp call.stamp) (ordering_then (nat_cmp next.writer call.writer) (nat_cmp next.ordinal call.ordinal)) (not_less call.stamp next.stamp stamps)
+    (none_less (nat_cmp next.writer call.writer) (nat_cmp next.ordinal call.ordinal) (not_less call.writer next.writer writers) (not_less call.ordinal next.ordinal ordinals))

@@ -1,11 +1,14 @@
 -- A line of the log, and the lines of many calls in order.
-use Rattle.std.specs.Prelude.{ℕ, ◌/◌, ◌%◌, Bool, false, ◌&&◌, ◌||◌, if◌then◌else◌, nat_lt, ◌==◌, List, [], ◌∷◌, ◌++◌, codes}
+use Rattle.std.specs.Prelude.{ℕ, ◌/◌, ◌%◌, Bool, false, List, [], ◌∷◌, ◌++◌, codes}
+use Rattle.std.specs.declared.cmp.Ordering.{Ordering}
+use Rattle.std.specs.Ordering.{is_lt, nat_cmp, ordering_then}
 use Rattle.std.specs.List.{flat_map}
 use Rattle.std.specs.Fmt.{decimal}
 use Rattle.log_dictionary.specs.declared.clock.Clock.{Clock}
 use Rattle.log_dictionary.specs.Times.{Time}
 use Rattle.log_dictionary.specs.Severities.{severity_name}
 use Rattle.log_dictionary.specs.Calls.{LogCall}
+use Rattle.stamp_merge.specs.Ordering.{in_order_by}
 use Rattle.direct_printf.specs.Fields.{Digits, Text}
 
 -- a time in nanoseconds as seconds, a point and nine digits
@@ -24,22 +27,18 @@ Line clock call =
     ++ Text call.message.format call.args
     ++ 10 ∷ []
 
--- the first call's line stands before the second's: by stamp, then writer, then ordinal
-abbrev pub comes_before : LogCall → LogCall → Bool
-comes_before a b =
-    nat_lt a.stamp b.stamp
-    || (a.stamp == b.stamp && (nat_lt a.writer b.writer || (a.writer == b.writer && nat_lt a.ordinal b.ordinal)))
+-- how calls compare: by stamp, then by writer, then by ordinal
+abbrev pub call_cmp : LogCall → LogCall → Ordering
+call_cmp a b =
+    ordering_then (nat_cmp a.stamp b.stamp) (ordering_then (nat_cmp a.writer b.writer) (nat_cmp a.ordinal b.ordinal))
 
--- a call put at its place in a list that is in order: behind the calls that come before it
-unfoldable pub insert_call : LogCall → List LogCall → List LogCall
-insert_call call [] = call ∷ []
-insert_call call (first ∷ others) =
-    if comes_before first call then first ∷ insert_call call others else call ∷ first ∷ others
+-- the first call's line stands before the second's
+abbrev pub call_before : LogCall → LogCall → Bool
+call_before a b = is_lt (call_cmp a b)
 
--- the calls in order: each is inserted into one list at its place
-unfoldable pub in_order : List LogCall → List LogCall
-in_order [] = []
-in_order (call ∷ calls) = insert_call call (in_order calls)
+-- the calls in order
+abbrev pub in_order : List LogCall → List LogCall
+in_order calls = in_order_by call_before calls
 
 -- the lines of all calls, in order
 unfoldable pub Direct : Clock → List LogCall → List ℕ

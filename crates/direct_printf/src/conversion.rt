@@ -1,11 +1,11 @@
 //! Each conversion's text.
 
 ghost use Rattle.std.specs.Prelude.{◌≡◌, ◌++◌, [], OnOk, OnErr, take, vec_len, replicate};
-ghost use Rattle.printf_grammar.specs.Types.{value_of, text_of};
+ghost use Rattle.printf_grammar.specs.Types.{argument_value, text_of};
 ghost use Rattle.direct_printf.specs.Fields.{padded, converted, signed_of, unsigned_of, wrap_signed, wrap_unsigned, sign_of, signed_number, unsigned_number, octal_front, octal_number, hexadecimal_front, hexadecimal_number, pointer, cut};
 
 use crate::digits::{MAX_DIGITS, number, write_digits};
-use crate::padding::{Padding, Parts, append_padded};
+use crate::padding::{FieldParts, Padding, append_padded};
 use itoa::Buffer;
 use printf_grammar::{Arg, Conversion, Length, Spec};
 use std::alloc::AllocError;
@@ -20,7 +20,7 @@ pub fn append_converted(
     out: &mut Vec<u8>,
 ) -> Result<(), AllocError>
     ensures ok { OnOk result (out.new.items ≡ out.old.items ++ padded padding.left padding.zeros padding.width
-        (converted spec.now.conversion spec.now precision (value_of arg.now))) }
+        (converted spec.now.conversion spec.now precision (argument_value arg.now))) }
     ensures err { OnErr result (take (vec_len out.old) out.new.items ≡ out.old.items) }
 {
     match spec.conversion {
@@ -52,7 +52,7 @@ pub fn append_converted(
 
 /// A signed argument; 0 for one of another kind.
 pub fn signed(arg: &Arg) -> i64
-    ensures { result ≡ signed_of (value_of arg.now) }
+    ensures { result ≡ signed_of (argument_value arg.now) }
 {
     match arg {
         Arg::Signed(number) => *number,
@@ -61,7 +61,7 @@ pub fn signed(arg: &Arg) -> i64
 }
 
 fn unsigned(arg: &Arg) -> u64
-    ensures { result ≡ unsigned_of (value_of arg.now) }
+    ensures { result ≡ unsigned_of (argument_value arg.now) }
 {
     match arg {
         Arg::Unsigned(number) => *number,
@@ -70,7 +70,7 @@ fn unsigned(arg: &Arg) -> u64
 }
 
 fn text<'a>(arg: &Arg<'a>) -> &'a [u8]
-    ensures { result.now ≡ text_of (value_of arg.now) }
+    ensures { result.now ≡ text_of (argument_value arg.now) }
 {
     match arg {
         Arg::Text(bytes) => *bytes,
@@ -161,11 +161,11 @@ fn append_octal(
     let start = write_digits(value, 8, false, &mut buffer);
     let digits = number(b"", precision, value, &buffer[start..]);
     let front = octal_prefix(sharp, digits);
-    append_padded(padding, Parts { front, ..digits }, out)
+    append_padded(padding, FieldParts { front, ..digits }, out)
 }
 
 // One `0` where the digits do not begin with one.
-fn octal_prefix(sharp: bool, digits: Parts<'_>) -> &'static [u8]
+fn octal_prefix(sharp: bool, digits: FieldParts<'_>) -> &'static [u8]
     ensures { result.now ≡ octal_front sharp (replicate digits.entry.zeros 48 ++ digits.entry.body.now) }
 {
     if sharp && digits.zeros == 0 && digits.body.first() != Some(&b'0') {
@@ -226,7 +226,7 @@ fn append_bytes(padding: Padding, bytes: &[u8], out: &mut Vec<u8>) -> Result<(),
         (record { front = []; body = bytes.now })) }
     ensures err { OnErr result (take (vec_len out.old) out.new.items ≡ out.old.items) }
 {
-    let parts = Parts {
+    let parts = FieldParts {
         front: b"",
         zeros: 0,
         body: bytes,

@@ -5,7 +5,7 @@ ghost use Rattle.std.specs.Option.{unwrap_or};
 ghost use Rattle.std.specs.Fmt.{digits, digit_glyph};
 ghost use Rattle.direct_printf.specs.Fields.{Digits};
 
-use crate::padding::Parts;
+use crate::padding::FieldParts;
 
 /// The octal digits of a u64 at most.
 pub const MAX_DIGITS: usize = 22;
@@ -50,7 +50,7 @@ pub fn number<'a>(
     precision: Option<u16>,
     value: u64,
     spelled: &'a [u8],
-) -> Parts<'a>
+) -> FieldParts<'a>
     requires { length spelled.now < 2 ^ 16 }
     ensures front { result.front.now ≡ front.now }
     ensures digits { (base : ℕ) (upper : Bool) → spelled.now ≡ digits base upper value →
@@ -58,13 +58,13 @@ pub fn number<'a>(
 {
     let least = precision.unwrap_or(1);
     if value == 0 && least == 0 {
-        return Parts {
+        return FieldParts {
             front,
             zeros: 0,
             body: b"",
         };
     }
-    Parts {
+    FieldParts {
         front,
         zeros: least.saturating_sub(spelled.len() as u16),
         body: spelled,

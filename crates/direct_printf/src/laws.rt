@@ -2,7 +2,7 @@
 #![tactic(auto)]
 
 ghost use Rattle.std.specs.Prelude.{◌≡◌, ◌≤◌, ◌<◌, ◌^◌, ℕ, Bool, ℤ, pos, negsuc, true, List, [], ◌∷◌, ◌++◌, length};
-ghost use Rattle.std.specs.Prelude.{codes, FitsSigned, IsTrue, IsPermutation};
+ghost use Rattle.std.specs.Prelude.{codes, FitsSigned, IsTrue, IsPermutation, IsSortedBy};
 ghost use Rattle.std.specs.Int.{w64};
 ghost use Rattle.std.specs.Str.Parse.{digits_value, signed_digits_value};
 ghost use Rattle.printf_grammar.specs.declared.piece.Spec.{Spec};
@@ -20,8 +20,7 @@ ghost use Rattle.printf_grammar.specs.Narrow.{plain_d};
 ghost use Rattle.log_dictionary.specs.Calls.{LogCall};
 ghost use Rattle.direct_printf.specs.Fields.{Digits, Field, Text, argument_at, signed_of, width_of, wrap_signed};
 ghost use Rattle.direct_printf.specs.Joined.{joined};
-ghost use Rattle.direct_printf.specs.Lines.{comes_before, in_order, Direct};
-ghost use Rattle.direct_printf.specs.InOrder.{IsInOrder};
+ghost use Rattle.direct_printf.specs.Lines.{call_before, in_order, Direct};
 ghost use Rattle.direct_printf.specs.Rows.{row_clock, earlier_call, later_call, row_lines};
 
 /// A field is never shorter than its width.
@@ -171,18 +170,20 @@ pub fn other_bases()
 /// stamps it is that of the writer with the smaller number, and of two calls of one writer that
 /// with the smaller ordinal. No call comes before itself, nor do two before one another.
 pub fn calls_go_by_stamp_then_writer_then_ordinal()
-    ensures stamp { (a b : LogCall) → a.stamp < b.stamp → IsTrue (comes_before a b) }
-    ensures writer { (a b : LogCall) → a.stamp ≡ b.stamp → a.writer < b.writer → IsTrue (comes_before a b) }
+    ensures stamp { (a b : LogCall) → a.stamp < b.stamp → IsTrue (call_before a b) }
+    ensures writer { (a b : LogCall) → a.stamp ≡ b.stamp → a.writer < b.writer → IsTrue (call_before a b) }
     ensures ordinal { (a b : LogCall) → a.stamp ≡ b.stamp → a.writer ≡ b.writer → a.ordinal < b.ordinal
-        → IsTrue (comes_before a b) }
-    ensures itself { (call : LogCall) → ¬ (IsTrue (comes_before call call)) }
-    ensures one_way { (a b : LogCall) → IsTrue (comes_before a b) → ¬ (IsTrue (comes_before b a)) }
+        → IsTrue (call_before a b) }
+    ensures itself { (call : LogCall) → ¬ (IsTrue (call_before call call)) }
+    ensures one_way { (a b : LogCall) → IsTrue (call_before a b) → ¬ (IsTrue (call_before b a)) }
 {}
 
-/// Calls put in order are the same calls, and none of them comes before the one in front of it.
+/// Calls put in order are the same calls, and none of them comes before the one in front of it. Calls that are in order
+/// stay as they are.
 pub fn calls_are_put_in_order()
     ensures same { (calls : List LogCall) → IsPermutation (in_order calls) calls }
-    ensures ordered { (calls : List LogCall) → IsInOrder (in_order calls) }
+    ensures ordered { (calls : List LogCall) → IsSortedBy call_before (in_order calls) }
+    ensures stay { (calls : List LogCall) → IsSortedBy call_before calls → in_order calls ≡ calls }
 {}
 
 /// The second writer's call is the earlier one: its line comes first.

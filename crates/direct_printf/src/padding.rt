@@ -17,7 +17,7 @@ pub struct Padding {
 
 /// A converted value before it is padded.
 #[derive(Clone, Copy)]
-pub struct Parts<'a> {
+pub struct FieldParts<'a> {
     /// The sign or the prefix.
     pub front: &'a [u8],
     /// How many zeros the precision puts before the digits.
@@ -29,7 +29,7 @@ pub struct Parts<'a> {
 // After an error a part may stand behind what was there, here and below.
 pub fn append_padded(
     padding: Padding,
-    parts: Parts<'_>,
+    parts: FieldParts<'_>,
     out: &mut Vec<u8>,
 ) -> Result<(), AllocError>
     ensures ok { OnOk result (out.new.items ≡ out.old.items ++ padded padding.left padding.zeros padding.width
@@ -52,7 +52,7 @@ pub fn append_padded(
 }
 
 // With some more zeros behind the front.
-fn append_parts(parts: Parts<'_>, more: usize, out: &mut Vec<u8>) -> Result<(), AllocError>
+fn append_parts(parts: FieldParts<'_>, more: usize, out: &mut Vec<u8>) -> Result<(), AllocError>
     requires { more < 2 ^ 16 }
     ensures ok { OnOk result (out.new.items
         ≡ out.old.items ++ (parts.entry.front.now ++ replicate (more + parts.entry.zeros) 48 ++ parts.entry.body.now)) }

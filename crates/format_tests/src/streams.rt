@@ -7,7 +7,7 @@ ghost use Rattle.nl_io.specs.Desk.{SameButHeld};
 use crate::tables::{check_rows, cut, text_of};
 use nl_io::{
     Failed, FileSink, FileSource, Files, MemFiles, MemSink, MemSource, Sink, Source, StdFiles,
-    StdSink, StdSource, read_to_limit, write_all,
+    StdSink, StdSource, TextWriter, read_to_limit, write_all,
 };
 use std::alloc::{AllocError, Global};
 use std::fs;
@@ -39,6 +39,24 @@ fn sink_told(alloc: Global, row: &str) -> Result<String, Fail> {
     let second = sink.write(b"12345");
     let out = sink.bytes().escape_ascii();
     Ok(format!(in alloc; "{first:?} {second:?} {out} {}", sink.starved())?)
+}
+
+/// Which call of the sink fails, and what is put behind `hello`: what a writer answers to that text and at the end, and
+/// how many bytes went out.
+const WRITERS: &str = "\
+99|1*x|Ok(()) Ok(()) 6;;0|1*x|Ok(()) Err(Failed) 0;;99|16379*x|Ok(()) Ok(()) 16384
+99|16380*x|Ok(()) Ok(()) 16385;;0|16380*x|Err(Failed) Ok(()) 0;;1|16380*x|Ok(()) Err(Failed) 5
+99|20000*x|Ok(()) Ok(()) 20005;;1|20000*x|Err(Failed) Ok(()) 5";
+
+fn writer_told(alloc: Global, row: &str) -> Result<String, Fail> {
+    let (failing, word) = cut(row)?;
+    let text = text_of(alloc, word)?;
+    let mut sink = MemSink::make(alloc, 100_000, &[failing.parse()?])?;
+    let mut writer = TextWriter::make();
+    writer.put_pieces(&mut sink, &["he", "llo"])?;
+    let put = writer.put(&mut sink, text.as_bytes());
+    let ended = writer.flush(&mut sink);
+    Ok(format!(in alloc; "{put:?} {ended:?} {}", sink.bytes().len())?)
 }
 
 /// The name, opened, as a source.
@@ -189,6 +207,7 @@ fn ids_told(alloc: Global, text: &str) -> Result<String, Fail> {
 #[test]
 fn streams_in_memory_move_pieces(rt: HostRuntime) -> Result<(), Fail> {
     check_rows(&rt, SINKS, sink_told)?;
+    check_rows(&rt, WRITERS, writer_told)?;
     check_rows(&rt, SOURCES, sources_told)?;
     check_rows(&rt, FILES, files_told)?;
     check_rows(

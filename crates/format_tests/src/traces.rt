@@ -3,7 +3,7 @@
 ghost use Rattle.std.specs.Prelude.{◌<◌};
 
 use crate::tables::{check_rows, cut, joined};
-use nl_io::{MemSink, MemSource, PIECE};
+use nl_io::{MAX_HELD, MemSink, MemSource};
 use stamp_merge::merge_order;
 use std::alloc::Global;
 use std::test::Fail;
@@ -215,7 +215,7 @@ fn writes_failed(alloc: Global, lines: &str) -> Result<String, Fail> {
     Ok(String::from_str(alloc, "all")?)
 }
 
-/// How much of a text goes out in pieces where the second of them fails.
+/// How many large pieces of a text go out where the second of them fails.
 fn long_text_written(alloc: Global, calls: &str) -> Result<String, Fail> {
     let mut text = String::from_str(alloc, WRITTEN_HEAD)?;
     for stamp in 1_000..calls.parse::<u64>()? {
@@ -228,7 +228,7 @@ fn long_text_written(alloc: Global, calls: &str) -> Result<String, Fail> {
     let trace = read_text(alloc, text.as_bytes())?;
     let mut sink = MemSink::make(alloc, 1_000_000, &[1])?;
     let fault = write_trace(alloc, &trace, &mut sink).err();
-    let pieces = sink.bytes().len() / PIECE;
+    let pieces = sink.bytes().len().div_ceil(MAX_HELD);
     let is_front = text.as_bytes().starts_with(sink.bytes());
     Ok(format!(in alloc; "{fault:?} {pieces} {is_front}")?)
 }
@@ -241,7 +241,7 @@ fn traces_are_written(rt: HostRuntime) -> Result<(), Fail> {
     assert_eq!(rt; all_written(alloc)?.as_str(), ALL_BYTES);
     check_rows(&rt, "0|178|Some(ReadFault);;179|179|None", reads_failed)?;
     check_rows(&rt, "call 0 1000 1 \"a\"␊|all", writes_failed)?;
-    check_rows(&rt, "11000|Some(Failed) 1 true", long_text_written)
+    check_rows(&rt, "3000|Some(Failed) 1 true", long_text_written)
 }
 
 /// Lists of stamps between `/`, and the numbers of the lists in order.

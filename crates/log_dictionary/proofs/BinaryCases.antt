@@ -10,12 +10,12 @@ use Rattle.log_dictionary.specs.declared.severity.Severity.{Severity}
 use Rattle.log_dictionary.specs.declared.severity.Severity.TheVariants.{Error, Warning, Notice, Debug}
 use Rattle.log_dictionary.specs.declared.message.Message.{Message}
 use Rattle.log_dictionary.specs.Severities.{severity_number}
-use Rattle.log_dictionary.specs.BinaryEntries.{RawEntry, head_bytes, text_bytes, raw_bytes, SpellsEntry, IsCutText, IsCutEntry, IsBadLength, IsOutOfRange, IsBadEntry, BeginsWithEntry}
+use Rattle.log_dictionary.specs.BinaryEntries.{RawEntry, entry_head_bytes, text_bytes, raw_entry_bytes, SpellsEntry, IsCutText, IsCutEntry, IsBadLength, IsOutOfRange, IsBadEntry, BeginsWithEntry}
 use Rattle.log_dictionary.specs.BinaryEntries.IsCutText.{in_length, in_text}
 use Rattle.log_dictionary.specs.BinaryEntries.IsCutEntry.{in_severity, in_line, in_file, in_format}
 use Rattle.log_dictionary.specs.BinaryEntries.IsOutOfRange.{at_severity, at_file, at_format}
 use Rattle.log_dictionary.specs.BinaryEntries.IsBadEntry.{out_of_range, refused}
-use Rattle.log_dictionary.specs.EntryReading.{IsRead}
+use Rattle.log_dictionary.specs.EntryReading.{BeginsWithRawEntry}
 use Rattle.log_dictionary.proofs.BinaryNumbers.{two_read, four_read}
 use Rattle.log_dictionary.proofs.BinaryLaws.{three_nested, nested, one_entry, bad_not_whole}
 use Rattle.log_dictionary.proofs.BinaryReading.{read_bad}
@@ -92,13 +92,13 @@ severity_cases b = severity_by b (eqb b 1) (eqb b 2) (eqb b 3) (eqb b 4) refl re
 
 -- ---- entries
 
-fields_cases : (bytes : List ℕ) (raw : RawEntry) → IsRead bytes raw → IsCutEntry bytes ⊎ IsBadEntry bytes ⊎ BeginsWithEntry bytes
+fields_cases : (bytes : List ℕ) (raw : RawEntry) → BeginsWithRawEntry bytes raw → IsCutEntry bytes ⊎ IsBadEntry bytes ⊎ BeginsWithEntry bytes
 fields_cases bytes raw read =
     elim (one_holds raw.format) [
       | inl (pieces, spells) ↦
           inr (inr (record {
             message = record { file = raw.file; line = raw.line; severity = raw.severity; format = record { bytes = raw.format; pieces = pieces }; file_length = (read.in_range.named, read.in_range.short_name) };
-            front = raw_bytes raw;
+            front = raw_entry_bytes raw;
             rest = read.rest;
             joined = read.joined;
             entry = record { spelled = refl; line_fits = read.in_range.line_fits; formed = spells };
@@ -106,9 +106,9 @@ fields_cases bytes raw read =
       | inr (cause, place, breaks) ↦ inr (inl (read_bad bytes raw read (λ pieces spells. never_both raw.format pieces cause place spells breaks)))
     ]
 
-behind_file : (bytes : List ℕ) (severity : Severity) (line : ℕ) (file part : List ℕ) → AreBytes part → line < 2 ^ 32 → 1 ≤ length file → length file ≤ 255 → bytes ≡ head_bytes severity line ++ (text_bytes file ++ part) → IsCutEntry bytes ⊎ IsBadEntry bytes ⊎ BeginsWithEntry bytes
+behind_file : (bytes : List ℕ) (severity : Severity) (line : ℕ) (file part : List ℕ) → AreBytes part → line < 2 ^ 32 → 1 ≤ length file → length file ≤ 255 → bytes ≡ entry_head_bytes severity line ++ (text_bytes file ++ part) → IsCutEntry bytes ⊎ IsBadEntry bytes ⊎ BeginsWithEntry bytes
 behind_file bytes severity line file part small fits long short is =
-    let apart = is ∙ sym (three_nested (head_bytes severity line) (text_bytes file) part) in
+    let apart = is ∙ sym (three_nested (entry_head_bytes severity line) (text_bytes file) part) in
     elim (text_cases 0 4095 part small) [
       | inl cut ↦ inl (in_format severity line file part fits long short cut apart)
       | inr (inl wrong) ↦ inr (inl (out_of_range (at_format severity line file part fits long short wrong apart)))
@@ -116,17 +116,17 @@ behind_file bytes severity line file part small fits long short is =
           let raw : RawEntry = record { severity = severity; line = line; file = file; format = text.text } in
           fields_cases bytes raw (record {
             rest = text.rest;
-            joined = is ∙ ap (λ (p : List ℕ). head_bytes severity line ++ (text_bytes file ++ p)) text.joined ∙ sym (nested raw text.rest);
+            joined = is ∙ ap (λ (p : List ℕ). entry_head_bytes severity line ++ (text_bytes file ++ p)) text.joined ∙ sym (nested raw text.rest);
             in_range = record { line_fits = fits; named = long; short_name = short; short_format = text.short };
           })
     ]
 
-behind_head : (bytes : List ℕ) (severity : Severity) (line : ℕ) (part : List ℕ) → AreBytes part → line < 2 ^ 32 → bytes ≡ head_bytes severity line ++ part → IsCutEntry bytes ⊎ IsBadEntry bytes ⊎ BeginsWithEntry bytes
+behind_head : (bytes : List ℕ) (severity : Severity) (line : ℕ) (part : List ℕ) → AreBytes part → line < 2 ^ 32 → bytes ≡ entry_head_bytes severity line ++ part → IsCutEntry bytes ⊎ IsBadEntry bytes ⊎ BeginsWithEntry bytes
 behind_head bytes severity line part small fits is =
     elim (text_cases 1 255 part small) [
       | inl cut ↦ inl (in_file severity line part fits cut is)
       | inr (inl wrong) ↦ inr (inl (out_of_range (at_file severity line part fits wrong is)))
-      | inr (inr text) ↦ behind_file bytes severity line text.text text.rest (back_bytes part (text_bytes text.text) text.rest text.joined small) fits text.long text.short (is ∙ ap (λ (p : List ℕ). head_bytes severity line ++ p) text.joined)
+      | inr (inr text) ↦ behind_file bytes severity line text.text text.rest (back_bytes part (text_bytes text.text) text.rest text.joined small) fits text.long text.short (is ∙ ap (λ (p : List ℕ). entry_head_bytes severity line ++ p) text.joined)
     ]
 
 behind_severity : (bytes : List ℕ) (severity : Severity) (part : List ℕ) → AreBytes part → bytes ≡ severity_number severity ∷ part → IsCutEntry bytes ⊎ IsBadEntry bytes ⊎ BeginsWithEntry bytes
@@ -160,14 +160,14 @@ more_wrong least most bytes more wrong = record { n = wrong.n; rest = wrong.rest
 stays_out_of_range : (bytes more : List ℕ) → IsOutOfRange bytes → IsOutOfRange (bytes ++ more)
 stays_out_of_range bytes more (at_severity number rest wrong is) = at_severity number (rest ++ more) wrong (ap (λ (b : List ℕ). b ++ more) is)
 stays_out_of_range bytes more (at_file severity line rest fits wrong is) =
-    at_file severity line (rest ++ more) fits (more_wrong 1 255 rest more wrong) (ap (λ (b : List ℕ). b ++ more) is ∙ append_assoc (head_bytes severity line) rest more)
+    at_file severity line (rest ++ more) fits (more_wrong 1 255 rest more wrong) (ap (λ (b : List ℕ). b ++ more) is ∙ append_assoc (entry_head_bytes severity line) rest more)
 stays_out_of_range bytes more (at_format severity line file rest fits long short wrong is) =
-    at_format severity line file (rest ++ more) fits long short (more_wrong 0 4095 rest more wrong) (ap (λ (b : List ℕ). b ++ more) is ∙ append_assoc (head_bytes severity line ++ text_bytes file) rest more)
+    at_format severity line file (rest ++ more) fits long short (more_wrong 0 4095 rest more wrong) (ap (λ (b : List ℕ). b ++ more) is ∙ append_assoc (entry_head_bytes severity line ++ text_bytes file) rest more)
 
 -- what is wrong stays wrong
 pub stays_bad : (bytes more : List ℕ) → IsBadEntry bytes → IsBadEntry (bytes ++ more)
 stays_bad bytes more (out_of_range wrong) = out_of_range (stays_out_of_range bytes more wrong)
-stays_bad bytes more (refused raw rest right none is) = refused raw (rest ++ more) right none (ap (λ (b : List ℕ). b ++ more) is ∙ append_assoc (raw_bytes raw) rest more)
+stays_bad bytes more (refused raw rest right none is) = refused raw (rest ++ more) right none (ap (λ (b : List ℕ). b ++ more) is ∙ append_assoc (raw_entry_bytes raw) rest more)
 
 -- each proper prefix of an entry is cut
 pub prefix_is_cut : (front more : List ℕ) (message : Message) → AreBytes front → SpellsEntry (front ++ more) message → 1 ≤ length more → IsCutEntry front

@@ -11,7 +11,7 @@ use Rattle.log_dictionary.specs.declared.severity.Severity.{Severity}
 use Rattle.log_dictionary.specs.declared.message.Message.{Message}
 use Rattle.log_dictionary.specs.Severities.{severity_number}
 use Rattle.log_dictionary.specs.Messages.{SameMessage}
-use Rattle.log_dictionary.specs.BinaryEntries.{RawEntry, head_bytes, text_bytes, raw_bytes, raw_of, IsInRange, SpellsEntry, IsCutText, IsCutEntry, IsBadLength, IsOutOfRange, IsBadEntry, BeginsWithEntry}
+use Rattle.log_dictionary.specs.BinaryEntries.{RawEntry, entry_head_bytes, text_bytes, raw_entry_bytes, raw_of, IsInRange, SpellsEntry, IsCutText, IsCutEntry, IsBadLength, IsOutOfRange, IsBadEntry, BeginsWithEntry}
 use Rattle.log_dictionary.specs.BinaryEntries.IsCutText.{in_length, in_text}
 use Rattle.log_dictionary.specs.BinaryEntries.IsCutEntry.{in_severity, in_line, in_file, in_format}
 use Rattle.log_dictionary.specs.BinaryEntries.IsOutOfRange.{at_severity, at_file, at_format}
@@ -46,7 +46,7 @@ others_are x y xs ys e = ap (λ (l : List ℕ). drop 1 l) e
 
 -- ---- parts of an entry
 
-pub same_heads : (s t : Severity) (m n : ℕ) (r q : List ℕ) → m < 2 ^ 32 → n < 2 ^ 32 → head_bytes s m ++ r ≡ head_bytes t n ++ q → (s ≡ t) × (m ≡ n) × (r ≡ q)
+pub same_heads : (s t : Severity) (m n : ℕ) (r q : List ℕ) → m < 2 ^ 32 → n < 2 ^ 32 → entry_head_bytes s m ++ r ≡ entry_head_bytes t n ++ q → (s ≡ t) × (m ≡ n) × (r ≡ q)
 same_heads s t m n r q m_fits n_fits e =
     let lines = same_lines m n r q m_fits n_fits (others_are (severity_number s) (severity_number t) (le_bytes 4 m ++ r) (le_bytes 4 n ++ q) e) in
     (same_severities s t (first_is (severity_number s) (severity_number t) (le_bytes 4 m ++ r) (le_bytes 4 n ++ q) e), lines.0, lines.1)
@@ -60,16 +60,16 @@ same_texts a b r q a_fits b_fits e =
     same_fronts a b r q lengths.0 lengths.1
 
 -- an entry and what follows it, nested to the right
-pub nested : (raw : RawEntry) (rest : List ℕ) → raw_bytes raw ++ rest ≡ head_bytes raw.severity raw.line ++ (text_bytes raw.file ++ (text_bytes raw.format ++ rest))
+pub nested : (raw : RawEntry) (rest : List ℕ) → raw_entry_bytes raw ++ rest ≡ entry_head_bytes raw.severity raw.line ++ (text_bytes raw.file ++ (text_bytes raw.format ++ rest))
 nested raw rest =
-    append_assoc (head_bytes raw.severity raw.line ++ text_bytes raw.file) (text_bytes raw.format) rest ∙ append_assoc (head_bytes raw.severity raw.line) (text_bytes raw.file) (text_bytes raw.format ++ rest)
+    append_assoc (entry_head_bytes raw.severity raw.line ++ text_bytes raw.file) (text_bytes raw.format) rest ∙ append_assoc (entry_head_bytes raw.severity raw.line) (text_bytes raw.file) (text_bytes raw.format ++ rest)
 
 pub three_nested : (head file part : List ℕ) → head ++ file ++ part ≡ head ++ (file ++ part)
 three_nested head file part = append_assoc head file part
 
-pub raw_length : (raw : RawEntry) → length (raw_bytes raw) ≡ 9 + length raw.file + length raw.format
+pub raw_length : (raw : RawEntry) → length (raw_entry_bytes raw) ≡ 9 + length raw.file + length raw.format
 raw_length raw =
-    let head : List ℕ = head_bytes raw.severity raw.line in omega (
+    let head : List ℕ = entry_head_bytes raw.severity raw.line in omega (
       arith,
       four_long raw.line,
       two_long (length raw.file),
@@ -86,7 +86,7 @@ after_text at text = omega (arith, two_long (length text), length-append (le_byt
 
 -- ---- one entry
 
-pub same_raw : (a b : RawEntry) (r q : List ℕ) → IsInRange a → IsInRange b → raw_bytes a ++ r ≡ raw_bytes b ++ q → (a ≡ b) × (r ≡ q)
+pub same_raw : (a b : RawEntry) (r q : List ℕ) → IsInRange a → IsInRange b → raw_entry_bytes a ++ r ≡ raw_entry_bytes b ++ q → (a ≡ b) × (r ≡ q)
 same_raw a b r q a_right b_right e =
     let heads = same_heads a.severity b.severity a.line b.line (text_bytes a.file ++ (text_bytes a.format ++ r)) (text_bytes b.file ++ (text_bytes b.format ++ q)) a_right.line_fits b_right.line_fits (sym (nested a r) ∙ e ∙ nested b q) in
     let files = same_texts a.file b.file (text_bytes a.format ++ r) (text_bytes b.format ++ q) (omega (arith, a_right.short_name)) (omega (arith, b_right.short_name)) heads.2 in
@@ -98,7 +98,7 @@ pub entry_in_range : (bytes : List ℕ) (message : Message) → SpellsEntry byte
 entry_in_range bytes message spelled = record { line_fits = spelled.line_fits; named = message.file_length.0; short_name = message.file_length.1; short_format = spelled.formed.short }
 
 -- the raw entry is the message's
-pub same_as_message : (raw : RawEntry) (bytes front rest : List ℕ) (message : Message) → IsInRange raw → SpellsEntry front message → raw_bytes raw ++ bytes ≡ front ++ rest → (raw ≡ raw_of message) × (bytes ≡ rest)
+pub same_as_message : (raw : RawEntry) (bytes front rest : List ℕ) (message : Message) → IsInRange raw → SpellsEntry front message → raw_entry_bytes raw ++ bytes ≡ front ++ rest → (raw ≡ raw_of message) × (bytes ≡ rest)
 same_as_message raw bytes front rest message right spelled e =
     same_raw raw (raw_of message) bytes rest right (entry_in_range front message spelled) (e ∙ ap (λ (f : List ℕ). f ++ rest) spelled.spelled)
 
@@ -110,7 +110,7 @@ raws_are front other rest other_rest a b first second e =
 pub one_spelling : (front other rest other_rest : List ℕ) (a b : Message) → SpellsEntry front a → SpellsEntry other b → front ++ rest ≡ other ++ other_rest → (front ≡ other) × SameMessage a b
 one_spelling front other rest other_rest a b first second e =
     let raws = raws_are front other rest other_rest a b first second e in (
-      first.spelled ∙ ap raw_bytes raws ∙ sym second.spelled,
+      first.spelled ∙ ap raw_entry_bytes raws ∙ sym second.spelled,
       record {
         file = ap (λ (r : RawEntry). r.file) raws;
         line = ap (λ (r : RawEntry). r.line) raws;
@@ -163,17 +163,17 @@ pub data IsCutTexts (bytes : List ℕ) : Type 0 where
   first : IsCutText 1 255 bytes → IsCutTexts bytes
   second : (file part : List ℕ) → 1 ≤ length file → length file ≤ 255 → IsCutText 0 4095 part → bytes ≡ text_bytes file ++ part → IsCutTexts bytes
 
-long_head : (severity : Severity) (line : ℕ) (rest : List ℕ) → 5 ≤ length (head_bytes severity line ++ rest)
+long_head : (severity : Severity) (line : ℕ) (rest : List ℕ) → 5 ≤ length (entry_head_bytes severity line ++ rest)
 long_head severity line rest = omega (arith, four_long line, length-append (le_bytes 4 line) rest)
 
-cut_behind : (severity : Severity) (line : ℕ) (rest bytes : List ℕ) → line < 2 ^ 32 → bytes ≡ head_bytes severity line ++ rest → IsCutEntry bytes → IsCutTexts rest
+cut_behind : (severity : Severity) (line : ℕ) (rest bytes : List ℕ) → line < 2 ^ 32 → bytes ≡ entry_head_bytes severity line ++ rest → IsCutEntry bytes → IsCutTexts rest
 cut_behind severity line rest bytes fits is (in_severity e) = absurd (omega (arith, long_head severity line rest, ap length (sym is ∙ e)))
 cut_behind severity line rest bytes fits is (in_line s part short e) = absurd (omega (arith, long_head severity line rest, short, ap length (sym is ∙ e)))
 cut_behind severity line rest bytes fits is (in_file s l part l_fits cut e) =
     let same = same_heads severity s line l rest part fits l_fits (sym is ∙ e) in
     first (subst (IsCutText 1 255) (sym same.2) cut)
 cut_behind severity line rest bytes fits is (in_format s l file part l_fits least most cut e) =
-    let same = same_heads severity s line l rest (text_bytes file ++ part) fits l_fits (sym is ∙ e ∙ three_nested (head_bytes s l) (text_bytes file) part) in
+    let same = same_heads severity s line l rest (text_bytes file ++ part) fits l_fits (sym is ∙ e ∙ three_nested (entry_head_bytes s l) (text_bytes file) part) in
     second file part least most cut same.2
 
 cut_behind_file : (file rest bytes : List ℕ) → 1 ≤ length file → length file ≤ 255 → bytes ≡ text_bytes file ++ rest → IsCutTexts bytes → IsCutText 0 4095 rest
@@ -185,7 +185,7 @@ cut_behind_file file rest bytes least most is (second other part l m cut e) =
 -- ---- whole, cut and wrong entries
 
 -- bytes that begin with an entry don't end inside it
-pub cut_not_whole : (raw : RawEntry) (rest bytes : List ℕ) → IsInRange raw → bytes ≡ raw_bytes raw ++ rest → IsCutEntry bytes → ⊥
+pub cut_not_whole : (raw : RawEntry) (rest bytes : List ℕ) → IsInRange raw → bytes ≡ raw_entry_bytes raw ++ rest → IsCutEntry bytes → ⊥
 cut_not_whole raw rest bytes right is cut =
     let behind = cut_behind raw.severity raw.line (text_bytes raw.file ++ (text_bytes raw.format ++ rest)) bytes right.line_fits (is ∙ nested raw rest) cut in
     let format = cut_behind_file raw.file (text_bytes raw.format ++ rest) _ right.named right.short_name refl behind in
@@ -210,7 +210,7 @@ pub cut_in_range : (bytes : List ℕ) → IsCutEntry bytes → IsOutOfRange byte
 cut_in_range bytes cut (at_severity number rest wrong e) = let s = cut_severity number rest bytes e cut in wrong s.0 s.1
 cut_in_range bytes cut (at_file severity line rest fits bad e) = bad_not_in_texts rest bad (cut_behind severity line rest bytes fits e cut)
 cut_in_range bytes cut (at_format severity line file rest fits least most bad e) =
-    let behind = cut_behind severity line (text_bytes file ++ rest) bytes fits (e ∙ three_nested (head_bytes severity line) (text_bytes file) rest) cut in
+    let behind = cut_behind severity line (text_bytes file ++ rest) bytes fits (e ∙ three_nested (entry_head_bytes severity line) (text_bytes file) rest) cut in
     cut_text_not_bad 0 4095 rest (omega arith) (cut_behind_file file rest _ least most refl behind) bad
 
 -- and aren't wrong
@@ -219,13 +219,13 @@ cut_not_bad bytes cut (out_of_range wrong) = cut_in_range bytes cut wrong
 cut_not_bad bytes cut (refused raw rest right none e) = cut_not_whole raw rest bytes right e cut
 
 -- bytes that begin with fields in range have no field out of range
-pub whole_in_range : (raw : RawEntry) (rest bytes : List ℕ) → IsInRange raw → bytes ≡ raw_bytes raw ++ rest → IsOutOfRange bytes → ⊥
+pub whole_in_range : (raw : RawEntry) (rest bytes : List ℕ) → IsInRange raw → bytes ≡ raw_entry_bytes raw ++ rest → IsOutOfRange bytes → ⊥
 whole_in_range raw rest bytes right is (at_severity number other wrong e) = wrong raw.severity (first_is number (severity_number raw.severity) other _ (sym e ∙ is))
 whole_in_range raw rest bytes right is (at_file severity line other fits bad e) =
     let same = same_heads severity raw.severity line raw.line other (text_bytes raw.file ++ (text_bytes raw.format ++ rest)) fits right.line_fits (sym e ∙ is ∙ nested raw rest) in
     bad_length_not_whole 1 255 raw.file (text_bytes raw.format ++ rest) (omega (arith, right.short_name)) right.named right.short_name (subst (IsBadLength 1 255) same.2 bad)
 whole_in_range raw rest bytes right is (at_format severity line file other fits least most bad e) =
-    let same = same_heads severity raw.severity line raw.line (text_bytes file ++ other) (text_bytes raw.file ++ (text_bytes raw.format ++ rest)) fits right.line_fits (sym (three_nested (head_bytes severity line) (text_bytes file) other) ∙ sym e ∙ is ∙ nested raw rest) in
+    let same = same_heads severity raw.severity line raw.line (text_bytes file ++ other) (text_bytes raw.file ++ (text_bytes raw.format ++ rest)) fits right.line_fits (sym (three_nested (entry_head_bytes severity line) (text_bytes file) other) ∙ sym e ∙ is ∙ nested raw rest) in
     let files = same_texts file raw.file other (text_bytes raw.format ++ rest) (omega (arith, most)) (omega (arith, right.short_name)) same.2 in
     bad_length_not_whole 0 4095 raw.format rest (omega (arith, right.short_format)) (omega arith) right.short_format (subst (IsBadLength 0 4095) files.1 bad)
 
@@ -235,4 +235,4 @@ bad_not_whole front rest bytes message narrow is (out_of_range wrong) =
     whole_in_range (raw_of message) rest bytes (entry_in_range front message narrow) (is ∙ ap (λ (f : List ℕ). f ++ rest) narrow.spelled) wrong
 bad_not_whole front rest bytes message narrow is (refused raw other right none e) =
     let same = same_as_message raw other front rest message right narrow (sym e ∙ is) in
-    none message (record { spelled = ap raw_bytes same.0; line_fits = narrow.line_fits; formed = narrow.formed })
+    none message (record { spelled = ap raw_entry_bytes same.0; line_fits = narrow.line_fits; formed = narrow.formed })

@@ -14,7 +14,7 @@ use Rattle.log_dictionary.specs.declared.severity.Severity.TheVariants.{Error, W
 use Rattle.log_dictionary.specs.Severities.{severity_name}
 use Rattle.log_dictionary.specs.Numbers.{natural_of}
 use Rattle.log_dictionary.specs.Messages.{SpellsMessage}
-use Rattle.log_dictionary.specs.MessageLines.{SpelledParts, parts_at, LineParts, SpellsParts, IsMessageLine}
+use Rattle.log_dictionary.specs.MessageLines.{SpelledParts, parts_at, MessageLineFields, SpellsParts, IsMessageLine}
 use Rattle.log_dictionary.proofs.NumberLaws.{natural_decimal, decimal_natural}
 use Rattle.log_dictionary.proofs.LineParts.{spelling_of, parts_at-spelled, same_spelling, spells_parts}
 use Rattle.log_dictionary.proofs.LineMessages.{parts_of, parts_spelled, message_spelled, format_is_spelled}
@@ -80,16 +80,16 @@ within_or_not file format =
     ]
 
 -- a line is a message line but for what its format spells, or isn't
-pub parts_or_not : (line : List ℕ) → IsMessageLine line ⊎ ((parts : LineParts) → ¬ (SpellsParts line parts))
+pub parts_or_not : (line : List ℕ) → IsMessageLine line ⊎ ((parts : MessageLineFields) → ¬ (SpellsParts line parts))
 parts_or_not line = by (parts_at line) refl
   where
     made : List ℕ → List ℕ → List ℕ → List ℕ → List ℕ → SpelledParts
     made id severity number file format = record { id = id; severity = severity; number = number; file = file; format = format }
 
-    by : (o : Option SpelledParts) → parts_at line ≡ o → IsMessageLine line ⊎ ((parts : LineParts) → ¬ (SpellsParts line parts))
+    by : (o : Option SpelledParts) → parts_at line ≡ o → IsMessageLine line ⊎ ((parts : MessageLineFields) → ¬ (SpellsParts line parts))
     by None e = inr (λ parts spells. let found = parts_at-spelled line parts spells in cc)
     by (Some found) e =
-        let same = λ (parts : LineParts) (spells : SpellsParts line parts). same_spelling line found parts (sym e) spells in
+        let same = λ (parts : MessageLineFields) (spells : SpellsParts line parts). same_spelling line found parts (sym e) spells in
         elim (natural_or_not found.id) [
           | inr none ↦ inr (λ parts spells. none parts.id (ap natural_of (ap (λ (p : SpelledParts). p.id) (same parts spells)) ∙ spells.numeral))
           | inl id ↦ elim (severity_or_not found.severity) [
@@ -103,7 +103,7 @@ parts_or_not line = by (parts_at line) refl
                     (omega (arith, spells.named), omega (arith, spells.short_name), omega (arith, spells.short_format))
                     ))
                 | inl within ↦ inl (
-                    let parts : LineParts = record { id = id.0; severity = severity.0; number = number.0; file = found.file; format = found.format } in
+                    let parts : MessageLineFields = record { id = id.0; severity = severity.0; number = number.0; file = found.file; format = found.format } in
                     let is : found ≡ spelling_of found.id parts =
                     ap (λ (l : List ℕ). made found.id l found.number found.file found.format) severity.1
                     ∙ ap (λ (l : List ℕ). made found.id (severity_name severity.0) l found.file found.format) number.2 in

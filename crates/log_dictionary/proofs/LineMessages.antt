@@ -11,13 +11,13 @@ use Rattle.log_dictionary.specs.declared.dictionary.LineFault.TheVariants.{TooMa
 use Rattle.log_dictionary.specs.declared.dictionary.Added.TheVariants.{Old, New}
 use Rattle.log_dictionary.specs.Messages.{SpellsMessage, HasMessage}
 use Rattle.log_dictionary.specs.Additions.{IsAdded, SpellsNone, SpellsNoneNew, StopsMessage, ReadsLine}
-use Rattle.log_dictionary.specs.MessageLines.{LineParts, SpellsParts}
+use Rattle.log_dictionary.specs.MessageLines.{MessageLineFields, SpellsParts}
 use Rattle.log_dictionary.proofs.Distinct.{id_is_there}
 use Rattle.log_dictionary.proofs.LineParts.{same_parts}
 use Rattle.log_dictionary.proofs.SameMessages.{same_message}
 
 -- the id, and the parts of the message
-abbrev pub parts_of : ℕ → Message → LineParts
+abbrev pub parts_of : ℕ → Message → MessageLineFields
 parts_of id message = record { id = id; severity = message.severity; number = message.line; file = message.file; format = message.format.bytes }
 
 -- a line that spells a message spells its parts
@@ -37,7 +37,7 @@ parts_spelled line id message spells = record {
 }
 
 -- a line that spells the parts of a message spells it, if the pieces of its format are spelled
-pub message_spelled : (line : List ℕ) (parts : LineParts) (message : Message) → SpellsParts line parts → parts_of parts.id message ≡ parts → Spells message.format.bytes message.format.pieces → SpellsMessage line parts.id message
+pub message_spelled : (line : List ℕ) (parts : MessageLineFields) (message : Message) → SpellsParts line parts → parts_of parts.id message ≡ parts → Spells message.format.bytes message.format.pieces → SpellsMessage line parts.id message
 message_spelled line parts message spells same formed =
     let own = subst (SpellsParts line) (sym same) spells in
     record {
@@ -64,16 +64,16 @@ same_formats a b bytes first second =
 pub one_message : (line : List ℕ) (i j : ℕ) (a b : Message) → SpellsMessage line i a → SpellsMessage line j b → (i ≡ j) × (a ≡ b)
 one_message line i j a b first second =
     let same = same_parts line (parts_of i a) (parts_of j b) (parts_spelled line i a first) (parts_spelled line j b second) in
-    let format = same_formats a.format b.format (ap (λ (p : LineParts). p.format) same) first.formed second.formed in (
-      ap (λ (p : LineParts). p.id) same,
-      same_message a b (ap (λ (p : LineParts). p.file) same) (ap (λ (p : LineParts). p.number) same) (ap (λ (p : LineParts). p.severity) same) format,
+    let format = same_formats a.format b.format (ap (λ (p : MessageLineFields). p.format) same) first.formed second.formed in (
+      ap (λ (p : MessageLineFields). p.id) same,
+      same_message a b (ap (λ (p : MessageLineFields). p.file) same) (ap (λ (p : MessageLineFields). p.number) same) (ap (λ (p : MessageLineFields). p.severity) same) format,
     )
 
 -- where a line spells a message, the format that its parts hold is spelled
-pub format_is_spelled : (line : List ℕ) (parts : LineParts) → SpellsParts line parts → (id : ℕ) (message : Message) → SpellsMessage line id message → Spells parts.format message.format.pieces
+pub format_is_spelled : (line : List ℕ) (parts : MessageLineFields) → SpellsParts line parts → (id : ℕ) (message : Message) → SpellsMessage line id message → Spells parts.format message.format.pieces
 format_is_spelled line parts spells id message spelled =
     let same = same_parts line (parts_of id message) parts (parts_spelled line id message spelled) spells in
-    subst (λ (l : List ℕ). Spells l message.format.pieces) (ap (λ (p : LineParts). p.format) same) spelled.formed
+    subst (λ (l : List ℕ). Spells l message.format.pieces) (ap (λ (p : MessageLineFields). p.format) same) spelled.formed
 
 -- ---- what reading a line made of the messages
 

@@ -12,7 +12,7 @@ use Rattle.log_dictionary.specs.Numbers.{natural_of}
 use Rattle.log_dictionary.specs.Severities.{severity_name}
 use Rattle.log_dictionary.specs.Texts.{SpellsText, text_at}
 use Rattle.log_dictionary.specs.Fields.{◌>>=◌, split_at_first, after}
-use Rattle.log_dictionary.specs.MessageLines.{SpelledParts, parts_at, LineParts, SpellsParts}
+use Rattle.log_dictionary.specs.MessageLines.{SpelledParts, parts_at, MessageLineFields, SpellsParts}
 use Rattle.log_dictionary.proofs.Splits.{split_again, split_takes, after_takes}
 use Rattle.log_dictionary.proofs.Lines.{severity_none, natural_none, decimal_none}
 use Rattle.log_dictionary.proofs.SameMessages.{same_names}
@@ -118,21 +118,21 @@ parts_found line parts found =
 -- ---- parts that fit
 
 -- the parts as they are spelled, with these digits of the id
-abbrev pub spelling_of : List ℕ → LineParts → SpelledParts
+abbrev pub spelling_of : List ℕ → MessageLineFields → SpelledParts
 spelling_of digits parts = record { id = digits; severity = severity_name parts.severity; number = decimal parts.number; file = parts.file; format = parts.format }
 
 -- the parts that a line spells are found
-pub parts_at-spelled : (line : List ℕ) (parts : LineParts) → (spells : SpellsParts line parts) → parts_at line ≡ Some (spelling_of spells.digits parts)
+pub parts_at-spelled : (line : List ℕ) (parts : MessageLineFields) → (spells : SpellsParts line parts) → parts_at line ≡ Some (spelling_of spells.digits parts)
 parts_at-spelled line parts spells =
     parts_again line (spelling_of spells.digits parts) (record { name = spells.name; text = spells.text; spelled = spells.spelled; file_spelled = spells.file_spelled; format_spelled = spells.format_spelled })
     (natural_none 32 spells.digits parts.id (inl (omega arith)) spells.numeral) (severity_none 32 refl refl refl refl parts.severity) (decimal_none 32 parts.number (inl (omega arith)) (let small = spells.number_fits in omega arith))
 
 -- parts that were found are those that the line spells
-pub same_spelling : (line : List ℕ) (found : SpelledParts) (parts : LineParts) → Some found ≡ parts_at line → (spells : SpellsParts line parts) → found ≡ spelling_of spells.digits parts
+pub same_spelling : (line : List ℕ) (found : SpelledParts) (parts : MessageLineFields) → Some found ≡ parts_at line → (spells : SpellsParts line parts) → found ≡ spelling_of spells.digits parts
 same_spelling line found parts e spells = same_Some found (spelling_of spells.digits parts) (e ∙ parts_at-spelled line parts spells)
 
 -- a line spells one list of parts
-pub same_parts : (line : List ℕ) (a b : LineParts) → SpellsParts line a → SpellsParts line b → a ≡ b
+pub same_parts : (line : List ℕ) (a b : MessageLineFields) → SpellsParts line a → SpellsParts line b → a ≡ b
 same_parts line a b first second =
     let same = same_Some (spelling_of first.digits a) (spelling_of second.digits b) (sym (parts_at-spelled line a first) ∙ parts_at-spelled line b second) in
     let a_fits : a.number < 2 ^ 64 = let small = first.number_fits in omega arith in
@@ -145,11 +145,11 @@ same_parts line a b first second =
     ∙ ap (λ (x : ℕ). made b.id b.severity x a.file a.format) number
     ∙ ap (λ (p : SpelledParts). made b.id b.severity b.number p.file p.format) same
   where
-    made : ℕ → Severity → ℕ → List ℕ → List ℕ → LineParts
+    made : ℕ → Severity → ℕ → List ℕ → List ℕ → MessageLineFields
     made id severity number file format = record { id = id; severity = severity; number = number; file = file; format = format }
 
 -- parts that were found, and are spelled and within their limits, are those that the line spells
-pub spells_parts : (line : List ℕ) (found : SpelledParts) (digits : List ℕ) (parts : LineParts) → Some found ≡ parts_at line → found ≡ spelling_of digits parts → natural_of digits ≡ Some parts.id → parts.number < 2 ^ 32 → 1 ≤ length parts.file → length parts.file ≤ MAX_FILE_NAME → length parts.format ≤ MAX_FORMAT → SpellsParts line parts
+pub spells_parts : (line : List ℕ) (found : SpelledParts) (digits : List ℕ) (parts : MessageLineFields) → Some found ≡ parts_at line → found ≡ spelling_of digits parts → natural_of digits ≡ Some parts.id → parts.number < 2 ^ 32 → 1 ≤ length parts.file → length parts.file ≤ MAX_FILE_NAME → length parts.format ≤ MAX_FORMAT → SpellsParts line parts
 spells_parts line found digits parts e same numeral number_fits named short_name short_format =
     let is = parts_found line (spelling_of digits parts) (sym e ∙ ap (λ (p : SpelledParts). Some p) same) in
     record {

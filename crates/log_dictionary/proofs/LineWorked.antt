@@ -11,7 +11,7 @@ use Rattle.log_dictionary.specs.Numbers.{number_from}
 use Rattle.log_dictionary.specs.Messages.{HasMessage, SpellsMessage}
 use Rattle.log_dictionary.specs.Additions.{ReadsLine}
 use Rattle.log_dictionary.specs.Canonical.{AreBytes, message_line, dictionary_text}
-use Rattle.log_dictionary.specs.Rows.{row_message, row_line, great_line}
+use Rattle.log_dictionary.specs.Rows.{row_message, row_message_line, great_line}
 use Rattle.log_dictionary.proofs.BinaryWorked.{formed}
 use Rattle.log_dictionary.proofs.Written.{written_text, written_message}
 
@@ -23,7 +23,7 @@ none_there message (k, other, within, is, same) = omega (arith, within)
 file_bytes : AreBytes (codes "srv.cc")
 file_bytes = (lit< tt, (lit< tt, (lit< tt, (lit< tt, (lit< tt, (lit< tt, tt))))))
 
-pub row_written : message_line 0 row_message ≡ row_line
+pub row_written : message_line 0 row_message ≡ row_message_line
 unfolding digits
 row_written = refl
 
@@ -31,10 +31,10 @@ pub dictionary_written : dictionary_text (row_message ∷ []) ≡ codes "nanolog
 unfolding digits
 dictionary_written = refl
 
-pub row_spelled : SpellsMessage row_line 0 row_message
+pub row_spelled : SpellsMessage row_message_line 0 row_message
 row_spelled = subst (λ (line : List ℕ). SpellsMessage line 0 row_message) row_written (written_message 0 row_message (lit< tt) (record { file = file_bytes; bytes = (lit< tt, (lit< tt, (lit< tt, (lit< tt, tt)))); formed = formed; line_fits = lit< tt }))
 
-pub row_read : ReadsLine [] row_line (row_message ∷ []) (Ok tt)
+pub row_read : ReadsLine [] row_message_line (row_message ∷ []) (Ok tt)
 row_read = (row_message, record { spelled = row_spelled; new = none_there row_message }, lit< tt, refl)
 
 -- ---- an id of 2^64

@@ -4,7 +4,7 @@ use Rattle.std.specs.Char.{digit_value, IsAsciiHexdigit}
 use Rattle.std.proofs.lemmas.Bool.{eqb-true}
 use Rattle.std.proofs.lemmas.Bool.Decides.{nat_tests}
 use Rattle.std.proofs.lemmas.Option.{some_pair_parts}
-use Rattle.log_dictionary.specs.Texts.{IsPlain, SpellsByte, SpellsText, OpensText, TextPlace, TextStep, text_step, is_plain, is_hexadecimal, text_from, text_at, with_front}
+use Rattle.log_dictionary.specs.Texts.{IsPlain, SpellsByte, SpellsText, OpensText, TextPlace, TextStep, text_step, is_plain, is_hexadecimal, text_from, text_at, with_first_byte}
 use Rattle.log_dictionary.specs.Texts.SpellsByte.{itself, quotation_mark, backslash, line_feed, tab, hexadecimal}
 use Rattle.log_dictionary.specs.Texts.TextPlace.{outside, behind_backslash, behind_x, behind_digit}
 use Rattle.log_dictionary.specs.Texts.TextStep.{ends, goes_on, gives, breaks}
@@ -27,20 +27,20 @@ test_hexadecimal b is = grind (arith, nat_tests)
 
 -- ---- what is spelled is read
 
-byte_read : (unit : List ℕ) (b : ℕ) → SpellsByte unit b → (r : List ℕ) → text_from outside (unit ++ r) ≡ with_front b (text_from outside r)
+byte_read : (unit : List ℕ) (b : ℕ) → SpellsByte unit b → (r : List ℕ) → text_from outside (unit ++ r) ≡ with_first_byte b (text_from outside r)
 unfolding text_from
 byte_read unit b (itself plain e) r = ap (λ (u : List ℕ). text_from outside (u ++ r)) e ∙ follow_step outside b r (gives b) (plain_step b (plain_test b plain))
-byte_read unit b (quotation_mark e is) r = ap (λ (u : List ℕ). text_from outside (u ++ r)) e ∙ ap (λ (n : ℕ). with_front n (text_from outside r)) (sym is)
-byte_read unit b (backslash e is) r = ap (λ (u : List ℕ). text_from outside (u ++ r)) e ∙ ap (λ (n : ℕ). with_front n (text_from outside r)) (sym is)
-byte_read unit b (line_feed e is) r = ap (λ (u : List ℕ). text_from outside (u ++ r)) e ∙ ap (λ (n : ℕ). with_front n (text_from outside r)) (sym is)
-byte_read unit b (tab e is) r = ap (λ (u : List ℕ). text_from outside (u ++ r)) e ∙ ap (λ (n : ℕ). with_front n (text_from outside r)) (sym is)
+byte_read unit b (quotation_mark e is) r = ap (λ (u : List ℕ). text_from outside (u ++ r)) e ∙ ap (λ (n : ℕ). with_first_byte n (text_from outside r)) (sym is)
+byte_read unit b (backslash e is) r = ap (λ (u : List ℕ). text_from outside (u ++ r)) e ∙ ap (λ (n : ℕ). with_first_byte n (text_from outside r)) (sym is)
+byte_read unit b (line_feed e is) r = ap (λ (u : List ℕ). text_from outside (u ++ r)) e ∙ ap (λ (n : ℕ). with_first_byte n (text_from outside r)) (sym is)
+byte_read unit b (tab e is) r = ap (λ (u : List ℕ). text_from outside (u ++ r)) e ∙ ap (λ (n : ℕ). with_first_byte n (text_from outside r)) (sym is)
 byte_read unit b (hexadecimal high low h l e is) r =
     let first : text_step behind_x high ≡ goes_on (behind_digit (digit_value high)) = rw (hexadecimal_test high h) refl in
     let second : text_step (behind_digit (digit_value high)) low ≡ gives (16 * digit_value high + digit_value low) = rw (hexadecimal_test low l) refl in
     ap (λ (u : List ℕ). text_from outside (u ++ r)) e
     ∙ follow_step behind_x high (low ∷ r) (goes_on (behind_digit (digit_value high))) first
     ∙ follow_step (behind_digit (digit_value high)) low r (gives (16 * digit_value high + digit_value low)) second
-    ∙ ap (λ (n : ℕ). with_front n (text_from outside r)) (sym is)
+    ∙ ap (λ (n : ℕ). with_first_byte n (text_from outside r)) (sym is)
 
 -- a spelling is read as the bytes that it spells
 pub spelled_read : (value spelled : List ℕ) → SpellsText spelled value → (r : List ℕ) → text_from outside (spelled ++ r) ≡ with_bytes value (text_from outside r)
@@ -49,7 +49,7 @@ spelled_read (b ∷ value) spelled (unit, rest, e, byte, text) r =
     ap (λ (s : List ℕ). text_from outside (s ++ r)) e
     ∙ ap (text_from outside) (append_assoc unit rest r)
     ∙ byte_read unit b byte (rest ++ r)
-    ∙ ap (with_front b) (spelled_read value rest text r)
+    ∙ ap (with_first_byte b) (spelled_read value rest text r)
     ∙ front_bytes b value (text_from outside r)
 
 -- ---- what is read is spelled
@@ -100,7 +100,7 @@ step_says behind_backslash behind b at = says_escape behind b (eqb b 34) (eqb b 
 step_says behind_x behind b at = says_high behind b (is_hexadecimal b) at (test_hexadecimal b)
 step_says (behind_digit value) behind b (high, first, same, at) = says_low behind b value high (is_hexadecimal b) first same at (test_hexadecimal b)
 
-front_found : (b : ℕ) (text : Option (List ℕ × List ℕ)) (value rest : List ℕ) → ◌≡◌ {A = Option (List ℕ × List ℕ)} (with_front b text) (Some (value, rest)) → (more : List ℕ) × ◌≡◌ {A = Option (List ℕ × List ℕ)} text (Some (more, rest)) × (b ∷ more ≡ value)
+front_found : (b : ℕ) (text : Option (List ℕ × List ℕ)) (value rest : List ℕ) → ◌≡◌ {A = Option (List ℕ × List ℕ)} (with_first_byte b text) (Some (value, rest)) → (more : List ℕ) × ◌≡◌ {A = Option (List ℕ × List ℕ)} text (Some (more, rest)) × (b ∷ more ≡ value)
 front_found b None value rest e = absurd cc
 front_found b (Some text) value rest e = let same = some_pair_parts (b ∷ text.0) value text.1 rest e in (text.0, ap (λ (r : List ℕ). Some (text.0, r)) same.1, same.0)
 

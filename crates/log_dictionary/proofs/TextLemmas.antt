@@ -3,7 +3,7 @@ use Rattle.std.proofs.Common.{◌≡◌, ◌≢◌, ℕ, ◌+◌, ◌*◌, ◌�
 use Rattle.std.specs.Char.{digit_value}
 use Rattle.std.proofs.lemmas.Bool.{eqb-true, false≢true}
 use Rattle.std.proofs.lemmas.Option.{some_pair_parts}
-use Rattle.log_dictionary.specs.Texts.{TextPlace, TextStep, text_step, is_plain, is_hexadecimal, unit_from, text_from, with_front, unescaped, has_nul, IsSpelled}
+use Rattle.log_dictionary.specs.Texts.{TextPlace, TextStep, text_step, is_plain, is_hexadecimal, unit_from, text_from, with_first_byte, unescaped, has_nul, IsSpelled}
 use Rattle.log_dictionary.specs.Texts.TextPlace.{outside, behind_backslash, behind_x, behind_digit}
 use Rattle.log_dictionary.specs.Texts.TextStep.{ends, goes_on, gives, breaks}
 
@@ -27,7 +27,7 @@ unit_step place b bytes breaks e = rw (e, unit_from) refl
 abbrev text_follow : TextStep → List ℕ → Option (List ℕ × List ℕ)
 text_follow ends bytes = Some ([], bytes)
 text_follow (goes_on next) bytes = text_from next bytes
-text_follow (gives byte) bytes = with_front byte (text_from outside bytes)
+text_follow (gives byte) bytes = with_first_byte byte (text_from outside bytes)
 text_follow breaks bytes = None
 
 pub follow_step : (place : TextPlace) (b : ℕ) (bytes : List ℕ) (step : TextStep) → text_step place b ≡ step → text_from place (b ∷ bytes) ≡ text_follow step bytes
@@ -52,7 +52,7 @@ pub record IsUnit (place : TextPlace) (bytes : List ℕ) (byte : ℕ) (rest : Li
   pub unit : List ℕ
   pub joined : bytes ≡ unit ++ rest
   pub nonempty : 1 ≤ length unit
-  pub goes : (r : List ℕ) → text_from place (unit ++ r) ≡ with_front byte (text_from outside r)
+  pub goes : (r : List ℕ) → text_from place (unit ++ r) ≡ with_first_byte byte (text_from outside r)
 
 pub unit_is : (place : TextPlace) (bytes : List ℕ) (byte : ℕ) (rest : List ℕ) → unit_from place bytes ≡ Some (byte, rest) → IsUnit place bytes byte rest
 unit_is place [] byte rest e = let none = unit_nil place in absurd cc
@@ -74,7 +74,7 @@ unit_is place (b ∷ bytes) byte rest e =
             unit = b ∷ [];
             joined = ap (λ (l : List ℕ). b ∷ l) same.1;
             nonempty = omega arith;
-            goes = λ r. follow_step place b r (gives given) s ∙ ap (λ (n : ℕ). with_front n (text_from outside r)) same.0;
+            goes = λ r. follow_step place b r (gives given) s ∙ ap (λ (n : ℕ). with_first_byte n (text_from outside r)) same.0;
           }
           )
       | breaks ↦ λ s. let none = unit_step place b bytes breaks s in absurd cc
@@ -87,7 +87,7 @@ abbrev pub with_bytes : List ℕ → Option (List ℕ × List ℕ) → Option (L
 with_bytes value None = None
 with_bytes value (Some text) = Some (value ++ text.0, text.1)
 
-with_bytes_push : (value : List ℕ) (b : ℕ) (text : Option (List ℕ × List ℕ)) → with_bytes value (with_front b text) ≡ with_bytes (value ++ b ∷ []) text
+with_bytes_push : (value : List ℕ) (b : ℕ) (text : Option (List ℕ × List ℕ)) → with_bytes value (with_first_byte b text) ≡ with_bytes (value ++ b ∷ []) text
 with_bytes_push value b None = refl
 with_bytes_push value b (Some text) = ap (λ (v : List ℕ). Some (v, text.1)) (sym (append_assoc value (b ∷ []) text.0))
 

@@ -8,7 +8,7 @@ use Rattle.std.proofs.lemmas.List.{take-append-drop, take_at}
 use Rattle.std.proofs.lemmas.List.Folds.{list_any-append}
 use Rattle.bstr.specs.Find.{Nowhere, Passes}
 use Rattle.bstr.specs.Bytes.{is_in}
-use Rattle.log_dictionary.specs.Texts.{text_step, is_plain, unit_from, text_from, with_front, has_nul, unescaped, IsSpelled}
+use Rattle.log_dictionary.specs.Texts.{text_step, is_plain, unit_from, text_from, with_first_byte, has_nul, unescaped, IsSpelled}
 use Rattle.log_dictionary.specs.Texts.TextPlace.{outside, behind_backslash}
 use Rattle.log_dictionary.specs.Texts.TextStep.{ends, goes_on, gives, breaks}
 use Rattle.log_dictionary.specs.TextRuns.{ends_run, EndsRun, IsRun, IsEscapedRun, BeginsNoText}
@@ -42,7 +42,7 @@ both : (a b : Bool) → (a && b) ≡ true → (a ≡ true) × (b ≡ true)
 both true b e = (refl, e)
 both false b e = absurd cc
 
-pub front_bytes : (b : ℕ) (value : List ℕ) (text : Option (List ℕ × List ℕ)) → with_front b (with_bytes value text) ≡ with_bytes (b ∷ value) text
+pub front_bytes : (b : ℕ) (value : List ℕ) (text : Option (List ℕ × List ℕ)) → with_first_byte b (with_bytes value text) ≡ with_bytes (b ∷ value) text
 front_bytes b value None = refl
 front_bytes b value (Some text) = refl
 
@@ -51,7 +51,7 @@ run_goes : (run rest : List ℕ) → list_all is_plain run ≡ true → text_fro
 run_goes [] rest plain = with_no_bytes (text_from outside rest)
 run_goes (b ∷ run) rest plain =
     let parts = both (is_plain b) (list_all is_plain run) plain in
-    follow_step outside b (run ++ rest) (gives b) (plain_step b parts.0) ∙ ap (with_front b) (run_goes run rest parts.1) ∙ front_bytes b run (text_from outside rest)
+    follow_step outside b (run ++ rest) (gives b) (plain_step b parts.0) ∙ ap (with_first_byte b) (run_goes run rest parts.1) ∙ front_bytes b run (text_from outside rest)
 
 -- no byte of a run is 0
 run_without_nul : (run : List ℕ) → list_all is_plain run ≡ true → has_nul run ≡ false
@@ -70,7 +70,7 @@ pub run_is : (bytes : List ℕ) (at : ℕ) → (at < length bytes → ends_run (
 run_is bytes at stop plain = record { joined = sym (take-append-drop at bytes); plain = plain; ended = ended_at bytes at stop }
 
 run_follow : (b : ℕ) (plain : Bool) (bytes : List ℕ) → text_step outside b ≡ cond plain (gives b) breaks → (plain ≡ true → text_from outside bytes ≡ None) → text_from outside (b ∷ bytes) ≡ None
-run_follow b true bytes step more = follow_step outside b bytes (gives b) step ∙ ap (with_front b) (more refl)
+run_follow b true bytes step more = follow_step outside b bytes (gives b) step ∙ ap (with_first_byte b) (more refl)
 run_follow b false bytes step more = follow_step outside b bytes breaks step
 
 other_fails : (a b : Bool) → (a && b) ≡ false → a ≡ true → b ≡ false
@@ -122,7 +122,7 @@ escape_unit bytes rest is = ap (unit_from outside) is ∙ unit_step outside 92 r
 pub escape_breaks : (bytes behind : List ℕ) (byte : ℕ) → unit_from outside bytes ≡ Some (byte, behind) → BeginsNoText behind → BeginsNoText bytes
 escape_breaks bytes behind byte e none = λ rest.
     let unit = unit_is outside bytes byte behind e in
-    ap (λ (l : List ℕ). text_from outside (l ++ rest)) unit.joined ∙ ap (text_from outside) (append_assoc unit.unit behind rest) ∙ unit.goes (behind ++ rest) ∙ ap (with_front byte) (none rest)
+    ap (λ (l : List ℕ). text_from outside (l ++ rest)) unit.joined ∙ ap (text_from outside) (append_assoc unit.unit behind rest) ∙ unit.goes (behind ++ rest) ∙ ap (with_first_byte byte) (none rest)
 
 -- ---- walks
 

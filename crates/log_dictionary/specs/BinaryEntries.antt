@@ -18,16 +18,16 @@ pub record RawEntry : Type 0 where
   pub format : List ℕ
 
 -- the severity and the line; numbers stand with the low byte first
-abbrev pub head_bytes : Severity → ℕ → List ℕ
-head_bytes severity line = severity_number severity ∷ le_bytes 4 line
+abbrev pub entry_head_bytes : Severity → ℕ → List ℕ
+entry_head_bytes severity line = severity_number severity ∷ le_bytes 4 line
 
 -- a text with its length in front
 abbrev pub text_bytes : List ℕ → List ℕ
 text_bytes text = le_bytes 2 (length text) ++ text
 
 -- severity, line, file and format, in this order
-abbrev pub raw_bytes : RawEntry → List ℕ
-raw_bytes raw = head_bytes raw.severity raw.line ++ text_bytes raw.file ++ text_bytes raw.format
+abbrev pub raw_entry_bytes : RawEntry → List ℕ
+raw_entry_bytes raw = entry_head_bytes raw.severity raw.line ++ text_bytes raw.file ++ text_bytes raw.format
 
 -- each field is in range
 pub record IsInRange (raw : RawEntry) : Type 0 where
@@ -42,7 +42,7 @@ raw_of message =
 
 -- the entry of the message
 abbrev pub entry_bytes : Message → List ℕ
-entry_bytes message = raw_bytes (raw_of message)
+entry_bytes message = raw_entry_bytes (raw_of message)
 
 -- the bytes are the entry of the message; that the length of its file is in range is kept by the message
 pub record SpellsEntry (bytes : List ℕ) (message : Message) : Type 0 where
@@ -73,10 +73,11 @@ pub data IsCutEntry (bytes : List ℕ) : Type 0 where
   in_line : (severity : Severity) (part : List ℕ) → length part < 4 → bytes ≡ severity_number severity ∷ part
       → IsCutEntry bytes
   in_file : (severity : Severity) (line : ℕ) (part : List ℕ) → line < 2 ^ 32 → IsCutText 1 MAX_FILE_NAME part
-      → bytes ≡ head_bytes severity line ++ part → IsCutEntry bytes
+      → bytes ≡ entry_head_bytes severity line ++ part → IsCutEntry bytes
   in_format : (severity : Severity) (line : ℕ) (file part : List ℕ) → line < 2 ^ 32 → 1 ≤ length file
       → length file ≤ MAX_FILE_NAME
-      → IsCutText 0 MAX_FORMAT part → bytes ≡ head_bytes severity line ++ text_bytes file ++ part → IsCutEntry bytes
+      → IsCutText 0 MAX_FORMAT part → bytes ≡ entry_head_bytes severity line ++ text_bytes file ++ part
+      → IsCutEntry bytes
 
 -- ---- where bytes begin with no entry
 
@@ -95,14 +96,15 @@ pub data IsOutOfRange (bytes : List ℕ) : Type 0 where
       → bytes ≡ number ∷ rest
       → IsOutOfRange bytes
   at_file : (severity : Severity) (line : ℕ) (rest : List ℕ) → line < 2 ^ 32 → IsBadLength 1 MAX_FILE_NAME rest
-      → bytes ≡ head_bytes severity line ++ rest → IsOutOfRange bytes
+      → bytes ≡ entry_head_bytes severity line ++ rest → IsOutOfRange bytes
   at_format : (severity : Severity) (line : ℕ) (file rest : List ℕ) → line < 2 ^ 32 → 1 ≤ length file
       → length file ≤ MAX_FILE_NAME
-      → IsBadLength 0 MAX_FORMAT rest → bytes ≡ head_bytes severity line ++ text_bytes file ++ rest → IsOutOfRange bytes
+      → IsBadLength 0 MAX_FORMAT rest → bytes ≡ entry_head_bytes severity line ++ text_bytes file ++ rest
+      → IsOutOfRange bytes
 
 -- a field is out of range, or all fields are in range and the format is refused
 pub data IsBadEntry (bytes : List ℕ) : Type 0 where
   out_of_range : IsOutOfRange bytes → IsBadEntry bytes
   refused : (raw : RawEntry) (rest : List ℕ) → IsInRange raw
-      → ((message : Message) → ¬ (SpellsEntry (raw_bytes raw) message))
-      → bytes ≡ raw_bytes raw ++ rest → IsBadEntry bytes
+      → ((message : Message) → ¬ (SpellsEntry (raw_entry_bytes raw) message))
+      → bytes ≡ raw_entry_bytes raw ++ rest → IsBadEntry bytes

@@ -48,7 +48,7 @@ parts_at line = do
 -- ---- parts
 
 -- what a message line says: an id, and the parts of a message
-pub record LineParts : Type 0 where
+pub record MessageLineFields : Type 0 where
   pub id : ℕ
   pub severity : Severity
   pub number : ℕ
@@ -56,13 +56,13 @@ pub record LineParts : Type 0 where
   pub format : List ℕ
 
 -- the same with this id, and without what its texts lie in
-abbrev pub line_parts : ℕ → MessageLine → LineParts
-line_parts id line =
+abbrev pub message_line_fields : ℕ → MessageLine → MessageLineFields
+message_line_fields id line =
     record { id = id; severity = line.severity; number = line.line; file = line.file; format = line.format }
 
 -- the line spells these parts, and each but the id, which has any size, is within its limits; what the format spells
 -- isn't judged
-pub record SpellsParts (line : List ℕ) (parts : LineParts) : Type 0 where
+pub record SpellsParts (line : List ℕ) (parts : MessageLineFields) : Type 0 where
   pub digits : List ℕ
   pub name : List ℕ
   pub text : List ℕ
@@ -78,4 +78,4 @@ pub record SpellsParts (line : List ℕ) (parts : LineParts) : Type 0 where
 
 -- the line is a message line but for what its format spells
 abbrev pub IsMessageLine : List ℕ → Type 0
-IsMessageLine line = (parts : LineParts) × SpellsParts line parts
+IsMessageLine line = (parts : MessageLineFields) × SpellsParts line parts

@@ -1,5 +1,5 @@
 -- Messages, and the lines that spell them.
-use Rattle.std.specs.Prelude.{◌≡◌, ℕ, ◌<◌, ◌^◌, List, [], ◌∷◌, ◌++◌, codes, decimal, Any, AllPairs, slice_get, Some, Bool, nat_eq}
+use Rattle.std.specs.Prelude.{◌≡◌, ℕ, ◌<◌, ◌^◌, List, [], ◌∷◌, ◌++◌, codes, decimal, All, Any, AllPairs, slice_get, Some, Bool, nat_eq}
 use Rattle.std.specs.Ordering.{on, eq_of_both}
 use Rattle.std.specs.Cmp.Lexicographic.{pointwise}
 use Rattle.printf_grammar.specs.Spelling.{Spells}
@@ -33,6 +33,10 @@ HasId messages message id = (other : Message) × (slice_get messages id ≡ Some
 -- no two of these messages are equal
 abbrev pub AreDistinct : List Message → Type 0
 AreDistinct messages = AllPairs (λ a b. ¬ (SameMessage a b)) messages
+
+-- the bytes of each message's format spell its pieces
+abbrev pub AreFormed : List Message → Type 0
+AreFormed messages = All (λ message. Spells message.format.bytes message.format.pieces) messages
 
 -- the line is `message`, a number, a severity, a number and two texts in quotation marks, and these are the id, of any
 -- size, and the parts of the message

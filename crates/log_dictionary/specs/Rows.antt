@@ -26,8 +26,8 @@ abbrev pub row_entry : List ℕ
 row_entry = row_head ++ 6 ∷ 0 ∷ codes "srv.cc" ++ 4 ∷ 0 ∷ codes "x=%d"
 
 -- its line as the first message of a dictionary
-abbrev pub row_line : List ℕ
-row_line = codes "message 0 NOTICE 12 \"srv.cc\" \"x=%d\""
+abbrev pub row_message_line : List ℕ
+row_message_line = codes "message 0 NOTICE 12 \"srv.cc\" \"x=%d\""
 
 -- a line whose id is 2^64
 abbrev pub great_line : List ℕ

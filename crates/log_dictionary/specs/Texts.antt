@@ -85,9 +85,9 @@ unit_from place (b ∷ bytes) = elim (text_step place b) [
 ]
 
 -- a text that goes on with these bytes, with one more byte in front
-abbrev pub with_front : ℕ → Option (List ℕ × List ℕ) → Option (List ℕ × List ℕ)
-with_front b None = None
-with_front b (Some text) = Some (b ∷ text.0, text.1)
+abbrev pub with_first_byte : ℕ → Option (List ℕ × List ℕ) → Option (List ℕ × List ℕ)
+with_first_byte b None = None
+with_first_byte b (Some text) = Some (b ∷ text.0, text.1)
 
 -- what the bytes from a place of a text on stand for up to the closing mark, and what follows it
 unfoldable pub text_from : TextPlace → List ℕ → Option (List ℕ × List ℕ)
@@ -95,7 +95,7 @@ text_from place [] = None
 text_from place (b ∷ bytes) = elim (text_step place b) [
   | ends ↦ Some ([], bytes)
   | goes_on next ↦ text_from next bytes
-  | gives byte ↦ with_front byte (text_from outside bytes)
+  | gives byte ↦ with_first_byte byte (text_from outside bytes)
   | breaks ↦ None
 ]
 

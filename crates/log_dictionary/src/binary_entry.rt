@@ -5,8 +5,8 @@ ghost use Rattle.std.specs.Hash.{le_bytes};
 ghost use Rattle.log_dictionary.specs.declared.message.Message.{Message};
 ghost use Rattle.log_dictionary.specs.declared.severity.Severity.{Severity};
 ghost use Rattle.log_dictionary.specs.Severities.{severity_number};
-ghost use Rattle.log_dictionary.specs.BinaryEntries.{RawEntry, raw_bytes, IsInRange, entry_bytes, SpellsEntry, IsCutText, IsCutEntry, IsBadLength, IsOutOfRange, IsBadEntry, text_bytes};
-ghost use Rattle.log_dictionary.specs.EntryReading.{Stops, raw_fields, IsRead};
+ghost use Rattle.log_dictionary.specs.BinaryEntries.{RawEntry, raw_entry_bytes, IsInRange, entry_bytes, SpellsEntry, IsCutText, IsCutEntry, IsBadLength, IsOutOfRange, IsBadEntry, text_bytes};
+ghost use Rattle.log_dictionary.specs.EntryReading.{EntryStops, raw_fields, BeginsWithRawEntry};
 
 use crate::formats::{FormatFault, format_of};
 use crate::message::{MAX_FILE_NAME, Message};
@@ -86,7 +86,7 @@ pub fn put_entry(message: &Message, into: &mut [u8]) -> usize
 
 fn read_severity(bytes: &[u8]) -> Result<(Severity, &[u8]), EntryFault>
     ensures ok { IfOk result (λ read. bytes.now ≡ severity_number read.0 ∷ read.1.now) }
-    ensures err { IfErr result (λ fault. Stops fault
+    ensures err { IfErr result (λ fault. EntryStops fault
         (bytes.now ≡ [])
         ((number : ℕ) × (rest : List ℕ)
         × ((severity : Severity) → number ≢ severity_number severity)
@@ -105,7 +105,7 @@ fn read_severity(bytes: &[u8]) -> Result<(Severity, &[u8]), EntryFault>
 fn read_u32(bytes: &[u8]) -> Result<(u32, &[u8]), EntryFault>
     ensures ok { IfOk result (λ read. bytes.now ≡ le_bytes 4 read.0 ++ read.1.now) }
     ensures fits { IfOk result (λ read. read.0 < 2 ^ 32) }
-    ensures err { IfErr result (λ fault. Stops fault (length bytes.now < 4) ⊥) }
+    ensures err { IfErr result (λ fault. EntryStops fault (length bytes.now < 4) ⊥) }
 {
     match bytes {
         [a, b, c, d, rest @ ..] => Ok((u32::from_le_bytes([*a, *b, *c, *d]), rest)),
@@ -115,7 +115,7 @@ fn read_u32(bytes: &[u8]) -> Result<(u32, &[u8]), EntryFault>
 
 fn read_u16(bytes: &[u8]) -> Result<(u16, &[u8]), EntryFault>
     ensures ok { IfOk result (λ read. bytes.now ≡ le_bytes 2 read.0 ++ read.1.now) }
-    ensures err { IfErr result (λ fault. Stops fault (length bytes.now < 2) ⊥) }
+    ensures err { IfErr result (λ fault. EntryStops fault (length bytes.now < 2) ⊥) }
 {
     match bytes {
         [low, high, rest @ ..] => Ok((u16::from_le_bytes([*low, *high]), rest)),
@@ -127,7 +127,7 @@ fn read_u16(bytes: &[u8]) -> Result<(u16, &[u8]), EntryFault>
 fn read_text(bytes: &[u8], least: usize, most: usize) -> Result<(&[u8], &[u8]), EntryFault>
     ensures ok { IfOk result (λ read. (bytes.now ≡ text_bytes read.0.now ++ read.1.now)
         × (least ≤ length read.0.now) × (length read.0.now ≤ most)) }
-    ensures err { IfErr result (λ fault. Stops fault
+    ensures err { IfErr result (λ fault. EntryStops fault
         (IsCutText least most bytes.now) (IsBadLength least most bytes.now)) }
 {
     let (len, rest) = read_u16(bytes)?;
@@ -143,8 +143,8 @@ fn read_text(bytes: &[u8], least: usize, most: usize) -> Result<(&[u8], &[u8]), 
 
 // The fields of the entry that the bytes begin with.
 fn read_fields(bytes: &[u8]) -> Result<EntryFields<'_>, EntryFault>
-    ensures ok { IfOk result (λ fields. IsRead bytes.now (raw_fields fields)) }
-    ensures err { IfErr result (λ fault. Stops fault (IsCutEntry bytes.now) (IsOutOfRange bytes.now)) }
+    ensures ok { IfOk result (λ fields. BeginsWithRawEntry bytes.now (raw_fields fields)) }
+    ensures err { IfErr result (λ fault. EntryStops fault (IsCutEntry bytes.now) (IsOutOfRange bytes.now)) }
 {
     let (severity, rest) = read_severity(bytes)?;
     let (line, rest) = read_u32(rest)?;

@@ -123,7 +123,7 @@ fn is_number(read: Natural, number: usize) -> bool
 }
 
 impl Dictionary {
-    ghost use Rattle.log_dictionary.specs.Messages.{AreDistinct};
+    ghost use Rattle.log_dictionary.specs.Messages.{AreDistinct, AreFormed};
 
     /// A dictionary with no message.
     pub fn make(alloc: Global) -> Dictionary
@@ -139,6 +139,7 @@ impl Dictionary {
         ensures value { result ≡ length self.now }
         ensures bound { result ≤ MAX_MESSAGES }
         ensures distinct { AreDistinct self.now }
+        ensures formed { AreFormed self.now }
     {
         self.messages.len() as u32
     }

@@ -11,7 +11,7 @@ ghost use Rattle.log_dictionary.specs.BinaryEntries.{SpellsEntry, BeginsWithEntr
 ghost use Rattle.log_dictionary.specs.Texts.{OpensText, SpellsText, text_at};
 ghost use Rattle.log_dictionary.specs.Messages.{SameMessage, is_same, SpellsMessage};
 ghost use Rattle.log_dictionary.specs.Canonical.{canonical_text, message_line, dictionary_text, AreBytes, HasLine};
-ghost use Rattle.log_dictionary.specs.Rows.{row_message, row_head, row_entry, row_line, great_line, all_severities};
+ghost use Rattle.log_dictionary.specs.Rows.{row_message, row_head, row_entry, row_message_line, great_line, all_severities};
 ghost use Rattle.log_dictionary.specs.Numbers.{natural_of, integer_of, integer_read};
 
 use crate::clock::Clock;
@@ -111,7 +111,7 @@ pub fn texts_are_read()
 
 /// Worked message lines: one that is read, and one whose id is 2^64, which is out of order and no bad entry.
 pub fn worked_lines()
-    ensures read { ReadsLine [] row_line (row_message ∷ []) (Ok tt) }
+    ensures read { ReadsLine [] row_message_line (row_message ∷ []) (Ok tt) }
     ensures great_id { ReadsLine [] great_line [] (Err LineFault.Order) }
     ensures no_bad_entry { ¬ (ReadsLine [] great_line [] (Err LineFault.BadEntry)) }
 {}
@@ -151,8 +151,8 @@ pub fn what_is_written_spells()
     ensures letters { canonical_text (97 ∷ 65 ∷ 10 ∷ []) ≡ codes "aA\\n" }
     ensures delete { canonical_text (127 ∷ []) ≡ codes "\\x7f" }
     ensures marks { canonical_text (34 ∷ 92 ∷ 9 ∷ 254 ∷ []) ≡ codes "\\\"\\\\\\t\\xfe" }
-    ensures line { message_line 0 row_message ≡ row_line }
-    ensures dictionary { dictionary_text (row_message ∷ []) ≡ codes "nanolog-trace 1\n" ++ row_line ++ 10 ∷ [] }
+    ensures line { message_line 0 row_message ≡ row_message_line }
+    ensures dictionary { dictionary_text (row_message ∷ []) ≡ codes "nanolog-trace 1\n" ++ row_message_line ++ 10 ∷ [] }
 {}
 
 /// What a program logs with goes from thread to thread, and threads share it.

@@ -5,7 +5,7 @@ ghost use Rattle.std.specs.Option.{option_copied, option_map};
 ghost use Rattle.printf_grammar.specs.declared.limits.TheConstants.{MAX_FORMAT};
 ghost use Rattle.log_dictionary.specs.declared.message.TheConstants.{MAX_FILE_NAME};
 ghost use Rattle.log_dictionary.specs.Fields.{split_at_first, after};
-ghost use Rattle.log_dictionary.specs.MessageLines.{spelled_parts, parts_at, line_parts, SpellsParts, IsMessageLine};
+ghost use Rattle.log_dictionary.specs.MessageLines.{spelled_parts, parts_at, message_line_fields, SpellsParts, IsMessageLine};
 ghost use Rattle.log_dictionary.specs.Numbers.{natural_read};
 
 use crate::fields::split_at_byte;
@@ -96,7 +96,7 @@ fn are_within_limits(file_len: usize, format_len: usize) -> bool
 /// What the line says, if it is a message line but for what its format spells.
 pub(crate) fn message_line_of(line: &[u8]) -> Option<MessageLine<'_>>
     ensures some { IfSome result (λ found. (id : ℕ) × (found.id ≡ natural_read id)
-        × SpellsParts line.now (line_parts id found)) }
+        × SpellsParts line.now (message_line_fields id found)) }
     ensures none { IfNone result (¬ (IsMessageLine line.now)) }
 {
     let fields = fields_of(line)?;

@@ -4,7 +4,7 @@ ghost use Rattle.std.specs.Prelude.{◌≡◌, ◌<◌, [], length, IfOk, OnErr}
 ghost use Rattle.log_dictionary.specs.declared.dictionary.TheConstants.{MAX_MESSAGES};
 ghost use Rattle.log_dictionary.specs.Additions.{IsAdded};
 ghost use Rattle.log_dictionary.specs.BinaryEntries.{SpellsEntry, entry_bytes};
-ghost use Rattle.log_dictionary.specs.Messages.{HasMessage, AreDistinct};
+ghost use Rattle.log_dictionary.specs.Messages.{HasMessage, AreDistinct, AreFormed};
 ghost use Rattle.log_dictionary.specs.Places.{place_at, IsPlace};
 
 use crate::binary_entry::{MAX_ENTRY, entry_len, put_entry};
@@ -26,14 +26,15 @@ pub(crate) struct MessageSet {
 impl Model for MessageSet {
     ghost use Rattle.std.specs.Prelude.{List};
     ghost use Rattle.log_dictionary.specs.declared.message.Message.{Message};
-    ghost use Rattle.log_dictionary.specs.Messages.{AreDistinct};
+    ghost use Rattle.log_dictionary.specs.Messages.{AreDistinct, AreFormed};
     ghost use Rattle.log_dictionary.specs.Places.{ArePlaces};
 
     ghost Value = { List Message };
 
     ghost view = { λ set. set.messages.items };
 
-    ghost invariant = { λ set. AreDistinct set.messages.items × ArePlaces set.places set.messages.items };
+    ghost invariant = { λ set. AreDistinct set.messages.items × ArePlaces set.places set.messages.items
+        × AreFormed set.messages.items };
 }
 
 // The message's entry, which is the key of its place.
@@ -75,6 +76,7 @@ impl MessageSet {
     pub(crate) fn len(&self) -> usize
         ensures len { result ≡ length self.now }
         ensures distinct { AreDistinct self.now }
+        ensures formed { AreFormed self.now }
     {
         self.messages.len()
     }

@@ -1,9 +1,3 @@
 mod Logging
 mod Rings
-pub mod Taking
-pub mod Working
-pub mod Sessions
-pub mod Rounds
-pub mod Seats
-pub mod Leaving
-pub mod NewWorkers
+pub mod Walks

@@ -1,15 +1,18 @@
 -- Writers that log one call more.
 use Rattle.std.proofs.Common.{◌≡◌, true, false, ℕ, suc, ◌+◌, ◌%◌, ◌<◌, ◌≤◌, ◌^◌, List, [], ◌∷◌, ◌++◌, length, refl, sym, ap, subst, ◌∙◌, arith, inl, inr, ⊎_elim}
-use Rattle.std.specs.Prelude.{All, Option, None, Some, option_map, slice_get, take}
+use Rattle.std.specs.Prelude.{All, Option, None, Some, option_map, slice_get}
 use Rattle.std.proofs.lemmas.Bool.{cases_lt}
-use Rattle.std.proofs.lemmas.List.{length-append, length-map, take_all}
+use Rattle.std.proofs.lemmas.List.{length-append, length-map}
 use Rattle.std.proofs.lemmas.Option.{slice_get-map, slice_get_within, get_or_from_slice_get}
-use Rattle.std.proofs.lemmas.List.Elements.{All-get_or, All-map, All-push}
-use Rattle.std.proofs.Math.Seq.{take-suc}
+use Rattle.std.proofs.lemmas.List.Elements.{All-get_or, All-map, All-weaker}
 use Rattle.printf_grammar.specs.declared.arg_type.ArgType.{ArgType}
 use Rattle.printf_grammar.specs.declared.argument.Value.{Value}
+use Rattle.printf_grammar.specs.declared.limits.TheConstants.{MAX_ARGUMENTS}
+use Rattle.printf_grammar.specs.Spelling.{Spells}
 use Rattle.printf_grammar.specs.Types.{Types, Fits}
+use Rattle.log_dictionary.specs.declared.dictionary.TheConstants.{MAX_MESSAGES}
 use Rattle.log_dictionary.specs.Calls.{Takes}
+use Rattle.log_dictionary.specs.Messages.{AreFormed}
 use Rattle.log_dictionary.specs.declared.message.Message.{Message}
 use Rattle.arg_records.specs.declared.call.Call.{Call}
 use Rattle.arg_records.specs.Calls.{last_stamp}
@@ -21,7 +24,7 @@ use Rattle.ring_core.specs.Positions.{Need, Position, position_from}
 use Rattle.ring_core.proofs.Frames.{AreFramesOf-push, last_stamp-push}
 use Rattle.ring_core.proofs.Needs.{Need-within, Need-beyond, position_from-push}
 use Rattle.ring_core.proofs.OneReading.{AreFramesOf-unique}
-use Rattle.log_session.specs.Writers.{WriterView, IsDictionaryPlan, Knows, Accepts, HasLogged}
+use Rattle.log_session.specs.Writers.{WriterView, IsDictionaryPlan, Knows, AppendsCall, HasLogged}
 
 -- ---- positions
 
@@ -105,7 +108,7 @@ lawful_more plan sent at words last accepted stamp id args h may =
 
 -- of whatever calls the frames before were, those with that of the call are of these and the call
 pub accepts_more : (plan new_plan : Plan) (sent new_sent : List (List ℕ)) (at words last accepted stamp id : ℕ) (args : List Value) → HasLogged plan sent at words last accepted
-    → MayFollow plan last (call_of stamp id args) → new_plan ≡ plan → new_sent ≡ sent ++ Frame id stamp args ∷ [] → Accepts plan sent new_plan new_sent (call_of stamp id args)
+    → MayFollow plan last (call_of stamp id args) → new_plan ≡ plan → new_sent ≡ sent ++ Frame id stamp args ∷ [] → AppendsCall plan sent new_plan new_sent (call_of stamp id args)
 accepts_more plan new_plan sent new_sent at words last accepted stamp id args h may p s = λ calls frames.
     let call = call_of stamp id args in
     let same : h.calls ≡ calls = AreFramesOf-unique plan sent h.calls calls h.frames frames in
@@ -121,30 +124,16 @@ logged_same plan new_plan sent new_sent at new_at words new_words last accepted 
 
 -- ---- plans of dictionaries
 
--- what holds of the elements up to a place holds of those up to the next one
-pub All-turn : {X : Type 0} (P : X → Type 0) (xs : List X) (i : ℕ) (x : X) → All P (take i xs) → slice_get xs i ≡ Some x → P x → All P (take (i + 1) xs)
-All-turn {X = X} P xs i x all there is =
-    let within = slice_get_within xs i x there in
-    let next : i + 1 ≡ suc i = omega arith in
-    let more : take (i + 1) xs ≡ take i xs ++ x ∷ [] = ap (λ (n : ℕ). take n xs) next ∙ take-suc xs i x within ∙ ap (λ (y : X). take i xs ++ y ∷ []) (get_or_from_slice_get xs i x x there) in
-    subst (All P) (sym more) (All-push P (take i xs) x all is)
-
-short_types : (messages : List Message) → All (λ (message : Message). length (Types message.format.pieces) ≤ 64) messages → All (λ (types : List ArgType). length types ≤ 64) (types_by_id messages)
-short_types messages all = All-map (λ (types : List ArgType). length types ≤ 64) (λ (message : Message). Types message.format.pieces) messages all
-
-pub dictionary_plan : (messages : List Message) (first count : ℕ) → length messages ≤ 65536 → length messages ≤ count → All (λ (message : Message). length (Types message.format.pieces) ≤ 64) (take count messages)
-    → IsDictionaryPlan (plan_of messages first)
-dictionary_plan messages first count few all_of all = record {
+-- the plan of a dictionary's messages has few ids, each with few types
+pub dictionary_plan : (messages : List Message) (first : ℕ) → length messages ≤ MAX_MESSAGES → AreFormed messages → IsDictionaryPlan (plan_of messages first)
+dictionary_plan messages first few formed = record {
   few = omega (arith, few, length-map messages (λ (message : Message). Types message.format.pieces));
-  short = short_types messages (subst (All (λ (message : Message). length (Types message.format.pieces) ≤ 64)) (take_all count messages all_of) all);
+  short =
+      All-map (λ (types : List ArgType). length types ≤ MAX_ARGUMENTS) (λ (message : Message). Types message.format.pieces) messages
+      (All-weaker (λ (message : Message). Spells message.format.bytes message.format.pieces) (λ (message : Message). length (Types message.format.pieces) ≤ MAX_ARGUMENTS) (λ message spelled. spelled.few) messages formed);
 }
 
 -- ---- what a dictionary takes
-
-pub knows_taken : (messages : List Message) (first id : ℕ) (args : List Value) → Takes messages id args → Knows (plan_of messages first) id args
-knows_taken messages first id args takes =
-    let types_of = λ (message : Message). Types message.format.pieces in
-    (types_of takes.0, slice_get-map types_of messages id ∙ ap (option_map types_of) takes.1, takes.2)
 
 mapped : (o : Option Message) (types : List ArgType) → option_map (λ (message : Message). Types message.format.pieces) o ≡ Some types → (message : Message) × (o ≡ Some message) × (Types message.format.pieces ≡ types)
 mapped None types is = absurd cc

@@ -1,18 +1,13 @@
 -- Lists of the ends of rings.
-use Rattle.std.proofs.Common.{◌≡◌, ℕ, ◌+◌, List, [], ◌∷◌, ◌++◌, ◌<◌, ◌≤◌, length, append_assoc, refl, sym, ap, subst, ◌∙◌, arith}
+use Rattle.std.proofs.Common.{◌≡◌, ℕ, ◌+◌, List, [], ◌∷◌, ◌++◌, ◌<◌, ◌≤◌, length, refl, sym, ap, subst, ◌∙◌, arith}
 use Rattle.std.specs.Prelude.{All, sum_by}
 use Rattle.std.specs.List.{AllZip}
-use Rattle.std.proofs.lemmas.List.{length-append, append-nil}
+use Rattle.std.proofs.lemmas.List.{length-append}
 use Rattle.std.proofs.lemmas.List.Elements.{All-nil, All-cons}
 use Rattle.std.proofs.lemmas.List.Sums.{sum_by_push, sum_by-cons}
 use Rattle.log_session.specs.Starts.{AllZipMore}
 use Rattle.log_session.specs.Settling.{AllZip3}
-
-pub AllZip-snoc : {A B : Type 0} (R : A → B → Type 0) (xs : List A) (ys : List B) (x : A) (y : B) → AllZip R xs ys → R x y → AllZip R (xs ++ x ∷ []) (ys ++ y ∷ [])
-AllZip-snoc R [] [] x y all is = (is, tt)
-AllZip-snoc R [] (b ∷ ys) x y all is = absurd all
-AllZip-snoc R (a ∷ xs) [] x y all is = absurd all
-AllZip-snoc R (a ∷ xs) (b ∷ ys) x y all is = (all.0, AllZip-snoc R xs ys x y all.1 is)
+use Rattle.log_session.proofs.Walks.{AllZip-snoc}
 
 -- with one pair more it holds of all, and there is one more
 pub zip_more : {A B : Type 0} (R : A → B → Type 0) (xs : List A) (ys : List B) (more_xs : List A) (more_ys : List B) → AllZip R xs ys → AllZipMore R xs ys more_xs more_ys → AllZip R more_xs more_ys
@@ -64,35 +59,10 @@ no_items (x ∷ xs) none = absurd (omega arith)
 pub zip_goes_on : {A B : Type 0} (R : A → B → Type 0) (xs more_xs : List A) (x : A) → xs ≡ x ∷ more_xs → AllZip R xs [] → ⊥
 zip_goes_on {A} {B} R xs more_xs x is all = subst (λ (list : List A). AllZip R list []) is all
 
--- ---- a list that is walked through
-
--- the item that is taken stands behind those before
-pub walked : {A : Type 0} (seen rest more all : List A) (x : A) → seen ++ rest ≡ all → rest ≡ x ∷ more → (seen ++ x ∷ []) ++ more ≡ all
-walked {A} seen rest more all x joined is = append_assoc seen (x ∷ []) more ∙ sym (ap (λ (r : List A). seen ++ r) is) ∙ joined
-
-pub walked_all : {A : Type 0} (seen rest all : List A) → seen ++ rest ≡ all → length rest ≡ 0 → seen ≡ all
-walked_all {A} seen [] all joined none = sym (append-nil seen) ∙ joined
-walked_all {A} seen (x ∷ rest) all joined none = absurd (omega arith)
-
-pub one_less : {A : Type 0} (rest more : List A) (x : A) (len less : ℕ) → length rest ≡ len → rest ≡ x ∷ more → less + 1 ≡ len → length more ≡ less
-one_less rest more x len less long is next = let e = ap length is in omega (arith, e, long, next)
+-- ---- sums
 
 pub sum_more : {A : Type 0} (f : A → ℕ) (xs : List A) (x : A) (n m : ℕ) → n ≡ sum_by f xs → m ≡ f x → n + m ≡ sum_by f (xs ++ x ∷ [])
 sum_more f xs x n m sum here = omega (arith, sum_by_push f xs x, sum, here)
 
 pub sum_less : {A : Type 0} (f : A → ℕ) (rest more : List A) (x : A) (n m most : ℕ) → rest ≡ x ∷ more → m ≤ f x → n + sum_by f rest < most → n + m + sum_by f more < most
 sum_less f rest more x n m most is few bound = let e = ap (sum_by f) is ∙ sum_by-cons f x more in omega (arith, e, few, bound)
-
--- where the first list has one item, so has the second
-pub one_pair : {A B : Type 0} (R : A → B → Type 0) (front : List A) (x : A) (ys : List B) → length (front ++ x ∷ []) ≡ 1 → AllZip R (front ++ x ∷ []) ys → (y : B) × (ys ≡ y ∷ []) × R x y
-one_pair R [] x [] one all = absurd all
-one_pair R [] x (b ∷ []) one all = (b, refl, all.0)
-one_pair R [] x (b ∷ c ∷ ys) one all = absurd all.1
-one_pair R (a ∷ front) x ys one all = absurd (omega (arith, length-append front (x ∷ []), one))
-
-pub one_left : {A B : Type 0} (R : A → B → Type 0) (xs front : List A) (x : A) (ys : List B) → xs ≡ front ++ x ∷ [] → length xs ≡ 1 → AllZip R xs ys → (y : B) × (ys ≡ y ∷ []) × R x y
-one_left {A} R xs front x ys is one all = one_pair R front x ys (ap length (sym is) ∙ one) (subst (λ (list : List A). AllZip R list ys) is all)
-
--- a sum over one item
-pub sum_one : {A : Type 0} (f : A → ℕ) (xs : List A) (x : A) (n most : ℕ) → xs ≡ x ∷ [] → f x ≡ n → n < most → sum_by f xs < most
-sum_one f xs x n most is here few = let e = ap (sum_by f) is ∙ sum_by-cons f x [] in omega (arith, e, here, few)

@@ -1,16 +1,3 @@
-pub mod Defaults
 pub mod Writers
 pub mod Starts
 pub mod Settling
-pub mod Levels
-pub mod Drops
-pub mod Sessions
-pub mod Workers
-pub mod Turns
-pub mod WorkerInside
-pub mod Seats
-pub mod Rounds
-pub mod Finishing
-pub mod FinishedInside
-pub mod Running
-pub mod Rooms

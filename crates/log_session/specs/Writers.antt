@@ -1,16 +1,20 @@
 -- Writers: what one knows of the calls that it logged.
-use Rattle.std.specs.Prelude.{◌≡◌, ℕ, ◌≤◌, List, [], ◌∷◌, ◌++◌, length, slice_get, Some, All, ⊤}
+use Rattle.std.proofs.Common.{ap, ◌∙◌}
+use Rattle.std.proofs.lemmas.Option.{slice_get-map}
+use Rattle.std.specs.Prelude.{◌≡◌, ℕ, ◌≤◌, List, [], ◌∷◌, ◌++◌, length, slice_get, Some, All, option_map, ⊤}
 use Rattle.printf_grammar.specs.declared.arg_type.ArgType.{ArgType}
 use Rattle.printf_grammar.specs.declared.argument.Value.{Value}
 use Rattle.printf_grammar.specs.declared.limits.TheConstants.{MAX_ARGUMENTS}
-use Rattle.printf_grammar.specs.Types.{Fits}
+use Rattle.printf_grammar.specs.Types.{Types, Fits}
 use Rattle.log_dictionary.specs.declared.dictionary.TheConstants.{MAX_MESSAGES}
+use Rattle.log_dictionary.specs.declared.message.Message.{Message}
+use Rattle.log_dictionary.specs.Calls.{Takes}
 use Rattle.nl_io.specs.Count.{counted}
+use Rattle.session_options.specs.declared.limits.TheConstants.{MAX_RING, MIN_RING}
 use Rattle.arg_records.specs.declared.call.Call.{Call}
 use Rattle.arg_records.specs.Calls.{last_stamp}
 use Rattle.ring_core.specs.declared.answers.Full.{Full}
-use Rattle.ring_core.specs.declared.limits.TheConstants.{MAX_RING, MIN_RING}
-use Rattle.ring_core.specs.Plans.{Plan, AreFramesOf}
+use Rattle.ring_core.specs.Plans.{Plan, plan_of, AreFramesOf}
 use Rattle.ring_core.specs.Positions.{Position}
 use Rattle.log_session.specs.declared.refusal.LogRefusal.{LogRefusal}
 use Rattle.log_session.specs.declared.refusal.LogRefusal.TheVariants as refusals
@@ -48,6 +52,16 @@ pub record IsDictionaryPlan (plan : Plan) : Type 0 where
 abbrev pub Knows : Plan → ℕ → List Value → Type 0
 Knows plan id args = (types : List ArgType) × (slice_get plan.types id ≡ Some types) × Fits args types
 
+-- what the dictionary takes for which the plan was made may be logged
+pub knows_taken : (messages : List Message) (first id : ℕ) (args : List Value) → Takes messages id args
+    → Knows (plan_of messages first) id args
+knows_taken messages first id args takes =
+    let types_of = λ (message : Message). Types message.format.pieces in (
+      types_of takes.0,
+      slice_get-map types_of messages id ∙ ap (option_map types_of) takes.1,
+      takes.2,
+    )
+
 -- The frames that a writer's end accepted are those of calls. This is the last one's stamp, or the plan's first where
 -- there is none, and this is their number. They take the places of the ring up to the end's position.
 pub record HasLogged (plan : Plan) (sent : List (List ℕ)) (at words : ℕ) (last accepted : ℕ) : Type 0 where
@@ -60,9 +74,9 @@ pub record HasLogged (plan : Plan) (sent : List (List ℕ)) (at words : ℕ) (la
   pub counted : accepted ≡ length calls
 
 -- the ring's room was wanting, and this is said of it
-abbrev pub IfFull : LogRefusal → (Full → Type 0) → Type 0
-IfFull (refusals.Full full) said = said full
-IfFull refusals.TooLong said = ⊤
+abbrev pub IfRefusedFull : LogRefusal → (Full → Type 0) → Type 0
+IfRefusedFull (refusals.Full full) said = said full
+IfRefusedFull refusals.TooLong said = ⊤
 
 -- all but what a call changes is as it was: which ring it is, its size and its plan, and whether it is closed
 pub record IsSameEnd {S : Type 0} (pair : S → List ℕ) (words : S → ℕ) (plan : S → Plan) (old new : S) : Type 0 where
@@ -71,6 +85,6 @@ pub record IsSameEnd {S : Type 0} (pair : S → List ℕ) (words : S → ℕ) (p
   pub same_plan : plan new ≡ plan old
 
 -- where the frames before were those of some calls, the frames after are those of these with one call more
-abbrev pub Accepts : Plan → List (List ℕ) → Plan → List (List ℕ) → Call → Type 0
-Accepts plan sent plan_after sent_after call =
+abbrev pub AppendsCall : Plan → List (List ℕ) → Plan → List (List ℕ) → Call → Type 0
+AppendsCall plan sent plan_after sent_after call =
     (calls : List Call) → AreFramesOf plan sent calls → AreFramesOf plan_after sent_after (calls ++ call ∷ [])

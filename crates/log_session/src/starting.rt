@@ -2,38 +2,18 @@
 
 ghost use Rattle.std.specs.Prelude.{◌≡◌, ◌⊎◌, ◌↔◌, ◌<◌, ◌≤◌, [], false, IfOk, OnOk, IsErrOf, length};
 ghost use Rattle.std.specs.List.{AllZip};
-ghost use Rattle.printf_grammar.specs.declared.limits.TheConstants.{MAX_ARGUMENTS};
-ghost use Rattle.arg_records.specs.declared.call.TheConstants.{MAX_WRITERS};
-ghost use Rattle.roaming_consumer.specs.declared.making.TheConstants.{MAX_BATCH};
-ghost use Rattle.ring_core.specs.declared.limits.TheConstants.{MIN_RING, MAX_RING};
 ghost use Rattle.ring_core.specs.Plans.{plan_of};
-ghost use Rattle.printf_grammar.specs.Types.{Types};
+ghost use Rattle.session_options.specs.declared.limits.TheConstants.{MAX_WRITERS, MAX_BATCH, MIN_RING, MAX_RING};
 ghost use Rattle.log_session.specs.Writers.{IsDictionaryPlan};
-ghost use Rattle.roaming_consumer.specs.Roamers.{ends_of, messages_of, clock_of, batch_of, is_begun, is_faulted, ArePlanned, StandsFor};
+ghost use Rattle.roaming_consumer.specs.Roamers.{ends_of, roamer_messages, roamer_clock, roamer_batch, is_begun, is_faulted, ArePlanned, RoamerStandsFor};
 ghost use Rattle.log_session.specs.Starts.{IsNewRing, AllZipMore};
 
 use crate::writer::Writer;
-use log_dictionary::{Clock, Dictionary, Message};
-use ring_core::{MAX_RING, MIN_RING, Stage, StageFault};
+use log_dictionary::{Clock, Dictionary};
+use ring_core::{Stage, StageFault};
 use roaming_consumer::Roamer;
+use session_options::{MAX_RING, MIN_RING};
 use std::alloc::{AllocError, Global};
-
-/// The arguments of a message are few.
-fn holds_few(message: &Message)
-    ensures { length (Types message.now.format.pieces) ≤ MAX_ARGUMENTS }
-{
-    let _ = message.format.types();
-}
-
-/// The plan of a dictionary has few ids, each with few types.
-fn hold_plan(dictionary: &Dictionary, first: u64)
-    ensures { IsDictionaryPlan (plan_of dictionary.now first) }
-{
-    let _ = first;
-    for id in 0..dictionary.len() {
-        holds_few(dictionary.message(id));
-    }
-}
 
 /// The ends of a new ring: the writer's, as a writer, and the roamer's.
 fn open_ring<S: Stage>(
@@ -84,12 +64,12 @@ fn open_rings<S: Stage>(
     first: u64,
 ) -> Result<(Vec<Writer<S::In>>, Vec<S::Out>), AllocError>
     requires ring { (MIN_RING ≤ ring) × (ring ≤ MAX_RING) }
+    requires plan { IsDictionaryPlan (plan_of dictionary.now first) }
     ensures { IfOk result (λ ends. (length ends.0.items ≡ writers)
         × AllZip (IsNewRing ring (plan_of dictionary.now first)
         S.In.pair S.In.words S.In.plan S.In.sent S.In.closed S.In.at S.In.seen
         S.Out.pair S.Out.plan S.Out.got S.Out.ended) ends.0.items ends.1.items) }
 {
-    hold_plan(dictionary, first);
     let mut ours = Vec::new(alloc);
     let mut theirs = Vec::new(alloc);
     for _ in 0..writers {
@@ -123,15 +103,18 @@ pub fn start<'d, S: Stage>(
         S.Out.pair S.Out.plan S.Out.got S.Out.ended) session.0.items (ends_of session.1)) }
 
     // Nothing was written.
-    ensures stands { IfOk result (λ session. StandsFor S.Out.got S.Out.ended session.1 []) }
+    ensures stands { IfOk result (λ session. RoamerStandsFor S.Out.got S.Out.ended session.1 []) }
     ensures planned { IfOk result (λ session. ArePlanned S.Out.plan session.1) }
-    ensures run { IfOk result (λ session. (messages_of session.1 ≡ dictionary.now) × (clock_of session.1 ≡ clock)
-        × (batch_of session.1 ≡ batch)) }
+    ensures run { IfOk result (λ session. (roamer_messages session.1 ≡ dictionary.now)
+        × (roamer_clock session.1 ≡ clock)
+        × (roamer_batch session.1 ≡ batch)) }
     ensures flags { IfOk result (λ session. (is_begun session.1 ≡ false) × (is_faulted session.1 ≡ false)) }
 {
     if ring < MIN_RING || MAX_RING < ring {
         return Err(StageFault::BadSize);
     }
+    // A dictionary has few messages, and each of them few arguments. So has the plan of its rings.
+    let _ = dictionary.len();
     let Ok((ours, theirs)) = open_rings::<S>(alloc, ring, writers, dictionary, clock.tick) else {
         return Err(StageFault::NoMemory);
     };

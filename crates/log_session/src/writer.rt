@@ -3,18 +3,19 @@
 ghost use Rattle.std.specs.Prelude.{◌≡◌, ◌+◌, ◌<◌, ◌≤◌, ◌↔◌, ◌∷◌, ◌++◌, [], ℕ, List, length, false, true, Err, OnOk, OnErr, IfErr};
 ghost use Rattle.nl_io.specs.Count.{Rose};
 ghost use Rattle.printf_grammar.specs.Types.{values_of};
+ghost use Rattle.session_options.specs.declared.limits.TheConstants.{MIN_RING, MAX_RING};
 ghost use Rattle.arg_records.specs.declared.frame.TheConstants.{MAX_FRAME_WORDS};
 ghost use Rattle.arg_records.specs.Frames.{Frame, FrameLen};
-ghost use Rattle.ring_core.specs.declared.limits.TheConstants.{MIN_RING, MAX_RING, MAX_POSITION, OFFER_ROOM};
+ghost use Rattle.ring_core.specs.declared.limits.TheConstants.{MAX_POSITION, OFFER_ROOM};
 ghost use Rattle.ring_core.specs.Answers.{IsFull};
 ghost use Rattle.ring_core.specs.Plans.{call_of};
 ghost use Rattle.ring_core.specs.Positions.{Need};
-ghost use Rattle.log_session.specs.Writers.{IsDictionaryPlan, Knows, Accepts, IfFull, IsSameEnd, one_log, one_close};
+ghost use Rattle.log_session.specs.Writers.{IsDictionaryPlan, Knows, AppendsCall, IfRefusedFull, IsSameEnd, one_log, one_close};
 
 use crate::refusal::LogRefusal;
 use arg_records::{MAX_FRAME_WORDS, frame_words};
 use printf_grammar::Arg;
-use ring_core::{Full, StageIn, hold_bytes};
+use ring_core::{Full, StageIn};
 use std::marker::Model;
 use std::sync::Wait;
 
@@ -88,15 +89,15 @@ impl<S: StageIn> Writer<S> {
         requires position { S.at self.old.end + OFFER_ROOM ≤ MAX_POSITION }
         ensures ok { OnOk result (S.sent self.new.end
             ≡ S.sent self.old.end ++ Frame id stamp (values_of args.now) ∷ []) }
-        ensures accepted { OnOk result (Accepts (S.plan self.old.end) (S.sent self.old.end)
+        ensures accepted { OnOk result (AppendsCall (S.plan self.old.end) (S.sent self.old.end)
             (S.plan self.new.end) (S.sent self.new.end) (call_of stamp id (values_of args.now))) }
         ensures counted { OnOk result ((self.new.last ≡ stamp) × (self.new.accepted ≡ self.old.accepted + 1)) }
         ensures moved { OnOk result (S.at self.new.end ≡ S.at self.old.end
             + Need (S.at self.old.end) (FrameLen (values_of args.now)) (S.words self.old.end)) }
         ensures too_long { (result ≡ Err LogRefusal.TooLong) ↔ (MAX_FRAME_WORDS < FrameLen (values_of args.now)) }
-        ensures full { IfErr result (λ refusal. IfFull refusal
+        ensures full { IfErr result (λ refusal. IfRefusedFull refusal
             (IsFull (S.at self.old.end) (FrameLen (values_of args.now)) (S.words self.old.end) (S.seen self.new.end))) }
-        ensures looked { IfErr result (λ refusal. IfFull refusal
+        ensures looked { IfErr result (λ refusal. IfRefusedFull refusal
             (λ _. Rose (S.looks self.old.end) (S.looks self.new.end))) }
         ensures err { OnErr result ((S.sent self.new.end ≡ S.sent self.old.end)
             × (S.at self.new.end ≡ S.at self.old.end) × (self.new.last ≡ self.old.last)
@@ -108,7 +109,6 @@ impl<S: StageIn> Writer<S> {
         ensures same { IsSameEnd S.pair S.words S.plan self.old.end self.new.end }
     {
         self.logs = self.logs.saturating_add(1);
-        hold_bytes(args);
         let Ok(len) = frame_words(id, stamp, args, &mut self.frame) else {
             return Err(LogRefusal::TooLong);
         };

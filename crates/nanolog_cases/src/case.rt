@@ -5,7 +5,7 @@ use std::alloc::Global;
 
 /// A line that isn't indented, and the indented lines behind it.
 #[derive(Drop)]
-pub struct Step<'a> {
+pub struct CaseStep<'a> {
     /// The line's number in the file.
     pub number: usize,
     /// Its first word.
@@ -15,14 +15,14 @@ pub struct Step<'a> {
     pub block: Vec<String>,
 }
 
-impl<'a> Step<'a> {
-    fn make(alloc: Global, number: usize, line: &'a str) -> Result<Step<'a>> {
+impl<'a> CaseStep<'a> {
+    fn make(alloc: Global, number: usize, line: &'a str) -> Result<CaseStep<'a>> {
         let (verb, rest) = line.split_once(' ').unwrap_or((line, ""));
         let block = match (verb, rest.split_once(' ')) {
             ("each", Some((from, to))) => numbers_between(alloc, from, to)?,
             _ => Vec::new(alloc),
         };
-        Ok(Step {
+        Ok(CaseStep {
             number,
             verb,
             rest,
@@ -51,7 +51,7 @@ fn numbers_between(alloc: Global, from: &str, to: &str) -> Result<Vec<String>> {
 #[derive(Drop)]
 pub struct Case<'a> {
     pub title: &'a str,
-    pub steps: Vec<Step<'a>>,
+    pub steps: Vec<CaseStep<'a>>,
 }
 
 impl<'a> Case<'a> {
@@ -65,7 +65,7 @@ impl<'a> Case<'a> {
     fn push_line(&mut self, alloc: Global, number: usize, line: &'a str) -> Result<()> {
         match (line.strip_prefix("  "), self.steps.last_mut()) {
             (Some(line), Some(step)) => step.block.push(String::from_str(alloc, line)?)?,
-            _ => self.steps.push(Step::make(alloc, number, line)?)?,
+            _ => self.steps.push(CaseStep::make(alloc, number, line)?)?,
         }
         Ok(())
     }

@@ -1,9 +1,9 @@
 //! Playing cases: their steps, once or for each of their values.
 
-use crate::case::{Case, Step};
+use crate::case::{Case, CaseStep};
 use crate::files::{Held, change, held_by, hold};
 use crate::filling::{bytes_of, filled, two_of};
-use crate::scene::{Machine, Scene};
+use crate::scene::{CaseScene, Machine};
 use anyhow::{Result, anyhow};
 use std::alloc::Global;
 use std::collections::BTreeMap;
@@ -27,7 +27,7 @@ struct Player<R: Drop> {
 
 impl<R: Machine + Drop> Player<R> {
     /// The text of a step's block.
-    fn text_of(&self, step: &Step<'_>, value: Option<&str>) -> Result<String> {
+    fn text_of(&self, step: &CaseStep<'_>, value: Option<&str>) -> Result<String> {
         let mut text = String::new(self.alloc);
         for line in &step.block {
             text.push_str(&filled(self.alloc, line, value)?)?;
@@ -37,7 +37,7 @@ impl<R: Machine + Drop> Player<R> {
     }
 
     /// Does a step.
-    fn step(&self, scene: &mut Scene, step: &Step<'_>, value: Option<&str>) -> Result<()> {
+    fn step(&self, scene: &mut CaseScene, step: &CaseStep<'_>, value: Option<&str>) -> Result<()> {
         let alloc = self.alloc;
         let words = filled(alloc, step.rest, value)?;
         let held = &mut scene.held;
@@ -66,8 +66,8 @@ impl<R: Machine + Drop> Player<R> {
     }
 
     /// Does the steps of a case. Where one can't be done, that is shown.
-    fn steps(&self, case: &Case<'_>, value: Option<&str>) -> Result<Scene> {
-        let mut scene = Scene::make(self.alloc);
+    fn steps(&self, case: &Case<'_>, value: Option<&str>) -> Result<CaseScene> {
+        let mut scene = CaseScene::make(self.alloc);
         for step in &case.steps {
             if value.is_none() {
                 push_command(&mut scene.shown, step)?;
@@ -104,7 +104,7 @@ impl<R: Machine + Drop> Player<R> {
 }
 
 /// Shows the command of a step, if it runs one.
-fn push_command(shown: &mut String, step: &Step<'_>) -> Result<()> {
+fn push_command(shown: &mut String, step: &CaseStep<'_>) -> Result<()> {
     if step.verb == "run" {
         let space = if step.rest.is_empty() { "" } else { " " };
         writeln!(shown, "$ nanolog{space}{}", step.rest)?;

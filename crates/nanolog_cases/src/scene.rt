@@ -4,7 +4,6 @@ use crate::files::{Held, held_by, hold};
 use crate::filling::{numbers_of, two_of, words_of};
 use crate::showing::{push_bytes, push_lines};
 use anyhow::{Result, anyhow};
-use log_session::FreeGate;
 use nanolog_cli::nanolog;
 use nl_io::{MemFiles, MemSink};
 use std::alloc::Global;
@@ -12,6 +11,7 @@ use std::collections::BTreeMap;
 use std::fmt::Write;
 use std::sync::{Arc, Wait};
 use std::thread::Threads;
+use trace_session::FreeGate;
 
 /// What a run needs of the machine.
 pub trait Machine: Threads + Wait + Copy + Send + 'static {}
@@ -20,7 +20,7 @@ impl<R: Threads + Wait + Copy + Send + 'static> Machine for R {}
 
 /// What the next run begins with, and what is shown so far.
 #[derive(Drop)]
-pub struct Scene {
+pub struct CaseScene {
     alloc: Global,
     pub held: Held,
     pub shown: String,
@@ -30,9 +30,9 @@ pub struct Scene {
     failing_errors: Vec<u64>,
 }
 
-impl Scene {
-    pub fn make(alloc: Global) -> Scene {
-        Scene {
+impl CaseScene {
+    pub fn make(alloc: Global) -> CaseScene {
+        CaseScene {
             alloc,
             held: BTreeMap::new(alloc),
             shown: String::new(alloc),

@@ -1,17 +1,2 @@
 pub use Rattle.cli_words.specs.Commands
-pub mod CommandFiles
-pub mod Statuses
-pub mod Endings
-pub mod Words
-pub mod HeldFiles
-pub mod Scenes
-pub mod Inputs
-pub mod Texts
-pub mod Gathering
-pub mod Headline
-pub mod Replays
-pub mod Preprocessing
-pub mod Decompressing
-pub mod Aggregating
-pub mod Selftests
 pub mod Outcomes

@@ -1,30 +1,32 @@
 //! What the program does, from its words to its answer.
 
-ghost use Rattle.std.specs.Prelude.{◌≡◌, Some};
-ghost use Rattle.cli_words.specs.Commands.{command_of as command_spelled, texts_of};
+ghost use Rattle.std.specs.Prelude.{◌≡◌, ◌⊎◌, ℕ, List, Some};
+ghost use Rattle.cli_words.specs.Commands.{Replay, command_of as command_spelled, texts_of};
 ghost use Rattle.cli_words.specs.CommandViews.{command_is};
 ghost use Rattle.cli_words.specs.Rows.{IsLawful};
-ghost use Rattle.nanolog_cli.specs.Endings.{Ending, status_of, ending_of, answer_ending};
-ghost use Rattle.nanolog_cli.specs.Outcomes.{scene, quick_part, Ends, AnswersRead, Answers, Tells};
+ghost use Rattle.cli_words.specs.Usage.{usage_text};
+ghost use Rattle.command_base.specs.Endings.{Ending, Usage, NoMemory as WantsMemory};
+ghost use Rattle.command_base.specs.Endings.{status_of, refusal_ending, ending_of, answer_ending};
+ghost use Rattle.command_base.specs.Printing.{Tells};
+ghost use Rattle.command_base.specs.Scenes.{scene};
+ghost use Rattle.trace_text.specs.Recordings.{Recording};
+ghost use Rattle.trace_session.specs.declared.drops.Dropped.{Dropped};
+ghost use Rattle.session_options.specs.declared.options.Options.{Options};
+ghost use Rattle.session_commands.specs.Headline.{Headline};
+ghost use Rattle.nanolog_cli.specs.Outcomes.{quick_part, Answers};
 
-use crate::aggregate::aggregate;
-use crate::decompress::decompress;
-use crate::direct::direct;
-use crate::generate::generate;
-use crate::note::Note;
-use crate::preprocess::preprocess;
-use crate::refusal::Refusal;
-use crate::replay::replay;
-use crate::report::{say, say_note};
-use crate::selftest::selftest;
-use crate::status::Status;
-use cli_words::{Command, command_of};
-use log_session::Gate;
+use cli_words::{Command, command_of, usage};
+use command_base::{Note, Refusal, Status, say_end};
+use log_commands::{aggregate, decompress};
 use nl_io::{Files, Sink};
+use session_commands::{replay, selftest};
+use source_commands::preprocess;
 use staging_ring::QueueStage;
 use std::alloc::Global;
 use std::sync::{Arc, Wait};
 use std::thread::Threads;
+use trace_commands::{direct, generate};
+use trace_session::Gate;
 
 /// The answer of a command that has nothing to tell beside its text.
 fn without_note<'a>(answer: Result<(), Refusal<'a>>) -> Result<Note<'a>, Refusal<'a>>
@@ -32,6 +34,16 @@ fn without_note<'a>(answer: Result<(), Refusal<'a>>) -> Result<Note<'a>, Refusal
 {
     answer?;
     Ok(Note::Nothing)
+}
+
+/// The refusal of words that are no command.
+fn no_command(alloc: Global) -> Refusal<'static>
+    ensures { (refusal_ending result ≡ Usage usage_text) ⊎ (refusal_ending result ≡ WantsMemory) }
+{
+    match usage(alloc) {
+        Ok(lines) => Refusal::Usage { lines },
+        Err(_) => Refusal::NoMemory,
+    }
 }
 
 /// Does what the command says, unless that may wait for others.
@@ -42,7 +54,7 @@ fn run_quick<'a, F: Files, O: Sink>(
     out: &mut O,
 ) -> Result<Note<'a>, Refusal<'a>>
     requires lawful { IsLawful (command_is command) }
-    ensures ends { AnswersRead (quick_part (Some (command_is command.entry)))
+    ensures ends { Answers (quick_part (Some (command_is command.entry)))
         (scene (F.desk files.old) (O.put out.old) (O.faults out.old))
         (scene (F.desk files.new) (O.put out.new) (O.faults out.new)) (answer_ending result) }
     ensures files_others { F.rest files.old files.new }
@@ -54,7 +66,7 @@ fn run_quick<'a, F: Files, O: Sink>(
             sources,
         } => without_note(preprocess(alloc, files, dictionary, &sources, out)),
         Command::Direct { trace } => without_note(direct(alloc, files, trace, out)),
-        Command::Replay { .. } | Command::Selftest { .. } => Err(Refusal::Usage),
+        Command::Replay { .. } | Command::Selftest { .. } => Err(no_command(alloc)),
         Command::Decompress { log } => decompress(alloc, files, log, out),
         Command::Aggregate { log, id, nth } => {
             without_note(aggregate(alloc, files, log, id, nth, out))
@@ -82,7 +94,8 @@ where
     O: Sink,
     G: Gate + 'static,
     requires lawful { IsLawful (command_is command) }
-    ensures ends { Ends (command_is command.entry) (scene (F.desk files.old) (O.put out.old) (O.faults out.old))
+    ensures ends { Answers (Some (command_is command.entry))
+        (scene (F.desk files.old) (O.put out.old) (O.faults out.old))
         (scene (F.desk files.new) (O.put out.new) (O.faults out.new)) (answer_ending result) }
     ensures files_others { F.rest files.old files.new }
     ensures out_others { O.rest out.old out.new }
@@ -121,7 +134,7 @@ fn run_quick_words<'a, F: Files, O: Sink>(
 {
     match command_of(alloc, words)? {
         Some(command) => run_quick(alloc, command, files, out),
-        None => Err(Refusal::Usage),
+        None => Err(no_command(alloc)),
     }
 }
 
@@ -147,26 +160,7 @@ where
 {
     match command_of(alloc, words)? {
         Some(command) => run(rt, alloc, command, files, out, gate),
-        None => Err(Refusal::Usage),
-    }
-}
-
-/// Says how a command ended, and answers that as a status.
-fn say_end<E: Sink>(err: &mut E, answer: Result<Note<'_>, Refusal<'_>>) -> Status
-    ensures status { result ≡ status_of (answer_ending answer.entry) }
-    ensures told { Tells (answer_ending answer.entry) (E.put err.old) (E.put err.new) (E.faults err.old)
-        (E.faults err.new) }
-    ensures others { E.rest err.old err.new }
-{
-    match answer {
-        Ok(note) => {
-            say_note(err, &note);
-            Status::Done
-        }
-        Err(refusal) => {
-            say(err, &refusal);
-            refusal.status()
-        }
+        None => Err(no_command(alloc)),
     }
 }
 
@@ -206,6 +200,14 @@ where
         (scene (F.desk files.old) (O.put out.old) (O.faults out.old))
         (scene (F.desk files.new) (O.put out.new) (O.faults out.new)) ending
         × Tells ending (E.put err.old) (E.put err.new) (E.faults err.old) (E.faults err.new) }
+
+    // The headline: where the words ask for a replay and the answer is Done, its six clauses hold of one run, one list
+    // of drops and one log.
+    ensures headline { (trace log : List ℕ) (options : Options)
+        → command_spelled (texts_of words.now) ≡ Some (Replay trace log options) → result ≡ Status.Done
+        → (run : Recording) × (drops : List Dropped) × (bytes : List ℕ) × Headline trace log options
+        (scene (F.desk files.old) (O.put out.old) (O.faults out.old))
+        (scene (F.desk files.new) (O.put out.new) (O.faults out.new)) run drops bytes }
 
     // All else is as it was.
     ensures files_others { F.rest files.old files.new }

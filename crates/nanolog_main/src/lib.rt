@@ -4,14 +4,16 @@
 ghost use Rattle.std.specs.Prelude.{◌≡◌, Option};
 ghost use Rattle.std.specs.Process.{exit_status};
 ghost use Rattle.cli_words.specs.Commands.{Command};
-ghost use Rattle.nanolog_cli.specs.Endings.{Ending, NoMemory, status_of};
-ghost use Rattle.nanolog_cli.specs.declared.status.Status.TheVariants.{NoMemory as IsNoMemory};
-ghost use Rattle.nanolog_cli.specs.Outcomes.{scene, Answers, Tells};
-ghost use Rattle.nanolog_cli.specs.Statuses.{status_number};
+ghost use Rattle.command_base.specs.Endings.{Ending, NoMemory, status_of};
+ghost use Rattle.command_base.specs.declared.status.Status.TheVariants.{NoMemory as IsNoMemory};
+ghost use Rattle.nanolog_cli.specs.Outcomes.{Answers};
+ghost use Rattle.command_base.specs.Printing.{Tells};
+ghost use Rattle.command_base.specs.Scenes.{scene};
+ghost use Rattle.command_base.specs.Statuses.{status_number};
 
-use log_session::FreeGate;
+use command_base::{Refusal, say_end};
 use nanolog_cli::{Status, nanolog};
-use nl_io::{Files, Sink, StdFiles, StdSink, write_all};
+use nl_io::{Files, Sink, StdFiles, StdSink};
 use std::env;
 use std::io::{self, Eprint, ErrorKind};
 use std::marker::Model;
@@ -19,6 +21,7 @@ use std::process::{ExitCode, Termination};
 use std::rt::{self, Env, Stderr, Stdout};
 use std::sync::{Arc, Wait};
 use std::thread::Threads;
+use trace_session::FreeGate;
 
 /// How the program ended. Only [`run`] makes one, and it can't be let go, so that `main` ends with what `run` answers.
 pub struct Ended {
@@ -26,7 +29,7 @@ pub struct Ended {
 }
 
 impl Model for Ended {
-    ghost use Rattle.nanolog_cli.specs.declared.status.Status.{Status};
+    ghost use Rattle.command_base.specs.declared.status.Status.{Status};
 
     ghost Value = { Status };
 
@@ -56,8 +59,7 @@ fn want_memory<E: Sink>(err: &mut E) -> Status
     ensures status { result ≡ IsNoMemory }
     ensures told { Tells NoMemory (E.put err.old) (E.put err.new) (E.faults err.old) (E.faults err.new) }
 {
-    let _ = write_all(err, b"nanolog: want of memory\n");
-    Status::NoMemory
+    say_end(err, Err(Refusal::NoMemory))
 }
 
 /// Does what the words after the program's name ask for. Which words these are is told to no contract.

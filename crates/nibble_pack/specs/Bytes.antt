@@ -1,10 +1,21 @@
 -- Numbers as bytes, the lowest first.
-use Rattle.std.proofs.Common.{◌≡◌, ℕ, zero, suc, ◌+◌, ◌*◌, ◌/◌, ◌%◌, ◌^◌, ◌<◌, List, [], ◌∷◌, ◌++◌, length, replicate, refl, sym, ap, ◌∙◌}
+use Rattle.std.proofs.Common.{◌≡◌, ℕ, zero, suc, ◌+◌, ◌*◌, ◌/◌, ◌%◌, ◌^◌, ◌<◌, List, [], ◌∷◌, ◌++◌, length, drop, replicate, refl, sym, ap, subst, ◌∙◌}
 use Rattle.std.proofs.Common.{arith}
 use Rattle.std.specs.Prelude.{All}
 use Rattle.std.specs.Int.{w64, byte_at, bytes_low_first, from_le_bytes}
-use Rattle.std.proofs.lemmas.List.Elements.{All-nil, All-cons, All-head, All-tail}
+use Rattle.std.proofs.lemmas.List.{drop_at}
+use Rattle.std.proofs.lemmas.List.Elements.{All-nil, All-cons, All-head, All-tail, All-drop}
 use Rattle.std.proofs.Math.Nat.{div-div-eq-div-mul, pow-succ'}
+
+-- each number is one of a byte
+abbrev pub AreBytes : List ℕ → Type 0
+AreBytes bytes = All (λ byte. byte < 256) bytes
+
+-- what follows in bytes is bytes
+pub back_bytes : (bytes front back : List ℕ) → bytes ≡ front ++ back → AreBytes bytes → AreBytes back
+back_bytes bytes front back is small =
+    subst AreBytes (ap (drop (length front)) is ∙ drop_at front back (length front) refl)
+    (All-drop (λ byte. byte < 256) (length front) bytes small)
 
 -- the number that bytes represent
 abbrev pub number_of_bytes : List ℕ → ℕ
@@ -40,7 +51,7 @@ number_of_bytes-low_first (suc k) n h =
     ap number_of_bytes (bytes_low_first-suc k n) ∙ omega (arith, number_of_bytes-low_first k (n / 256) (omega arith))
 
 -- as many bytes hold it
-pub number_of_bytes-lt : (bytes : List ℕ) → All (λ b. b < 256) bytes → number_of_bytes bytes < 256 ^ length bytes
+pub number_of_bytes-lt : (bytes : List ℕ) → AreBytes bytes → number_of_bytes bytes < 256 ^ length bytes
 number_of_bytes-lt [] h = omega arith
 number_of_bytes-lt (b ∷ bytes) h =
     let byte = All-head (λ (b : ℕ). b < 256) b bytes h in
@@ -48,7 +59,7 @@ number_of_bytes-lt (b ∷ bytes) h =
     omega (arith, pow-succ' 256 (length bytes))
 
 -- bytes spell the number that they represent
-pub low_first-number_of_bytes : (bytes : List ℕ) → All (λ b. b < 256) bytes
+pub low_first-number_of_bytes : (bytes : List ℕ) → AreBytes bytes
     → bytes_low_first 0 (length bytes) (number_of_bytes bytes) ≡ bytes
 low_first-number_of_bytes [] h = refl
 low_first-number_of_bytes (b ∷ bytes) h =
@@ -59,7 +70,13 @@ low_first-number_of_bytes (b ∷ bytes) h =
     let others : n / 256 ≡ number_of_bytes bytes = omega arith in
     bytes_low_first-suc (length bytes) n ∙ (λ t. first t ∷ bytes_low_first 0 (length bytes) (others t)) ∙ ap (λ (r : List ℕ). b ∷ r) rest
 
-pub bytes_low_first-below : (i k n : ℕ) → All (λ b. b < 256) (bytes_low_first i k n)
+-- as many bytes represent a number in one way
+pub number_of_bytes-unique : (xs ys : List ℕ) → length xs ≡ length ys → AreBytes xs → AreBytes ys
+    → number_of_bytes xs ≡ number_of_bytes ys → xs ≡ ys
+number_of_bytes-unique xs ys same left right e =
+    sym (low_first-number_of_bytes xs left) ∙ (λ t. bytes_low_first 0 (same t) (e t)) ∙ low_first-number_of_bytes ys right
+
+pub bytes_low_first-below : (i k n : ℕ) → AreBytes (bytes_low_first i k n)
 bytes_low_first-below i zero n = All-nil (λ (b : ℕ). b < 256)
 bytes_low_first-below i (suc k) n =
     All-cons (λ (b : ℕ). b < 256) (byte_at i n) (bytes_low_first (suc i) k n) (byte_at-lt i n) (bytes_low_first-below (suc i) k n)

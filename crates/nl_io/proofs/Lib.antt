@@ -1,5 +1,6 @@
 pub mod Ids
 pub mod Contents
+pub mod TextWriters
 pub mod Tables
 pub mod Shelves
 pub mod Names

@@ -55,7 +55,7 @@ abbrev pub IsAbsent : Desk → List ℕ → Type 0
 IsAbsent desk name = IfSome desk.held (λ held. map.get held name ≡ None)
 
 -- n bytes of the file were taken
-pub record Takes (old : Desk) (id n : ℕ) (new : Desk) : Type 0 where
+pub record TakesBytes (old : Desk) (id n : ℕ) (new : Desk) : Type 0 where
   pub taken : (content : Told) → IsReading old id content
       → new ≡ record old { left = map.insert old.left id (without_front n content) }
 

@@ -9,7 +9,7 @@ use Rattle.std.specs.Cmp.{nat_cmp_total, eq_by_cmp_equiv, Equal-is}
 use Rattle.std.specs.Cmp.Lexicographic.{nat_list_cmp_total}
 use Rattle.std.specs.FinMap as map
 use Rattle.nl_io.specs.Content.{Told, with_end}
-use Rattle.nl_io.specs.Desk.{Desk, Held, ById, IsReading, OnlyReadFaults, Opens, Takes, Leaves, Creates, Puts, Finishes, held_by, put_by}
+use Rattle.nl_io.specs.Desk.{Desk, Held, ById, IsReading, OnlyReadFaults, Opens, TakesBytes, Leaves, Creates, Puts, Finishes, held_by, put_by}
 use Rattle.nl_io.specs.Desk.{found_in, SameButLeft, SameButHeld, OnlyName}
 
 pub SameButLeft-same : (id : ℕ) (a : Desk) → SameButLeft id a a
@@ -107,9 +107,9 @@ Opens-reading old name id new opens =
     subst (λ (desk : Desk). map.get desk.left id ≢ None) (sym opens.opened) (is_given old.left id opens.content)
 
 -- a file is still being read after bytes were taken
-pub Takes-reading : (old : Desk) (id n : ℕ) (new : Desk) → map.get old.left id ≢ None → Takes old id n new
+pub TakesBytes-reading : (old : Desk) (id n : ℕ) (new : Desk) → map.get old.left id ≢ None → TakesBytes old id n new
     → map.get new.left id ≢ None
-Takes-reading old id n new reading takes =
+TakesBytes-reading old id n new reading takes =
     let told = some_told (map.get old.left id) reading in
     subst (λ (desk : Desk). map.get desk.left id ≢ None) (sym (takes.taken told.0 told.1)) (is_given old.left id _)
 

@@ -1,5 +1,6 @@
 pub mod Count
 pub mod Content
+pub mod TextWriters
 pub mod Desk
 pub mod DeskLaws
 pub mod Scripts

@@ -24,20 +24,20 @@ desk_of files = record {
 }
 
 -- how many bytes one call moves at most
-abbrev pub piece_of : MemFiles → ℕ
-piece_of files = files.piece
+abbrev pub files_piece : MemFiles → ℕ
+files_piece files = files.piece
 
 -- which calls fail, and how many came
-abbrev pub script_of : MemFiles → Script
-script_of files = files.script
+abbrev pub files_script : MemFiles → Script
+files_script files = files.script
 
 -- the numbers of the calls that fail
-abbrev pub failing_of : MemFiles → List ℕ
-failing_of files = files.script.failing.items
+abbrev pub files_failing : MemFiles → List ℕ
+files_failing files = files.script.failing.items
 
 -- how many calls came
-abbrev pub calls_of : MemFiles → ℕ
-calls_of files = files.script.calls
+abbrev pub files_calls : MemFiles → ℕ
+files_calls files = files.script.calls
 
 -- how many calls for reading failed
 abbrev pub read_faults_of : MemFiles → Faults
@@ -49,4 +49,4 @@ write_faults_of files = files.write_faults
 
 -- the same piece, and the same calls fail
 abbrev pub IsSameFiles : MemFiles → MemFiles → Type 0
-IsSameFiles a b = (piece_of b ≡ piece_of a) × (failing_of b ≡ failing_of a)
+IsSameFiles a b = (files_piece b ≡ files_piece a) × (files_failing b ≡ files_failing a)

@@ -5,29 +5,29 @@ use Rattle.nl_io.specs.declared.script.Script.{Script}
 use Rattle.nl_io.specs.declared.script.Faults.{Faults}
 
 -- the bytes taken so far
-abbrev pub bytes_of : MemSink → List ℕ
-bytes_of sink = sink.bytes.items
+abbrev pub sink_bytes : MemSink → List ℕ
+sink_bytes sink = sink.bytes.items
 
 -- how many bytes one call takes at most
-abbrev pub piece_of : MemSink → ℕ
-piece_of sink = sink.piece
+abbrev pub sink_piece : MemSink → ℕ
+sink_piece sink = sink.piece
 
 -- which calls fail, and how many came
-abbrev pub script_of : MemSink → Script
-script_of sink = sink.script
+abbrev pub sink_script : MemSink → Script
+sink_script sink = sink.script
 
 -- the numbers of the calls that fail
-abbrev pub failing_of : MemSink → List ℕ
-failing_of sink = sink.script.failing.items
+abbrev pub sink_failing : MemSink → List ℕ
+sink_failing sink = sink.script.failing.items
 
 -- how many calls came
-abbrev pub calls_of : MemSink → ℕ
-calls_of sink = sink.script.calls
+abbrev pub sink_calls : MemSink → ℕ
+sink_calls sink = sink.script.calls
 
 -- how many calls failed
-abbrev pub faults_of : MemSink → Faults
-faults_of sink = sink.faults
+abbrev pub sink_faults : MemSink → Faults
+sink_faults sink = sink.faults
 
 -- the same piece, and the same calls fail
 abbrev pub IsSameSink : MemSink → MemSink → Type 0
-IsSameSink a b = (piece_of b ≡ piece_of a) × (failing_of b ≡ failing_of a)
+IsSameSink a b = (sink_piece b ≡ sink_piece a) × (sink_failing b ≡ sink_failing a)

@@ -6,33 +6,33 @@ use Rattle.nl_io.specs.declared.script.Faults.{Faults}
 use Rattle.nl_io.specs.Readings as readings
 
 -- the bytes still to come
-abbrev pub left_of : MemSource → List ℕ
-left_of source = readings.left_of source.reading
+abbrev pub source_left : MemSource → List ℕ
+source_left source = readings.left_of source.reading
 
 -- how many bytes one call moves at most
-abbrev pub piece_of : MemSource → ℕ
-piece_of source = source.piece
+abbrev pub source_piece : MemSource → ℕ
+source_piece source = source.piece
 
 -- which calls fail, and how many came
-abbrev pub script_of : MemSource → Script
-script_of source = source.script
+abbrev pub source_script : MemSource → Script
+source_script source = source.script
 
 -- the numbers of the calls that fail
-abbrev pub failing_of : MemSource → List ℕ
-failing_of source = source.script.failing.items
+abbrev pub source_failing : MemSource → List ℕ
+source_failing source = source.script.failing.items
 
 -- how many calls came
-abbrev pub calls_of : MemSource → ℕ
-calls_of source = source.script.calls
+abbrev pub source_calls : MemSource → ℕ
+source_calls source = source.script.calls
 
 -- how many calls failed
-abbrev pub faults_of : MemSource → Faults
-faults_of source = source.faults
+abbrev pub source_faults : MemSource → Faults
+source_faults source = source.faults
 
 -- how many bytes a call moves into a buffer with this room
 abbrev pub moves_into : MemSource → ℕ → ℕ
-moves_into source room = min (min (piece_of source) (length (left_of source))) room
+moves_into source room = min (min (source_piece source) (length (source_left source))) room
 
 -- the same piece, and the same calls fail
 abbrev pub IsSameSource : MemSource → MemSource → Type 0
-IsSameSource a b = (piece_of b ≡ piece_of a) × (failing_of b ≡ failing_of a)
+IsSameSource a b = (source_piece b ≡ source_piece a) × (source_failing b ≡ source_failing a)

@@ -17,7 +17,7 @@ abbrev pub all_faults : Faults → ℕ
 all_faults faults = faults.listed + faults.starved
 
 -- The call wasn't listed, and no memory was wanting.
-pub record Passes (script : Script) (old new : Faults) : Type 0 where
+pub record CallSucceeds (script : Script) (old new : Faults) : Type 0 where
   pub unlisted : ¬ IsListed script
   pub same : new ≡ old
 

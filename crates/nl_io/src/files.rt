@@ -2,7 +2,7 @@ ghost use Rattle.std.specs.Prelude.{◌≡◌, ◌≢◌, ◌<◌, ◌≤◌, �
 ghost use Rattle.std.specs.FinMap as map;
 ghost use Rattle.nl_io.specs.Count.{Rose};
 ghost use Rattle.nl_io.specs.Content.{Told, IsFront, IsAtEnd};
-ghost use Rattle.nl_io.specs.Desk.{Desk, IsReading, IsAbsent, OnlyReadFaults, OnlyWriteFaults, Opens, Takes, Leaves, Creates, Puts, Finishes};
+ghost use Rattle.nl_io.specs.Desk.{Desk, IsReading, IsAbsent, OnlyReadFaults, OnlyWriteFaults, Opens, TakesBytes, Leaves, Creates, Puts, Finishes};
 
 use crate::failed::Failed;
 
@@ -29,7 +29,7 @@ pub trait Files {
         ensures within { IfOk result (λ n. n ≤ length into.old) }
         ensures front { IfOk result (λ n. (content : Told) → IsReading (desk self.old) id content
             → IsFront n (take n into.new) content) }
-        ensures moved { IfOk result (λ n. Takes (desk self.old) id n (desk self.new)) }
+        ensures moved { IfOk result (λ n. TakesBytes (desk self.old) id n (desk self.new)) }
         ensures end { IfOk result (λ n. (content : Told) → IsReading (desk self.old) id content → n ≡ 0
             → 0 < length into.old → IsAtEnd content) }
         ensures cause { OnErr result (Rose (desk self.old).read_faults (desk self.new).read_faults) }

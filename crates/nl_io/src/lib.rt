@@ -21,6 +21,7 @@ mod std_files;
 mod std_sink;
 mod std_source;
 mod std_tables;
+mod text_writer;
 mod titles;
 
 pub use failed::Failed;
@@ -35,3 +36,4 @@ pub use source::{ReadAllFault, Source, read_to_limit};
 pub use std_files::StdFiles;
 pub use std_sink::StdSink;
 pub use std_source::StdSource;
+pub use text_writer::{MAX_HELD, TextWriter};

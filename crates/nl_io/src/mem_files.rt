@@ -3,12 +3,12 @@ ghost use Rattle.std.specs.FinMap as map;
 ghost use Rattle.std.proofs.Common.{◌∙◌};
 ghost use Rattle.nl_io.specs.Count.{Rose};
 ghost use Rattle.nl_io.specs.Content.{Told, IsFront, IsAtEnd};
-ghost use Rattle.nl_io.specs.Desk.{IsReading, IsAbsent, OnlyReadFaults, OnlyWriteFaults, Opens, Takes, Leaves, Creates, Puts, Finishes};
-ghost use Rattle.nl_io.specs.Scripts.{called, Passes, FailsListed, Starves};
+ghost use Rattle.nl_io.specs.Desk.{IsReading, IsAbsent, OnlyReadFaults, OnlyWriteFaults, Opens, TakesBytes, Leaves, Creates, Puts, Finishes};
+ghost use Rattle.nl_io.specs.Scripts.{called, CallSucceeds, FailsListed, Starves};
 
 use crate::failed::Failed;
 use crate::files::Files;
-use crate::reading::Reading;
+use crate::reading::MemReading;
 use crate::readings::{open_copy, take_from};
 use crate::script::{Faults, Script};
 use crate::shelf::Shelf;
@@ -22,7 +22,7 @@ use std::collections::BTreeMap;
 #[derive(Drop)]
 pub struct MemFiles {
     shelf: Shelf,
-    reading: BTreeMap<u32, Reading>,
+    reading: BTreeMap<u32, MemReading>,
     made: BTreeMap<u32, String>,
     piece: usize,
     script: Script,
@@ -33,7 +33,7 @@ pub struct MemFiles {
 }
 
 impl MemFiles {
-    ghost use Rattle.nl_io.specs.MemFiles.{desk_of, held_of, piece_of, script_of, failing_of, calls_of, read_faults_of, write_faults_of};
+    ghost use Rattle.nl_io.specs.MemFiles.{desk_of, held_of, files_piece, files_script, files_failing, files_calls, read_faults_of, write_faults_of};
 
     /// No files. One call moves at most `piece` bytes. `failing` lists the numbers, from 0, of the
     /// calls of [`Files`] that fail, among which [`Files::leave`] isn't counted.
@@ -41,9 +41,9 @@ impl MemFiles {
         requires { 1 ≤ piece }
         ensures empty { IfOk result (λ files. desk_of files
             ≡ record { held = Some map.empty; left = map.empty; made = map.empty; read_faults = 0; write_faults = 0 }) }
-        ensures piece { IfOk result (λ files. piece_of files ≡ piece) }
-        ensures failing { IfOk result (λ files. failing_of files ≡ failing.now) }
-        ensures calls { IfOk result (λ files. calls_of files ≡ 0) }
+        ensures piece { IfOk result (λ files. files_piece files ≡ piece) }
+        ensures failing { IfOk result (λ files. files_failing files ≡ failing.now) }
+        ensures calls { IfOk result (λ files. files_calls files ≡ 0) }
         ensures read_faults { IfOk result (λ files. read_faults_of files ≡ record { listed = 0; starved = 0 }) }
         ensures write_faults { IfOk result (λ files. write_faults_of files ≡ record { listed = 0; starved = 0 }) }
     {
@@ -67,8 +67,8 @@ impl MemFiles {
               (held_of self.old) name.now bytes.now);
         }) }
         ensures err { OnErr result (desk_of self.new ≡ desk_of self.old) }
-        ensures piece { piece_of self.new ≡ piece_of self.old }
-        ensures script { script_of self.new ≡ script_of self.old }
+        ensures piece { files_piece self.new ≡ files_piece self.old }
+        ensures script { files_script self.new ≡ files_script self.old }
         ensures read_faults { read_faults_of self.new ≡ read_faults_of self.old }
         ensures write_faults { write_faults_of self.new ≡ write_faults_of self.old }
     {
@@ -92,7 +92,7 @@ impl MemFiles {
 }
 
 impl Files for MemFiles {
-    ghost use Rattle.nl_io.specs.MemFiles.{desk_of, piece_of, script_of, read_faults_of, write_faults_of, IsSameFiles};
+    ghost use Rattle.nl_io.specs.MemFiles.{desk_of, files_piece, files_script, read_faults_of, write_faults_of, IsSameFiles};
 
     ghost desk = { desk_of };
 
@@ -112,11 +112,12 @@ impl Files for MemFiles {
         ensures others { IsSameFiles self.old self.new }
 
         // Which calls fail.
-        ensures number { script_of self.new ≡ called (script_of self.old) }
-        ensures passed { OnOk result (Passes (script_of self.old) (read_faults_of self.old) (read_faults_of self.new)) }
-        ensures failed { OnErr result (FailsListed (script_of self.old) (read_faults_of self.old)
+        ensures number { files_script self.new ≡ called (files_script self.old) }
+        ensures passed { OnOk result (CallSucceeds (files_script self.old) (read_faults_of self.old)
+            (read_faults_of self.new)) }
+        ensures failed { OnErr result (FailsListed (files_script self.old) (read_faults_of self.old)
             (read_faults_of self.new)
-            ⊎ Starves (script_of self.old) (read_faults_of self.old) (read_faults_of self.new)) }
+            ⊎ Starves (files_script self.old) (read_faults_of self.old) (read_faults_of self.new)) }
         ensures write_faults { write_faults_of self.new ≡ write_faults_of self.old }
     {
         if self.script.next_call() {
@@ -134,11 +135,11 @@ impl Files for MemFiles {
     fn read(&mut self, id: u32, into: &mut [u8]) -> Result<usize, Failed>
         requires { map.get (desk_of self.old).left id ≢ None }
         ensures amount { IfOk result (λ n. (left : List ℕ) → IsReading (desk_of self.old) id (Some left)
-            → n ≡ min (min (piece_of self.old) (length left)) (length into.old)) }
+            → n ≡ min (min (files_piece self.old) (length left)) (length into.old)) }
         ensures within { IfOk result (λ n. n ≤ length into.old) }
         ensures front { IfOk result (λ n. (content : Told) → IsReading (desk_of self.old) id content
             → IsFront n (take n into.new) content) }
-        ensures moved { IfOk result (λ n. Takes (desk_of self.old) id n (desk_of self.new)) }
+        ensures moved { IfOk result (λ n. TakesBytes (desk_of self.old) id n (desk_of self.new)) }
         ensures end { IfOk result (λ n. (content : Told) → IsReading (desk_of self.old) id content → n ≡ 0
             → 0 < length into.old → IsAtEnd content) }
         ensures cause { OnErr result (Rose (desk_of self.old).read_faults (desk_of self.new).read_faults) }
@@ -146,9 +147,10 @@ impl Files for MemFiles {
         ensures others { IsSameFiles self.old self.new }
 
         // Which calls fail.
-        ensures number { script_of self.new ≡ called (script_of self.old) }
-        ensures passed { OnOk result (Passes (script_of self.old) (read_faults_of self.old) (read_faults_of self.new)) }
-        ensures failed { OnErr result (FailsListed (script_of self.old) (read_faults_of self.old)
+        ensures number { files_script self.new ≡ called (files_script self.old) }
+        ensures passed { OnOk result (CallSucceeds (files_script self.old) (read_faults_of self.old)
+            (read_faults_of self.new)) }
+        ensures failed { OnErr result (FailsListed (files_script self.old) (read_faults_of self.old)
             (read_faults_of self.new)) }
         ensures write_faults { write_faults_of self.new ≡ write_faults_of self.old }
     {
@@ -161,7 +163,7 @@ impl Files for MemFiles {
     fn leave(&mut self, id: u32)
         ensures left { Leaves (desk_of self.old) id (desk_of self.new) }
         ensures others { IsSameFiles self.old self.new }
-        ensures uncounted { script_of self.new ≡ script_of self.old }
+        ensures uncounted { files_script self.new ≡ files_script self.old }
         ensures read_faults { read_faults_of self.new ≡ read_faults_of self.old }
         ensures write_faults { write_faults_of self.new ≡ write_faults_of self.old }
     {
@@ -175,12 +177,12 @@ impl Files for MemFiles {
         ensures others { IsSameFiles self.old self.new }
 
         // Which calls fail.
-        ensures number { script_of self.new ≡ called (script_of self.old) }
-        ensures passed { OnOk result (Passes (script_of self.old) (write_faults_of self.old)
+        ensures number { files_script self.new ≡ called (files_script self.old) }
+        ensures passed { OnOk result (CallSucceeds (files_script self.old) (write_faults_of self.old)
             (write_faults_of self.new)) }
-        ensures failed { OnErr result (FailsListed (script_of self.old) (write_faults_of self.old)
+        ensures failed { OnErr result (FailsListed (files_script self.old) (write_faults_of self.old)
             (write_faults_of self.new)
-            ⊎ Starves (script_of self.old) (write_faults_of self.old) (write_faults_of self.new)) }
+            ⊎ Starves (files_script self.old) (write_faults_of self.old) (write_faults_of self.new)) }
         ensures read_faults { read_faults_of self.new ≡ read_faults_of self.old }
     {
         if self.script.next_call() {
@@ -200,7 +202,7 @@ impl Files for MemFiles {
 
     fn write(&mut self, id: u32, bytes: &[u8]) -> Result<usize, Failed>
         requires { map.get (desk_of self.old).made id ≢ None }
-        ensures amount { IfOk result (λ n. n ≡ min (piece_of self.old) (length bytes.now)) }
+        ensures amount { IfOk result (λ n. n ≡ min (files_piece self.old) (length bytes.now)) }
         ensures within { IfOk result (λ n. n ≤ length bytes.now) }
         ensures some { IfOk result (λ n. 0 < length bytes.now → 0 < n) }
         ensures taken { IfOk result (λ n. Puts (desk_of self.old) id (take n bytes.now) (desk_of self.new)) }
@@ -209,12 +211,12 @@ impl Files for MemFiles {
         ensures others { IsSameFiles self.old self.new }
 
         // Which calls fail.
-        ensures number { script_of self.new ≡ called (script_of self.old) }
-        ensures passed { OnOk result (Passes (script_of self.old) (write_faults_of self.old)
+        ensures number { files_script self.new ≡ called (files_script self.old) }
+        ensures passed { OnOk result (CallSucceeds (files_script self.old) (write_faults_of self.old)
             (write_faults_of self.new)) }
-        ensures failed { OnErr result (FailsListed (script_of self.old) (write_faults_of self.old)
+        ensures failed { OnErr result (FailsListed (files_script self.old) (write_faults_of self.old)
             (write_faults_of self.new)
-            ⊎ Starves (script_of self.old) (write_faults_of self.old) (write_faults_of self.new)) }
+            ⊎ Starves (files_script self.old) (write_faults_of self.old) (write_faults_of self.new)) }
         ensures read_faults { read_faults_of self.new ≡ read_faults_of self.old }
     {
         if self.script.next_call() {
@@ -236,10 +238,10 @@ impl Files for MemFiles {
         ensures others { IsSameFiles self.old self.new }
 
         // Which calls fail.
-        ensures number { script_of self.new ≡ called (script_of self.old) }
-        ensures passed { OnOk result (Passes (script_of self.old) (write_faults_of self.old)
+        ensures number { files_script self.new ≡ called (files_script self.old) }
+        ensures passed { OnOk result (CallSucceeds (files_script self.old) (write_faults_of self.old)
             (write_faults_of self.new)) }
-        ensures failed { OnErr result (FailsListed (script_of self.old) (write_faults_of self.old)
+        ensures failed { OnErr result (FailsListed (files_script self.old) (write_faults_of self.old)
             (write_faults_of self.new)) }
         ensures read_faults { read_faults_of self.new ≡ read_faults_of self.old }
     {

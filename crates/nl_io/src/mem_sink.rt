@@ -1,7 +1,7 @@
 ghost use Rattle.std.specs.Prelude.{◌≡◌, ◌<◌, ◌≤◌, ◌++◌, ◌⊎◌, [], min, length, take, Some, IfOk, OnOk, OnErr, refl};
 ghost use Rattle.std.proofs.Common.{◌∙◌};
 ghost use Rattle.nl_io.specs.Count.{Rose};
-ghost use Rattle.nl_io.specs.Scripts.{called, all_faults, Passes, FailsListed, Starves};
+ghost use Rattle.nl_io.specs.Scripts.{called, all_faults, CallSucceeds, FailsListed, Starves};
 
 use crate::failed::Failed;
 use crate::script::{Faults, Script};
@@ -19,17 +19,17 @@ pub struct MemSink {
 }
 
 impl MemSink {
-    ghost use Rattle.nl_io.specs.MemSinks.{bytes_of, failing_of, calls_of, piece_of, faults_of};
+    ghost use Rattle.nl_io.specs.MemSinks.{sink_bytes, sink_failing, sink_calls, sink_piece, sink_faults};
 
     /// An empty sink. One call takes at most `piece` bytes. `failing` lists the numbers, from 0, of
     /// the calls of [`Sink`] that fail.
     pub fn make(alloc: Global, piece: usize, failing: &[u64]) -> Result<MemSink, AllocError>
         requires { 1 ≤ piece }
-        ensures empty { IfOk result (λ sink. bytes_of sink ≡ []) }
-        ensures piece { IfOk result (λ sink. piece_of sink ≡ piece) }
-        ensures failing { IfOk result (λ sink. failing_of sink ≡ failing.now) }
-        ensures calls { IfOk result (λ sink. calls_of sink ≡ 0) }
-        ensures faults { IfOk result (λ sink. faults_of sink ≡ record { listed = 0; starved = 0 }) }
+        ensures empty { IfOk result (λ sink. sink_bytes sink ≡ []) }
+        ensures piece { IfOk result (λ sink. sink_piece sink ≡ piece) }
+        ensures failing { IfOk result (λ sink. sink_failing sink ≡ failing.now) }
+        ensures calls { IfOk result (λ sink. sink_calls sink ≡ 0) }
+        ensures faults { IfOk result (λ sink. sink_faults sink ≡ record { listed = 0; starved = 0 }) }
     {
         let script = Script::make(alloc, failing)?;
         Ok(MemSink {
@@ -42,25 +42,25 @@ impl MemSink {
 
     /// The bytes taken so far.
     pub fn bytes(&self) -> &[u8]
-        ensures { result.now ≡ bytes_of self.now }
+        ensures { result.now ≡ sink_bytes self.now }
     {
         self.bytes.as_slice()
     }
 
     /// How many calls failed for want of memory.
     pub fn starved(&self) -> u64
-        ensures { result ≡ (faults_of self.now).starved }
+        ensures { result ≡ (sink_faults self.now).starved }
     {
         self.faults.starved()
     }
 }
 
 impl Sink for MemSink {
-    ghost use Rattle.nl_io.specs.MemSinks.{bytes_of, piece_of, script_of, faults_of, IsSameSink};
+    ghost use Rattle.nl_io.specs.MemSinks.{sink_bytes, sink_piece, sink_script, sink_faults, IsSameSink};
 
-    ghost put = { λ s. Some (bytes_of s) };
+    ghost put = { λ s. Some (sink_bytes s) };
 
-    ghost faults = { λ s. all_faults (faults_of s) };
+    ghost faults = { λ s. all_faults (sink_faults s) };
 
     ghost rest = { IsSameSink };
 
@@ -69,21 +69,22 @@ impl Sink for MemSink {
     ghost rest_then = { λ a b c first second. (second.0 ∙ first.0, second.1 ∙ first.1) };
 
     fn write(&mut self, bytes: &[u8]) -> Result<usize, Failed>
-        ensures amount { IfOk result (λ n. n ≡ min (piece_of self.old) (length bytes.now)) }
+        ensures amount { IfOk result (λ n. n ≡ min (sink_piece self.old) (length bytes.now)) }
         ensures within { IfOk result (λ n. n ≤ length bytes.now) }
         ensures some { IfOk result (λ n. 0 < length bytes.now → 0 < n) }
-        ensures taken { IfOk result (λ n. bytes_of self.new ≡ bytes_of self.old ++ take n bytes.now) }
-        ensures counted { OnOk result (all_faults (faults_of self.new) ≡ all_faults (faults_of self.old)) }
-        ensures cause { OnErr result (Rose (all_faults (faults_of self.old)) (all_faults (faults_of self.new))) }
-        ensures err { OnErr result (bytes_of self.new ≡ bytes_of self.old) }
-        ensures count { all_faults (faults_of self.old) ≤ all_faults (faults_of self.new) }
+        ensures taken { IfOk result (λ n. sink_bytes self.new ≡ sink_bytes self.old ++ take n bytes.now) }
+        ensures counted { OnOk result (all_faults (sink_faults self.new) ≡ all_faults (sink_faults self.old)) }
+        ensures cause { OnErr result (Rose (all_faults (sink_faults self.old)) (all_faults (sink_faults self.new))) }
+        ensures err { OnErr result (sink_bytes self.new ≡ sink_bytes self.old) }
+        ensures count { all_faults (sink_faults self.old) ≤ all_faults (sink_faults self.new) }
         ensures others { IsSameSink self.old self.new }
 
         // Which calls fail.
-        ensures number { script_of self.new ≡ called (script_of self.old) }
-        ensures passed { OnOk result (Passes (script_of self.old) (faults_of self.old) (faults_of self.new)) }
-        ensures failed { OnErr result (FailsListed (script_of self.old) (faults_of self.old) (faults_of self.new)
-            ⊎ Starves (script_of self.old) (faults_of self.old) (faults_of self.new)) }
+        ensures number { sink_script self.new ≡ called (sink_script self.old) }
+        ensures passed { OnOk result (CallSucceeds (sink_script self.old) (sink_faults self.old)
+            (sink_faults self.new)) }
+        ensures failed { OnErr result (FailsListed (sink_script self.old) (sink_faults self.old) (sink_faults self.new)
+            ⊎ Starves (sink_script self.old) (sink_faults self.old) (sink_faults self.new)) }
     {
         if self.script.next_call() {
             return Err(self.faults.fail());

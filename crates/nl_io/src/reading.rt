@@ -2,20 +2,20 @@ ghost use Rattle.std.specs.Prelude.{◌≡◌, ◌<◌, ◌≤◌, [], min, leng
 
 /// A file that is being read: its bytes as it was opened, and how many of them came.
 #[derive(Drop)]
-pub(crate) struct Reading {
+pub(crate) struct MemReading {
     bytes: Vec<u8>,
     at: usize,
     ghost within: { at ≤ vec_len bytes },
 }
 
-impl Reading {
+impl MemReading {
     ghost use Rattle.nl_io.specs.Readings.{left_of};
 
     /// At its first byte.
-    pub(crate) fn new(bytes: Vec<u8>) -> Reading
+    pub(crate) fn new(bytes: Vec<u8>) -> MemReading
         ensures { left_of result ≡ bytes.items }
     {
-        Reading { bytes, at: 0 }
+        MemReading { bytes, at: 0 }
     }
 
     /// Moves bytes to the front of `into`, at most `most`, and answers how many.

@@ -5,14 +5,14 @@ ghost use Rattle.nl_io.specs.Readings.{left_in};
 ghost use Rattle.nl_io.specs.Titles.{titles_in};
 
 use crate::open_ids::insert_unused;
-use crate::reading::Reading;
+use crate::reading::MemReading;
 use std::alloc::{AllocError, Global};
 use std::collections::BTreeMap;
 
 /// Opens a copy of these bytes, under an id that neither table has.
 pub(crate) fn open_copy(
     alloc: Global,
-    table: &mut BTreeMap<u32, Reading>,
+    table: &mut BTreeMap<u32, MemReading>,
     made: &BTreeMap<u32, String>,
     bytes: &[u8],
 ) -> Result<u32, AllocError>
@@ -22,12 +22,12 @@ pub(crate) fn open_copy(
     ensures err { OnErr result (left_in table.new ≡ left_in table.old) }
 {
     let bytes = Vec::from_slice(alloc, bytes)?;
-    insert_unused(table, made, Reading::new(bytes))
+    insert_unused(table, made, MemReading::new(bytes))
 }
 
 /// Moves bytes of an open file to the front of `into`, at most `most`, and answers how many.
 pub(crate) fn take_from(
-    table: &mut BTreeMap<u32, Reading>,
+    table: &mut BTreeMap<u32, MemReading>,
     id: u32,
     most: usize,
     into: &mut [u8],

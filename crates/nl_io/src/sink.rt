@@ -1,4 +1,4 @@
-ghost use Rattle.std.specs.Prelude.{◌≡◌, ◌<◌, ◌≤◌, ◌++◌, ℕ, List, [], length, take, IfOk, OnOk, OnErr};
+ghost use Rattle.std.specs.Prelude.{◌≡◌, ◌≢◌, ◌<◌, ◌≤◌, ◌++◌, ℕ, List, [], length, take, IfOk, OnOk, OnErr};
 ghost use Rattle.nl_io.specs.Count.{Rose};
 ghost use Rattle.nl_io.specs.Content.{Told, with_end, PutsFront};
 
@@ -44,6 +44,9 @@ pub fn write_all<K: Sink>(sink: &mut K, bytes: &[u8]) -> Result<(), Failed>
     ensures err { OnErr result (PutsFront bytes.now (K.put sink.old) (K.put sink.new)) }
     ensures count { K.faults sink.old ≤ K.faults sink.new }
     ensures others { K.rest sink.old sink.new }
+
+    // No sink refuses to take nothing.
+    ensures some { OnErr result (bytes.now ≢ []) }
 {
     let mut done = 0;
     while done < bytes.len() {

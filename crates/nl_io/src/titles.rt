@@ -4,7 +4,7 @@ ghost use Rattle.nl_io.specs.Readings.{left_in};
 ghost use Rattle.nl_io.specs.Titles.{titles_in};
 
 use crate::open_ids::insert_unused;
-use crate::reading::Reading;
+use crate::reading::MemReading;
 use std::alloc::{AllocError, Global};
 use std::collections::BTreeMap;
 
@@ -12,7 +12,7 @@ use std::collections::BTreeMap;
 pub(crate) fn keep_title(
     alloc: Global,
     made: &mut BTreeMap<u32, String>,
-    reading: &BTreeMap<u32, Reading>,
+    reading: &BTreeMap<u32, MemReading>,
     name: &str,
 ) -> Result<u32, AllocError>
     ensures unmade { IfOk result (λ id. map.get (titles_in made.old) id ≡ None) }

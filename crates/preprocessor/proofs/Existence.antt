@@ -11,10 +11,10 @@ use Rattle.log_dictionary.proofs.Distinct.{none_from_test}
 use Rattle.source_scan.specs.declared.found.Found.{Found}
 use Rattle.source_scan.specs.Statements.{Statements}
 use Rattle.source_scan.specs.declared.statement.TheConstants.{MAX_SOURCE}
-use Rattle.preprocessor.specs.declared.refusal.Refusal.{Refusal}
+use Rattle.preprocessor.specs.declared.refusal.SourceRefusal.{SourceRefusal}
 use Rattle.preprocessor.specs.Findings.{SourceFile, Finding, large_refusal, HasFindings, AllHave, sources_of}
 use Rattle.preprocessor.specs.Findings.HasFindings.{too_large, scanned}
-use Rattle.preprocessor.specs.Numbering.{messages_of, firsts, numbered, refusals_of, excess_refusal, StopsAt, Numbered, Refusals}
+use Rattle.preprocessor.specs.Numbering.{stated_messages, firsts, numbered, refusals_of, excess_refusal, IsFullAt, Numbered, Refusals}
 use Rattle.preprocessor.specs.Numbering.Refusals.{all_read, stopped}
 use Rattle.preprocessor.proofs.Behind.{one_longer}
 use Rattle.preprocessor.proofs.Finding.{have_findings, statements_are_named}
@@ -73,7 +73,7 @@ some_all_have (file ∷ files) lists =
 
 -- findings with a front that a statement stops
 abbrev Stop : List Finding → Type 0
-Stop findings = (front : List Finding) × (message : Message) × StopsAt findings front message
+Stop findings = (front : List Finding) × (message : Message) × IsFullAt findings front message
 
 -- where one finding more at the front makes too few messages still, the stop is behind it
 abbrev Onward : List Finding → Finding → List Finding → Type 0
@@ -84,13 +84,13 @@ by_statement : (front rest : List Finding) (message : Message) → length (numbe
     → Onward front (Finding.stated message) rest → Stop (front ++ Finding.stated message ∷ rest)
 by_statement front rest message few onward = by_test (list_any (is_same message) (numbered front)) refl
   where
-    pushed : numbered (front ++ Finding.stated message ∷ []) ≡ firsts (messages_of front ++ message ∷ [])
+    pushed : numbered (front ++ Finding.stated message ∷ []) ≡ firsts (stated_messages front ++ message ∷ [])
     pushed = ap firsts (messages-push front (Finding.stated message))
 
     by_room : (room : Bool) → nat_le (length (numbered front) + 1) MAX_MESSAGES ≡ room
         → list_any (is_same message) (numbered front) ≡ false → Stop (front ++ Finding.stated message ∷ rest)
     by_room true e new =
-        let longer = ap length pushed ∙ one_longer (messages_of front) message (none_from_test (numbered front) message new) in
+        let longer = ap length pushed ∙ one_longer (stated_messages front) message (none_from_test (numbered front) message new) in
         let within = leb-true (length (numbered front) + 1) MAX_MESSAGES e in
         onward (omega (arith, longer, within))
     by_room false e new =
@@ -108,7 +108,7 @@ by_statement front rest message few onward = by_test (list_any (is_same message)
     by_test : (there : Bool) → list_any (is_same message) (numbered front) ≡ there → Stop (front ++ Finding.stated message ∷ rest)
     by_test true e =
         let same : numbered (front ++ Finding.stated message ∷ []) ≡ numbered front =
-        pushed ∙ firsts-push (messages_of front) message ∙ ap (λ (b : Bool). with_new b (numbered front) message) e in
+        pushed ∙ firsts-push (stated_messages front) message ∙ ap (λ (b : Bool). with_new b (numbered front) message) e in
         onward (subst (λ (l : List Message). length l ≤ MAX_MESSAGES) (sym same) few)
     by_test false e = by_room (nat_le (length (numbered front) + 1) MAX_MESSAGES) refl e
 
@@ -116,7 +116,7 @@ by_one : (front rest : List Finding) (one : Finding) → length (numbered front)
     → Stop (front ++ one ∷ rest)
 by_one front rest (Finding.stated message) few onward = by_statement front rest message few onward
 by_one front rest (Finding.refused refusal) few onward =
-    let same = messages-push front (Finding.refused refusal) ∙ append-nil (messages_of front) in
+    let same = messages-push front (Finding.refused refusal) ∙ append-nil (stated_messages front) in
     onward (subst (λ (l : List Message). length (firsts l) ≤ MAX_MESSAGES) (sym same) few)
 
 -- findings with too many messages are stopped behind each front with few enough
@@ -133,12 +133,12 @@ stop_behind front (one ∷ rest) few many =
 -- ---- sources
 
 some_refusals : (files : List SourceFile) (findings : List Finding) → AllHave files findings
-    → (refusals : List Refusal) × Refusals files refusals
+    → (refusals : List SourceRefusal) × Refusals files refusals
 unfolding firsts
 some_refusals files findings have = by_count (nat_le (length (numbered findings)) MAX_MESSAGES) refl
   where
     by_count : (few : Bool) → nat_le (length (numbered findings)) MAX_MESSAGES ≡ few
-        → (refusals : List Refusal) × Refusals files refusals
+        → (refusals : List SourceRefusal) × Refusals files refusals
     by_count true e =
         (refusals_of findings, all_read findings have (leb-true (length (numbered findings)) MAX_MESSAGES e) refl)
     by_count false e =
@@ -153,7 +153,7 @@ pub sources_are_numbered : (files : List SourceFile) → All HasList (sources_of
 sources_are_numbered files lists =
     let (findings, have) = some_all_have files lists in (
       numbered findings,
-      length (messages_of findings),
+      length (stated_messages findings),
       record {
         findings = findings;
         have = have;
@@ -163,7 +163,7 @@ sources_are_numbered files lists =
     )
 
 pub sources_have_refusals : (files : List SourceFile) → All HasList (sources_of files)
-    → (refusals : List Refusal) × Refusals files refusals
+    → (refusals : List SourceRefusal) × Refusals files refusals
 sources_have_refusals files lists =
     let (findings, have) = some_all_have files lists in
     some_refusals files findings have

@@ -14,7 +14,7 @@ use Rattle.source_scan.specs.declared.found.Statement.{Statement}
 use Rattle.source_scan.specs.declared.found.BadStatement.{BadStatement}
 use Rattle.preprocessor.specs.declared.numbering.Numbering.{Numbering}
 use Rattle.preprocessor.specs.Findings.{Finding, IsMessageOf, bad_refusal, IsFinding, IsNamed, AreFindings}
-use Rattle.preprocessor.specs.Numbering.{Holds}
+use Rattle.preprocessor.specs.Numbering.{HoldsFindings}
 
 -- ---- names
 
@@ -71,17 +71,17 @@ same_finding statement message (Finding.stated other) is also =
     ap Finding.stated (same_message other message (also.file ∙ sym is.file) (also.line ∙ sym is.line) (also.severity ∙ sym is.severity) (also.format ∙ sym is.format))
 same_finding statement message (Finding.refused refusal) is also = absurd also
 
-pub statement_held : (one : Found) (statement : Statement) (message : Message) (now next : Numbering) → one ≡ found.Statement statement → IsMessageOf statement message → ((before : List Finding) → Holds before now → Holds (before ++ Finding.stated message ∷ []) next)
-    → (before : List Finding) (finding : Finding) → IsFinding one finding → Holds before now → Holds (before ++ finding ∷ []) next
+pub statement_held : (one : Found) (statement : Statement) (message : Message) (now next : Numbering) → one ≡ found.Statement statement → IsMessageOf statement message → ((before : List Finding) → HoldsFindings before now → HoldsFindings (before ++ Finding.stated message ∷ []) next)
+    → (before : List Finding) (finding : Finding) → IsFinding one finding → HoldsFindings before now → HoldsFindings (before ++ finding ∷ []) next
 statement_held one statement message now next one_is is holds before finding also held =
-    subst (λ (last : Finding). Holds (before ++ last ∷ []) next) (sym (same_finding statement message finding is (subst (λ (f : Found). IsFinding f finding) one_is also))) (holds before held)
+    subst (λ (last : Finding). HoldsFindings (before ++ last ∷ []) next) (sym (same_finding statement message finding is (subst (λ (f : Found). IsFinding f finding) one_is also))) (holds before held)
 
 -- a bad one has one refusal
 same_refusal : (bad : BadStatement) (finding : Finding) → IsFinding (found.Bad bad) finding → finding ≡ Finding.refused (bad_refusal bad)
 same_refusal bad (Finding.stated message) is = absurd is
 same_refusal bad (Finding.refused refusal) is = ap Finding.refused is
 
-pub bad_held : (one : Found) (bad : BadStatement) (now next : Numbering) → one ≡ found.Bad bad → ((before : List Finding) → Holds before now → Holds (before ++ Finding.refused (bad_refusal bad) ∷ []) next)
-    → (before : List Finding) (finding : Finding) → IsFinding one finding → Holds before now → Holds (before ++ finding ∷ []) next
+pub bad_held : (one : Found) (bad : BadStatement) (now next : Numbering) → one ≡ found.Bad bad → ((before : List Finding) → HoldsFindings before now → HoldsFindings (before ++ Finding.refused (bad_refusal bad) ∷ []) next)
+    → (before : List Finding) (finding : Finding) → IsFinding one finding → HoldsFindings before now → HoldsFindings (before ++ finding ∷ []) next
 bad_held one bad now next one_is holds before finding is held =
-    subst (λ (last : Finding). Holds (before ++ last ∷ []) next) (sym (same_refusal bad finding (subst (λ (f : Found). IsFinding f finding) one_is is))) (holds before held)
+    subst (λ (last : Finding). HoldsFindings (before ++ last ∷ []) next) (sym (same_refusal bad finding (subst (λ (f : Found). IsFinding f finding) one_is is))) (holds before held)

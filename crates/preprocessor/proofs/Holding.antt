@@ -11,24 +11,24 @@ use Rattle.log_dictionary.specs.declared.dictionary.AddFault.TheVariants.{TooMan
 use Rattle.log_dictionary.specs.Messages.{HasMessage}
 use Rattle.log_dictionary.specs.Additions.{IsAdded}
 use Rattle.preprocessor.specs.declared.numbering.Numbering.{Numbering}
-use Rattle.preprocessor.specs.declared.refusal.Refusal.{Refusal}
+use Rattle.preprocessor.specs.declared.refusal.SourceRefusal.{SourceRefusal}
 use Rattle.preprocessor.specs.Findings.{Finding}
-use Rattle.preprocessor.specs.Numbering.{finding_messages, messages_of, finding_refusals, refusals_of, firsts, numbered, excess_refusal, StopsAt, HoldsAll, Holds}
+use Rattle.preprocessor.specs.Numbering.{finding_messages, stated_messages, finding_refusals, refusals_of, firsts, numbered, excess_refusal, IsFullAt, HoldsAllFindings, HoldsFindings}
 use Rattle.preprocessor.proofs.Firsts.{added_is_first}
 
-pub messages-push : (findings : List Finding) (finding : Finding) → messages_of (findings ++ finding ∷ []) ≡ messages_of findings ++ finding_messages finding
-messages-push findings finding = flat_map-append finding_messages findings (finding ∷ []) ∙ ap (λ (l : List Message). messages_of findings ++ l) (append-nil (finding_messages finding))
+pub messages-push : (findings : List Finding) (finding : Finding) → stated_messages (findings ++ finding ∷ []) ≡ stated_messages findings ++ finding_messages finding
+messages-push findings finding = flat_map-append finding_messages findings (finding ∷ []) ∙ ap (λ (l : List Message). stated_messages findings ++ l) (append-nil (finding_messages finding))
 
 refusals-push : (findings : List Finding) (finding : Finding) → refusals_of (findings ++ finding ∷ []) ≡ refusals_of findings ++ finding_refusals finding
-refusals-push findings finding = flat_map-append finding_refusals findings (finding ∷ []) ∙ ap (λ (l : List Refusal). refusals_of findings ++ l) (append-nil (finding_refusals finding))
+refusals-push findings finding = flat_map-append finding_refusals findings (finding ∷ []) ∙ ap (λ (l : List SourceRefusal). refusals_of findings ++ l) (append-nil (finding_refusals finding))
 
 -- a numbering that goes on holds all
-all_held : (findings : List Finding) (now : Numbering) → now.is_stopped ≡ false → Holds findings now → HoldsAll findings now
+all_held : (findings : List Finding) (now : Numbering) → now.is_stopped ≡ false → HoldsFindings findings now → HoldsAllFindings findings now
 all_held findings now goes_on (inl all) = all
 all_held findings now goes_on (inr front) = absurd (false≢true (sym goes_on ∙ front.stopped))
 
 -- a stop is the same with more behind
-pub stops_later : (findings front : List Finding) (message : Message) → StopsAt findings front message → (more : List Finding) → StopsAt (findings ++ more) front message
+pub stops_later : (findings front : List Finding) (message : Message) → IsFullAt findings front message → (more : List Finding) → IsFullAt (findings ++ more) front message
 stops_later findings front message stops more =
     record {
       rest = stops.rest ++ more;
@@ -38,7 +38,7 @@ stops_later findings front message stops more =
     }
 
 -- one that is stopped holds the same with more behind
-pub still_stopped : (findings more : List Finding) (now : Numbering) → now.is_stopped ≡ true → Holds findings now → Holds (findings ++ more) now
+pub still_stopped : (findings more : List Finding) (now : Numbering) → now.is_stopped ≡ true → HoldsFindings findings now → HoldsFindings (findings ++ more) now
 still_stopped findings more now stopped (inl all) = absurd (false≢true (sym all.goes_on ∙ stopped))
 still_stopped findings more now stopped (inr front) =
     inr (record {
@@ -51,16 +51,16 @@ still_stopped findings more now stopped (inr front) =
       stopped = front.stopped;
     })
 
-pub refused_held : (findings : List Finding) (refusal : Refusal) (now next : Numbering) → now.is_stopped ≡ false → next.dictionary ≡ now.dictionary → next.statements ≡ now.statements
-    → next.refusals.items ≡ now.refusals.items ++ refusal ∷ [] → next.is_stopped ≡ now.is_stopped → Holds findings now → Holds (findings ++ Finding.refused refusal ∷ []) next
+pub refused_held : (findings : List Finding) (refusal : SourceRefusal) (now next : Numbering) → now.is_stopped ≡ false → next.dictionary ≡ now.dictionary → next.statements ≡ now.statements
+    → next.refusals.items ≡ now.refusals.items ++ refusal ∷ [] → next.is_stopped ≡ now.is_stopped → HoldsFindings findings now → HoldsFindings (findings ++ Finding.refused refusal ∷ []) next
 refused_held findings refusal now next goes_on dictionary statements refusals is_stopped held =
     let all = all_held findings now goes_on held in
-    let same : messages_of (findings ++ Finding.refused refusal ∷ []) ≡ messages_of findings = messages-push findings (Finding.refused refusal) ∙ append-nil (messages_of findings) in
+    let same : stated_messages (findings ++ Finding.refused refusal ∷ []) ≡ stated_messages findings = messages-push findings (Finding.refused refusal) ∙ append-nil (stated_messages findings) in
     inl (record {
       few = subst (λ (l : List Message). length (firsts l) ≤ MAX_MESSAGES) (sym same) all.few;
       messages = dictionary ∙ all.messages ∙ ap firsts (sym same);
       statements = statements ∙ all.statements ∙ ap length (sym same);
-      refusals = refusals ∙ ap (λ (l : List Refusal). l ++ refusal ∷ []) all.refusals ∙ sym (refusals-push findings (Finding.refused refusal));
+      refusals = refusals ∙ ap (λ (l : List SourceRefusal). l ++ refusal ∷ []) all.refusals ∙ sym (refusals-push findings (Finding.refused refusal));
       goes_on = is_stopped ∙ goes_on;
     })
 
@@ -73,23 +73,23 @@ within before after message (New id) few room is =
     omega (arith, not_full, grown, few)
 
 pub stated_held : (findings : List Finding) (message : Message) (now next : Numbering) (added : Added) → now.is_stopped ≡ false → IsAdded now.dictionary message next.dictionary added
-    → (¬ (HasMessage now.dictionary message) → ¬ (length now.dictionary ≡ MAX_MESSAGES)) → next.statements ≡ now.statements + 1 → next.refusals.items ≡ now.refusals.items → next.is_stopped ≡ now.is_stopped → Holds findings now
-    → Holds (findings ++ Finding.stated message ∷ []) next
+    → (¬ (HasMessage now.dictionary message) → ¬ (length now.dictionary ≡ MAX_MESSAGES)) → next.statements ≡ now.statements + 1 → next.refusals.items ≡ now.refusals.items → next.is_stopped ≡ now.is_stopped → HoldsFindings findings now
+    → HoldsFindings (findings ++ Finding.stated message ∷ []) next
 stated_held findings message now next added goes_on is room statements refusals is_stopped held =
     let all = all_held findings now goes_on held in
-    let more : messages_of (findings ++ Finding.stated message ∷ []) ≡ messages_of findings ++ message ∷ [] = messages-push findings (Finding.stated message) in
-    let is_first : IsAdded (firsts (messages_of findings)) message next.dictionary added = subst (λ (l : List Message). IsAdded l message next.dictionary added) all.messages is in
-    let dictionary : next.dictionary ≡ numbered (findings ++ Finding.stated message ∷ []) = added_is_first (messages_of findings) next.dictionary message added is_first ∙ ap firsts (sym more) in
+    let more : stated_messages (findings ++ Finding.stated message ∷ []) ≡ stated_messages findings ++ message ∷ [] = messages-push findings (Finding.stated message) in
+    let is_first : IsAdded (firsts (stated_messages findings)) message next.dictionary added = subst (λ (l : List Message). IsAdded l message next.dictionary added) all.messages is in
+    let dictionary : next.dictionary ≡ numbered (findings ++ Finding.stated message ∷ []) = added_is_first (stated_messages findings) next.dictionary message added is_first ∙ ap firsts (sym more) in
     inl (record {
       few = subst (λ (l : List Message). length l ≤ MAX_MESSAGES) dictionary (within now.dictionary next.dictionary message added (subst (λ (l : List Message). length l ≤ MAX_MESSAGES) (sym all.messages) all.few) room is);
       messages = dictionary;
-      statements = statements ∙ ap (λ (n : ℕ). n + 1) all.statements ∙ sym (length-append (messages_of findings) (message ∷ [])) ∙ ap length (sym more);
+      statements = statements ∙ ap (λ (n : ℕ). n + 1) all.statements ∙ sym (length-append (stated_messages findings) (message ∷ [])) ∙ ap length (sym more);
       refusals = refusals ∙ all.refusals ∙ sym (append-nil (refusals_of findings)) ∙ sym (refusals-push findings (Finding.stated message));
       goes_on = is_stopped ∙ goes_on;
     })
 
 pub excess_held : (findings : List Finding) (message : Message) (now next : Numbering) → now.is_stopped ≡ false → ¬ (HasMessage now.dictionary message) → length now.dictionary ≡ MAX_MESSAGES → next.dictionary ≡ now.dictionary → next.statements ≡ now.statements
-    → next.refusals.items ≡ now.refusals.items ++ excess_refusal message ∷ [] → next.is_stopped ≡ true → Holds findings now → Holds (findings ++ Finding.stated message ∷ []) next
+    → next.refusals.items ≡ now.refusals.items ++ excess_refusal message ∷ [] → next.is_stopped ≡ true → HoldsFindings findings now → HoldsFindings (findings ++ Finding.stated message ∷ []) next
 excess_held findings message now next goes_on new full dictionary statements refusals stopped held =
     let all = all_held findings now goes_on held in
     inr (record {
@@ -103,7 +103,7 @@ excess_held findings message now next goes_on new full dictionary statements ref
       };
       messages = dictionary ∙ all.messages;
       statements = statements ∙ all.statements;
-      refusals = refusals ∙ ap (λ (l : List Refusal). l ++ excess_refusal message ∷ []) all.refusals;
+      refusals = refusals ∙ ap (λ (l : List SourceRefusal). l ++ excess_refusal message ∷ []) all.refusals;
       stopped = stopped;
     })
 

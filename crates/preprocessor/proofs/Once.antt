@@ -8,10 +8,10 @@ use Rattle.log_dictionary.proofs.SameMessages.{same_message}
 use Rattle.source_scan.specs.declared.found.Found.{Found}
 use Rattle.source_scan.specs.declared.found.Found.TheVariants as found
 use Rattle.source_scan.proofs.Unique.{statements_once}
-use Rattle.preprocessor.specs.declared.refusal.Refusal.{Refusal}
+use Rattle.preprocessor.specs.declared.refusal.SourceRefusal.{SourceRefusal}
 use Rattle.preprocessor.specs.Findings.{SourceFile, Finding, IsFinding, AreFindings, HasFindings, AllHave}
 use Rattle.preprocessor.specs.Findings.HasFindings.{too_large, scanned}
-use Rattle.preprocessor.specs.Numbering.{finding_messages, messages_of, refusals_of, firsts, numbered, excess_refusal, StopsAt, Refusals}
+use Rattle.preprocessor.specs.Numbering.{finding_messages, stated_messages, refusals_of, firsts, numbered, excess_refusal, IsFullAt, Refusals}
 use Rattle.preprocessor.specs.Numbering.Refusals.{all_read, stopped}
 use Rattle.preprocessor.proofs.Behind.{head_same, cancel, fronts_meet, grown_behind, one_longer}
 use Rattle.preprocessor.proofs.Holding.{stops_later}
@@ -57,12 +57,12 @@ have_front (file ∷ read) unread findings (first, others, joined, is, later) =
 -- with its statement there are more messages than a dictionary takes, however the findings go on
 past_full : (front : List Finding) (message : Message) (rest : List Finding) → length (numbered front) ≡ MAX_MESSAGES → ¬ (HasMessage (numbered front) message) → MAX_MESSAGES + 1 ≤ length (numbered (front ++ Finding.stated message ∷ rest))
 past_full front message rest full new =
-    let longer = one_longer (messages_of front) message new in
-    let behind = grown_behind (messages_of front ++ message ∷ []) (messages_of rest) in
-    let joined : messages_of (front ++ Finding.stated message ∷ rest) ≡ (messages_of front ++ message ∷ []) ++ messages_of rest = flat_map-append finding_messages front (Finding.stated message ∷ rest) ∙ sym (append_assoc (messages_of front) (message ∷ []) (messages_of rest)) in
+    let longer = one_longer (stated_messages front) message new in
+    let behind = grown_behind (stated_messages front ++ message ∷ []) (stated_messages rest) in
+    let joined : stated_messages (front ++ Finding.stated message ∷ rest) ≡ (stated_messages front ++ message ∷ []) ++ stated_messages rest = flat_map-append finding_messages front (Finding.stated message ∷ rest) ∙ sym (append_assoc (stated_messages front) (message ∷ []) (stated_messages rest)) in
     subst (λ (l : List Message). MAX_MESSAGES + 1 ≤ length (firsts l)) (sym joined) (omega (arith, longer, behind, full))
 
-stops_past : (findings front : List Finding) (message : Message) → StopsAt findings front message → (more : List Finding) → MAX_MESSAGES + 1 ≤ length (numbered (findings ++ more))
+stops_past : (findings front : List Finding) (message : Message) → IsFullAt findings front message → (more : List Finding) → MAX_MESSAGES + 1 ≤ length (numbered (findings ++ more))
 stops_past findings front message stops more =
     subst (λ (l : List Finding). MAX_MESSAGES + 1 ≤ length (numbered l)) (sym (ap (λ (l : List Finding). l ++ more) stops.joined ∙ append_assoc front (Finding.stated message ∷ stops.rest) more))
     (past_full front message (stops.rest ++ more) stops.full stops.new)
@@ -79,7 +79,7 @@ message_in other (Finding.stated message) = message
 message_in other (Finding.refused refusal) = other
 
 -- one stop is at the other, where its front goes on from the other's
-stops_with : (findings front other : List Finding) (message last : Message) (a : StopsAt findings front message) (b : StopsAt findings other last) (more : List Finding) → other ≡ front ++ more → (front ≡ other) × (message ≡ last)
+stops_with : (findings front other : List Finding) (message last : Message) (a : IsFullAt findings front message) (b : IsFullAt findings other last) (more : List Finding) → other ≡ front ++ more → (front ≡ other) × (message ≡ last)
 stops_with findings front other message last a b more is =
     by_more more is (cancel front (Finding.stated message ∷ a.rest) (more ++ Finding.stated last ∷ b.rest) (sym a.joined ∙ b.joined ∙ ap (λ (l : List Finding). l ++ Finding.stated last ∷ b.rest) is ∙ append_assoc front more (Finding.stated last ∷ b.rest)))
   where
@@ -88,7 +88,7 @@ stops_with findings front other message last a b more is =
     by_more (one ∷ more) is e =
         absurd (not_behind front more message other a.full a.new (is ∙ ap (λ (f : Finding). front ++ f ∷ more) (sym (head_same (Finding.stated message) one a.rest (more ++ Finding.stated last ∷ b.rest) e))) b.full)
 
-stops_once : (findings front other : List Finding) (message last : Message) → StopsAt findings front message → StopsAt findings other last → (front ≡ other) × (message ≡ last)
+stops_once : (findings front other : List Finding) (message last : Message) → IsFullAt findings front message → IsFullAt findings other last → (front ≡ other) × (message ≡ last)
 stops_once findings front other message last a b = by_meeting (fronts_meet front other (Finding.stated message ∷ a.rest) (Finding.stated last ∷ b.rest) (sym a.joined ∙ b.joined))
   where
     by_meeting : ((more : List Finding) × (other ≡ front ++ more)) ⊎ ((more : List Finding) × (front ≡ other ++ more)) → (front ≡ other) × (message ≡ last)
@@ -100,7 +100,7 @@ stops_once findings front other message last a b = by_meeting (fronts_meet front
 -- ---- refusals
 
 -- sources that are stopped at have more messages than a dictionary takes
-all_or_stopped : (read unread : List SourceFile) (findings found front : List Finding) (message : Message) → AllHave (read ++ unread) findings → AllHave read found → StopsAt found front message → length (numbered findings) ≤ MAX_MESSAGES → ⊥
+all_or_stopped : (read unread : List SourceFile) (findings found front : List Finding) (message : Message) → AllHave (read ++ unread) findings → AllHave read found → IsFullAt found front message → length (numbered findings) ≤ MAX_MESSAGES → ⊥
 all_or_stopped read unread findings found front message have first stops few =
     let parts = have_front read unread findings have in
     let is : findings ≡ found ++ parts.1 = parts.2 ∙ ap (λ (l : List Finding). l ++ parts.1) (all_have_once read parts.0 found parts.3 first) in
@@ -109,17 +109,17 @@ all_or_stopped read unread findings found front message have first stops few =
     absurd (omega (arith, past, same, few))
 
 -- a stop is the same where more sources are read
-stopped_same : (read more : List SourceFile) (findings found front other : List Finding) (message last : Message) → AllHave read findings → AllHave (read ++ more) found → StopsAt findings front message → StopsAt found other last → (front ≡ other) × (message ≡ last)
+stopped_same : (read more : List SourceFile) (findings found front other : List Finding) (message last : Message) → AllHave read findings → AllHave (read ++ more) found → IsFullAt findings front message → IsFullAt found other last → (front ≡ other) × (message ≡ last)
 stopped_same read more findings found front other message last have all a b =
     let parts = have_front read more found all in
     let is : findings ++ parts.1 ≡ found = ap (λ (l : List Finding). l ++ parts.1) (all_have_once read findings parts.0 have parts.3) ∙ sym parts.2 in
-    stops_once found front other message last (subst (λ (l : List Finding). StopsAt l front message) is (stops_later findings front message a parts.1)) b
+    stops_once found front other message last (subst (λ (l : List Finding). IsFullAt l front message) is (stops_later findings front message a parts.1)) b
 
 excess_same : (front other : List Finding) (message last : Message) → (front ≡ other) × (message ≡ last) → refusals_of front ++ excess_refusal message ∷ [] ≡ refusals_of other ++ excess_refusal last ∷ []
 excess_same front other message last same = ap (λ (l : List Finding). refusals_of l ++ excess_refusal message ∷ []) same.0 ∙ ap (λ (m : Message). refusals_of other ++ excess_refusal m ∷ []) same.1
 
 -- sources have one list of refusals
-pub refusals_once : (files : List SourceFile) (a b : List Refusal) → Refusals files a → Refusals files b → a ≡ b
+pub refusals_once : (files : List SourceFile) (a b : List SourceRefusal) → Refusals files a → Refusals files b → a ≡ b
 refusals_once files a b (all_read findings have few is) (all_read found also_have also_few also) = is ∙ ap refusals_of (all_have_once files findings found have also_have) ∙ sym also
 refusals_once files a b (all_read findings have few is) (stopped read unread found joined first front message stops also) =
     absurd (all_or_stopped read unread findings found front message (subst (λ (l : List SourceFile). AllHave l findings) joined have) first stops few)

@@ -7,30 +7,30 @@ use Rattle.log_dictionary.specs.declared.message.Message.{Message}
 use Rattle.log_dictionary.specs.Messages.{SameMessage, is_same, HasMessage}
 use Rattle.log_dictionary.proofs.Distinct.{test_from_same, there_from_test}
 use Rattle.preprocessor.specs.declared.numbering.Numbering.{Numbering}
-use Rattle.preprocessor.specs.declared.refusal.Refusal.{Refusal}
+use Rattle.preprocessor.specs.declared.refusal.SourceRefusal.{SourceRefusal}
 use Rattle.preprocessor.specs.Findings.{SourceFile, Finding, AllHave}
-use Rattle.preprocessor.specs.Numbering.{messages_of, numbered, firsts, IsFirstAt, StandFirst, refusals_of, excess_refusal, Numbered, Refusals, Numbers}
+use Rattle.preprocessor.specs.Numbering.{stated_messages, numbered, firsts, IsFirstAt, StandFirst, refusals_of, excess_refusal, Numbered, Refusals, NumbersSources}
 use Rattle.preprocessor.proofs.Firsts.{among_others, others}
 use Rattle.preprocessor.proofs.Once.{all_have_once}
 
 -- its refusals are those of the sources
-pub numbering_refuses : (files : List SourceFile) (numbering : Numbering) → Numbers files numbering → Refusals files numbering.refusals.items
-numbering_refuses files numbering (Numbers.all_read findings have holds) = Refusals.all_read findings have holds.few holds.refusals
-numbering_refuses files numbering (Numbers.stopped read unread findings joined have holds) = Refusals.stopped read unread findings joined have holds.front holds.message holds.stops holds.refusals
+pub numbering_refuses : (files : List SourceFile) (numbering : Numbering) → NumbersSources files numbering → Refusals files numbering.refusals.items
+numbering_refuses files numbering (NumbersSources.all_read findings have holds) = Refusals.all_read findings have holds.few holds.refusals
+numbering_refuses files numbering (NumbersSources.stopped read unread findings joined have holds) = Refusals.stopped read unread findings joined have holds.front holds.message holds.stops holds.refusals
 
-not_empty : (list : List Refusal) (last : Refusal) → list ++ last ∷ [] ≡ [] → ⊥
+not_empty : (list : List SourceRefusal) (last : SourceRefusal) → list ++ last ∷ [] ≡ [] → ⊥
 not_empty list last e = let longer = length-append list (last ∷ []) in let none = ap length e in absurd (omega (arith, longer, none))
 
 -- where it refuses nothing, its messages are those of the sources
-pub numbering_numbers : (files : List SourceFile) (numbering : Numbering) → Numbers files numbering → numbering.refusals.items ≡ [] → Numbered files numbering.dictionary numbering.statements
-numbering_numbers files numbering (Numbers.all_read findings have holds) none = record { findings = findings; have = have; messages_are = holds.messages; statements_are = holds.statements }
-numbering_numbers files numbering (Numbers.stopped read unread findings joined have holds) none = absurd (not_empty (refusals_of holds.front) (excess_refusal holds.message) (sym holds.refusals ∙ none))
+pub numbering_numbers : (files : List SourceFile) (numbering : Numbering) → NumbersSources files numbering → numbering.refusals.items ≡ [] → Numbered files numbering.dictionary numbering.statements
+numbering_numbers files numbering (NumbersSources.all_read findings have holds) none = record { findings = findings; have = have; messages_are = holds.messages; statements_are = holds.statements }
+numbering_numbers files numbering (NumbersSources.stopped read unread findings joined have holds) none = absurd (not_empty (refusals_of holds.front) (excess_refusal holds.message) (sym holds.refusals ∙ none))
 
 -- sources have one list of messages and one number of statements
 pub numbered_once : (files : List SourceFile) (messages others : List Message) (n m : ℕ) → Numbered files messages n → Numbered files others m → (messages ≡ others) × (n ≡ m)
 numbered_once files messages others n m a b =
     let same = all_have_once files a.findings b.findings a.have b.have in
-    (a.messages_are ∙ ap numbered same ∙ sym b.messages_are, a.statements_are ∙ ap (λ (l : List Finding). length (messages_of l)) same ∙ sym b.statements_are)
+    (a.messages_are ∙ ap numbered same ∙ sym b.messages_are, a.statements_are ∙ ap (λ (l : List Finding). length (stated_messages l)) same ∙ sym b.statements_are)
 
 -- ---- each message has a number
 
@@ -49,10 +49,10 @@ passes (first ∷ messages) (suc k) message within is = by_test (is_same message
     by_test false e later = ap (λ (b : Bool). b || list_any (is_same message) (others first (firsts messages))) e ∙ among_others first message (firsts messages) e ∙ later
 
 -- the message of each statement is among those of the sources
-pub numbered_has : (files : List SourceFile) (messages : List Message) (n : ℕ) (findings : List Finding) (message : Message) → Numbered files messages n → AllHave files findings → Contains (messages_of findings) message → HasMessage messages message
+pub numbered_has : (files : List SourceFile) (messages : List Message) (n : ℕ) (findings : List Finding) (message : Message) → Numbered files messages n → AllHave files findings → Contains (stated_messages findings) message → HasMessage messages message
 numbered_has files messages n findings message told have (k, within, is) =
     subst (λ (l : List Message). HasMessage l message) (ap numbered (all_have_once files findings told.findings have told.have) ∙ sym told.messages_are)
-    (there_from_test (firsts (messages_of findings)) message (passes (messages_of findings) k message within is))
+    (there_from_test (firsts (stated_messages findings)) message (passes (stated_messages findings) k message within is))
 
 -- ---- the messages stand first
 
@@ -82,6 +82,6 @@ firsts_stand [] = tt
 firsts_stand (message ∷ messages) =
     (0, omega arith, record { there = refl; first = λ k other before there same. absurd (omega (arith, before)) }, stand_behind message messages 0 (firsts messages) (firsts_stand messages))
 
-pub numbered_stand : (files : List SourceFile) (messages : List Message) (n : ℕ) (findings : List Finding) → Numbered files messages n → AllHave files findings → StandFirst (messages_of findings) 0 messages
+pub numbered_stand : (files : List SourceFile) (messages : List Message) (n : ℕ) (findings : List Finding) → Numbered files messages n → AllHave files findings → StandFirst (stated_messages findings) 0 messages
 numbered_stand files messages n findings told have =
-    subst (StandFirst (messages_of findings) 0) (ap numbered (all_have_once files findings told.findings have told.have) ∙ sym told.messages_are) (firsts_stand (messages_of findings))
+    subst (StandFirst (stated_messages findings) 0) (ap numbered (all_have_once files findings told.findings have told.have) ∙ sym told.messages_are) (firsts_stand (stated_messages findings))

@@ -5,7 +5,7 @@ use Rattle.source_scan.specs.declared.found.StatementCause.{StatementCause}
 use Rattle.source_scan.specs.declared.found.StatementCause.TheVariants as statements
 use Rattle.preprocessor.specs.declared.refusal.RefusalCause.{RefusalCause}
 use Rattle.preprocessor.specs.declared.refusal.RefusalCause.TheVariants as causes
-use Rattle.preprocessor.specs.declared.refusal.Refusal.{Refusal}
+use Rattle.preprocessor.specs.declared.refusal.SourceRefusal.{SourceRefusal}
 
 -- ---- causes
 
@@ -53,11 +53,11 @@ abbrev pub cause_words : RefusalCause → List ℕ
 cause_words cause = decimal (cause_number cause) ++ 32 ∷ cause_name cause
 
 -- the line that says what is refused, up to the place in a format
-abbrev pub refusal_fields : Refusal → List ℕ
+abbrev pub refusal_fields : SourceRefusal → List ℕ
 refusal_fields refusal =
     codes "nanolog: " ++ refusal.file ++ 58 ∷ decimal refusal.line
     ++ codes ": refused: " ++ cause_words refusal.cause
 
 -- the whole line
-abbrev pub refusal_line : Refusal → List ℕ
+abbrev pub refusal_line : SourceRefusal → List ℕ
 refusal_line refusal = refusal_fields refusal ++ cause_place refusal.cause ++ 10 ∷ []

@@ -8,7 +8,7 @@ use Rattle.source_scan.specs.declared.found.BadStatement.{BadStatement}
 use Rattle.source_scan.specs.Readings.{IsFileName}
 use Rattle.source_scan.specs.Statements.{Statements}
 use Rattle.source_scan.specs.declared.statement.TheConstants.{MAX_SOURCE}
-use Rattle.preprocessor.specs.declared.refusal.Refusal.{Refusal}
+use Rattle.preprocessor.specs.declared.refusal.SourceRefusal.{SourceRefusal}
 use Rattle.preprocessor.specs.declared.refusal.RefusalCause.TheVariants as causes
 
 -- a source: the name of its file, and its bytes
@@ -23,7 +23,7 @@ sources_of files = map (λ (file : SourceFile). file.bytes) files
 -- what stands at one place of the sources: the message of a statement, or what is refused
 pub data Finding : Type 0 where
   stated : Message → Finding
-  refused : Refusal → Finding
+  refused : SourceRefusal → Finding
 
 -- ---- one place
 
@@ -35,7 +35,7 @@ pub record IsMessageOf (statement : Statement) (message : Message) : Type 0 wher
   pub format : message.format ≡ statement.format
 
 -- what is refused where a statement is bad
-abbrev pub bad_refusal : BadStatement → Refusal
+abbrev pub bad_refusal : BadStatement → SourceRefusal
 bad_refusal bad = record { file = bad.file; line = bad.line; cause = causes.Statement bad.cause }
 
 -- what a scan found stands there
@@ -60,7 +60,7 @@ AreFindings (one ∷ found) findings =
     × IsFinding one first × AreFindings found others
 
 -- what is refused where a source is too large
-abbrev pub large_refusal : List ℕ → Refusal
+abbrev pub large_refusal : List ℕ → SourceRefusal
 large_refusal name = record { file = name; line = 0; cause = causes.TooLarge }
 
 -- what stands in a source, which isn't scanned where it is too large

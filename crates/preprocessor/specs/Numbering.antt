@@ -5,7 +5,7 @@ use Rattle.log_dictionary.specs.declared.message.Message.{Message}
 use Rattle.log_dictionary.specs.declared.dictionary.TheConstants.{MAX_MESSAGES}
 use Rattle.log_dictionary.specs.Messages.{SameMessage, is_same, HasMessage}
 use Rattle.preprocessor.specs.declared.numbering.Numbering.{Numbering}
-use Rattle.preprocessor.specs.declared.refusal.Refusal.{Refusal}
+use Rattle.preprocessor.specs.declared.refusal.SourceRefusal.{SourceRefusal}
 use Rattle.preprocessor.specs.declared.refusal.RefusalCause.TheVariants as causes
 use Rattle.preprocessor.specs.Findings.{SourceFile, Finding, AllHave}
 
@@ -16,15 +16,15 @@ finding_messages (Finding.stated message) = message ∷ []
 finding_messages (Finding.refused refusal) = []
 
 -- the message of each statement
-abbrev pub messages_of : List Finding → List Message
-messages_of findings = flat_map finding_messages findings
+abbrev pub stated_messages : List Finding → List Message
+stated_messages findings = flat_map finding_messages findings
 
-abbrev pub finding_refusals : Finding → List Refusal
+abbrev pub finding_refusals : Finding → List SourceRefusal
 finding_refusals (Finding.stated message) = []
 finding_refusals (Finding.refused refusal) = refusal ∷ []
 
 -- what is refused, where no message is one too many
-abbrev pub refusals_of : List Finding → List Refusal
+abbrev pub refusals_of : List Finding → List SourceRefusal
 refusals_of findings = flat_map finding_refusals findings
 
 -- the messages without those that equal one before them
@@ -45,14 +45,14 @@ StandFirst all from (message ∷ messages) =
 
 -- the messages of all statements, each where it stands first
 abbrev pub numbered : List Finding → List Message
-numbered findings = firsts (messages_of findings)
+numbered findings = firsts (stated_messages findings)
 
 -- what is refused where a message is one too many
-abbrev pub excess_refusal : Message → Refusal
+abbrev pub excess_refusal : Message → SourceRefusal
 excess_refusal message = record { file = message.file; line = message.line; cause = causes.TooMany }
 
 -- the findings in front of the first statement whose message is one too many
-pub record StopsAt (findings front : List Finding) (message : Message) : Type 0 where
+pub record IsFullAt (findings front : List Finding) (message : Message) : Type 0 where
   pub rest : List Finding
   pub joined : findings ≡ front ++ Finding.stated message ∷ rest
   pub full : length (numbered front) ≡ MAX_MESSAGES
@@ -65,42 +65,43 @@ pub record Numbered (files : List SourceFile) (messages : List Message) (stateme
   pub findings : List Finding
   pub have : AllHave files findings
   pub messages_are : messages ≡ numbered findings
-  pub statements_are : statements ≡ length (messages_of findings)
+  pub statements_are : statements ≡ length (stated_messages findings)
 
 -- what is refused of these sources; after a message that is one too many no more is read
-pub data Refusals (files : List SourceFile) (refusals : List Refusal) : Type 0 where
+pub data Refusals (files : List SourceFile) (refusals : List SourceRefusal) : Type 0 where
   all_read : (findings : List Finding) → AllHave files findings → length (numbered findings) ≤ MAX_MESSAGES
       → refusals ≡ refusals_of findings → Refusals files refusals
   stopped : (read unread : List SourceFile) (findings : List Finding) → files ≡ read ++ unread → AllHave read findings
-      → (front : List Finding) (message : Message) → StopsAt findings front message
+      → (front : List Finding) (message : Message) → IsFullAt findings front message
       → refusals ≡ refusals_of front ++ excess_refusal message ∷ [] → Refusals files refusals
 
 -- ---- what a numbering holds
 
 -- all findings, among which no message is one too many
-pub record HoldsAll (findings : List Finding) (numbering : Numbering) : Type 0 where
+pub record HoldsAllFindings (findings : List Finding) (numbering : Numbering) : Type 0 where
   pub few : length (numbered findings) ≤ MAX_MESSAGES
   pub messages : numbering.dictionary ≡ numbered findings
-  pub statements : numbering.statements ≡ length (messages_of findings)
+  pub statements : numbering.statements ≡ length (stated_messages findings)
   pub refusals : numbering.refusals.items ≡ refusals_of findings
   pub goes_on : numbering.is_stopped ≡ false
 
 -- the findings in front of a message that is one too many, and that this is refused
-pub record HoldsFront (findings : List Finding) (numbering : Numbering) : Type 0 where
+pub record HoldsFrontFindings (findings : List Finding) (numbering : Numbering) : Type 0 where
   pub front : List Finding
   pub message : Message
-  pub stops : StopsAt findings front message
+  pub stops : IsFullAt findings front message
   pub messages : numbering.dictionary ≡ numbered front
-  pub statements : numbering.statements ≡ length (messages_of front)
+  pub statements : numbering.statements ≡ length (stated_messages front)
   pub refusals : numbering.refusals.items ≡ refusals_of front ++ excess_refusal message ∷ []
   pub stopped : numbering.is_stopped ≡ true
 
 -- what stands for the findings
-abbrev pub Holds : List Finding → Numbering → Type 0
-Holds findings numbering = HoldsAll findings numbering ⊎ HoldsFront findings numbering
+abbrev pub HoldsFindings : List Finding → Numbering → Type 0
+HoldsFindings findings numbering = HoldsAllFindings findings numbering ⊎ HoldsFrontFindings findings numbering
 
 -- what stands for the sources: all of them were read, or some at the front, among which a message is one too many
-pub data Numbers (files : List SourceFile) (numbering : Numbering) : Type 0 where
-  all_read : (findings : List Finding) → AllHave files findings → HoldsAll findings numbering → Numbers files numbering
+pub data NumbersSources (files : List SourceFile) (numbering : Numbering) : Type 0 where
+  all_read : (findings : List Finding) → AllHave files findings → HoldsAllFindings findings numbering
+      → NumbersSources files numbering
   stopped : (read unread : List SourceFile) (findings : List Finding) → files ≡ read ++ unread → AllHave read findings
-      → HoldsFront findings numbering → Numbers files numbering
+      → HoldsFrontFindings findings numbering → NumbersSources files numbering

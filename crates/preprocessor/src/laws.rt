@@ -7,18 +7,18 @@ ghost use Rattle.source_scan.specs.declared.found.StatementCause.TheVariants as 
 ghost use Rattle.log_dictionary.specs.declared.message.Message.{Message};
 ghost use Rattle.log_dictionary.specs.Messages.{HasMessage, AreDistinct};
 ghost use Rattle.preprocessor.specs.declared.numbering.Numbering.{Numbering};
-ghost use Rattle.preprocessor.specs.declared.refusal.Refusal.{Refusal};
+ghost use Rattle.preprocessor.specs.declared.refusal.SourceRefusal.{SourceRefusal};
 ghost use Rattle.preprocessor.specs.Causes.{refusal_line};
 ghost use Rattle.preprocessor.specs.Rows.{refused_in};
 ghost use Rattle.preprocessor.specs.Findings.{SourceFile, Finding, AllHave, sources_of, large_refusal};
-ghost use Rattle.preprocessor.specs.Numbering.{messages_of, StandFirst, Numbered, Refusals, Numbers};
+ghost use Rattle.preprocessor.specs.Numbering.{stated_messages, StandFirst, Numbered, Refusals, NumbersSources};
 
 /// What a numbering refuses is what is refused of the sources that it stands for. Where that is
 /// nothing, its messages and its number of statements are those of the sources.
 pub fn numberings_tell_of_sources()
-    ensures refusals { (files : List SourceFile) (numbering : Numbering) → Numbers files numbering
+    ensures refusals { (files : List SourceFile) (numbering : Numbering) → NumbersSources files numbering
         → Refusals files numbering.refusals.items }
-    ensures messages { (files : List SourceFile) (numbering : Numbering) → Numbers files numbering
+    ensures messages { (files : List SourceFile) (numbering : Numbering) → NumbersSources files numbering
         → numbering.refusals.items ≡ [] → Numbered files numbering.dictionary numbering.statements }
 {}
 
@@ -26,7 +26,7 @@ pub fn numberings_tell_of_sources()
 pub fn sources_have_one_numbering()
     ensures messages { (files : List SourceFile) (messages others : List Message) (n m : ℕ)
         → Numbered files messages n → Numbered files others m → (messages ≡ others) × (n ≡ m) }
-    ensures refusals { (files : List SourceFile) (refusals others : List Refusal)
+    ensures refusals { (files : List SourceFile) (refusals others : List SourceRefusal)
         → Refusals files refusals → Refusals files others → refusals ≡ others }
 {}
 
@@ -36,7 +36,7 @@ pub fn sources_have_some_numbering(sources: &[&[u8]])
     ensures messages { (files : List SourceFile) → sources_of files ≡ map (λ source. source.now) sources.now
         → (messages : List Message) × (n : ℕ) × Numbered files messages n }
     ensures refusals { (files : List SourceFile) → sources_of files ≡ map (λ source. source.now) sources.now
-        → (refusals : List Refusal) × Refusals files refusals }
+        → (refusals : List SourceRefusal) × Refusals files refusals }
 {
     for source in sources {
         source_scan::laws::some_list(source);
@@ -48,7 +48,7 @@ pub fn sources_have_some_numbering(sources: &[&[u8]])
 pub fn each_message_has_one_number()
     ensures has { (files : List SourceFile) (messages : List Message) (n : ℕ) (findings : List Finding)
         (message : Message) → Numbered files messages n → AllHave files findings
-        → Contains (messages_of findings) message → HasMessage messages message }
+        → Contains (stated_messages findings) message → HasMessage messages message }
     ensures distinct { (files : List SourceFile) (messages : List Message) (n : ℕ)
         → Numbered files messages n → AreDistinct messages }
 {}
@@ -57,7 +57,7 @@ pub fn each_message_has_one_number()
 /// first. So with the law before they are all of those messages, each once.
 pub fn messages_stand_first()
     ensures { (files : List SourceFile) (messages : List Message) (n : ℕ) (findings : List Finding)
-        → Numbered files messages n → AllHave files findings → StandFirst (messages_of findings) 0 messages }
+        → Numbered files messages n → AllHave files findings → StandFirst (stated_messages findings) 0 messages }
 {}
 
 /// The words on what is refused.

@@ -8,6 +8,6 @@ mod refusal;
 mod words;
 
 pub use numbering::Numbering;
-pub use refusal::{Refusal, RefusalCause};
+pub use refusal::{RefusalCause, SourceRefusal};
 pub use source_scan::MAX_SOURCE;
 pub use words::push_refusal;

@@ -5,9 +5,9 @@ ghost use Rattle.std.specs.List.{AllByRecursion};
 ghost use Rattle.source_scan.specs.Readings.{IsFileName};
 ghost use Rattle.preprocessor.specs.Findings.{SourceFile, Finding, IsMessageOf, IsFinding, AreFindings, IsNamed};
 ghost use Rattle.preprocessor.specs.Findings.Finding.{stated, refused};
-ghost use Rattle.preprocessor.specs.Numbering.{Holds, Numbers};
+ghost use Rattle.preprocessor.specs.Numbering.{HoldsFindings, NumbersSources};
 
-use crate::refusal::{Refusal, RefusalCause};
+use crate::refusal::{RefusalCause, SourceRefusal};
 use log_dictionary::{AddFault, Dictionary, Message};
 use printf_grammar::Bytes;
 use source_scan::{Found, MAX_SOURCE, Statement, scan};
@@ -22,7 +22,7 @@ pub struct Numbering {
     /// The number of the statements, of which several may have one message.
     pub statements: u64,
     /// What is refused, in the same order.
-    pub refusals: Vec<Refusal>,
+    pub refusals: Vec<SourceRefusal>,
     /// Whether a message was one too many. Nothing is counted or refused after it.
     pub is_stopped: bool,
 }
@@ -51,7 +51,7 @@ fn message_of(statement: Statement) -> Message
 impl Numbering {
     /// No sources. It takes no memory.
     pub fn make(alloc: Global) -> Numbering
-        ensures { Numbers [] result }
+        ensures { NumbersSources [] result }
     {
         Numbering {
             dictionary: Dictionary::make(alloc),
@@ -61,10 +61,10 @@ impl Numbering {
         }
     }
 
-    fn add_refusal(mut self, refusal: Refusal) -> Result<Numbering, AllocError>
+    fn add_refusal(mut self, refusal: SourceRefusal) -> Result<Numbering, AllocError>
         requires { self.is_stopped ≡ false }
-        ensures { IfOk result (λ next. (before : List Finding) → Holds before self
-            → Holds (before ++ refused refusal ∷ []) next) }
+        ensures { IfOk result (λ next. (before : List Finding) → HoldsFindings before self
+            → HoldsFindings (before ++ refused refusal ∷ []) next) }
     {
         self.refusals.push(refusal)?;
         Ok(self)
@@ -73,10 +73,10 @@ impl Numbering {
     // The dictionary drops a message that it doesn't take, so the name of its file is copied first.
     fn add_message(mut self, alloc: Global, message: Message) -> Result<Numbering, AllocError>
         requires { self.is_stopped ≡ false }
-        ensures { IfOk result (λ next. (before : List Finding) → Holds before self
-            → Holds (before ++ stated message ∷ []) next) }
+        ensures { IfOk result (λ next. (before : List Finding) → HoldsFindings before self
+            → HoldsFindings (before ++ stated message ∷ []) next) }
     {
-        let excess = Refusal {
+        let excess = SourceRefusal {
             file: Bytes::from_slice(alloc, message.file.as_slice())?,
             line: message.line,
             cause: RefusalCause::TooMany,
@@ -101,14 +101,14 @@ impl Numbering {
     fn add_one(self, alloc: Global, one: Found) -> Result<Numbering, AllocError>
         requires { IsNamed one }
         ensures { IfOk result (λ next. (before : List Finding) (finding : Finding) → IsFinding one finding
-            → Holds before self → Holds (before ++ finding ∷ []) next) }
+            → HoldsFindings before self → HoldsFindings (before ++ finding ∷ []) next) }
     {
         if self.is_stopped {
             return Ok(self);
         }
         match one {
             Found::Statement(statement) => self.add_message(alloc, message_of(statement)),
-            Found::Bad(bad) => self.add_refusal(Refusal {
+            Found::Bad(bad) => self.add_refusal(SourceRefusal {
                 file: bad.file,
                 line: bad.line,
                 cause: RefusalCause::Statement(bad.cause),
@@ -119,7 +119,7 @@ impl Numbering {
     fn add_all(self, alloc: Global, found: Vec<Found>) -> Result<Numbering, AllocError>
         requires { AllByRecursion IsNamed found.items }
         ensures { IfOk result (λ next. (before findings : List Finding) → AreFindings found.items findings
-            → Holds before self → Holds (before ++ findings) next) }
+            → HoldsFindings before self → HoldsFindings (before ++ findings) next) }
     {
         let mut numbering = self;
         for one in found {
@@ -141,8 +141,8 @@ impl Numbering {
         file: &[u8],
         source: &[u8],
     ) -> Result<Numbering, AllocError>
-        ensures { IfOk result (λ next. (files : List SourceFile) → Numbers files self
-            → Numbers (files ++ record { name = file.now; bytes = source.now } ∷ []) next) }
+        ensures { IfOk result (λ next. (files : List SourceFile) → NumbersSources files self
+            → NumbersSources (files ++ record { name = file.now; bytes = source.now } ∷ []) next) }
     {
         if is_too_large(source) {
             return self.add_too_large(alloc, file);
@@ -162,12 +162,13 @@ impl Numbering {
     /// There is no memory. What was found before is dropped too.
     pub fn add_too_large(self, alloc: Global, file: &[u8]) -> Result<Numbering, AllocError>
         ensures { IfOk result (λ next. (files : List SourceFile) (source : List ℕ) → MAX_SOURCE < length source
-            → Numbers files self → Numbers (files ++ record { name = file.now; bytes = source } ∷ []) next) }
+            → NumbersSources files self
+            → NumbersSources (files ++ record { name = file.now; bytes = source } ∷ []) next) }
     {
         if self.is_stopped {
             return Ok(self);
         }
-        self.add_refusal(Refusal {
+        self.add_refusal(SourceRefusal {
             file: Bytes::from_slice(alloc, file)?,
             line: 0,
             cause: RefusalCause::TooLarge,

@@ -19,7 +19,7 @@ pub enum RefusalCause {
 
 /// What is refused.
 #[derive(Debug, Drop)]
-pub struct Refusal {
+pub struct SourceRefusal {
     /// The name of the file.
     pub file: Bytes,
     /// The line of the statement, or 0 where a whole source is refused.

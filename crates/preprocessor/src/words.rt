@@ -3,7 +3,7 @@
 ghost use Rattle.std.specs.Prelude.{◌≡◌, ◌++◌, OnOk, OnErr, take, vec_len};
 ghost use Rattle.preprocessor.specs.Causes.{cause_place, refusal_fields, refusal_line};
 
-use crate::refusal::{Refusal, RefusalCause};
+use crate::refusal::{RefusalCause, SourceRefusal};
 use itoa::Buffer;
 use source_scan::StatementCause;
 use std::alloc::AllocError;
@@ -24,7 +24,7 @@ fn push_place(out: &mut Vec<u8>, cause: RefusalCause) -> Result<(), AllocError>
     out.extend_from_slice(buffer.format(place).as_bytes())
 }
 
-fn push_fields(out: &mut Vec<u8>, refusal: &Refusal) -> Result<(), AllocError>
+fn push_fields(out: &mut Vec<u8>, refusal: &SourceRefusal) -> Result<(), AllocError>
     ensures ok { OnOk result (out.new.items ≡ out.old.items ++ refusal_fields refusal.now) }
     ensures err { OnErr result (take (vec_len out.old) out.new.items ≡ out.old.items) }
 {
@@ -39,7 +39,7 @@ fn push_fields(out: &mut Vec<u8>, refusal: &Refusal) -> Result<(), AllocError>
     out.extend_from_slice(refusal.cause.name().as_bytes())
 }
 
-fn push_line(out: &mut Vec<u8>, refusal: &Refusal) -> Result<(), AllocError>
+fn push_line(out: &mut Vec<u8>, refusal: &SourceRefusal) -> Result<(), AllocError>
     ensures ok { OnOk result (out.new.items ≡ out.old.items ++ refusal_line refusal.now) }
     ensures err { OnErr result (take (vec_len out.old) out.new.items ≡ out.old.items) }
 {
@@ -50,7 +50,7 @@ fn push_line(out: &mut Vec<u8>, refusal: &Refusal) -> Result<(), AllocError>
 }
 
 /// Appends the line that says what is refused. After an error `out` is as before.
-pub fn push_refusal(out: &mut Vec<u8>, refusal: &Refusal) -> Result<(), AllocError>
+pub fn push_refusal(out: &mut Vec<u8>, refusal: &SourceRefusal) -> Result<(), AllocError>
     ensures ok { OnOk result (out.new.items ≡ out.old.items ++ refusal_line refusal.now) }
     ensures err { OnErr result (out.new.items ≡ out.old.items) }
 {

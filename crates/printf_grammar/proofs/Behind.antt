@@ -10,7 +10,7 @@ use Rattle.printf_grammar.specs.declared.piece.Conversion.{Conversion}
 use Rattle.printf_grammar.specs.declared.piece.Conversion.TheVariants as conversions
 use Rattle.printf_grammar.specs.declared.fault.FormatCause.TheVariants.{TooWide, Nul, TooManyArgs}
 use Rattle.printf_grammar.specs.Spelling.{stands, TakesLength, conversion_byte, length_bytes}
-use Rattle.printf_grammar.specs.Breaks.{Head, is_only, is_bare, is_float, is_wide, is_bad_length, is_conversion, goes_on, is_too_wide, takes_flag, takes_width_star, takes_width_digit, takes_period, takes_precision_star, takes_precision_digit, takes_modifier, takes_argument, cause_in}
+use Rattle.printf_grammar.specs.Breaks.{Head, is_only, is_empty_head, is_float, is_wide, is_bad_length, is_conversion, goes_on, is_too_wide, takes_flag, takes_width_star, takes_width_digit, takes_period, takes_precision_star, takes_precision_digit, takes_modifier, takes_argument, cause_in}
 
 -- ---- a byte that goes on
 
@@ -36,25 +36,25 @@ by_g : (a b c d e f g h i : Bool) → g ≡ true → (a || b || c || d || e || f
 by_g a b c d e f g h i p = or_left _ _ (or_left _ _ (or_right _ _ p))
 
 pub on_flag : (head : Head) (byte : ℕ) → takes_flag head byte ≡ true → goes_on head byte ≡ true
-on_flag head byte takes = by_a (takes_flag head byte) (takes_width_star head byte) (takes_width_digit head byte) (takes_period head byte) (takes_precision_star head byte) (takes_precision_digit head byte) (takes_modifier head byte) (is_conversion byte) (byte == 37 && is_bare head) takes
+on_flag head byte takes = by_a (takes_flag head byte) (takes_width_star head byte) (takes_width_digit head byte) (takes_period head byte) (takes_precision_star head byte) (takes_precision_digit head byte) (takes_modifier head byte) (is_conversion byte) (byte == 37 && is_empty_head head) takes
 
 pub on_width_star : (head : Head) (byte : ℕ) → takes_width_star head byte ≡ true → goes_on head byte ≡ true
-on_width_star head byte takes = by_b (takes_flag head byte) (takes_width_star head byte) (takes_width_digit head byte) (takes_period head byte) (takes_precision_star head byte) (takes_precision_digit head byte) (takes_modifier head byte) (is_conversion byte) (byte == 37 && is_bare head) takes
+on_width_star head byte takes = by_b (takes_flag head byte) (takes_width_star head byte) (takes_width_digit head byte) (takes_period head byte) (takes_precision_star head byte) (takes_precision_digit head byte) (takes_modifier head byte) (is_conversion byte) (byte == 37 && is_empty_head head) takes
 
 pub on_width_digit : (head : Head) (byte : ℕ) → takes_width_digit head byte ≡ true → goes_on head byte ≡ true
-on_width_digit head byte takes = by_c (takes_flag head byte) (takes_width_star head byte) (takes_width_digit head byte) (takes_period head byte) (takes_precision_star head byte) (takes_precision_digit head byte) (takes_modifier head byte) (is_conversion byte) (byte == 37 && is_bare head) takes
+on_width_digit head byte takes = by_c (takes_flag head byte) (takes_width_star head byte) (takes_width_digit head byte) (takes_period head byte) (takes_precision_star head byte) (takes_precision_digit head byte) (takes_modifier head byte) (is_conversion byte) (byte == 37 && is_empty_head head) takes
 
 pub on_period : (head : Head) (byte : ℕ) → takes_period head byte ≡ true → goes_on head byte ≡ true
-on_period head byte takes = by_d (takes_flag head byte) (takes_width_star head byte) (takes_width_digit head byte) (takes_period head byte) (takes_precision_star head byte) (takes_precision_digit head byte) (takes_modifier head byte) (is_conversion byte) (byte == 37 && is_bare head) takes
+on_period head byte takes = by_d (takes_flag head byte) (takes_width_star head byte) (takes_width_digit head byte) (takes_period head byte) (takes_precision_star head byte) (takes_precision_digit head byte) (takes_modifier head byte) (is_conversion byte) (byte == 37 && is_empty_head head) takes
 
 pub on_precision_star : (head : Head) (byte : ℕ) → takes_precision_star head byte ≡ true → goes_on head byte ≡ true
-on_precision_star head byte takes = by_e (takes_flag head byte) (takes_width_star head byte) (takes_width_digit head byte) (takes_period head byte) (takes_precision_star head byte) (takes_precision_digit head byte) (takes_modifier head byte) (is_conversion byte) (byte == 37 && is_bare head) takes
+on_precision_star head byte takes = by_e (takes_flag head byte) (takes_width_star head byte) (takes_width_digit head byte) (takes_period head byte) (takes_precision_star head byte) (takes_precision_digit head byte) (takes_modifier head byte) (is_conversion byte) (byte == 37 && is_empty_head head) takes
 
 pub on_precision_digit : (head : Head) (byte : ℕ) → takes_precision_digit head byte ≡ true → goes_on head byte ≡ true
-on_precision_digit head byte takes = by_f (takes_flag head byte) (takes_width_star head byte) (takes_width_digit head byte) (takes_period head byte) (takes_precision_star head byte) (takes_precision_digit head byte) (takes_modifier head byte) (is_conversion byte) (byte == 37 && is_bare head) takes
+on_precision_digit head byte takes = by_f (takes_flag head byte) (takes_width_star head byte) (takes_width_digit head byte) (takes_period head byte) (takes_precision_star head byte) (takes_precision_digit head byte) (takes_modifier head byte) (is_conversion byte) (byte == 37 && is_empty_head head) takes
 
 pub on_modifier : (head : Head) (byte : ℕ) → takes_modifier head byte ≡ true → goes_on head byte ≡ true
-on_modifier head byte takes = by_g (takes_flag head byte) (takes_width_star head byte) (takes_width_digit head byte) (takes_period head byte) (takes_precision_star head byte) (takes_precision_digit head byte) (takes_modifier head byte) (is_conversion byte) (byte == 37 && is_bare head) takes
+on_modifier head byte takes = by_g (takes_flag head byte) (takes_width_star head byte) (takes_width_digit head byte) (takes_period head byte) (takes_precision_star head byte) (takes_precision_digit head byte) (takes_modifier head byte) (is_conversion byte) (byte == 37 && is_empty_head head) takes
 
 -- ---- a conversion
 
@@ -98,7 +98,7 @@ pub record NoneBefore (head : Head) (byte : ℕ) : Type 0 where
   pub float : is_float byte ≡ false
   pub wide : is_wide head byte ≡ false
   pub store : (byte == 110) ≡ false
-  pub bad_percent : (byte == 37 && not (is_bare head)) ≡ false
+  pub bad_percent : (byte == 37 && not (is_empty_head head)) ≡ false
   pub bad_length : is_bad_length head byte ≡ false
   pub unknown : (not (byte == 0) && not (goes_on head byte)) ≡ false
 

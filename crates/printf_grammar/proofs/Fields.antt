@@ -16,7 +16,7 @@ use Rattle.printf_grammar.specs.declared.parts.Modifier.{Modifier}
 use Rattle.printf_grammar.specs.declared.parts.Modifier.TheVariants.{Known, LongDouble}
 use Rattle.printf_grammar.specs.Types.{size_types, conversion_type}
 use Rattle.printf_grammar.specs.Spelling.{IsFlag, SpellsWidth, length_bytes, conversion_byte}
-use Rattle.printf_grammar.specs.Breaks.{Head, IsHead, IsModifier, head_bytes, is_empty, is_only, is_bare, has_star, takes_flag, takes_width_star, takes_width_digit, takes_period, takes_precision_star, takes_precision_digit, unfinished_stars}
+use Rattle.printf_grammar.specs.Breaks.{Head, IsHead, IsModifier, head_bytes, is_empty, is_only, is_empty_head, has_star, takes_flag, takes_width_star, takes_width_digit, takes_period, takes_precision_star, takes_precision_digit, unfinished_stars}
 use Rattle.printf_grammar.specs.Parts.{BeginsWithout, is_flag, BeginsWithFlags, BeginsWithWidth, BeginsWithPrecision, BeginsWithModifier, Converts, modifier_bytes, width_goes_on, precision_goes_on, modifier_goes_on, after_flags, after_width, grows, Stops, BeginsWithField, BeginsBroken}
 use Rattle.printf_grammar.proofs.Sizes.{width_stars, precision_stars, stars_join}
 
@@ -61,7 +61,7 @@ no_precision flags width precision [] byte rest ended =
 no_precision flags width precision (x ∷ modifier) byte rest ended =
     (and_right (byte == 46 && is_empty precision) false refl, and_right (byte == 42 && is_only 46 precision) false refl, and_right (is_digit byte 10 && not (is_empty precision) && not (has_star precision)) false refl)
 
-no_percent : (flags width precision modifier : List ℕ) (byte : ℕ) (rest : List ℕ) → BeginsWithout (λ b. b == 37) (flags ++ (width ++ (precision ++ (modifier ++ byte ∷ rest)))) → (byte == 37 && is_bare (head_of flags width precision modifier)) ≡ false
+no_percent : (flags width precision modifier : List ℕ) (byte : ℕ) (rest : List ℕ) → BeginsWithout (λ b. b == 37) (flags ++ (width ++ (precision ++ (modifier ++ byte ∷ rest)))) → (byte == 37 && is_empty_head (head_of flags width precision modifier)) ≡ false
 no_percent [] [] [] [] byte rest ended = and_left _ _ ended
 no_percent (x ∷ flags) width precision modifier byte rest ended = and_right (byte == 37) _ refl
 no_percent [] (x ∷ width) precision modifier byte rest ended = and_right (byte == 37) _ refl

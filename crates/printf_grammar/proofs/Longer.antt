@@ -13,7 +13,7 @@ use Rattle.printf_grammar.specs.declared.piece.Size.{Size}
 use Rattle.printf_grammar.specs.declared.piece.Size.TheVariants.{Absent, Star, Given}
 use Rattle.printf_grammar.specs.declared.piece.Length.TheVariants as lengths
 use Rattle.printf_grammar.specs.Spelling.{IsFlag, stands, SpellsWidth, SpellsPrecision, SpellsDigits}
-use Rattle.printf_grammar.specs.Breaks.{Head, IsHead, IsModifier, head_bytes, is_empty, is_only, is_bare, has_star, is_float, is_wide, is_bad_length, is_too_wide, takes_argument, takes_flag, takes_width_star, takes_width_digit, takes_period, takes_precision_star, takes_precision_digit, takes_modifier, goes_on, is_conversion, cause_in, unfinished_stars}
+use Rattle.printf_grammar.specs.Breaks.{Head, IsHead, IsModifier, head_bytes, is_empty, is_only, is_empty_head, has_star, is_float, is_wide, is_bad_length, is_too_wide, takes_argument, takes_flag, takes_width_star, takes_width_digit, takes_period, takes_precision_star, takes_precision_digit, takes_modifier, goes_on, is_conversion, cause_in, unfinished_stars}
 use Rattle.printf_grammar.proofs.Runs.{all_join}
 use Rattle.printf_grammar.proofs.Numbers.{digits_width, width_digits, width_some, width_first}
 use Rattle.printf_grammar.proofs.Sizes.{stars_join}
@@ -41,7 +41,7 @@ free_of head count byte e =
     let float = if_none (is_float byte) Float _ e in
     let wide = if_none (is_wide head byte) Wide _ float.1 in
     let store = if_none (byte == 110) Store _ wide.1 in
-    let percent = if_none (byte == 37 && not (is_bare head)) BadPercent _ store.1 in
+    let percent = if_none (byte == 37 && not (is_empty_head head)) BadPercent _ store.1 in
     let bad_length = if_none (is_bad_length head byte) BadLength _ percent.1 in
     let unknown = if_none (not (byte == 0) && not (goes_on head byte)) Unknown _ bad_length.1 in
     let not_wide = if_none (is_too_wide head byte) TooWide _ unknown.1 in
@@ -288,4 +288,4 @@ longer head count byte right free no_conversion no_percent =
     without false b c e b_fails c_fails = absurd (false≢true (rw (b_fails, c_fails) at e))
 
     goes : (takes_flag head byte || takes_width_star head byte || takes_width_digit head byte || takes_period head byte || takes_precision_star head byte || takes_precision_digit head byte || takes_modifier head byte) ≡ true
-    goes = without _ (is_conversion byte) (byte == 37 && is_bare head) free.goes no_conversion (and_left _ _ no_percent)
+    goes = without _ (is_conversion byte) (byte == 37 && is_empty_head head) free.goes no_conversion (and_left _ _ no_percent)

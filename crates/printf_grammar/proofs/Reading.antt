@@ -10,7 +10,7 @@ use Rattle.printf_grammar.specs.declared.arg_type.ArgType.{ArgType}
 use Rattle.printf_grammar.specs.Types.{piece_types, Types}
 use Rattle.printf_grammar.specs.Spelling.{SpellsPiece, SpelledFrom, AreApart, BeginsWithoutLiteral, Spells}
 use Rattle.printf_grammar.specs.Breaks.{BreaksAt, unfinished_bytes, unfinished_stars}
-use Rattle.printf_grammar.specs.Parts.{BeginsWithout, BeginsWithPiece, BeginsBroken, is_literal}
+use Rattle.printf_grammar.specs.Parts.{BeginsWithout, BeginsWithPiece, BeginsBroken, is_plain_byte}
 use Rattle.printf_grammar.proofs.Taking.{Types-append}
 
 -- ---- one more piece
@@ -69,7 +69,7 @@ pub record IsReadTo (bytes : List ℕ) (pieces : List Piece) (types : List ArgTy
   pub types_is : types ≡ Types pieces
   pub few : length types ≤ 64
   -- a literal that was read is as long as it can be
-  pub ended : BeginsWithout is_literal rest ⊎ EndsWithoutLiteral pieces
+  pub ended : BeginsWithout is_plain_byte rest ⊎ EndsWithoutLiteral pieces
 
 pub read_none : (bytes : List ℕ) → IsReadTo bytes [] [] bytes
 read_none bytes = record { whole = []; joined = refl; spelled = refl; apart = tt; types_is = refl; few = omega arith; ended = inr tt }
@@ -97,7 +97,7 @@ read_broken bytes pieces types rest taken cause behind short read taken_is broke
     }
 
 read_on : (bytes : List ℕ) (pieces : List Piece) (types : List ArgType) (rest : List ℕ) (piece : Piece) (after : List ℕ) (read : IsReadTo bytes pieces types rest) (begins : BeginsWithPiece (length read.whole) (length types) rest piece after)
-    → AreApart (pieces ++ piece ∷ []) → BeginsWithout is_literal after ⊎ EndsWithoutLiteral (pieces ++ piece ∷ []) → IsReadTo bytes (pieces ++ piece ∷ []) (types ++ piece_types piece) after
+    → AreApart (pieces ++ piece ∷ []) → BeginsWithout is_plain_byte after ⊎ EndsWithoutLiteral (pieces ++ piece ∷ []) → IsReadTo bytes (pieces ++ piece ∷ []) (types ++ piece_types piece) after
 read_on bytes pieces types rest piece after read begins apart ended = record {
   whole = read.whole ++ begins.front;
   joined = read.joined ∙ ap (λ (back : List ℕ). read.whole ++ back) begins.joined ∙ sym (append_assoc read.whole begins.front after);
@@ -109,13 +109,13 @@ read_on bytes pieces types rest piece after read begins apart ended = record {
 }
 
 -- a literal that comes next has a first byte, which ends no literal before it
-begins_literal : (at start end : ℕ) (rest front after : List ℕ) → rest ≡ front ++ after → SpellsPiece at front (Literal start end) → BeginsWithout is_literal rest → ⊥
+begins_literal : (at start end : ℕ) (rest front after : List ℕ) → rest ≡ front ++ after → SpellsPiece at front (Literal start end) → BeginsWithout is_plain_byte rest → ⊥
 begins_literal at start end rest [] after e spelled ended = let some = spelled.nonempty in omega arith
 begins_literal at start end rest (byte ∷ front) after e spelled ended =
     let no_percent = ne_eqb byte 37 spelled.literal.0.0 in
     let no_nul = ne_eqb byte 0 spelled.literal.0.1 in
-    let ends : is_literal byte ≡ false = rw e at ended in
-    let literal : is_literal byte ≡ true = rw (no_percent, no_nul) refl in
+    let ends : is_plain_byte byte ≡ false = rw e at ended in
+    let literal : is_plain_byte byte ≡ true = rw (no_percent, no_nul) refl in
     true≢false (sym literal ∙ ends)
 
 pub read_more : (bytes : List ℕ) (pieces : List Piece) (types : List ArgType) (rest : List ℕ) (taken : ℕ) (piece : Piece) (after : List ℕ) → IsReadTo bytes pieces types rest → taken ≡ length types → BeginsWithPiece (length bytes - length rest) taken rest piece after

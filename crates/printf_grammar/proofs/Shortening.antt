@@ -12,7 +12,7 @@ use Rattle.printf_grammar.specs.declared.piece.Size.TheVariants.{Absent, Star, G
 use Rattle.printf_grammar.specs.declared.piece.Length.{Length}
 use Rattle.printf_grammar.specs.declared.piece.Length.TheVariants as lengths
 use Rattle.printf_grammar.specs.Spelling.{IsFlag, stands, SpellsWidth, SpellsPrecision, SpellsDigits, length_bytes}
-use Rattle.printf_grammar.specs.Breaks.{Head, IsHead, IsModifier, head_bytes, is_empty, is_bare, has_star, is_too_wide, takes_argument, takes_flag, takes_width_star, takes_width_digit, takes_period, takes_precision_star, takes_precision_digit, is_conversion, cause_in, unfinished_stars}
+use Rattle.printf_grammar.specs.Breaks.{Head, IsHead, IsModifier, head_bytes, is_empty, is_empty_head, has_star, is_too_wide, takes_argument, takes_flag, takes_width_star, takes_width_digit, takes_period, takes_precision_star, takes_precision_digit, is_conversion, cause_in, unfinished_stars}
 use Rattle.printf_grammar.proofs.Runs.{all_front, all_back}
 use Rattle.printf_grammar.proofs.Behind.{on_width_digit, on_precision_star, on_precision_digit, digit_cause, star_cause, digit_fails}
 use Rattle.printf_grammar.proofs.Numbers.{digits_width, width_digits, width_first, no_star}
@@ -300,7 +300,7 @@ shorter_precision flags width precision (Given n) right precise some =
     ]
 
 -- a head with a part is one byte longer than another
-pub shorter : (flags width precision modifier : List ℕ) → IsHead (head_of flags width precision modifier) → is_bare (head_of flags width precision modifier) ≡ false → Shorter (head_of flags width precision modifier)
+pub shorter : (flags width precision modifier : List ℕ) → IsHead (head_of flags width precision modifier) → is_empty_head (head_of flags width precision modifier) ≡ false → Shorter (head_of flags width precision modifier)
 shorter flags width precision (x ∷ modifier) right some =
     elim right.modifier [
       | inl known ↦ shorter_modifier flags width precision (x ∷ modifier) right known.0 known.1 (λ none. absurd (let h = ap length none in omega arith))

@@ -17,7 +17,7 @@ use Rattle.printf_grammar.specs.declared.piece.Conversion.TheVariants as convers
 use Rattle.printf_grammar.specs.declared.arg_type.ArgType.TheVariants as types
 use Rattle.printf_grammar.specs.Types.{size_types, field_types, piece_types, conversion_type, Types}
 use Rattle.printf_grammar.specs.Spelling.{stands, SpellsWidth, SpellsPrecision, SpellsDigits, SpellsField, SpellsLiteral, SpellsPiece, SpelledFrom, AreApart, IsLiteralByte, length_bytes, conversion_byte}
-use Rattle.printf_grammar.specs.Breaks.{Head, IsHead, head_bytes, is_bare, is_conversion, cause_at, unfinished_bytes, unfinished_stars}
+use Rattle.printf_grammar.specs.Breaks.{Head, IsHead, head_bytes, is_empty_head, is_conversion, cause_at, unfinished_bytes, unfinished_stars}
 use Rattle.printf_grammar.proofs.Behind.{conversion_cause}
 use Rattle.printf_grammar.proofs.Numbers.{width_digits, width_some, no_star}
 use Rattle.printf_grammar.proofs.Sizes.{stars_join, width_stars, precision_stars}
@@ -188,7 +188,7 @@ pub record Step (before : List ℕ) (byte : ℕ) (pieces' : List Piece) (head' :
 
 -- ---- a step in a field
 
-step_head : (before : List ℕ) (byte : ℕ) (pieces : List Piece) (flags width precision modifier : List ℕ) → Reached (before ++ byte ∷ []) pieces (Some (head_of flags width precision modifier)) → is_bare (head_of flags width precision modifier) ≡ false
+step_head : (before : List ℕ) (byte : ℕ) (pieces : List Piece) (flags width precision modifier : List ℕ) → Reached (before ++ byte ∷ []) pieces (Some (head_of flags width precision modifier)) → is_empty_head (head_of flags width precision modifier) ≡ false
     → Step before byte pieces (Some (head_of flags width precision modifier))
 step_head before byte pieces flags width precision modifier reached some =
     let head = head_of flags width precision modifier in
@@ -397,15 +397,15 @@ last_step before byte pieces None reached =
           rw parts.2 (step_piece before byte parts.0 reached.whole parts.1 whole apart (split parts.0 parts.1 reached.whole spelled))
     ]
 last_step before byte pieces (Some head) reached =
-    elim (cases_Bool (is_bare head)) [
+    elim (cases_Bool (is_empty_head head)) [
       | inl empty ↦ step_some_bare head empty reached
       | inr some ↦ step_head before byte pieces head.flags head.width head.precision head.modifier reached some
     ]
   where
-    step_some_bare : (head : Head) → is_bare head ≡ true → Reached (before ++ byte ∷ []) pieces (Some head) → Step before byte pieces (Some head)
+    step_some_bare : (head : Head) → is_empty_head head ≡ true → Reached (before ++ byte ∷ []) pieces (Some head) → Step before byte pieces (Some head)
     step_some_bare head empty reached = bare_parts head.flags head.width head.precision head.modifier empty reached
       where
-        bare_parts : (flags width precision modifier : List ℕ) → is_bare (head_of flags width precision modifier) ≡ true → Reached (before ++ byte ∷ []) pieces (Some (head_of flags width precision modifier)) → Step before byte pieces (Some (head_of flags width precision modifier))
+        bare_parts : (flags width precision modifier : List ℕ) → is_empty_head (head_of flags width precision modifier) ≡ true → Reached (before ++ byte ∷ []) pieces (Some (head_of flags width precision modifier)) → Step before byte pieces (Some (head_of flags width precision modifier))
         bare_parts [] [] [] [] empty reached = step_bare before byte pieces reached
         bare_parts [] [] [] (x ∷ modifier) empty reached = absurd (false≢true empty)
         bare_parts [] [] (x ∷ precision) modifier empty reached = absurd (false≢true empty)

@@ -16,7 +16,7 @@ use Rattle.printf_grammar.specs.declared.piece.Conversion.TheVariants as convers
 use Rattle.printf_grammar.specs.declared.arg_type.ArgType.TheVariants as types
 use Rattle.printf_grammar.specs.Types.{size_types, field_types, conversion_type, Types}
 use Rattle.printf_grammar.specs.Spelling.{stands, TakesLength, SpellsField, SpelledFrom, AreApart, IsLiteralByte, length_bytes, conversion_byte, Spells}
-use Rattle.printf_grammar.specs.Breaks.{Head, head_bytes, is_empty, is_only, is_bare, is_bad_length, is_conversion, takes_width_star, takes_precision_star, cause_at, cause_in, unfinished_stars, ReadsTo, FormatBreak}
+use Rattle.printf_grammar.specs.Breaks.{Head, head_bytes, is_empty, is_only, is_empty_head, is_bad_length, is_conversion, takes_width_star, takes_precision_star, cause_at, cause_in, unfinished_stars, ReadsTo, FormatBreak}
 use Rattle.printf_grammar.proofs.Reading.{EndsWithoutLiteral, spelled_more, apart_literal, apart_other, ends_other}
 use Rattle.printf_grammar.proofs.Runs.{all_join}
 use Rattle.printf_grammar.proofs.Sizes.{stars_join, width_stars, precision_stars}
@@ -129,7 +129,7 @@ part_next before byte count head reads free no_conversion no_percent =
     }
 
 -- the second `%`
-second_percent : (before : List ℕ) (count : ℕ) (head : Head) → ReadsTo before (Some head) count → is_bare head ≡ true → Next before 37
+second_percent : (before : List ℕ) (count : ℕ) (head : Head) → ReadsTo before (Some head) count → is_empty_head head ≡ true → Next before 37
 second_percent before count head reads empty =
     let third = and_parts (is_empty head.flags && is_empty head.width && is_empty head.precision) (is_empty head.modifier) empty in
     let second = and_parts (is_empty head.flags && is_empty head.width) (is_empty head.precision) third.0 in
@@ -272,9 +272,9 @@ some_none : (cause : FormatCause) → (let some : Option FormatCause = Some caus
 some_none cause e = cc
 
 -- a `%` that breaks nothing is the second of `%%`
-bare_there : (head : Head) (count : ℕ) → cause_in head count 37 ≡ None → is_bare head ≡ true
+bare_there : (head : Head) (count : ℕ) → cause_in head count 37 ≡ None → is_empty_head head ≡ true
 bare_there head count e =
-    elim (cases_Bool (is_bare head)) [
+    elim (cases_Bool (is_empty_head head)) [
       | inl empty ↦ empty
       | inr some ↦
           let broken : cause_in head count 37 ≡ Some BadPercent = rw some refl in

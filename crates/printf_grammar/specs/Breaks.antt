@@ -53,8 +53,8 @@ abbrev pub has_star : List ℕ → Bool
 has_star bytes = stands 42 bytes
 
 -- nothing stands behind the `%`
-abbrev pub is_bare : Head → Bool
-is_bare head = is_empty head.flags && is_empty head.width && is_empty head.precision && is_empty head.modifier
+abbrev pub is_empty_head : Head → Bool
+is_empty_head head = is_empty head.flags && is_empty head.width && is_empty head.precision && is_empty head.modifier
 
 abbrev pub takes_flag : Head → ℕ → Bool
 takes_flag head byte =
@@ -91,7 +91,7 @@ abbrev pub goes_on : Head → ℕ → Bool
 goes_on head byte =
     takes_flag head byte || takes_width_star head byte || takes_width_digit head byte || takes_period head byte
     || takes_precision_star head byte || takes_precision_digit head byte || takes_modifier head byte
-    || is_conversion byte || (byte == 37 && is_bare head)
+    || is_conversion byte || (byte == 37 && is_empty_head head)
 
 -- ---- the causes
 
@@ -125,7 +125,7 @@ cause_in head count byte =
     if is_float byte then Some Float
     else (if is_wide head byte then Some Wide
     else (if byte == 110 then Some Store
-    else (if byte == 37 && not (is_bare head) then Some BadPercent
+    else (if byte == 37 && not (is_empty_head head) then Some BadPercent
     else (if is_bad_length head byte then Some BadLength
     else (if not (byte == 0) && not (goes_on head byte) then Some Unknown
     else (if is_too_wide head byte then Some TooWide

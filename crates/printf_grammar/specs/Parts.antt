@@ -18,7 +18,7 @@ use Rattle.printf_grammar.specs.declared.parts.Modifier.{Modifier}
 use Rattle.printf_grammar.specs.declared.parts.Modifier.TheVariants.{Known, LongDouble}
 use Rattle.printf_grammar.specs.Spelling.{IsFlag, stands, SpellsWidth, SpellsPrecision, SpellsDigits, SpellsField, SpellsPiece}
 use Rattle.printf_grammar.specs.Spelling.{TakesLength, conversion_byte, length_bytes}
-use Rattle.printf_grammar.specs.Breaks.{Head, head_bytes, IsHead, is_empty, is_only, is_bare, has_star, cause_at, takes_flag}
+use Rattle.printf_grammar.specs.Breaks.{Head, head_bytes, IsHead, is_empty, is_only, is_empty_head, has_star, cause_at, takes_flag}
 use Rattle.printf_grammar.specs.Breaks.{takes_width_star, takes_width_digit, takes_period, takes_precision_star, takes_precision_digit}
 use Rattle.printf_grammar.specs.Breaks.{takes_modifier, unfinished_bytes, unfinished_stars}
 use Rattle.printf_grammar.specs.Types.{field_types, piece_types}
@@ -118,7 +118,7 @@ abbrev pub grows : Head → ℕ → Bool
 grows head byte =
     takes_flag head byte || takes_width_star head byte || takes_width_digit head byte || takes_period head byte
     || takes_precision_star head byte || takes_precision_digit head byte || takes_modifier head byte
-    || (byte == 37 && is_bare head)
+    || (byte == 37 && is_empty_head head)
 
 -- behind the start the bytes go on with a head up to the rest, which breaks there; no `*` stands between, and `taken`
 -- arguments were taken before
@@ -139,11 +139,11 @@ pub record BeginsWithField (taken : ℕ) (bytes : List ℕ) (spec : Spec) (rest 
   pub few : taken + length (field_types spec) ≤ MAX_ARGUMENTS
 
 -- neither `%` nor NUL
-abbrev pub is_literal : ℕ → Bool
-is_literal byte = not (byte == 37) && not (byte == 0)
+abbrev pub is_plain_byte : ℕ → Bool
+is_plain_byte byte = not (byte == 37) && not (byte == 0)
 
 abbrev pub IsEnded : Piece → List ℕ → Type 0
-IsEnded (Literal start end) rest = BeginsWithout is_literal rest
+IsEnded (Literal start end) rest = BeginsWithout is_plain_byte rest
 IsEnded _ rest = ⊤
 
 -- a piece at this place of the format

@@ -20,13 +20,13 @@ use Rattle.printf_grammar.specs.declared.argument.Value.{Value}
 use Rattle.printf_grammar.specs.declared.argument.Value.TheVariants as values
 
 -- what an argument is, without where its text lies
-abbrev pub value_of : Arg → Value
-value_of (args.Signed z) = values.Signed z
-value_of (args.Unsigned n) = values.Unsigned n
-value_of (args.Text text) = values.Text text.now
+abbrev pub argument_value : Arg → Value
+argument_value (args.Signed z) = values.Signed z
+argument_value (args.Unsigned n) = values.Unsigned n
+argument_value (args.Text text) = values.Text text.now
 
 abbrev pub values_of : List Arg → List Value
-values_of list = map value_of list
+values_of list = map argument_value list
 
 -- the bytes of a text; a number has none
 abbrev pub text_of : Value → List ℕ

@@ -28,11 +28,11 @@ pub enum ArgType {
 }
 
 impl ArgType {
-    ghost use Rattle.printf_grammar.specs.Types.{value_of, FitsType};
+    ghost use Rattle.printf_grammar.specs.Types.{argument_value, FitsType};
 
     /// Whether the argument is of this type's kind and in its range.
     pub fn takes(self, arg: Arg) -> bool
-        ensures { IsTrue result ↔ FitsType (value_of arg.entry) self }
+        ensures { IsTrue result ↔ FitsType (argument_value arg.entry) self }
     {
         match (self, arg) {
             (ArgType::Int, Arg::Signed(number)) => is_int(number),

@@ -54,11 +54,11 @@ impl Model for Values {
 }
 
 impl Value {
-    ghost use Rattle.printf_grammar.specs.Types.{value_of};
+    ghost use Rattle.printf_grammar.specs.Types.{argument_value};
 
     /// The same argument, lent.
     pub fn arg(&self) -> Arg<'_>
-        ensures { value_of result ≡ self.now }
+        ensures { argument_value result ≡ self.now }
     {
         match self {
             Value::Signed(number) => Arg::Signed(*number),

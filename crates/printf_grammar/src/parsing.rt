@@ -5,7 +5,7 @@ ghost use Rattle.printf_grammar.specs.declared.fault.FormatCause.{FormatCause};
 ghost use Rattle.printf_grammar.specs.declared.arg_type.ArgType.{ArgType};
 ghost use Rattle.printf_grammar.specs.Spelling.{Spells, IsLiteralByte};
 ghost use Rattle.printf_grammar.specs.Breaks.{BreaksAt};
-ghost use Rattle.printf_grammar.specs.Parts.{BeginsWithout, is_literal, BeginsWithField, BeginsWithPiece, BeginsBroken};
+ghost use Rattle.printf_grammar.specs.Parts.{BeginsWithout, is_plain_byte, BeginsWithField, BeginsWithPiece, BeginsBroken};
 ghost use Rattle.printf_grammar.specs.Types.{size_types, Types};
 
 use crate::arg_type::{ArgType, push_types};
@@ -54,7 +54,7 @@ fn field_of(taken: usize, bytes: &[u8]) -> Result<(Spec, &[u8]), Stop<'_>>
 fn literal_len(bytes: &[u8]) -> usize
     ensures within { result ≤ length bytes.now }
     ensures literal { AllByRecursion IsLiteralByte (take result bytes.now) }
-    ensures ended { BeginsWithout is_literal (drop result bytes.now) }
+    ensures ended { BeginsWithout is_plain_byte (drop result bytes.now) }
 {
     for (place, byte) in bytes.iter().enumerate() {
         if *byte == b'%' || *byte == 0 {

@@ -9,17 +9,17 @@ use Rattle.ring_core.specs.Plans.{plan_of, AreFramesOf}
 use Rattle.ring_core.specs.Stored.{StoredEnd, stored_frames}
 
 -- the words of a frame, if the entry is one
-abbrev pub words_of : Entry → Option (List ℕ)
-words_of (entries.Frame words) = Some words.items
-words_of entries.Pause = None
+abbrev pub entry_words : Entry → Option (List ℕ)
+entry_words (entries.Frame words) = Some words.items
+entry_words entries.Pause = None
 
 -- what contracts see
 abbrev pub end_of : Inside → StoredEnd
 end_of s = record {
   plan = plan_of s.dictionary.now s.first;
   last = s.last;
-  got = stored_frames (map words_of (take s.next s.entries.items));
-  ahead = map words_of (drop s.next s.entries.items);
+  got = stored_frames (map entry_words (take s.next s.entries.items));
+  ahead = map entry_words (drop s.next s.entries.items);
   closed = s.closed;
   ended = s.ended;
   loads = s.loads;
@@ -29,7 +29,7 @@ end_of s = record {
 -- all was answered.
 pub record IsStored (s : Inside) : Type 0 where
   pub calls : List Call
-  pub lawful : AreFramesOf (plan_of s.dictionary.now s.first) (stored_frames (map words_of s.entries.items)) calls
+  pub lawful : AreFramesOf (plan_of s.dictionary.now s.first) (stored_frames (map entry_words s.entries.items)) calls
   pub last_is : last_stamp s.first calls ≡ s.last
   pub within : s.next ≤ length s.entries.items
   pub closed_end : s.ended ≡ true → s.closed ≡ true

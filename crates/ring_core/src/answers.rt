@@ -25,8 +25,8 @@ pub enum Taken {
 /// Why no ring was made.
 #[derive(Clone, Copy, Debug, PartialEq, Eq, Error)]
 pub enum StageFault {
-    /// The ring would have fewer words than [`MIN_RING`](crate::MIN_RING), or more than
-    /// [`MAX_RING`](crate::MAX_RING).
+    /// The ring would have fewer words than [`MIN_RING`](session_options::MIN_RING), or more than
+    /// [`MAX_RING`](session_options::MAX_RING).
     #[error("bad size of a ring")]
     BadSize,
     #[error("there is no memory")]

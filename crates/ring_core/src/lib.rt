@@ -12,9 +12,8 @@ mod stage_out;
 mod stored_out;
 
 pub use answers::{Full, StageFault, Taken};
-pub use limits::{MAX_POSITION, MAX_RING, MIN_RING, OFFER_ROOM};
+pub use limits::{MAX_POSITION, OFFER_ROOM};
 pub use places::need;
-pub use planned::hold_bytes;
 pub use stage::{Stage, StageDone};
 pub use stage_in::StageIn;
 pub use stage_out::StageOut;

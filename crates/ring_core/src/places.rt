@@ -1,8 +1,8 @@
 //! How many places of a ring a frame takes.
 
 ghost use Rattle.std.specs.Prelude.{◌≡◌, ◌≤◌};
+ghost use Rattle.session_options.specs.declared.limits.TheConstants.{MAX_RING};
 ghost use Rattle.arg_records.specs.declared.frame.TheConstants.{MAX_FRAME_WORDS};
-ghost use Rattle.ring_core.specs.declared.limits.TheConstants.{MAX_RING};
 ghost use Rattle.ring_core.specs.Positions.{Need};
 
 /// How many places a frame of `frame` words takes in a ring of `words` words, from the position `at` on: those that it

@@ -12,7 +12,7 @@ use Rattle.buffer_extent.specs.Records.{RecordBytes}
 use Rattle.buffer_extent.specs.Bodies.{SpellsRecord, SpellsRecords}
 use Rattle.checkpoint_io.proofs.ValidityLaws.{last_stamp-push}
 use Rattle.roaming_consumer.specs.declared.draft.Draft.{Draft}
-use Rattle.roaming_consumer.specs.Drafts.{IsFrameOf, IsDraft}
+use Rattle.roaming_consumer.specs.Drafts.{IsFrameOfCall, IsDraft}
 use Rattle.roaming_consumer.proofs.Used.{ids_used-push}
 
 -- one record more
@@ -34,7 +34,7 @@ abbrev pub PutsRecord : List ArgType → ℕ → Call → List ℕ → List ℕ 
 PutsRecord types before call body new at end =
     (packed : List ℕ) × RecordBytes types call.id call.stamp before call.args packed × (new ≡ take at body ++ packed ++ drop (at + length packed) body) × (end ≡ at + length packed)
 
-pub draft_goes_on : (messages : List Message) (tick : ℕ) (entries : List Call) (draft : Draft) (frame : List ℕ) (call : Call) (id : ℕ) (message : Message) (types : List ArgType) (body new : List ℕ) (end ids : ℕ) → IsFrameOf messages draft.last frame call → IsDraft messages tick entries draft body → id ≡ call.id → slice_get messages id ≡ Some message → types ≡ Types message.format.pieces → ids ≡ max draft.ids (id + 1)
+pub draft_goes_on : (messages : List Message) (tick : ℕ) (entries : List Call) (draft : Draft) (frame : List ℕ) (call : Call) (id : ℕ) (message : Message) (types : List ArgType) (body new : List ℕ) (end ids : ℕ) → IsFrameOfCall messages draft.last frame call → IsDraft messages tick entries draft body → id ≡ call.id → slice_get messages id ≡ Some message → types ≡ Types message.format.pieces → ids ≡ max draft.ids (id + 1)
     → (Fits call.args types → PutsRecord types draft.last call body new draft.len end)
     → IsDraft messages tick (entries ++ call ∷ []) (record { records = draft.records + 1; len = end; ids = ids; last = call.stamp }) new
 draft_goes_on messages tick entries draft frame call id message types body new end ids is was same_id finds types_are ids_are puts =

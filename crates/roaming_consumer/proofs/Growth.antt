@@ -21,7 +21,7 @@ use Rattle.checkpoint_io.specs.Logs.{ids_used, new_messages, AreFragments, IsLai
 use Rattle.checkpoint_io.proofs.FrontLaws.{empty_file, file_goes_on}
 use Rattle.checkpoint_io.proofs.LogLaws.{messages_of-AreFragments, laid_out_join}
 use Rattle.checkpoint_io.proofs.ValidityLaws.{messages-push, records-push, AreRightAfter-append, goes_on}
-use Rattle.roaming_consumer.specs.Growth.{Progress, IsLogSoFar, with_calls, IsNext, progress_behind, progress_closing}
+use Rattle.roaming_consumer.specs.Growth.{LogProgress, IsLogSoFar, with_calls, IsNext, progress_behind, progress_closing}
 use Rattle.roaming_consumer.proofs.Used.{distinct_front, new_behind, ids_known, calls_of_front, spelled_with_front}
 use Rattle.roaming_consumer.proofs.Lists.{at_one, more_at_one, none_each}
 
@@ -139,7 +139,7 @@ same_taken wrote taken dictionary clock batch writer log known =
 set_length : {A : Type 0} (items : List A) (place : ℕ) (item : A) → length (slice_set items place item) ≡ length items
 set_length items place item = length-set items place item
 
-pub grown : (wrote : List ℕ) (taken : List (List Call)) (dictionary : List Message) (clock : Clock) (batch : ℕ) (progress : Progress) (writer : ℕ) (entries : List Call) (fragments extent_bytes : List ℕ) → IsLogSoFar wrote taken dictionary clock batch progress → AreDistinct dictionary → length dictionary ≤ 65536
+pub grown : (wrote : List ℕ) (taken : List (List Call)) (dictionary : List Message) (clock : Clock) (batch : ℕ) (progress : LogProgress) (writer : ℕ) (entries : List Call) (fragments extent_bytes : List ℕ) → IsLogSoFar wrote taken dictionary clock batch progress → AreDistinct dictionary → length dictionary ≤ 65536
     → IsNext taken dictionary clock.tick batch progress writer entries fragments extent_bytes
     → IsLogSoFar (wrote ++ fragments ++ extent_bytes) (with_calls taken writer entries) dictionary clock batch (progress_behind progress entries)
 grown wrote taken dictionary clock batch progress writer entries fragments extent_bytes so_far distinct few next =
@@ -227,7 +227,7 @@ closed_behind closed blocks writer w within before =
           ∙ sym (list_any-append (closes w) blocks (Close writer ∷ []) ∙ ap (λ (b : Bool). list_any (closes w) blocks || (b || false)) differs.0 ∙ or_false (list_any (closes w) blocks))
     ]
 
-pub closing : (wrote : List ℕ) (taken : List (List Call)) (dictionary : List Message) (clock : Clock) (batch : ℕ) (progress : Progress) (writer : ℕ) → IsLogSoFar wrote taken dictionary clock batch progress → writer < length taken → get_or progress.closed writer false ≡ false → writer < length progress.closed → IsLogSoFar (wrote ++ close_bytes writer) taken dictionary clock batch (progress_closing progress writer)
+pub closing : (wrote : List ℕ) (taken : List (List Call)) (dictionary : List Message) (clock : Clock) (batch : ℕ) (progress : LogProgress) (writer : ℕ) → IsLogSoFar wrote taken dictionary clock batch progress → writer < length taken → get_or progress.closed writer false ≡ false → writer < length progress.closed → IsLogSoFar (wrote ++ close_bytes writer) taken dictionary clock batch (progress_closing progress writer)
 closing wrote taken dictionary clock batch progress writer so_far known not_closed within =
     let log = so_far.log in
     let header = log.header in

@@ -6,12 +6,12 @@ use Rattle.roaming_consumer.specs.declared.visit.Visit.{Visit}
 use Rattle.roaming_consumer.specs.declared.visit.Visit.TheVariants.{Ended}
 use Rattle.roaming_consumer.specs.declared.visit.SinkFault.{SinkFault}
 use Rattle.roaming_consumer.specs.declared.roamer.Roamer.{Roamer}
-use Rattle.roaming_consumer.specs.Roamers.{ends_of, progress_of, is_begun, is_faulted, plan_of_roamer, is_marked, AreMarked, IsClosedLogOfEnds, StandsFor}
+use Rattle.roaming_consumer.specs.Roamers.{ends_of, roamer_progress, is_begun, is_faulted, plan_of_roamer, is_marked, AreMarked, IsClosedLogOfEnds, RoamerStandsFor}
 use Rattle.roaming_consumer.specs.Visits.{Marks}
 use Rattle.roaming_consumer.proofs.Standing.{false_is_not_true, taken_length}
 
 -- no mark was written, and the answer is that the writer has ended only where its mark stands
-pub marks_stay : {S : Type 0} (outcome : Result Visit SinkFault) (writer : ℕ) (old new : Roamer S) → (progress_of new).closed ≡ (progress_of old).closed → (is_faulted old ≡ false → outcome ≡ Ok Ended → is_marked old writer ≡ true) → Marks outcome writer old new
+pub marks_stay : {S : Type 0} (outcome : Result Visit SinkFault) (writer : ℕ) (old new : Roamer S) → (roamer_progress new).closed ≡ (roamer_progress old).closed → (is_faulted old ≡ false → outcome ≡ Ok Ended → is_marked old writer ≡ true) → Marks outcome writer old new
 marks_stay outcome writer old new same stands =
     let each : (other : ℕ) → is_marked new other ≡ is_marked old other = λ other. ap (λ (l : List Bool). get_or l other false) same in
     record {
@@ -22,18 +22,18 @@ marks_stay outcome writer old new same stands =
     }
 
 -- the mark was written
-pub mark_written : {S : Type 0} (writer : ℕ) (old new : Roamer S) → (progress_of new).closed ≡ slice_set (progress_of old).closed writer true → writer < length (progress_of old).closed → is_faulted old ≡ false → Marks (Ok Ended) writer old new
+pub mark_written : {S : Type 0} (writer : ℕ) (old new : Roamer S) → (roamer_progress new).closed ≡ slice_set (roamer_progress old).closed writer true → writer < length (roamer_progress old).closed → is_faulted old ≡ false → Marks (Ok Ended) writer old new
 mark_written writer old new is within unfaulted =
-    let here : is_marked new writer ≡ true = ap (λ (l : List Bool). get_or l writer false) is ∙ get_or-set_same (progress_of old).closed writer true false within in
+    let here : is_marked new writer ≡ true = ap (λ (l : List Bool). get_or l writer false) is ∙ get_or-set_same (roamer_progress old).closed writer true false within in
     record {
-      others = λ other differs. ap (λ (l : List Bool). get_or l other false) is ∙ get_or-set_other (progress_of old).closed writer other true false differs;
+      others = λ other differs. ap (λ (l : List Bool). get_or l other false) is ∙ get_or-set_other (roamer_progress old).closed writer other true false differs;
       kept = λ marked. here;
       written = λ right ended. here;
       new_where = λ unmarked marked. (unfaulted, refl);
     }
 
 -- where each writer is marked, its close mark is in the log
-pub closed_log : {S : Type 0} (got : S → List (List ℕ)) (ended : S → Bool) (roamer : Roamer S) (wrote : List ℕ) → StandsFor got ended roamer wrote → is_begun roamer ≡ true → is_faulted roamer ≡ false → AreMarked roamer → IsClosedLogOfEnds got roamer wrote
+pub closed_log : {S : Type 0} (got : S → List (List ℕ)) (ended : S → Bool) (roamer : Roamer S) (wrote : List ℕ) → RoamerStandsFor got ended roamer wrote → is_begun roamer ≡ true → is_faulted roamer ≡ false → AreMarked roamer → IsClosedLogOfEnds got roamer wrote
 closed_log got ended roamer wrote stood now unfaulted marked =
     let log = stood.lawful now unfaulted in
     let size = taken_length (plan_of_roamer roamer) got (ends_of roamer) log.taken log.frames in

@@ -21,10 +21,10 @@ use Rattle.ring_core.specs.Plans.{Plan, plan_of, frames_of, AreFramesOf}
 use Rattle.ring_core.proofs.Frames.{AreFramesOf-nil}
 use Rattle.roaming_consumer.specs.declared.draft.Draft.{Draft}
 use Rattle.roaming_consumer.specs.declared.roamer.Roamer.{Roamer}
-use Rattle.roaming_consumer.specs.Growth.{Progress, IsLogSoFar, with_calls, FragmentsFor, IsNext, progress_behind, progress_closing}
+use Rattle.roaming_consumer.specs.Growth.{LogProgress, IsLogSoFar, with_calls, FragmentsFor, IsNext, progress_behind, progress_closing}
 use Rattle.roaming_consumer.specs.Drafts.{IsDraft}
-use Rattle.roaming_consumer.specs.Gathering.{Gathers, StopsTaking}
-use Rattle.roaming_consumer.specs.Roamers.{ends_of, messages_of, clock_of, batch_of, progress_of, is_begun, is_faulted, plan_of_roamer, ArePlanned, IsSameRun, KeepsLog, Answers, ChangesOne, AreTaken, IsLogOfEnds, StandsFor, header_of, Adds}
+use Rattle.roaming_consumer.specs.Gathering.{DraftsFrames, StopsTaking}
+use Rattle.roaming_consumer.specs.Roamers.{ends_of, roamer_messages, roamer_clock, roamer_batch, roamer_progress, is_begun, is_faulted, plan_of_roamer, ArePlanned, IsSameRun, KeepsLog, EndAfterTaking, ChangesOne, FramesAreTaken, IsLogOfEnds, RoamerStandsFor, roamer_header, AppendsToLog}
 use Rattle.roaming_consumer.specs.Visits.{WritesExtent}
 use Rattle.roaming_consumer.proofs.Used.{ids_known}
 use Rattle.roaming_consumer.proofs.Sending.{with_end-nil, ExtentSent}
@@ -33,39 +33,39 @@ use Rattle.roaming_consumer.proofs.Growth.{grown, closing, beginning}
 pub false_is_not_true : {A : Type 0} (b : Bool) → b ≡ false → b ≡ true → A
 false_is_not_true b is_false is_true = absurd cc
 
-same_log : (wrote others : List ℕ) (taken : List (List Call)) (messages names : List Message) (clock watch : Clock) (batch size : ℕ) (progress now : Progress) → wrote ≡ others → messages ≡ names → clock ≡ watch → batch ≡ size → progress ≡ now → IsLogSoFar wrote taken messages clock batch progress → IsLogSoFar others taken names watch size now
+same_log : (wrote others : List ℕ) (taken : List (List Call)) (messages names : List Message) (clock watch : Clock) (batch size : ℕ) (progress now : LogProgress) → wrote ≡ others → messages ≡ names → clock ≡ watch → batch ≡ size → progress ≡ now → IsLogSoFar wrote taken messages clock batch progress → IsLogSoFar others taken names watch size now
 same_log wrote others taken messages names clock watch batch size progress now bytes same_messages same_clock same_batch same_progress log =
     subst (λ (w : List ℕ). IsLogSoFar w taken names watch size now) bytes
     (subst (λ (m : List Message). IsLogSoFar wrote taken m watch size now) same_messages
     (subst (λ (c : Clock). IsLogSoFar wrote taken messages c size now) same_clock
     (subst (λ (b : ℕ). IsLogSoFar wrote taken messages clock b now) same_batch
-    (subst (λ (p : Progress). IsLogSoFar wrote taken messages clock batch p) same_progress log))))
+    (subst (λ (p : LogProgress). IsLogSoFar wrote taken messages clock batch p) same_progress log))))
 
 -- ---- what was taken from the ends
 
 -- nothing
-taken_none : {S : Type 0} (plan : Plan) (got : S → List (List ℕ)) (ends : List S) → All (λ end. got end ≡ []) ends → AreTaken plan got ends (replicate (length ends) [])
+taken_none : {S : Type 0} (plan : Plan) (got : S → List (List ℕ)) (ends : List S) → All (λ end. got end ≡ []) ends → FramesAreTaken plan got ends (replicate (length ends) [])
 taken_none plan got [] none = tt
 taken_none plan got (end ∷ ends) none = (
   subst (λ (frames : List (List ℕ)). AreFramesOf plan frames []) (sym (All-head (λ e. got e ≡ []) end ends none)) (AreFramesOf-nil plan),
   taken_none plan got ends (All-tail (λ e. got e ≡ []) end ends none),
 )
 
-pub taken_length : {S : Type 0} (plan : Plan) (got : S → List (List ℕ)) (ends : List S) (taken : List (List Call)) → AreTaken plan got ends taken → length taken ≡ length ends
+pub taken_length : {S : Type 0} (plan : Plan) (got : S → List (List ℕ)) (ends : List S) (taken : List (List Call)) → FramesAreTaken plan got ends taken → length taken ≡ length ends
 taken_length plan got [] [] are = refl
 taken_length plan got [] (calls ∷ taken) are = absurd are
 taken_length plan got (end ∷ ends) [] are = absurd are
 taken_length plan got (end ∷ ends) (calls ∷ taken) are = omega (arith, taken_length plan got ends taken are.1)
 
 -- of one end
-taken_of : {S : Type 0} (plan : Plan) (got : S → List (List ℕ)) (ends : List S) (taken : List (List Call)) (writer : ℕ) (end : S) → AreTaken plan got ends taken → slice_get ends writer ≡ Some end → AreFramesOf plan (got end) (get_or taken writer [])
+taken_of : {S : Type 0} (plan : Plan) (got : S → List (List ℕ)) (ends : List S) (taken : List (List Call)) (writer : ℕ) (end : S) → FramesAreTaken plan got ends taken → slice_get ends writer ≡ Some end → AreFramesOf plan (got end) (get_or taken writer [])
 taken_of plan got [] taken writer end are there = absurd cc
 taken_of plan got (e ∷ ends) [] writer end are there = absurd are
 taken_of plan got (e ∷ ends) (calls ∷ taken) zero end are there = subst (λ (x : _). AreFramesOf plan (got x) calls) (same_Some e end there) are.0
 taken_of plan got (e ∷ ends) (calls ∷ taken) (suc writer) end are there = taken_of plan got ends taken writer end are.1 there
 
 -- one end took a step
-taken_set : {S : Type 0} (plan : Plan) (got : S → List (List ℕ)) (ends : List S) (taken : List (List Call)) (writer : ℕ) (end : S) (calls : List Call) → AreTaken plan got ends taken → AreFramesOf plan (got end) calls → AreTaken plan got (slice_set ends writer end) (slice_set taken writer calls)
+taken_set : {S : Type 0} (plan : Plan) (got : S → List (List ℕ)) (ends : List S) (taken : List (List Call)) (writer : ℕ) (end : S) (calls : List Call) → FramesAreTaken plan got ends taken → AreFramesOf plan (got end) calls → FramesAreTaken plan got (slice_set ends writer end) (slice_set taken writer calls)
 taken_set plan got [] [] writer end calls are here = tt
 taken_set plan got [] (c ∷ taken) writer end calls are here = absurd are
 taken_set plan got (e ∷ ends) [] writer end calls are here = absurd are
@@ -74,14 +74,14 @@ taken_set plan got (e ∷ ends) (c ∷ taken) (suc writer) end calls are here = 
 
 -- ---- the header
 
-pub begun : {S : Type 0} (got : S → List (List ℕ)) (ended : S → Bool) (old new : Roamer S) (put put_after : Told) → is_begun old ≡ false → is_begun new ≡ true → ends_of new ≡ ends_of old → IsSameRun old new → progress_of new ≡ progress_of old → IsHeader (header_of old) → put_after ≡ with_end (header_bytes (header_of old)) put → Adds got ended old new put put_after
+pub begun : {S : Type 0} (got : S → List (List ℕ)) (ended : S → Bool) (old new : Roamer S) (put put_after : Told) → is_begun old ≡ false → is_begun new ≡ true → ends_of new ≡ ends_of old → IsSameRun old new → roamer_progress new ≡ roamer_progress old → IsHeader (roamer_header old) → put_after ≡ with_end (header_bytes (roamer_header old)) put → AppendsToLog got ended old new put put_after
 begun {S} got ended old new put put_after unbegun now same_ends same_run same_progress right puts = record {
-  bytes = header_bytes (header_of old);
+  bytes = header_bytes (roamer_header old);
   put_is = puts;
   stands = λ wrote was.
       let none = was.nothing unbegun in
-      let closed = λ (writer : ℕ). ap (λ (p : Progress). get_or p.closed writer false) same_progress ∙ was.unclosed unbegun writer in
-      let first = beginning (header_of old) (messages_of old) (batch_of old) (progress_of new).closed right closed in
+      let closed = λ (writer : ℕ). ap (λ (p : LogProgress). get_or p.closed writer false) same_progress ∙ was.unclosed unbegun writer in
+      let first = beginning (roamer_header old) (roamer_messages old) (roamer_batch old) (roamer_progress new).closed right closed in
       let plan : plan_of_roamer old ≡ plan_of_roamer new = λ i. plan_of (sym same_run.messages i) (sym same_run.clock i).tick in
       let taken = taken_none (plan_of_roamer old) got (ends_of old) (was.untaken unbegun) in
       record {
@@ -92,13 +92,13 @@ begun {S} got ended old new put put_after unbegun now same_ends same_run same_pr
         lawful = λ yes right_so_far. record {
           taken = replicate (length (ends_of old)) [];
           frames =
-              subst (λ (p : Plan). AreTaken p got (ends_of new) (replicate (length (ends_of old)) [])) plan
-              (subst (λ (ends : List S). AreTaken (plan_of_roamer old) got ends (replicate (length (ends_of old)) [])) (sym same_ends) taken);
+              subst (λ (p : Plan). FramesAreTaken p got (ends_of new) (replicate (length (ends_of old)) [])) plan
+              (subst (λ (ends : List S). FramesAreTaken (plan_of_roamer old) got ends (replicate (length (ends_of old)) [])) (sym same_ends) taken);
           log =
-              same_log (header_bytes (header_of old)) (wrote ++ header_bytes (header_of old)) (replicate (length (ends_of old)) []) (messages_of old) (messages_of new) (clock_of old) (clock_of new) (batch_of old) (batch_of new) (record { defined = 0; closed = (progress_of new).closed }) (progress_of new)
-              (ap (λ (l : List ℕ). l ++ header_bytes (header_of old)) (sym none)) (sym same_run.messages) (sym same_run.clock) (sym same_run.batch)
-              (ap (λ (n : ℕ). record { defined = n; closed = (progress_of new).closed }) (sym (ap (λ (p : Progress). p.defined) same_progress ∙ was.undefined unbegun))) first;
-          closed = λ writer end there is_closed. false_is_not_true (get_or (progress_of new).closed writer false) (closed writer) is_closed;
+              same_log (header_bytes (roamer_header old)) (wrote ++ header_bytes (roamer_header old)) (replicate (length (ends_of old)) []) (roamer_messages old) (roamer_messages new) (roamer_clock old) (roamer_clock new) (roamer_batch old) (roamer_batch new) (record { defined = 0; closed = (roamer_progress new).closed }) (roamer_progress new)
+              (ap (λ (l : List ℕ). l ++ header_bytes (roamer_header old)) (sym none)) (sym same_run.messages) (sym same_run.clock) (sym same_run.batch)
+              (ap (λ (n : ℕ). record { defined = n; closed = (roamer_progress new).closed }) (sym (ap (λ (p : LogProgress). p.defined) same_progress ∙ was.undefined unbegun))) first;
+          closed = λ writer end there is_closed. false_is_not_true (get_or (roamer_progress new).closed writer false) (closed writer) is_closed;
         };
       };
 }
@@ -147,17 +147,17 @@ body_some messages before (entry ∷ entries) body some (front, back, joined, is
 
 -- ---- what a draft is, before it is written
 
-pub draft_some : (messages : List Message) (tick : ℕ) (before after : List (List ℕ)) (draft : Draft) (body : List ℕ) → Gathers messages tick before after draft body → 1 ≤ draft.records → 1 ≤ draft.len
+pub draft_some : (messages : List Message) (tick : ℕ) (before after : List (List ℕ)) (draft : Draft) (body : List ℕ) → DraftsFrames messages tick before after draft body → 1 ≤ draft.records → 1 ≤ draft.len
 draft_some messages tick before after draft body was some =
     let d = was.drafted in
     let records = d.records in
     omega (arith, d.within, length-take-le draft.len body d.within, body_some messages tick was.entries (take draft.len body) (omega (arith, some, records)) d.spelled)
 
-pub draft_ids : (messages : List Message) (tick : ℕ) (before after : List (List ℕ)) (draft : Draft) (body : List ℕ) → Gathers messages tick before after draft body → draft.ids ≤ length messages
+pub draft_ids : (messages : List Message) (tick : ℕ) (before after : List (List ℕ)) (draft : Draft) (body : List ℕ) → DraftsFrames messages tick before after draft body → draft.ids ≤ length messages
 draft_ids messages tick before after draft body was = omega (arith, was.drafted.ids, ids_known messages was.entries was.right)
 
 -- nothing came where there is no record
-pub none_came : (messages : List Message) (tick : ℕ) (before after : List (List ℕ)) (draft : Draft) (body : List ℕ) → Gathers messages tick before after draft body → draft.records ≡ 0 → after ≡ before
+pub none_came : (messages : List Message) (tick : ℕ) (before after : List (List ℕ)) (draft : Draft) (body : List ℕ) → DraftsFrames messages tick before after draft body → draft.records ≡ 0 → after ≡ before
 none_came messages tick before after draft body was none =
     let entries : was.entries ≡ [] = empty was.entries (omega (arith, was.drafted.records, none)) in
     was.comes.joined ∙ ap (λ (calls : List Call). before ++ frames_of calls) entries ∙ append-nil before
@@ -188,7 +188,7 @@ pub record Moved {S : Type 0} (got : S → List (List ℕ)) (ended : S → Bool)
     (before after : S) (draft : Draft) (body : List ℕ) : Type 0 where
   pub was : slice_get (ends_of old) writer ≡ Some before
   pub ends : ends_of new ≡ slice_set (ends_of old) writer after
-  pub gathers : Gathers (messages_of old) (clock_of old).tick (got before) (got after) draft body
+  pub gathers : DraftsFrames (roamer_messages old) (roamer_clock old).tick (got before) (got after) draft body
   pub same_run : IsSameRun old new
   pub begun : is_begun old ≡ true
   pub unfaulted : is_faulted old ≡ false
@@ -196,15 +196,15 @@ pub record Moved {S : Type 0} (got : S → List (List ℕ)) (ended : S → Bool)
 same_plan : {S : Type 0} (old new : Roamer S) → IsSameRun old new → plan_of_roamer old ≡ plan_of_roamer new
 same_plan old new same_run = λ i. plan_of (sym same_run.messages i) (sym same_run.clock i).tick
 
-move_taken : {S : Type 0} (got : S → List (List ℕ)) (old new : Roamer S) (writer : ℕ) (after : S) (taken : List (List Call)) → ends_of new ≡ slice_set (ends_of old) writer after → IsSameRun old new → AreTaken (plan_of_roamer old) got (slice_set (ends_of old) writer after) taken → AreTaken (plan_of_roamer new) got (ends_of new) taken
+move_taken : {S : Type 0} (got : S → List (List ℕ)) (old new : Roamer S) (writer : ℕ) (after : S) (taken : List (List Call)) → ends_of new ≡ slice_set (ends_of old) writer after → IsSameRun old new → FramesAreTaken (plan_of_roamer old) got (slice_set (ends_of old) writer after) taken → FramesAreTaken (plan_of_roamer new) got (ends_of new) taken
 move_taken {S} got old new writer after taken ends same_run are =
-    subst (λ (p : Plan). AreTaken p got (ends_of new) taken) (same_plan old new same_run)
-    (subst (λ (es : List S). AreTaken (plan_of_roamer old) got es taken) (sym ends) are)
+    subst (λ (p : Plan). FramesAreTaken p got (ends_of new) taken) (same_plan old new same_run)
+    (subst (λ (es : List S). FramesAreTaken (plan_of_roamer old) got es taken) (sym ends) are)
 
-pub extent_stands : {S : Type 0} (got : S → List (List ℕ)) (ended : S → Bool) (old new : Roamer S) (writer : ℕ) (before after : S) (draft : Draft) (body fragments extent : List ℕ) → Moved got ended old new writer before after draft body → 1 ≤ draft.records → draft.records ≤ batch_of old → (ended before ≡ true → draft.records ≡ 0) → progress_of new ≡ record (progress_of old) { defined = max (progress_of old).defined draft.ids } → AreDistinct (messages_of old) → length (messages_of old) ≤ 65536 → length (ends_of old) ≤ 64 → length body ≤ 65536
-    → FragmentsFor (progress_of old).defined (drop (progress_of old).defined (take (max (progress_of old).defined draft.ids) (messages_of old))) fragments
+pub extent_stands : {S : Type 0} (got : S → List (List ℕ)) (ended : S → Bool) (old new : Roamer S) (writer : ℕ) (before after : S) (draft : Draft) (body fragments extent : List ℕ) → Moved got ended old new writer before after draft body → 1 ≤ draft.records → draft.records ≤ roamer_batch old → (ended before ≡ true → draft.records ≡ 0) → roamer_progress new ≡ record (roamer_progress old) { defined = max (roamer_progress old).defined draft.ids } → AreDistinct (roamer_messages old) → length (roamer_messages old) ≤ 65536 → length (ends_of old) ≤ 64 → length body ≤ 65536
+    → FragmentsFor (roamer_progress old).defined (drop (roamer_progress old).defined (take (max (roamer_progress old).defined draft.ids) (roamer_messages old))) fragments
     → extent ≡ extent_head_bytes writer (length (take draft.len body)) ++ take draft.len body
-    → (wrote : List ℕ) → StandsFor got ended old wrote → IsLogOfEnds got ended new (wrote ++ (fragments ++ extent))
+    → (wrote : List ℕ) → RoamerStandsFor got ended old wrote → IsLogOfEnds got ended new (wrote ++ (fragments ++ extent))
 extent_stands {S} got ended old new writer before after draft body fragments extent moved some few going progress distinct few_messages few_ends room spelled extent_is wrote stood =
     let log = stood.lawful moved.begun moved.unfaulted in
     let plan = plan_of_roamer old in
@@ -216,32 +216,32 @@ extent_stands {S} got ended old new writer before after draft body fragments ext
     let known : writer < length log.taken = omega (arith, size, inside) in
     let are = taken_of plan got (ends_of old) log.taken writer before log.frames moved.was in
     let now = moved.gathers.comes.lawful calls are in
-    let open_writer : get_or (progress_of old).closed writer false ≡ false =
-    not_true (get_or (progress_of old).closed writer false) (λ closed. omega (arith, some, going (log.closed writer before moved.was closed))) in
-    let new_are = wanted_new (messages_of old) (progress_of old).defined entries draft.ids drafted.ids in
+    let open_writer : get_or (roamer_progress old).closed writer false ≡ false =
+    not_true (get_or (roamer_progress old).closed writer false) (λ closed. omega (arith, some, going (log.closed writer before moved.was closed))) in
+    let new_are = wanted_new (roamer_messages old) (roamer_progress old).defined entries draft.ids drafted.ids in
     let records = drafted.records in
-    let next : IsNext log.taken (messages_of old) (clock_of old).tick (batch_of old) (progress_of old) writer entries fragments extent = record {
+    let next : IsNext log.taken (roamer_messages old) (roamer_clock old).tick (roamer_batch old) (roamer_progress old) writer entries fragments extent = record {
       known = known;
       not_closed = open_writer;
       few = omega (arith, few, records);
       right = moved.gathers.right;
       rising = now.rising;
-      fragments_spelled = subst (λ (ms : List Message). FragmentsFor (progress_of old).defined ms fragments) new_are spelled;
-      extent_spelled = spells_extent (messages_of old) (clock_of old).tick writer entries draft body extent drafted some (omega (arith, inside, few_ends)) room extent_is;
+      fragments_spelled = subst (λ (ms : List Message). FragmentsFor (roamer_progress old).defined ms fragments) new_are spelled;
+      extent_spelled = spells_extent (roamer_messages old) (roamer_clock old).tick writer entries draft body extent drafted some (omega (arith, inside, few_ends)) room extent_is;
     } in
-    let more = grown wrote log.taken (messages_of old) (clock_of old) (batch_of old) (progress_of old) writer entries fragments extent log.log distinct few_messages next in
-    let progress_is : progress_behind (progress_of old) entries ≡ progress_of new =
-    ap (λ (n : ℕ). record { defined = max (progress_of old).defined n; closed = (progress_of old).closed }) (sym drafted.ids) ∙ sym progress in
-    let closed_is : (progress_of new).closed ≡ (progress_of old).closed = ap (λ (p : Progress). p.closed) progress in
+    let more = grown wrote log.taken (roamer_messages old) (roamer_clock old) (roamer_batch old) (roamer_progress old) writer entries fragments extent log.log distinct few_messages next in
+    let progress_is : progress_behind (roamer_progress old) entries ≡ roamer_progress new =
+    ap (λ (n : ℕ). record { defined = max (roamer_progress old).defined n; closed = (roamer_progress old).closed }) (sym drafted.ids) ∙ sym progress in
+    let closed_is : (roamer_progress new).closed ≡ (roamer_progress old).closed = ap (λ (p : LogProgress). p.closed) progress in
     record {
       taken = with_calls log.taken writer entries;
       frames = move_taken got old new writer after (with_calls log.taken writer entries) moved.ends moved.same_run (taken_set plan got (ends_of old) log.taken writer after (calls ++ entries) log.frames now);
       log =
-          same_log (wrote ++ fragments ++ extent) (wrote ++ (fragments ++ extent)) (with_calls log.taken writer entries) (messages_of old) (messages_of new) (clock_of old) (clock_of new) (batch_of old) (batch_of new) (progress_behind (progress_of old) entries) (progress_of new) (append_assoc wrote fragments extent) (sym moved.same_run.messages) (sym moved.same_run.clock) (sym moved.same_run.batch) progress_is more;
+          same_log (wrote ++ fragments ++ extent) (wrote ++ (fragments ++ extent)) (with_calls log.taken writer entries) (roamer_messages old) (roamer_messages new) (roamer_clock old) (roamer_clock new) (roamer_batch old) (roamer_batch new) (progress_behind (roamer_progress old) entries) (roamer_progress new) (append_assoc wrote fragments extent) (sym moved.same_run.messages) (sym moved.same_run.clock) (sym moved.same_run.batch) progress_is more;
       closed = λ w end there closed.
-          let closed_before : get_or (progress_of old).closed w false ≡ true = ap (λ (l : List Bool). get_or l w false) (sym closed_is) ∙ closed in
+          let closed_before : get_or (roamer_progress old).closed w false ≡ true = ap (λ (l : List Bool). get_or l w false) (sym closed_is) ∙ closed in
           elim (eqb_tells w writer) [
-            | inl same ↦ false_is_not_true (get_or (progress_of old).closed w false) (ap (λ (n : ℕ). get_or (progress_of old).closed n false) same.1 ∙ open_writer) closed_before
+            | inl same ↦ false_is_not_true (get_or (roamer_progress old).closed w false) (ap (λ (n : ℕ). get_or (roamer_progress old).closed n false) same.1 ∙ open_writer) closed_before
             | inr differs ↦ log.closed w end (sym (get_set_other (ends_of old) writer w after differs.1) ∙ ap (λ (es : List S). slice_get es w) (sym moved.ends) ∙ there) closed_before
           ];
     }
@@ -249,30 +249,30 @@ extent_stands {S} got ended old new writer before after draft body fragments ext
 -- ---- no record
 
 -- an end gave no frame
-taken_still : {S : Type 0} (plan : Plan) (got : S → List (List ℕ)) (ends : List S) (taken : List (List Call)) (writer : ℕ) (before after : S) → AreTaken plan got ends taken → slice_get ends writer ≡ Some before → got after ≡ got before → AreTaken plan got (slice_set ends writer after) taken
+taken_still : {S : Type 0} (plan : Plan) (got : S → List (List ℕ)) (ends : List S) (taken : List (List Call)) (writer : ℕ) (before after : S) → FramesAreTaken plan got ends taken → slice_get ends writer ≡ Some before → got after ≡ got before → FramesAreTaken plan got (slice_set ends writer after) taken
 taken_still plan got ends taken writer before after are there same =
     let calls = get_or taken writer [] in
     let here : AreFramesOf plan (got after) calls = subst (λ (frames : List (List ℕ)). AreFramesOf plan frames calls) (sym same) (taken_of plan got ends taken writer before are there) in
-    subst (AreTaken plan got (slice_set ends writer after)) (set-get_or taken writer []) (taken_set plan got ends taken writer after calls are here)
+    subst (FramesAreTaken plan got (slice_set ends writer after)) (set-get_or taken writer []) (taken_set plan got ends taken writer after calls are here)
 
 -- nothing was written
-pub idle_stands : {S : Type 0} (got : S → List (List ℕ)) (ended : S → Bool) (old new : Roamer S) (writer : ℕ) (before after : S) (draft : Draft) (body : List ℕ) → Moved got ended old new writer before after draft body → draft.records ≡ 0 → progress_of new ≡ progress_of old → (get_or (progress_of old).closed writer false ≡ true → ended before ≡ true → ended after ≡ true)
-    → (wrote : List ℕ) → StandsFor got ended old wrote → IsLogOfEnds got ended new (wrote ++ [])
+pub idle_stands : {S : Type 0} (got : S → List (List ℕ)) (ended : S → Bool) (old new : Roamer S) (writer : ℕ) (before after : S) (draft : Draft) (body : List ℕ) → Moved got ended old new writer before after draft body → draft.records ≡ 0 → roamer_progress new ≡ roamer_progress old → (get_or (roamer_progress old).closed writer false ≡ true → ended before ≡ true → ended after ≡ true)
+    → (wrote : List ℕ) → RoamerStandsFor got ended old wrote → IsLogOfEnds got ended new (wrote ++ [])
 idle_stands {S} got ended old new writer before after draft body moved none progress stays wrote stood =
     let log = stood.lawful moved.begun moved.unfaulted in
     let plan = plan_of_roamer old in
-    let same = none_came (messages_of old) (clock_of old).tick (got before) (got after) draft body moved.gathers none in
-    let closed_is : (progress_of new).closed ≡ (progress_of old).closed = ap (λ (p : Progress). p.closed) progress in
+    let same = none_came (roamer_messages old) (roamer_clock old).tick (got before) (got after) draft body moved.gathers none in
+    let closed_is : (roamer_progress new).closed ≡ (roamer_progress old).closed = ap (λ (p : LogProgress). p.closed) progress in
     record {
       taken = log.taken;
       frames = move_taken got old new writer after log.taken moved.ends moved.same_run (taken_still plan got (ends_of old) log.taken writer before after log.frames moved.was same);
       log =
-          same_log wrote (wrote ++ []) log.taken (messages_of old) (messages_of new) (clock_of old) (clock_of new) (batch_of old) (batch_of new) (progress_of old) (progress_of new) (sym (append-nil wrote)) (sym moved.same_run.messages) (sym moved.same_run.clock) (sym moved.same_run.batch) (sym progress) log.log;
+          same_log wrote (wrote ++ []) log.taken (roamer_messages old) (roamer_messages new) (roamer_clock old) (roamer_clock new) (roamer_batch old) (roamer_batch new) (roamer_progress old) (roamer_progress new) (sym (append-nil wrote)) (sym moved.same_run.messages) (sym moved.same_run.clock) (sym moved.same_run.batch) (sym progress) log.log;
       closed = λ w end there closed.
-          let closed_before : get_or (progress_of old).closed w false ≡ true = ap (λ (l : List Bool). get_or l w false) (sym closed_is) ∙ closed in
+          let closed_before : get_or (roamer_progress old).closed w false ≡ true = ap (λ (l : List Bool). get_or l w false) (sym closed_is) ∙ closed in
           elim (eqb_tells w writer) [
             | inl here ↦
-                let own : get_or (progress_of old).closed writer false ≡ true = ap (λ (n : ℕ). get_or (progress_of old).closed n false) (sym here.1) ∙ closed_before in
+                let own : get_or (roamer_progress old).closed writer false ≡ true = ap (λ (n : ℕ). get_or (roamer_progress old).closed n false) (sym here.1) ∙ closed_before in
                 let is : after ≡ end = get_set_same (ends_of old) writer after end (ap (λ (es : List S). slice_get es writer) (sym moved.ends) ∙ ap (slice_get (ends_of new)) (sym here.1) ∙ there) in
                 ap ended (sym is) ∙ stays own (log.closed writer before moved.was own)
             | inr differs ↦ log.closed w end (sym (get_set_other (ends_of old) writer w after differs.1) ∙ ap (λ (es : List S). slice_get es w) (sym moved.ends) ∙ there) closed_before
@@ -280,36 +280,36 @@ idle_stands {S} got ended old new writer before after draft body moved none prog
     }
 
 -- the close mark was written
-pub mark_stands : {S : Type 0} (got : S → List (List ℕ)) (ended : S → Bool) (old new : Roamer S) (writer : ℕ) (before after : S) (draft : Draft) (body : List ℕ) → Moved got ended old new writer before after draft body → draft.records ≡ 0 → progress_of new ≡ progress_closing (progress_of old) writer → get_or (progress_of old).closed writer false ≡ false → ended after ≡ true → length (ends_of old) ≤ length (progress_of old).closed
-    → (wrote : List ℕ) → StandsFor got ended old wrote → IsLogOfEnds got ended new (wrote ++ close_bytes writer)
+pub mark_stands : {S : Type 0} (got : S → List (List ℕ)) (ended : S → Bool) (old new : Roamer S) (writer : ℕ) (before after : S) (draft : Draft) (body : List ℕ) → Moved got ended old new writer before after draft body → draft.records ≡ 0 → roamer_progress new ≡ progress_closing (roamer_progress old) writer → get_or (roamer_progress old).closed writer false ≡ false → ended after ≡ true → length (ends_of old) ≤ length (roamer_progress old).closed
+    → (wrote : List ℕ) → RoamerStandsFor got ended old wrote → IsLogOfEnds got ended new (wrote ++ close_bytes writer)
 mark_stands {S} got ended old new writer before after draft body moved none progress unclosed over room wrote stood =
     let log = stood.lawful moved.begun moved.unfaulted in
     let plan = plan_of_roamer old in
     let size = taken_length plan got (ends_of old) log.taken log.frames in
     let inside = slice_get_within (ends_of old) writer before moved.was in
-    let same = none_came (messages_of old) (clock_of old).tick (got before) (got after) draft body moved.gathers none in
-    let more = closing wrote log.taken (messages_of old) (clock_of old) (batch_of old) (progress_of old) writer log.log (omega (arith, size, inside)) unclosed (omega (arith, inside, room)) in
-    let closed_is : (progress_of new).closed ≡ slice_set (progress_of old).closed writer true = ap (λ (p : Progress). p.closed) progress in
+    let same = none_came (roamer_messages old) (roamer_clock old).tick (got before) (got after) draft body moved.gathers none in
+    let more = closing wrote log.taken (roamer_messages old) (roamer_clock old) (roamer_batch old) (roamer_progress old) writer log.log (omega (arith, size, inside)) unclosed (omega (arith, inside, room)) in
+    let closed_is : (roamer_progress new).closed ≡ slice_set (roamer_progress old).closed writer true = ap (λ (p : LogProgress). p.closed) progress in
     record {
       taken = log.taken;
       frames = move_taken got old new writer after log.taken moved.ends moved.same_run (taken_still plan got (ends_of old) log.taken writer before after log.frames moved.was same);
       log =
-          same_log (wrote ++ close_bytes writer) (wrote ++ close_bytes writer) log.taken (messages_of old) (messages_of new) (clock_of old) (clock_of new) (batch_of old) (batch_of new) (progress_closing (progress_of old) writer) (progress_of new) refl (sym moved.same_run.messages) (sym moved.same_run.clock) (sym moved.same_run.batch) (sym progress) more;
+          same_log (wrote ++ close_bytes writer) (wrote ++ close_bytes writer) log.taken (roamer_messages old) (roamer_messages new) (roamer_clock old) (roamer_clock new) (roamer_batch old) (roamer_batch new) (progress_closing (roamer_progress old) writer) (roamer_progress new) refl (sym moved.same_run.messages) (sym moved.same_run.clock) (sym moved.same_run.batch) (sym progress) more;
       closed = λ w end there closed.
           elim (eqb_tells w writer) [
             | inl here ↦
                 let is : after ≡ end = get_set_same (ends_of old) writer after end (ap (λ (es : List S). slice_get es writer) (sym moved.ends) ∙ ap (slice_get (ends_of new)) (sym here.1) ∙ there) in
                 ap ended (sym is) ∙ over
             | inr differs ↦
-                let closed_before : get_or (progress_of old).closed w false ≡ true =
-                sym (get_or-set_other (progress_of old).closed writer w true false differs.1) ∙ ap (λ (l : List Bool). get_or l w false) (sym closed_is) ∙ closed in
+                let closed_before : get_or (roamer_progress old).closed w false ≡ true =
+                sym (get_or-set_other (roamer_progress old).closed writer w true false differs.1) ∙ ap (λ (l : List Bool). get_or l w false) (sym closed_is) ∙ closed in
                 log.closed w end (sym (get_set_other (ends_of old) writer w after differs.1) ∙ ap (λ (es : List S). slice_get es w) (sym moved.ends) ∙ there) closed_before
           ];
     }
 
 -- ---- from the log to the roamer
 
-pub stands_begun : {S : Type 0} (got : S → List (List ℕ)) (ended : S → Bool) (roamer : Roamer S) (wrote : List ℕ) → is_begun roamer ≡ true → IsLogOfEnds got ended roamer wrote → StandsFor got ended roamer wrote
+pub stands_begun : {S : Type 0} (got : S → List (List ℕ)) (ended : S → Bool) (roamer : Roamer S) (wrote : List ℕ) → is_begun roamer ≡ true → IsLogOfEnds got ended roamer wrote → RoamerStandsFor got ended roamer wrote
 stands_begun got ended roamer wrote now log = record {
   nothing = λ unset. false_is_not_true (is_begun roamer) unset now;
   untaken = λ unset. false_is_not_true (is_begun roamer) unset now;
@@ -319,7 +319,7 @@ stands_begun got ended roamer wrote now log = record {
 }
 
 -- after a fault it stands for whatever went out
-pub stands_faulted : {S : Type 0} (got : S → List (List ℕ)) (ended : S → Bool) (roamer : Roamer S) (wrote : List ℕ) → is_begun roamer ≡ true → is_faulted roamer ≡ true → StandsFor got ended roamer wrote
+pub stands_faulted : {S : Type 0} (got : S → List (List ℕ)) (ended : S → Bool) (roamer : Roamer S) (wrote : List ℕ) → is_begun roamer ≡ true → is_faulted roamer ≡ true → RoamerStandsFor got ended roamer wrote
 stands_faulted got ended roamer wrote now faulted = record {
   nothing = λ unset. false_is_not_true (is_begun roamer) unset now;
   untaken = λ unset. false_is_not_true (is_begun roamer) unset now;
@@ -333,8 +333,8 @@ stands_faulted got ended roamer wrote now faulted = record {
 -- what was collected
 abbrev pub Collected : {S : Type 0} → (S → List (List ℕ)) → (S → Bool) → (S → ℕ) → (S → List ℕ) → (S → Plan) → Roamer S → Draft → Bool → List ℕ → S → S → Type 0
 Collected got ended loads pair plan old draft all body before after =
-    Gathers (messages_of old) (clock_of old).tick (got before) (got after) draft body × Answers ended loads pair plan draft.records all before after
-    × StopsTaking got ended loads (batch_of old) draft.records (MAX_BODY - draft.len) before after
+    DraftsFrames (roamer_messages old) (roamer_clock old).tick (got before) (got after) draft body × EndAfterTaking ended loads pair plan draft.records all before after
+    × StopsTaking got ended loads (roamer_batch old) draft.records (MAX_BODY - draft.len) before after
 
 same_run_then : {S : Type 0} (old mid new : Roamer S) → IsSameRun old mid → IsSameRun mid new → IsSameRun old new
 same_run_then old mid new first second = record {
@@ -346,12 +346,12 @@ same_run_then old mid new first second = record {
 -- what went out for a draft
 abbrev pub SentBy : {S : Type 0} → Roamer S → ℕ → Draft → List ℕ → Told → Told → Type 0
 SentBy roamer writer draft body p q =
-    ExtentSent (messages_of roamer) (progress_of roamer).defined (max (progress_of roamer).defined draft.ids) writer (take draft.len body) p q
+    ExtentSent (roamer_messages roamer) (roamer_progress roamer).defined (max (roamer_progress roamer).defined draft.ids) writer (take draft.len body) p q
 
 sent_of_old : {S : Type 0} (old mid : Roamer S) (writer : ℕ) (draft : Draft) (body : List ℕ) (p q : Told) → KeepsLog old mid → SentBy mid writer draft body p q → SentBy old writer draft body p q
 sent_of_old old mid writer draft body p q keeps sent =
-    subst (λ (ms : List Message). ExtentSent ms (progress_of old).defined (max (progress_of old).defined draft.ids) writer (take draft.len body) p q) keeps.same_run.messages
-    (subst (λ (o : Progress). ExtentSent (messages_of mid) o.defined (max o.defined draft.ids) writer (take draft.len body) p q) keeps.progress sent)
+    subst (λ (ms : List Message). ExtentSent ms (roamer_progress old).defined (max (roamer_progress old).defined draft.ids) writer (take draft.len body) p q) keeps.same_run.messages
+    (subst (λ (o : LogProgress). ExtentSent (roamer_messages mid) o.defined (max o.defined draft.ids) writer (take draft.len body) p q) keeps.progress sent)
 
 -- a visit that wrote an extent
 pub writes_extent : {S : Type 0} (got : S → List (List ℕ)) (ended : S → Bool) (loads : S → ℕ) (pair : S → List ℕ) (plan : S → Plan) (old mid new : Roamer S) (writer : ℕ) (draft : Draft) (all : Bool) (body : List ℕ) (p q : Told) → ChangesOne (ends_of old) (ends_of mid) writer (Collected got ended loads pair plan old draft all body) → KeepsLog old mid → ends_of new ≡ ends_of mid → length (ends_of old) ≤ 64 → length body ≤ 65536 → 1 ≤ draft.records → SentBy mid writer draft body p q
@@ -360,7 +360,7 @@ writes_extent got ended loads pair plan old mid new writer draft all body p q on
     let sent = sent_of_old old mid writer draft body p q keeps sent_now in
     let gathers = one.step.0 in
     let drafted = gathers.drafted in
-    let defined = (progress_of old).defined in
+    let defined = (roamer_progress old).defined in
     let inside = slice_get_within (ends_of old) writer one.before one.was in
     record {
       before = one.before;
@@ -373,17 +373,17 @@ writes_extent got ended loads pair plan old mid new writer draft all body p q on
         right = gathers.right;
         count = sym drafted.records;
         fragments = sent.fragments;
-        defining = subst (λ (ms : List Message). FragmentsFor defined ms sent.fragments) (wanted_new (messages_of old) defined gathers.entries draft.ids drafted.ids) sent.spelled;
+        defining = subst (λ (ms : List Message). FragmentsFor defined ms sent.fragments) (wanted_new (roamer_messages old) defined gathers.entries draft.ids drafted.ids) sent.spelled;
         extent = sent.extent;
-        spelled = spells_extent (messages_of old) (clock_of old).tick writer gathers.entries draft body sent.extent drafted some (omega (arith, inside, few_ends)) room sent.extent_is;
+        spelled = spells_extent (roamer_messages old) (roamer_clock old).tick writer gathers.entries draft body sent.extent drafted some (omega (arith, inside, few_ends)) room sent.extent_is;
         puts = sent.put_is;
-        stops = subst (λ (n : ℕ). StopsTaking got ended loads (batch_of old) draft.records (MAX_BODY - n) one.before one.after) (sym (length-take-le draft.len body drafted.within)) one.step.2;
+        stops = subst (λ (n : ℕ). StopsTaking got ended loads (roamer_batch old) draft.records (MAX_BODY - n) one.before one.after) (sym (length-take-le draft.len body drafted.within)) one.step.2;
       };
     }
 
-pub wrote_extent : {S : Type 0} (got : S → List (List ℕ)) (ended : S → Bool) (loads : S → ℕ) (pair : S → List ℕ) (plan : S → Plan) (old mid new : Roamer S) (writer : ℕ) (draft : Draft) (all : Bool) (body : List ℕ) (p q : Told) → is_begun old ≡ true → is_faulted old ≡ false → ChangesOne (ends_of old) (ends_of mid) writer (Collected got ended loads pair plan old draft all body) → KeepsLog old mid → IsSameRun mid new → ends_of new ≡ ends_of mid → is_begun new ≡ is_begun mid → progress_of new ≡ record (progress_of mid) { defined = max (progress_of mid).defined draft.ids } → AreDistinct (messages_of mid) → length (messages_of mid) ≤ 65536 → length (ends_of old) ≤ 64 → length body ≤ 65536 → 1 ≤ draft.records → draft.records ≤ batch_of old
+pub wrote_extent : {S : Type 0} (got : S → List (List ℕ)) (ended : S → Bool) (loads : S → ℕ) (pair : S → List ℕ) (plan : S → Plan) (old mid new : Roamer S) (writer : ℕ) (draft : Draft) (all : Bool) (body : List ℕ) (p q : Told) → is_begun old ≡ true → is_faulted old ≡ false → ChangesOne (ends_of old) (ends_of mid) writer (Collected got ended loads pair plan old draft all body) → KeepsLog old mid → IsSameRun mid new → ends_of new ≡ ends_of mid → is_begun new ≡ is_begun mid → roamer_progress new ≡ record (roamer_progress mid) { defined = max (roamer_progress mid).defined draft.ids } → AreDistinct (roamer_messages mid) → length (roamer_messages mid) ≤ 65536 → length (ends_of old) ≤ 64 → length body ≤ 65536 → 1 ≤ draft.records → draft.records ≤ roamer_batch old
     → SentBy mid writer draft body p q
-    → Adds got ended old new p q
+    → AppendsToLog got ended old new p q
 wrote_extent {S} got ended loads pair plan old mid new writer draft all body p q now unfaulted one keeps run same_ends same_begun progress distinct few_messages few_ends room some few sent_now =
     let same = keeps.same_run.messages in
     let moved : Moved got ended old new writer one.before one.after draft body = record {
@@ -395,8 +395,8 @@ wrote_extent {S} got ended loads pair plan old mid new writer draft all body p q
       unfaulted = unfaulted;
     } in
     let sent = sent_of_old old mid writer draft body p q keeps sent_now in
-    let progress_now : progress_of new ≡ record (progress_of old) { defined = max (progress_of old).defined draft.ids } =
-    progress ∙ ap (λ (o : Progress). record { defined = max o.defined draft.ids; closed = o.closed }) keeps.progress in
+    let progress_now : roamer_progress new ≡ record (roamer_progress old) { defined = max (roamer_progress old).defined draft.ids } =
+    progress ∙ ap (λ (o : LogProgress). record { defined = max o.defined draft.ids; closed = o.closed }) keeps.progress in
     record {
       bytes = sent.fragments ++ sent.extent;
       put_is = sent.put_is;
@@ -405,7 +405,7 @@ wrote_extent {S} got ended loads pair plan old mid new writer draft all body p q
           (extent_stands got ended old new writer one.before one.after draft body sent.fragments sent.extent moved some few (λ over. (one.step.1.stays_ended over).0) progress_now (subst AreDistinct same distinct) (omega (arith, few_messages, ap length same)) few_ends room sent.spelled sent.extent_is wrote stood);
     }
 
-pub wrote_nothing : {S : Type 0} (got : S → List (List ℕ)) (ended : S → Bool) (loads : S → ℕ) (pair : S → List ℕ) (plan : S → Plan) (old new : Roamer S) (writer : ℕ) (draft : Draft) (all : Bool) (body : List ℕ) (p : Told) → is_begun old ≡ true → is_faulted old ≡ false → ChangesOne (ends_of old) (ends_of new) writer (Collected got ended loads pair plan old draft all body) → KeepsLog old new → draft.records ≡ 0 → Adds got ended old new p p
+pub wrote_nothing : {S : Type 0} (got : S → List (List ℕ)) (ended : S → Bool) (loads : S → ℕ) (pair : S → List ℕ) (plan : S → Plan) (old new : Roamer S) (writer : ℕ) (draft : Draft) (all : Bool) (body : List ℕ) (p : Told) → is_begun old ≡ true → is_faulted old ≡ false → ChangesOne (ends_of old) (ends_of new) writer (Collected got ended loads pair plan old draft all body) → KeepsLog old new → draft.records ≡ 0 → AppendsToLog got ended old new p p
 wrote_nothing got ended loads pair plan old new writer draft all body p now unfaulted one keeps none =
     let moved : Moved got ended old new writer one.before one.after draft body =
     record { was = one.was; ends = one.now; gathers = one.step.0; same_run = keeps.same_run; begun = now; unfaulted = unfaulted } in
@@ -417,8 +417,8 @@ wrote_nothing got ended loads pair plan old new writer draft all body p now unfa
           (idle_stands got ended old new writer one.before one.after draft body moved none keeps.progress (λ own over. one.step.1.none none ∙ (one.step.1.stays_ended over).1) wrote stood);
     }
 
-pub wrote_mark : {S : Type 0} (got : S → List (List ℕ)) (ended : S → Bool) (loads : S → ℕ) (pair : S → List ℕ) (plan : S → Plan) (old mid new : Roamer S) (writer : ℕ) (draft : Draft) (all : Bool) (body : List ℕ) (p q : Told) → is_begun old ≡ true → is_faulted old ≡ false → ChangesOne (ends_of old) (ends_of mid) writer (Collected got ended loads pair plan old draft all body) → KeepsLog old mid → IsSameRun mid new → ends_of new ≡ ends_of mid → is_begun new ≡ is_begun mid → progress_of new ≡ progress_closing (progress_of mid) writer → get_or (progress_of mid).closed writer false ≡ false → length (ends_of old) ≤ length (progress_of mid).closed → draft.records ≡ 0 → all ≡ true → q ≡ with_end (close_bytes writer) p
-    → Adds got ended old new p q
+pub wrote_mark : {S : Type 0} (got : S → List (List ℕ)) (ended : S → Bool) (loads : S → ℕ) (pair : S → List ℕ) (plan : S → Plan) (old mid new : Roamer S) (writer : ℕ) (draft : Draft) (all : Bool) (body : List ℕ) (p q : Told) → is_begun old ≡ true → is_faulted old ≡ false → ChangesOne (ends_of old) (ends_of mid) writer (Collected got ended loads pair plan old draft all body) → KeepsLog old mid → IsSameRun mid new → ends_of new ≡ ends_of mid → is_begun new ≡ is_begun mid → roamer_progress new ≡ progress_closing (roamer_progress mid) writer → get_or (roamer_progress mid).closed writer false ≡ false → length (ends_of old) ≤ length (roamer_progress mid).closed → draft.records ≡ 0 → all ≡ true → q ≡ with_end (close_bytes writer) p
+    → AppendsToLog got ended old new p q
 wrote_mark got ended loads pair plan old mid new writer draft all body p q now unfaulted one keeps run same_ends same_begun progress unclosed room none over put =
     let moved : Moved got ended old new writer one.before one.after draft body = record {
       was = one.was;
@@ -428,18 +428,18 @@ wrote_mark got ended loads pair plan old mid new writer draft all body p q now u
       begun = now;
       unfaulted = unfaulted;
     } in
-    let closed_is = ap (λ (o : Progress). o.closed) keeps.progress in
+    let closed_is = ap (λ (o : LogProgress). o.closed) keeps.progress in
     record {
       bytes = close_bytes writer;
       put_is = put;
       stands = λ wrote stood.
           stands_begun got ended new (wrote ++ close_bytes writer) (same_begun ∙ keeps.begun ∙ now)
-          (mark_stands got ended old new writer one.before one.after draft body moved none (progress ∙ ap (λ (o : Progress). progress_closing o writer) keeps.progress) (ap (λ (l : List Bool). get_or l writer false) (sym closed_is) ∙ unclosed) (one.step.1.none none ∙ over) (omega (arith, room, ap length closed_is)) wrote stood);
+          (mark_stands got ended old new writer one.before one.after draft body moved none (progress ∙ ap (λ (o : LogProgress). progress_closing o writer) keeps.progress) (ap (λ (l : List Bool). get_or l writer false) (sym closed_is) ∙ unclosed) (one.step.1.none none ∙ over) (omega (arith, room, ap length closed_is)) wrote stood);
     }
 
 -- ---- after a fault
 
-pub threw : {S : Type 0} (got : S → List (List ℕ)) (ended : S → Bool) (old new : Roamer S) (p : Told) → is_begun old ≡ true → is_faulted old ≡ true → KeepsLog old new → Adds got ended old new p p
+pub threw : {S : Type 0} (got : S → List (List ℕ)) (ended : S → Bool) (old new : Roamer S) (p : Told) → is_begun old ≡ true → is_faulted old ≡ true → KeepsLog old new → AppendsToLog got ended old new p p
 threw got ended old new p now faulted keeps = record {
   bytes = [];
   put_is = with_end-nil p;

@@ -10,10 +10,10 @@ use Rattle.roaming_consumer.specs.declared.draft.Draft.{Draft}
 use Rattle.roaming_consumer.specs.declared.roamer.Roamer.{Roamer}
 use Rattle.roaming_consumer.specs.Gathering.{StopsTaking}
 use Rattle.roaming_consumer.specs.Gathering.StopsTaking.{batch_is_full, body_is_full, nothing_is_there, all_has_ended}
-use Rattle.roaming_consumer.specs.Growth.{Progress}
+use Rattle.roaming_consumer.specs.Growth.{LogProgress}
 use Rattle.roaming_consumer.specs.Sinks.{SendsExtent}
-use Rattle.roaming_consumer.specs.Roamers.{ends_of, messages_of, clock_of, batch_of, progress_of, KeepsLog, ChangesOne}
-use Rattle.roaming_consumer.specs.Visits.{Stops}
+use Rattle.roaming_consumer.specs.Roamers.{ends_of, roamer_messages, roamer_clock, roamer_batch, roamer_progress, KeepsLog, ChangesOne}
+use Rattle.roaming_consumer.specs.Visits.{VisitStops}
 use Rattle.roaming_consumer.proofs.Standing.{Collected, spells_extent}
 
 -- what holds of an answer that is Err
@@ -21,18 +21,18 @@ err_of : {T E P : Type 0} (r : Result T E) → true ≡ is_err r → OnErr r P �
 err_of (Ok x) failed holds = absurd cc
 err_of (Err e) failed holds = holds
 
-pub stopped_in_extent : {S T E : Type 0} (got : S → List (List ℕ)) (ended : S → Bool) (loads : S → ℕ) (pair : S → List ℕ) (plan : S → Plan) (old mid : Roamer S) (ends_now : List S) (writer : ℕ) (draft : Draft) (all : Bool) (body : List ℕ) (r : Result T E) (p q : Told) (f g : ℕ) → ChangesOne (ends_of old) (ends_of mid) writer (Collected got ended loads pair plan old draft all body) → KeepsLog old mid → ends_now ≡ ends_of mid → 1 ≤ draft.records → draft.records ≤ batch_of old → writer < 64 → length body ≤ 65536 → true ≡ is_err r → SendsExtent r (messages_of mid) (progress_of mid).defined (max (progress_of mid).defined draft.ids) writer (take draft.len body) p q f g
-    → ChangesOne (ends_of old) ends_now writer (Stops got ended old writer p q)
+pub stopped_in_extent : {S T E : Type 0} (got : S → List (List ℕ)) (ended : S → Bool) (loads : S → ℕ) (pair : S → List ℕ) (plan : S → Plan) (old mid : Roamer S) (ends_now : List S) (writer : ℕ) (draft : Draft) (all : Bool) (body : List ℕ) (r : Result T E) (p q : Told) (f g : ℕ) → ChangesOne (ends_of old) (ends_of mid) writer (Collected got ended loads pair plan old draft all body) → KeepsLog old mid → ends_now ≡ ends_of mid → 1 ≤ draft.records → draft.records ≤ roamer_batch old → writer < 64 → length body ≤ 65536 → true ≡ is_err r → SendsExtent r (roamer_messages mid) (roamer_progress mid).defined (max (roamer_progress mid).defined draft.ids) writer (take draft.len body) p q f g
+    → ChangesOne (ends_of old) ends_now writer (VisitStops got ended old writer p q)
 stopped_in_extent got ended loads pair plan old mid ends_now writer draft all body r p q f g one keeps same_ends some few known room failed went =
     let gathers = one.step.0 in
     let drafted = gathers.drafted in
     let ids = drafted.ids in
     let records = drafted.records in
-    let sent : SendsExtent r (messages_of old) (progress_of old).defined (max (progress_of old).defined draft.ids) writer (take draft.len body) p q f g =
-    subst (λ (ms : List Message). SendsExtent r ms (progress_of old).defined (max (progress_of old).defined draft.ids) writer (take draft.len body) p q f g) keeps.same_run.messages
-    (subst (λ (o : Progress). SendsExtent r (messages_of mid) o.defined (max o.defined draft.ids) writer (take draft.len body) p q f g) keeps.progress went) in
+    let sent : SendsExtent r (roamer_messages old) (roamer_progress old).defined (max (roamer_progress old).defined draft.ids) writer (take draft.len body) p q f g =
+    subst (λ (ms : List Message). SendsExtent r ms (roamer_progress old).defined (max (roamer_progress old).defined draft.ids) writer (take draft.len body) p q f g) keeps.same_run.messages
+    (subst (λ (o : LogProgress). SendsExtent r (roamer_messages mid) o.defined (max o.defined draft.ids) writer (take draft.len body) p q f g) keeps.progress went) in
     let within = sent.within in
-    let end : max (progress_of old).defined draft.ids ≡ max (progress_of old).defined (ids_used gathers.entries) = ap (max (progress_of old).defined) ids in
+    let end : max (roamer_progress old).defined draft.ids ≡ max (roamer_progress old).defined (ids_used gathers.entries) = ap (max (roamer_progress old).defined) ids in
     record {
       before = one.before;
       after = one.after;
@@ -53,7 +53,7 @@ stopped_in_extent got ended loads pair plan old mid ends_now writer draft all bo
           extent = sent.extent;
           behind = elim sent.behind [
             | inl none ↦ inl none
-            | inr both ↦ inr (both.0 ∙ end, spells_extent (messages_of old) (clock_of old).tick writer gathers.entries draft body sent.extent drafted some known room both.1)
+            | inr both ↦ inr (both.0 ∙ end, spells_extent (roamer_messages old) (roamer_clock old).tick writer gathers.entries draft body sent.extent drafted some known room both.1)
           ];
           joined = refl;
         };

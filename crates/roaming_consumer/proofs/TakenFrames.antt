@@ -13,8 +13,8 @@ use Rattle.ring_core.specs.Plans.{Plan, types_by_id, plan_of, IsPlanned, frame_o
 use Rattle.ring_core.proofs.Frames.{AreFramesOf-push, Lawful-front, Lawful-last}
 use Rattle.ring_core.proofs.OneReading.{AreFramesOf-unique}
 use Rattle.roaming_consumer.specs.declared.draft.Draft.{Draft}
-use Rattle.roaming_consumer.specs.Drafts.{IsFrameOf, IsDraft}
-use Rattle.roaming_consumer.specs.Gathering.{Comes, Gathers, Came}
+use Rattle.roaming_consumer.specs.Drafts.{IsFrameOfCall, IsDraft}
+use Rattle.roaming_consumer.specs.Gathering.{CallsCame, DraftsFrames, FramesCame}
 
 -- ---- calls
 
@@ -48,7 +48,7 @@ last_behind least (call ∷ front) back rising = omega (arith, last_rises least 
 -- ---- frames
 
 -- no frame is taken yet
-pub comes_none : (plan : Plan) (before : List (List ℕ)) → Comes plan before before []
+pub comes_none : (plan : Plan) (before : List (List ℕ)) → CallsCame plan before before []
 comes_none plan before = record {
   joined = sym (append-nil before);
   lawful = λ calls are. subst (AreFramesOf plan before) (sym (append-nil calls)) are;
@@ -58,10 +58,10 @@ comes_none plan before = record {
 record Next (messages : List Message) (tick : ℕ) (before after : List (List ℕ)) (entries : List Call) (last : ℕ)
     (frame : List ℕ) : Type 0 where
   call : Call
-  is : IsFrameOf messages last frame call
-  comes : Comes (plan_of messages tick) before (after ++ frame ∷ []) (entries ++ call ∷ [])
+  is : IsFrameOfCall messages last frame call
+  comes : CallsCame (plan_of messages tick) before (after ++ frame ∷ []) (entries ++ call ∷ [])
 
-next_call : (messages : List Message) (tick : ℕ) (before after : List (List ℕ)) (entries : List Call) (last : ℕ) (frame : List ℕ) → Comes (plan_of messages tick) before after entries → last ≡ last_stamp tick entries → Lawful (plan_of messages tick) (after ++ frame ∷ []) → Next messages tick before after entries last frame
+next_call : (messages : List Message) (tick : ℕ) (before after : List (List ℕ)) (entries : List Call) (last : ℕ) (frame : List ℕ) → CallsCame (plan_of messages tick) before after entries → last ≡ last_stamp tick entries → Lawful (plan_of messages tick) (after ++ frame ∷ []) → Next messages tick before after entries last frame
 next_call messages tick before after entries last frame comes last_is lawful =
     let plan = plan_of messages tick in
     let ends = Lawful-last plan after frame lawful in
@@ -91,15 +91,15 @@ next_call messages tick before after entries last frame comes last_is lawful =
     }
 
 -- the frame that was taken is that of a call
-pub taken_call : (messages : List Message) (tick : ℕ) (before after : List (List ℕ)) (draft : Draft) (body : List ℕ) (frame : List ℕ) → Gathers messages tick before after draft body → Lawful (plan_of messages tick) (after ++ frame ∷ []) → (call : Call) × IsFrameOf messages draft.last frame call
+pub taken_call : (messages : List Message) (tick : ℕ) (before after : List (List ℕ)) (draft : Draft) (body : List ℕ) (frame : List ℕ) → DraftsFrames messages tick before after draft body → Lawful (plan_of messages tick) (after ++ frame ∷ []) → (call : Call) × IsFrameOfCall messages draft.last frame call
 taken_call messages tick before after draft body frame was lawful =
     let next = next_call messages tick before after was.entries draft.last frame was.comes was.drafted.last lawful in
     (next.call, next.is)
 
 -- behind it the draft has its record too
-pub gathers_more : (messages : List Message) (tick : ℕ) (before after : List (List ℕ)) (draft now : Draft) (body body_now : List ℕ) (frame : List ℕ) → Gathers messages tick before after draft body → Lawful (plan_of messages tick) (after ++ frame ∷ [])
-    → ((call : Call) (from : ℕ) (entries : List Call) → IsFrameOf messages draft.last frame call → IsDraft messages from entries draft body → IsDraft messages from (entries ++ call ∷ []) now body_now)
-    → Gathers messages tick before (after ++ frame ∷ []) now body_now
+pub gathers_more : (messages : List Message) (tick : ℕ) (before after : List (List ℕ)) (draft now : Draft) (body body_now : List ℕ) (frame : List ℕ) → DraftsFrames messages tick before after draft body → Lawful (plan_of messages tick) (after ++ frame ∷ [])
+    → ((call : Call) (from : ℕ) (entries : List Call) → IsFrameOfCall messages draft.last frame call → IsDraft messages from entries draft body → IsDraft messages from (entries ++ call ∷ []) now body_now)
+    → DraftsFrames messages tick before (after ++ frame ∷ []) now body_now
 gathers_more messages tick before after draft now body body_now frame was lawful puts =
     let next = next_call messages tick before after was.entries draft.last frame was.comes was.drafted.last lawful in
     record {
@@ -110,7 +110,7 @@ gathers_more messages tick before after draft now body body_now frame was lawful
     }
 
 -- nothing was taken yet
-pub gathers_none : (messages : List Message) (tick : ℕ) (before : List (List ℕ)) (body : List ℕ) → Gathers messages tick before before (record { records = 0; len = 0; ids = 0; last = tick }) body
+pub gathers_none : (messages : List Message) (tick : ℕ) (before : List (List ℕ)) (body : List ℕ) → DraftsFrames messages tick before before (record { records = 0; len = 0; ids = 0; last = tick }) body
 gathers_none messages tick before body = record {
   entries = [];
   comes = comes_none (plan_of messages tick) before;
@@ -120,10 +120,10 @@ gathers_none messages tick before body = record {
 
 -- ---- frames that are thrown away
 
-pub came_none : (before : List (List ℕ)) → Came before before 0
+pub came_none : (before : List (List ℕ)) → FramesCame before before 0
 came_none before = ([], sym (append-nil before), refl)
 
-pub came_more : (before mid after : List (List ℕ)) (frame : List ℕ) (count : ℕ) → Came before mid count → after ≡ mid ++ frame ∷ [] → Came before after (count + 1)
+pub came_more : (before mid after : List (List ℕ)) (frame : List ℕ) (count : ℕ) → FramesCame before mid count → after ≡ mid ++ frame ∷ [] → FramesCame before after (count + 1)
 came_more before mid after frame count (frames, is, many) more = (
   frames ++ frame ∷ [],
   more ∙ ap (λ (l : List (List ℕ)). l ++ frame ∷ []) is ∙ append_assoc before frames (frame ∷ []),
@@ -131,5 +131,5 @@ came_more before mid after frame count (frames, is, many) more = (
 )
 
 -- the frames of a draft's records came
-pub gathers_came : (messages : List Message) (tick : ℕ) (before after : List (List ℕ)) (draft : Draft) (body : List ℕ) → Gathers messages tick before after draft body → Came before after draft.records
+pub gathers_came : (messages : List Message) (tick : ℕ) (before after : List (List ℕ)) (draft : Draft) (body : List ℕ) → DraftsFrames messages tick before after draft body → FramesCame before after draft.records
 gathers_came messages tick before after draft body was = (frames_of was.entries, was.comes.joined, length-map was.entries frame_of ∙ sym was.drafted.records)

@@ -10,7 +10,7 @@ use Rattle.checkpoint_io.specs.Logs.{ids_used}
 use Rattle.roaming_consumer.specs.declared.draft.Draft.{Draft}
 
 -- the words are the frame of the call, which names one of the messages and fits it, and was made at this stamp or later
-pub record IsFrameOf (messages : List Message) (before : ℕ) (frame : List ℕ) (call : Call) : Type 0 where
+pub record IsFrameOfCall (messages : List Message) (before : ℕ) (frame : List ℕ) (call : Call) : Type 0 where
   pub named : IsCall messages call
   pub bytes : All HoldsBytes call.args
   pub staged : IsStaged call.id call.stamp call.args

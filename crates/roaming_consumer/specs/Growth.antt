@@ -10,7 +10,7 @@ use Rattle.checkpoint_io.specs.Validity.{closes}
 use Rattle.checkpoint_io.specs.Logs.{ids_used, new_messages, AreFragments, LogOf}
 
 -- what is kept of a log, so that it can grow
-pub record Progress : Type 0 where
+pub record LogProgress : Type 0 where
   -- how many messages it defines
   pub defined : ℕ
   -- by the number of a writer, whether its close mark was written
@@ -18,7 +18,7 @@ pub record Progress : Type 0 where
 
 -- The bytes are the log of the calls that were taken, and this is kept of it.
 pub record IsLogSoFar (wrote : List ℕ) (taken : List (List Call)) (dictionary : List Message) (clock : Clock)
-    (batch : ℕ) (progress : Progress) : Type 0 where
+    (batch : ℕ) (progress : LogProgress) : Type 0 where
   pub log : LogOf wrote taken dictionary clock batch
   pub defined : progress.defined ≡ length (messages_of log.blocks)
   pub closed : (writer : ℕ) → writer < length taken
@@ -37,7 +37,7 @@ pub record FragmentsFor (first : ℕ) (messages : List Message) (bytes : List �
 
 -- Behind the log of these calls so many records of an open writer may be put: they name messages and fit them, and its
 -- stamps go on without falling. In front of their extent stand the fragments of the messages that it wants.
-pub record IsNext (taken : List (List Call)) (dictionary : List Message) (tick batch : ℕ) (progress : Progress)
+pub record IsNext (taken : List (List Call)) (dictionary : List Message) (tick batch : ℕ) (progress : LogProgress)
     (writer : ℕ) (entries : List Call) (fragments extent : List ℕ) : Type 0 where
   pub known : writer < length taken
   pub not_closed : get_or progress.closed writer false ≡ false
@@ -48,9 +48,9 @@ pub record IsNext (taken : List (List Call)) (dictionary : List Message) (tick b
   pub extent_spelled : SpellsExtent dictionary tick writer entries extent
 
 -- what is kept behind an extent of these records
-abbrev pub progress_behind : Progress → List Call → Progress
+abbrev pub progress_behind : LogProgress → List Call → LogProgress
 progress_behind progress entries = record progress { defined = max progress.defined (ids_used entries) }
 
 -- what is kept behind the close mark of a writer
-abbrev pub progress_closing : Progress → ℕ → Progress
+abbrev pub progress_closing : LogProgress → ℕ → LogProgress
 progress_closing progress writer = record progress { closed = slice_set progress.closed writer true }

@@ -10,29 +10,29 @@ use Rattle.log_dictionary.specs.declared.message.Message.{Message}
 use Rattle.arg_records.specs.declared.call.Call.{Call}
 use Rattle.ring_core.specs.Plans.{Plan, plan_of, AreFramesOf}
 use Rattle.roaming_consumer.specs.declared.roamer.Roamer.{Roamer}
-use Rattle.roaming_consumer.specs.Growth.{Progress, IsLogSoFar}
+use Rattle.roaming_consumer.specs.Growth.{LogProgress, IsLogSoFar}
 
 -- the ends of the writers, by their numbers
 abbrev pub ends_of : {S : Type 0} → Roamer S → List S
 ends_of roamer = roamer.ends.items
 
-abbrev pub messages_of : {S : Type 0} → Roamer S → List Message
-messages_of roamer = roamer.dictionary.now
+abbrev pub roamer_messages : {S : Type 0} → Roamer S → List Message
+roamer_messages roamer = roamer.dictionary.now
 
-abbrev pub clock_of : {S : Type 0} → Roamer S → Clock
-clock_of roamer = roamer.clock
+abbrev pub roamer_clock : {S : Type 0} → Roamer S → Clock
+roamer_clock roamer = roamer.clock
 
 -- the most frames of a visit
-abbrev pub batch_of : {S : Type 0} → Roamer S → ℕ
-batch_of roamer = roamer.batch
+abbrev pub roamer_batch : {S : Type 0} → Roamer S → ℕ
+roamer_batch roamer = roamer.batch
 
 -- what is kept of the log
-abbrev pub progress_of : {S : Type 0} → Roamer S → Progress
-progress_of roamer = record { defined = roamer.defined; closed = roamer.closed }
+abbrev pub roamer_progress : {S : Type 0} → Roamer S → LogProgress
+roamer_progress roamer = record { defined = roamer.defined; closed = roamer.closed }
 
 -- whether the close mark of the writer was written
 abbrev pub is_marked : {S : Type 0} → Roamer S → ℕ → Bool
-is_marked roamer writer = get_or (progress_of roamer).closed writer false
+is_marked roamer writer = get_or (roamer_progress roamer).closed writer false
 
 -- each writer's close mark was written
 abbrev pub AreMarked : {S : Type 0} → Roamer S → Type 0
@@ -52,7 +52,7 @@ is_faulted roamer = roamer.faulted
 
 -- what the roamer's ends are to agree on
 abbrev pub plan_of_roamer : {S : Type 0} → Roamer S → Plan
-plan_of_roamer roamer = plan_of (messages_of roamer) (clock_of roamer).tick
+plan_of_roamer roamer = plan_of (roamer_messages roamer) (roamer_clock roamer).tick
 
 -- each end has the plan of the roamer
 abbrev pub ArePlanned : {S : Type 0} → (S → Plan) → Roamer S → Type 0
@@ -60,9 +60,9 @@ ArePlanned plan roamer = All (λ end. plan end ≡ plan_of_roamer roamer) (ends_
 
 -- the same dictionary, clock and batch
 pub record IsSameRun {S : Type 0} (old new : Roamer S) : Type 0 where
-  pub messages : messages_of new ≡ messages_of old
-  pub clock : clock_of new ≡ clock_of old
-  pub batch : batch_of new ≡ batch_of old
+  pub messages : roamer_messages new ≡ roamer_messages old
+  pub clock : roamer_clock new ≡ roamer_clock old
+  pub batch : roamer_batch new ≡ roamer_batch old
 
 -- One of the ends took a step, and all others are as they were.
 pub record ChangesOne {S : Type 0} (ends ends_after : List S) (writer : ℕ) (Step : S → S → Type 0) : Type 0 where
@@ -73,11 +73,12 @@ pub record ChangesOne {S : Type 0} (ends ends_after : List S) (writer : ℕ) (St
   pub step : Step before after
 
 -- of each end the frames that were taken are those of the calls of one list
-abbrev pub AreTaken : {S : Type 0} → Plan → (S → List (List ℕ)) → List S → List (List Call) → Type 0
-AreTaken plan got [] [] = Unit {0}
-AreTaken plan got (end ∷ ends) (calls ∷ taken) = AreFramesOf plan (got end) calls × AreTaken plan got ends taken
-AreTaken plan got [] (calls ∷ taken) = ⊥
-AreTaken plan got (end ∷ ends) [] = ⊥
+abbrev pub FramesAreTaken : {S : Type 0} → Plan → (S → List (List ℕ)) → List S → List (List Call) → Type 0
+FramesAreTaken plan got [] [] = Unit {0}
+FramesAreTaken plan got (end ∷ ends) (calls ∷ taken) =
+    AreFramesOf plan (got end) calls × FramesAreTaken plan got ends taken
+FramesAreTaken plan got [] (calls ∷ taken) = ⊥
+FramesAreTaken plan got (end ∷ ends) [] = ⊥
 
 -- a writer whose close mark was written has ended
 abbrev pub HaveEnded : {S : Type 0} → (S → Bool) → List S → List Bool → Type 0
@@ -90,29 +91,31 @@ HaveEnded {S} ended ends closed = (writer : ℕ) (end : S) → slice_get ends wr
 pub record IsLogOfEnds {S : Type 0} (got : S → List (List ℕ)) (ended : S → Bool) (roamer : Roamer S)
     (wrote : List ℕ) : Type 0 where
   pub taken : List (List Call)
-  pub frames : AreTaken (plan_of_roamer roamer) got (ends_of roamer) taken
-  pub log : IsLogSoFar wrote taken (messages_of roamer) (clock_of roamer) (batch_of roamer) (progress_of roamer)
-  pub closed : HaveEnded ended (ends_of roamer) (progress_of roamer).closed
+  pub frames : FramesAreTaken (plan_of_roamer roamer) got (ends_of roamer) taken
+  pub log : IsLogSoFar wrote taken (roamer_messages roamer) (roamer_clock roamer) (roamer_batch roamer)
+      (roamer_progress roamer)
+  pub closed : HaveEnded ended (ends_of roamer) (roamer_progress roamer).closed
 
 -- The bytes are the log of the calls whose frames were taken from the ends, and the close mark of each writer is in it.
 pub record IsClosedLogOfEnds {S : Type 0} (got : S → List (List ℕ)) (roamer : Roamer S) (wrote : List ℕ) : Type 0 where
   pub taken : List (List Call)
-  pub frames : AreTaken (plan_of_roamer roamer) got (ends_of roamer) taken
-  pub log : LogOf wrote taken (messages_of roamer) (clock_of roamer) (batch_of roamer)
+  pub frames : FramesAreTaken (plan_of_roamer roamer) got (ends_of roamer) taken
+  pub log : LogOf wrote taken (roamer_messages roamer) (roamer_clock roamer) (roamer_batch roamer)
   pub closed : (writer : ℕ) → writer < length taken → IsClosed writer log.blocks
 
 -- The roamer's calls have put these bytes. Before the header there are none, and nothing was taken, defined or closed;
 -- from then on and until a write fails they are the log of what was taken.
-pub record StandsFor {S : Type 0} (got : S → List (List ℕ)) (ended : S → Bool) (roamer : Roamer S)
+pub record RoamerStandsFor {S : Type 0} (got : S → List (List ℕ)) (ended : S → Bool) (roamer : Roamer S)
     (wrote : List ℕ) : Type 0 where
   pub nothing : is_begun roamer ≡ false → wrote ≡ []
   pub untaken : is_begun roamer ≡ false → All (λ end. got end ≡ []) (ends_of roamer)
-  pub undefined : is_begun roamer ≡ false → (progress_of roamer).defined ≡ 0
-  pub unclosed : is_begun roamer ≡ false → (writer : ℕ) → get_or (progress_of roamer).closed writer false ≡ false
+  pub undefined : is_begun roamer ≡ false → (roamer_progress roamer).defined ≡ 0
+  pub unclosed : is_begun roamer ≡ false → (writer : ℕ) → get_or (roamer_progress roamer).closed writer false ≡ false
   pub lawful : is_begun roamer ≡ true → is_faulted roamer ≡ false → IsLogOfEnds got ended roamer wrote
 
 -- what is told of an end from which so many frames were taken, and of which the last answer was that all had ended or not
-pub record Answers {S : Type 0} (ended : S → Bool) (loads : S → ℕ) (pair : S → List ℕ) (plan : S → Plan) (frames : ℕ)
+pub record EndAfterTaking {S : Type 0} (ended : S → Bool) (loads : S → ℕ) (pair : S → List ℕ) (plan : S → Plan)
+    (frames : ℕ)
     (all : Bool) (before after : S) : Type 0 where
   pub none : frames ≡ 0 → ended after ≡ all
   pub looked : frames ≡ 0 → all ≡ false → Rose (loads before) (loads after)
@@ -124,17 +127,17 @@ pub record Answers {S : Type 0} (ended : S → Bool) (loads : S → ℕ) (pair :
 -- all but the ends is as it was
 pub record KeepsLog {S : Type 0} (old new : Roamer S) : Type 0 where
   pub same_run : IsSameRun old new
-  pub progress : progress_of new ≡ progress_of old
+  pub progress : roamer_progress new ≡ roamer_progress old
   pub begun : is_begun new ≡ is_begun old
   pub faulted : is_faulted new ≡ is_faulted old
 
 -- the header of the roamer's log
-abbrev pub header_of : {S : Type 0} → Roamer S → Header
-header_of roamer = record { writers = length (ends_of roamer); clock = clock_of roamer }
+abbrev pub roamer_header : {S : Type 0} → Roamer S → Header
+roamer_header roamer = record { writers = length (ends_of roamer); clock = roamer_clock roamer }
 
 -- The sink took some bytes. Where the roamer stood for others, it stands for them with these behind them.
-pub record Adds {S : Type 0} (got : S → List (List ℕ)) (ended : S → Bool) (old new : Roamer S)
+pub record AppendsToLog {S : Type 0} (got : S → List (List ℕ)) (ended : S → Bool) (old new : Roamer S)
     (put put_after : Told) : Type 0 where
   pub bytes : List ℕ
   pub put_is : put_after ≡ with_end bytes put
-  pub stands : (wrote : List ℕ) → StandsFor got ended old wrote → StandsFor got ended new (wrote ++ bytes)
+  pub stands : (wrote : List ℕ) → RoamerStandsFor got ended old wrote → RoamerStandsFor got ended new (wrote ++ bytes)

@@ -14,18 +14,18 @@ use Rattle.roaming_consumer.specs.declared.visit.Visit.TheVariants.{Wrote, Idle,
 use Rattle.roaming_consumer.specs.declared.visit.SinkFault.{SinkFault}
 use Rattle.roaming_consumer.specs.declared.roamer.Roamer.{Roamer}
 use Rattle.roaming_consumer.specs.Growth.{FragmentsFor}
-use Rattle.roaming_consumer.specs.Gathering.{Came, Comes, FindsNothing, StopsTaking}
-use Rattle.roaming_consumer.specs.Roamers.{messages_of, clock_of, batch_of, progress_of, is_faulted, is_marked, plan_of_roamer}
+use Rattle.roaming_consumer.specs.Gathering.{FramesCame, CallsCame, FindsNothing, StopsTaking}
+use Rattle.roaming_consumer.specs.Roamers.{roamer_messages, roamer_clock, roamer_batch, roamer_progress, is_faulted, is_marked, plan_of_roamer}
 
 -- what the answer says of the end: how many frames were taken, or that there was none, or that all had ended
-abbrev pub Tells : {S : Type 0} → (S → List (List ℕ)) → (S → Bool) → (S → ℕ) → Visit → S → S → Type 0
-Tells got ended loads (Wrote n) before after = (1 ≤ n) × Came (got before) (got after) n
-Tells got ended loads Idle before after = FindsNothing got ended loads before after
-Tells got ended loads Ended before after = (got after ≡ got before) × (ended after ≡ true)
-Tells got ended loads (Discarded n) before after = (1 ≤ n) × Came (got before) (got after) n
+abbrev pub VisitTells : {S : Type 0} → (S → List (List ℕ)) → (S → Bool) → (S → ℕ) → Visit → S → S → Type 0
+VisitTells got ended loads (Wrote n) before after = (1 ≤ n) × FramesCame (got before) (got after) n
+VisitTells got ended loads Idle before after = FindsNothing got ended loads before after
+VisitTells got ended loads Ended before after = (got after ≡ got before) × (ended after ≡ true)
+VisitTells got ended loads (Discarded n) before after = (1 ≤ n) × FramesCame (got before) (got after) n
 
 -- what every visit leaves of an end: which ring it is, what the ends of the ring agree on, and that it has ended
-pub record Leaves {S : Type 0} (ended : S → Bool) (loads : S → ℕ) (pair : S → List ℕ) (plan : S → Plan)
+pub record KeepsRing {S : Type 0} (ended : S → Bool) (loads : S → ℕ) (pair : S → List ℕ) (plan : S → Plan)
     (before after : S) : Type 0 where
   pub loads_never_fall : loads before ≤ loads after
   pub same_pair : pair after ≡ pair before
@@ -62,30 +62,30 @@ TakesAtMost most (Discarded n) = n ≤ most
 pub record WritesExtent {S : Type 0} (got : S → List (List ℕ)) (ended : S → Bool) (loads : S → ℕ) (roamer : Roamer S)
     (writer taken : ℕ) (put put_after : Told) (before after : S) : Type 0 where
   pub entries : List Call
-  pub comes : Comes (plan_of_roamer roamer) (got before) (got after) entries
-  pub right : AllByRecursion (IsCall (messages_of roamer)) entries
+  pub comes : CallsCame (plan_of_roamer roamer) (got before) (got after) entries
+  pub right : AllByRecursion (IsCall (roamer_messages roamer)) entries
   pub count : length entries ≡ taken
   pub fragments : List ℕ
-  pub defining : FragmentsFor (progress_of roamer).defined
-      (new_messages (messages_of roamer) (progress_of roamer).defined entries) fragments
+  pub defining : FragmentsFor (roamer_progress roamer).defined
+      (new_messages (roamer_messages roamer) (roamer_progress roamer).defined entries) fragments
   pub extent : List ℕ
-  pub spelled : SpellsExtent (messages_of roamer) (clock_of roamer).tick writer entries extent
+  pub spelled : SpellsExtent (roamer_messages roamer) (roamer_clock roamer).tick writer entries extent
   pub puts : put_after ≡ with_end (fragments ++ extent) put
-  pub stops : StopsTaking got ended loads (batch_of roamer) taken (MAX_BODY - length spelled.body) before after
+  pub stops : StopsTaking got ended loads (roamer_batch roamer) taken (MAX_BODY - length spelled.body) before after
 
 -- What a visit that answers so has given to the sink, and why it took no more frames: the fragments and the extent of
 -- what it took, nothing, or the close mark of a writer that has ended, where no write had failed and it wasn't written
 -- before. Where frames are thrown away all of a body is free.
-abbrev pub Writes : {S : Type 0} → (S → List (List ℕ)) → (S → Bool) → (S → ℕ) → Roamer S → ℕ → Told → Told → Visit
+abbrev pub VisitWrites : {S : Type 0} → (S → List (List ℕ)) → (S → Bool) → (S → ℕ) → Roamer S → ℕ → Told → Told → Visit
     → S → S → Type 0
-Writes got ended loads roamer writer put put_after (Wrote n) before after =
+VisitWrites got ended loads roamer writer put put_after (Wrote n) before after =
     WritesExtent got ended loads roamer writer n put put_after before after
-Writes got ended loads roamer writer put put_after Idle before after = put_after ≡ put
-Writes got ended loads roamer writer put put_after Ended before after =
+VisitWrites got ended loads roamer writer put put_after Idle before after = put_after ≡ put
+VisitWrites got ended loads roamer writer put put_after Ended before after =
     put_after ≡ (if is_faulted roamer then put
     else if is_marked roamer writer then put else with_end (close_bytes writer) put)
-Writes got ended loads roamer writer put put_after (Discarded n) before after =
-    (put_after ≡ put) × StopsTaking got ended loads (batch_of roamer) n MAX_BODY before after
+VisitWrites got ended loads roamer writer put put_after (Discarded n) before after =
+    (put_after ≡ put) × StopsTaking got ended loads (roamer_batch roamer) n MAX_BODY before after
 
 -- The bytes of an extent of these records and of the fragments that it wants, behind a log that defines so many messages;
 -- or those of fragments alone, of the messages up to some end.
@@ -104,12 +104,13 @@ pub record AreBytesFor (messages : List Message) (tick defined writer : ℕ) (en
 pub record StopsInExtent {S : Type 0} (got : S → List (List ℕ)) (roamer : Roamer S) (writer : ℕ) (put put_after : Told)
     (before after : S) : Type 0 where
   pub entries : List Call
-  pub comes : Comes (plan_of_roamer roamer) (got before) (got after) entries
-  pub right : AllByRecursion (IsCall (messages_of roamer)) entries
+  pub comes : CallsCame (plan_of_roamer roamer) (got before) (got after) entries
+  pub right : AllByRecursion (IsCall (roamer_messages roamer)) entries
   pub some : 1 ≤ length entries
-  pub few : length entries ≤ batch_of roamer
+  pub few : length entries ≤ roamer_batch roamer
   pub bytes : List ℕ
-  pub are : AreBytesFor (messages_of roamer) (clock_of roamer).tick (progress_of roamer).defined writer entries bytes
+  pub are : AreBytesFor (roamer_messages roamer) (roamer_clock roamer).tick
+      (roamer_progress roamer).defined writer entries bytes
   pub puts : PutsFront bytes put put_after
 
 -- No frame was taken, all had ended, and the sink took some bytes, from the front, of the writer's close mark, which
@@ -122,7 +123,7 @@ pub record StopsInMark {S : Type 0} (got : S → List (List ℕ)) (ended : S →
   pub puts : PutsFront (close_bytes writer) put put_after
 
 -- how far a visit came of which a write failed
-abbrev pub Stops : {S : Type 0} → (S → List (List ℕ)) → (S → Bool) → Roamer S → ℕ → Told → Told → S → S → Type 0
-Stops got ended roamer writer put put_after before after =
+abbrev pub VisitStops : {S : Type 0} → (S → List (List ℕ)) → (S → Bool) → Roamer S → ℕ → Told → Told → S → S → Type 0
+VisitStops got ended roamer writer put put_after before after =
     StopsInExtent got roamer writer put put_after before after
     ⊎ StopsInMark got ended roamer writer put put_after before after

@@ -4,7 +4,7 @@ ghost use Rattle.std.specs.Prelude.{◌≡◌, true, false, length, OnOk, OnErr}
 ghost use Rattle.checkpoint_io.specs.Blocks.{header_bytes};
 ghost use Rattle.checkpoint_io.specs.Validity.{IsHeader};
 ghost use Rattle.roaming_consumer.specs.Sinks.{Sends};
-ghost use Rattle.roaming_consumer.specs.Roamers.{ends_of, clock_of, progress_of, is_begun, is_faulted, header_of, KeepsMarks, IsSameRun, Adds};
+ghost use Rattle.roaming_consumer.specs.Roamers.{ends_of, roamer_clock, roamer_progress, is_begun, is_faulted, roamer_header, KeepsMarks, IsSameRun, AppendsToLog};
 
 use crate::blocks::write_header;
 use crate::roamer::Roamer;
@@ -16,8 +16,8 @@ use ring_core::StageOut;
 impl<'d, S> Roamer<'d, S> {
     /// The header of the log.
     fn header(&self) -> Header
-        ensures value { result ≡ header_of self.now }
-        ensures right { IsHeader (header_of self.now) }
+        ensures value { result ≡ roamer_header self.now }
+        ensures right { IsHeader (roamer_header self.now) }
     {
         Header {
             writers: self.ends.len() as u32,
@@ -34,9 +34,9 @@ impl<'d, S: StageOut> Roamer<'d, S> {
     /// A write failed. The roamer is begun then too, and faulted.
     pub fn begin<K: Sink>(&mut self, sink: &mut K) -> Result<(), SinkFault>
         requires { is_begun self.old ≡ false }
-        ensures sent { Sends result (header_bytes (header_of self.old))
+        ensures sent { Sends result (header_bytes (roamer_header self.old))
             (K.put sink.old) (K.put sink.new) (K.faults sink.old) (K.faults sink.new) }
-        ensures wrote { Adds S.got S.ended self.old self.new (K.put sink.old) (K.put sink.new) }
+        ensures wrote { AppendsToLog S.got S.ended self.old self.new (K.put sink.old) (K.put sink.new) }
         ensures others { K.rest sink.old sink.new }
         ensures begun { is_begun self.new ≡ true }
         ensures ok { OnOk result (is_faulted self.new ≡ is_faulted self.old) }

@@ -1,14 +1,14 @@
 //! The other parts of a log, as they are written to a sink: its header, extents and close marks.
 
 ghost use Rattle.std.specs.Prelude.{◌≡◌, ◌<◌, ◌≤◌, ◌++◌, length};
-ghost use Rattle.arg_records.specs.declared.call.TheConstants.{MAX_WRITERS};
+ghost use Rattle.session_options.specs.declared.limits.TheConstants.{MAX_WRITERS};
 ghost use Rattle.checkpoint_io.specs.declared.heads.TheConstants.{MAX_BODY};
 ghost use Rattle.checkpoint_io.specs.Blocks.{header_bytes, extent_head_bytes, close_bytes};
 ghost use Rattle.roaming_consumer.specs.Sinks.{Sends};
 
-use arg_records::MAX_WRITERS;
 use checkpoint_io::{Header, MAX_BODY, put_close, put_extent_head, put_header};
 use nl_io::{Failed, Sink, write_all};
+use session_options::MAX_WRITERS;
 
 /// The bytes of a header.
 const HEADER_LEN: usize = 30;

@@ -3,23 +3,23 @@
 ghost use Rattle.std.specs.Prelude.{◌≡◌, ◌+◌, ◌-◌, ◌<◌, ◌≤◌, ℕ, List, true, false, length, max, take, slice_set, OnOk, OnErr};
 ghost use Rattle.log_dictionary.specs.declared.dictionary.TheConstants.{MAX_MESSAGES};
 ghost use Rattle.log_dictionary.specs.Messages.{AreDistinct};
-ghost use Rattle.arg_records.specs.declared.call.TheConstants.{MAX_WRITERS};
+ghost use Rattle.session_options.specs.declared.limits.TheConstants.{MAX_WRITERS};
 ghost use Rattle.checkpoint_io.specs.declared.heads.TheConstants.{MAX_BODY};
 ghost use Rattle.checkpoint_io.specs.Blocks.{close_bytes};
-ghost use Rattle.roaming_consumer.specs.Gathering.{Came, Gathers, StopsTaking};
+ghost use Rattle.roaming_consumer.specs.Gathering.{FramesCame, DraftsFrames, StopsTaking};
 ghost use Rattle.roaming_consumer.specs.Growth.{progress_closing};
 ghost use Rattle.roaming_consumer.specs.Sinks.{Sends, SendsExtent};
-ghost use Rattle.roaming_consumer.specs.Roamers.{ends_of, messages_of, clock_of, batch_of, progress_of, is_begun, is_faulted, ArePlanned, IsSameRun, ChangesOne, Answers, KeepsLog};
+ghost use Rattle.roaming_consumer.specs.Roamers.{ends_of, roamer_messages, roamer_clock, roamer_batch, roamer_progress, is_begun, is_faulted, ArePlanned, IsSameRun, ChangesOne, EndAfterTaking, KeepsLog};
 
 use crate::blocks::{write_close, write_extent};
 use crate::draft::Draft;
 use crate::fragments::write_fragments;
 use crate::gathering::{Gathered, Thrown, gather, throw_away};
 use crate::roamer::Roamer;
-use arg_records::MAX_WRITERS;
 use checkpoint_io::MAX_BODY;
 use nl_io::{Failed, Sink};
 use ring_core::StageOut;
+use session_options::MAX_WRITERS;
 use std::sync::Wait;
 
 impl<'d, S: StageOut> Roamer<'d, S> {
@@ -28,12 +28,13 @@ impl<'d, S: StageOut> Roamer<'d, S> {
         requires known { writer < length (ends_of self.old) }
         requires planned { ArePlanned S.plan self.old }
         ensures gathers { ChangesOne (ends_of self.old) (ends_of self.new) writer (λ before after.
-            Gathers (messages_of self.old) (clock_of self.old).tick (S.got before) (S.got after) result.draft
+            DraftsFrames (roamer_messages self.old) (roamer_clock self.old).tick (S.got before)
+            (S.got after) result.draft
             self.new.body.items
-            × Answers S.ended S.loads S.pair S.plan result.draft.records result.ended before after
-            × StopsTaking S.got S.ended S.loads (batch_of self.old) result.draft.records
+            × EndAfterTaking S.ended S.loads S.pair S.plan result.draft.records result.ended before after
+            × StopsTaking S.got S.ended S.loads (roamer_batch self.old) result.draft.records
             (MAX_BODY - result.draft.len) before after) }
-        ensures few { result.draft.records ≤ batch_of self.old }
+        ensures few { result.draft.records ≤ roamer_batch self.old }
         ensures others { KeepsLog self.old self.new }
     {
         let end = &mut self.ends[writer as usize];
@@ -52,10 +53,10 @@ impl<'d, S: StageOut> Roamer<'d, S> {
     pub(crate) fn toss<R: Wait + Copy>(&mut self, rt: R, writer: u32) -> Thrown
         requires known { writer < length (ends_of self.old) }
         ensures came { ChangesOne (ends_of self.old) (ends_of self.new) writer (λ before after.
-            Came (S.got before) (S.got after) result.frames
-            × Answers S.ended S.loads S.pair S.plan result.frames result.ended before after
-            × StopsTaking S.got S.ended S.loads (batch_of self.old) result.frames MAX_BODY before after) }
-        ensures few { result.frames ≤ batch_of self.old }
+            FramesCame (S.got before) (S.got after) result.frames
+            × EndAfterTaking S.ended S.loads S.pair S.plan result.frames result.ended before after
+            × StopsTaking S.got S.ended S.loads (roamer_batch self.old) result.frames MAX_BODY before after) }
+        ensures few { result.frames ≤ roamer_batch self.old }
         ensures others { KeepsLog self.old self.new }
     {
         let end = &mut self.ends[writer as usize];
@@ -74,23 +75,23 @@ impl<'d, S> Roamer<'d, S> {
         requires known { writer < MAX_WRITERS }
         requires some { 1 ≤ draft.len }
         requires short { draft.len ≤ MAX_BODY }
-        requires ids { draft.ids ≤ length (messages_of self.old) }
-        ensures sent { SendsExtent result (messages_of self.old) (progress_of self.old).defined
-            (max (progress_of self.old).defined draft.ids) writer (take draft.len self.old.body.items)
+        requires ids { draft.ids ≤ length (roamer_messages self.old) }
+        ensures sent { SendsExtent result (roamer_messages self.old) (roamer_progress self.old).defined
+            (max (roamer_progress self.old).defined draft.ids) writer (take draft.len self.old.body.items)
             (K.put sink.old) (K.put sink.new) (K.faults sink.old) (K.faults sink.new) }
         ensures others { K.rest sink.old sink.new }
-        ensures ok { OnOk result (progress_of self.new ≡ record (progress_of self.old) {
-          defined = max (progress_of self.old).defined draft.ids;
+        ensures ok { OnOk result (roamer_progress self.new ≡ record (roamer_progress self.old) {
+          defined = max (roamer_progress self.old).defined draft.ids;
         }) }
-        ensures err { OnErr result (progress_of self.new ≡ progress_of self.old) }
+        ensures err { OnErr result (roamer_progress self.new ≡ roamer_progress self.old) }
         ensures same_run { IsSameRun self.old self.new }
         ensures same_ends { ends_of self.new ≡ ends_of self.old }
         ensures same_flags { (is_begun self.new ≡ is_begun self.old)
             × (is_faulted self.new ≡ is_faulted self.old) }
 
         // What is known of every dictionary.
-        ensures distinct { AreDistinct (messages_of self.old) }
-        ensures few { length (messages_of self.old) ≤ MAX_MESSAGES }
+        ensures distinct { AreDistinct (roamer_messages self.old) }
+        ensures few { length (roamer_messages self.old) ≤ MAX_MESSAGES }
     {
         let are_known = draft.ids <= self.dictionary.len();
         prove!(are_known);
@@ -113,8 +114,8 @@ impl<'d, S> Roamer<'d, S> {
         ensures sent { Sends result (close_bytes writer)
             (K.put sink.old) (K.put sink.new) (K.faults sink.old) (K.faults sink.new) }
         ensures others { K.rest sink.old sink.new }
-        ensures ok { OnOk result (progress_of self.new ≡ progress_closing (progress_of self.old) writer) }
-        ensures err { OnErr result (progress_of self.new ≡ progress_of self.old) }
+        ensures ok { OnOk result (roamer_progress self.new ≡ progress_closing (roamer_progress self.old) writer) }
+        ensures err { OnErr result (roamer_progress self.new ≡ roamer_progress self.old) }
         ensures same_run { IsSameRun self.old self.new }
         ensures same_ends { ends_of self.new ≡ ends_of self.old }
         ensures same_flags { (is_begun self.new ≡ is_begun self.old)

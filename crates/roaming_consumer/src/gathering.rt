@@ -5,7 +5,7 @@ ghost use Rattle.nl_io.specs.Count.{Rose};
 ghost use Rattle.buffer_extent.specs.declared.put.TheConstants.{RECORD_ROOM};
 ghost use Rattle.checkpoint_io.specs.declared.heads.TheConstants.{MAX_BODY};
 ghost use Rattle.ring_core.specs.Plans.{plan_of};
-ghost use Rattle.roaming_consumer.specs.Gathering.{Came, Gathers, StopsTaking};
+ghost use Rattle.roaming_consumer.specs.Gathering.{FramesCame, DraftsFrames, StopsTaking};
 
 use crate::draft::Draft;
 use crate::put_frame::put_frame;
@@ -38,7 +38,7 @@ pub(crate) fn gather<S: StageOut, R: Wait + Copy>(
     requires planned { S.plan end.old ≡ plan_of dictionary.now tick }
     requires some { 1 ≤ batch }
     requires room { RECORD_ROOM ≤ length body.old }
-    ensures gathers { Gathers dictionary.now tick (S.got end.old) (S.got end.new) result.draft body.new }
+    ensures gathers { DraftsFrames dictionary.now tick (S.got end.old) (S.got end.new) result.draft body.new }
     ensures few { result.draft.records ≤ batch }
     ensures stops { StopsTaking S.got S.ended S.loads batch result.draft.records
         (length body.new - result.draft.len) end.old end.new }
@@ -85,7 +85,7 @@ pub(crate) fn throw_away<S: StageOut, R: Wait + Copy>(
     frame: &mut [u64; MAX_FRAME_WORDS],
 ) -> Thrown
     requires some { 1 ≤ batch }
-    ensures came { Came (S.got end.old) (S.got end.new) result.frames }
+    ensures came { FramesCame (S.got end.old) (S.got end.new) result.frames }
     ensures few { result.frames ≤ batch }
     ensures stops { StopsTaking S.got S.ended S.loads batch result.frames MAX_BODY end.old end.new }
     ensures none { result.frames ≡ 0 → S.ended end.new ≡ result.ended }

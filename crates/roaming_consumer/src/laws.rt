@@ -12,11 +12,10 @@ ghost use Rattle.checkpoint_io.specs.declared.heads.TheConstants.{MAX_BODY};
 ghost use Rattle.checkpoint_io.specs.declared.header.Header.{Header};
 ghost use Rattle.checkpoint_io.specs.Blocks.{header_bytes, close_bytes};
 ghost use Rattle.checkpoint_io.specs.Validity.{IsHeader};
-ghost use Rattle.roaming_consumer.specs.declared.making.TheConstants.{MAX_BATCH};
 ghost use Rattle.roaming_consumer.specs.Gathering.{StopsTaking};
-ghost use Rattle.roaming_consumer.specs.Growth.{Progress, IsLogSoFar, with_calls, IsNext, progress_behind, progress_closing};
+ghost use Rattle.roaming_consumer.specs.Growth.{LogProgress, IsLogSoFar, with_calls, IsNext, progress_behind, progress_closing};
 ghost use Rattle.roaming_consumer.specs.declared.roamer.Roamer.{Roamer};
-ghost use Rattle.roaming_consumer.specs.Roamers.{is_begun, is_faulted, AreMarked, IsClosedLogOfEnds, StandsFor};
+ghost use Rattle.roaming_consumer.specs.Roamers.{is_begun, is_faulted, AreMarked, IsClosedLogOfEnds, RoamerStandsFor};
 
 use ring_core::StageOut;
 
@@ -24,7 +23,7 @@ use ring_core::StageOut;
 /// log of as many calls more.
 pub fn logs_grow_by_extents()
     ensures { (wrote : List ℕ) (taken : List (List Call)) (dictionary : List Message) (clock : Clock) (batch : ℕ)
-        (progress : Progress) (writer : ℕ) (entries : List Call) (fragments extent : List ℕ)
+        (progress : LogProgress) (writer : ℕ) (entries : List Call) (fragments extent : List ℕ)
         → IsLogSoFar wrote taken dictionary clock batch progress
         → AreDistinct dictionary
         → length dictionary ≤ 65536
@@ -45,7 +44,7 @@ pub fn logs_begin_with_their_header()
 /// Behind the close mark of a writer that was open it is the log of the same calls.
 pub fn logs_grow_by_close_marks()
     ensures { (wrote : List ℕ) (taken : List (List Call)) (dictionary : List Message) (clock : Clock) (batch : ℕ)
-        (progress : Progress) (writer : ℕ)
+        (progress : LogProgress) (writer : ℕ)
         → IsLogSoFar wrote taken dictionary clock batch progress
         → writer < length taken
         → get_or progress.closed writer false ≡ false
@@ -57,18 +56,17 @@ pub fn logs_grow_by_close_marks()
 /// Where no write has failed and the close mark of each writer was written, the log of what was taken has them all.
 pub fn marks_stand_in_the_log<S: StageOut>()
     ensures { (roamer : Roamer S) (wrote : List ℕ)
-        → StandsFor S.got S.ended roamer wrote
+        → RoamerStandsFor S.got S.ended roamer wrote
         → is_begun roamer ≡ true
         → is_faulted roamer ≡ false
         → AreMarked roamer
         → IsClosedLogOfEnds S.got roamer wrote }
 {}
 
-/// How great the body of an extent and a batch are at most, and how many bytes of a body are kept free for a record.
+/// How great the body of an extent is at most, and how many bytes of a body are kept free for a record.
 pub fn the_limits_of_a_visit()
     ensures body { MAX_BODY ≡ 65536 }
     ensures record { RECORD_ROOM ≡ 8192 }
-    ensures batch { MAX_BATCH ≡ 65536 }
 {}
 
 /// A visit that stops before the batch is full, while 8,192 bytes of the body are free, has found all ended, or has

@@ -14,6 +14,5 @@ mod roamer;
 mod visit;
 mod visiting;
 
-pub use making::MAX_BATCH;
 pub use roamer::Roamer;
 pub use visit::{SinkFault, Visit};

@@ -1,20 +1,18 @@
 //! Making a roamer.
 
 ghost use Rattle.std.specs.Prelude.{◌≡◌, ◌<◌, ◌≤◌, ◌^◌, [], false, length, All, IfOk};
-ghost use Rattle.arg_records.specs.declared.call.TheConstants.{MAX_WRITERS};
+ghost use Rattle.session_options.specs.declared.limits.TheConstants.{MAX_BATCH, MAX_WRITERS};
 ghost use Rattle.ring_core.specs.Plans.{plan_of};
-ghost use Rattle.roaming_consumer.specs.Roamers.{ends_of, messages_of, clock_of, batch_of, is_begun, is_faulted, ArePlanned, StandsFor};
+ghost use Rattle.roaming_consumer.specs.Roamers.{ends_of, roamer_messages, roamer_clock, roamer_batch, is_begun, is_faulted, ArePlanned, RoamerStandsFor};
 
 use crate::fragments::MAX_FRAGMENT;
 use crate::roamer::Roamer;
-use arg_records::{MAX_FRAME_WORDS, MAX_WRITERS};
+use arg_records::MAX_FRAME_WORDS;
 use checkpoint_io::MAX_BODY;
 use log_dictionary::{Clock, Dictionary};
 use ring_core::StageOut;
+use session_options::MAX_WRITERS;
 use std::alloc::{AllocError, Global};
-
-/// The most frames of a visit.
-pub const MAX_BATCH: u32 = 65_536;
 
 impl<'d, S: StageOut + Drop> Roamer<'d, S> {
     /// A roamer over these ends, which takes at most `batch` frames in a visit. Where there is no memory for its
@@ -33,11 +31,11 @@ impl<'d, S: StageOut + Drop> Roamer<'d, S> {
         requires rate { 1 ≤ clock.rate }
         requires untaken { All (λ end. S.got end ≡ []) ends.items }
         requires planned { All (λ end. S.plan end ≡ plan_of dictionary.now clock.tick) ends.items }
-        ensures stands { IfOk result (λ roamer. StandsFor S.got S.ended roamer []) }
+        ensures stands { IfOk result (λ roamer. RoamerStandsFor S.got S.ended roamer []) }
         ensures planned { IfOk result (λ roamer. ArePlanned S.plan roamer) }
         ensures ends { IfOk result (λ roamer. ends_of roamer ≡ ends.items) }
-        ensures run { IfOk result (λ roamer. (messages_of roamer ≡ dictionary.now) × (clock_of roamer ≡ clock)
-            × (batch_of roamer ≡ batch)) }
+        ensures run { IfOk result (λ roamer. (roamer_messages roamer ≡ dictionary.now) × (roamer_clock roamer ≡ clock)
+            × (roamer_batch roamer ≡ batch)) }
         ensures flags { IfOk result (λ roamer. (is_begun roamer ≡ false) × (is_faulted roamer ≡ false)) }
     {
         let body = Vec::from_elem(alloc, 0, MAX_BODY as usize)?;

@@ -3,7 +3,7 @@
 ghost use Rattle.std.specs.Prelude.{◌≡◌, ◌+◌, ◌<◌, ◌≤◌, ◌^◌, ℕ, List, [], ◌∷◌, ◌++◌, length};
 ghost use Rattle.arg_records.specs.declared.call.Call.{Call};
 ghost use Rattle.buffer_extent.specs.declared.put.TheConstants.{RECORD_ROOM};
-ghost use Rattle.roaming_consumer.specs.Drafts.{IsFrameOf, IsDraft};
+ghost use Rattle.roaming_consumer.specs.Drafts.{IsFrameOfCall, IsDraft};
 
 use crate::draft::{Draft, counted};
 use arg_records::{frame_id, frame_stamp};
@@ -17,15 +17,15 @@ pub(crate) fn put_frame(
     draft: Draft,
     body: &mut [u8],
 ) -> Draft
-    requires frame { (call : Call) × IsFrameOf dictionary.now draft.last frame.now call }
+    requires frame { (call : Call) × IsFrameOfCall dictionary.now draft.last frame.now call }
     requires room { draft.len + RECORD_ROOM ≤ length body.old }
     requires few { draft.records + 1 < 2 ^ 32 }
     ensures goes_on { (call : Call) (tick : ℕ) (entries : List Call)
-        → IsFrameOf dictionary.now draft.last frame.now call
+        → IsFrameOfCall dictionary.now draft.last frame.now call
         → IsDraft dictionary.now tick entries draft body.old
         → IsDraft dictionary.now tick (entries ++ call ∷ []) result body.new }
     ensures records { result.records ≡ draft.records + 1 }
-    ensures last { (call : Call) → IsFrameOf dictionary.now draft.last frame.now call
+    ensures last { (call : Call) → IsFrameOfCall dictionary.now draft.last frame.now call
         → result.last ≡ call.stamp }
 {
     let id = frame_id(frame);

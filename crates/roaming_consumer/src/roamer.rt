@@ -1,14 +1,15 @@
 //! The roamer: what it keeps between its visits.
 
 ghost use Rattle.std.specs.Prelude.{◌≡◌, ◌<◌, ◌≤◌, ◌^◌, length, vec_len};
-ghost use Rattle.arg_records.specs.declared.call.TheConstants.{MAX_WRITERS};
+ghost use Rattle.session_options.specs.declared.limits.TheConstants.{MAX_WRITERS};
 ghost use Rattle.checkpoint_io.specs.declared.heads.TheConstants.{MAX_BODY};
 ghost use Rattle.roaming_consumer.specs.declared.fragments.TheConstants.{MAX_FRAGMENT};
 
 use crate::fragments::MAX_FRAGMENT;
-use arg_records::{MAX_FRAME_WORDS, MAX_WRITERS};
+use arg_records::MAX_FRAME_WORDS;
 use checkpoint_io::MAX_BODY;
 use log_dictionary::{Clock, Dictionary};
+use session_options::MAX_WRITERS;
 
 /// Goes from one writer to the next, takes the frames of its calls, and writes the log of the calls.
 ///

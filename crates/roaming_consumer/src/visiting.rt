@@ -3,8 +3,8 @@
 ghost use Rattle.std.specs.Prelude.{◌≡◌, ◌<◌, ◌≤◌, ◌+◌, ℕ, true, false, length, Ok, IfOk, OnOk, OnErr};
 ghost use Rattle.nl_io.specs.Count.{Rose};
 ghost use Rattle.nl_io.specs.Content.{Told};
-ghost use Rattle.roaming_consumer.specs.Roamers.{ends_of, messages_of, clock_of, batch_of, progress_of, is_begun, is_faulted, ArePlanned, IsSameRun, ChangesOne, KeepsLog, Adds};
-ghost use Rattle.roaming_consumer.specs.Visits.{Tells, Leaves, Marks, TakesAtMost, Writes, Stops, IsWritten, IsThrown};
+ghost use Rattle.roaming_consumer.specs.Roamers.{ends_of, roamer_messages, roamer_clock, roamer_batch, roamer_progress, is_begun, is_faulted, ArePlanned, IsSameRun, ChangesOne, KeepsLog, AppendsToLog};
+ghost use Rattle.roaming_consumer.specs.Visits.{VisitTells, KeepsRing, Marks, TakesAtMost, VisitWrites, VisitStops, IsWritten, IsThrown};
 
 use crate::gathering::{Gathered, Thrown};
 use crate::roamer::Roamer;
@@ -26,16 +26,16 @@ impl<'d, S: StageOut> Roamer<'d, S> {
         requires begun { is_begun self.old ≡ true }
         requires unfaulted { is_faulted self.old ≡ false }
         ensures visits { ChangesOne (ends_of self.old) (ends_of self.new) writer (λ before after.
-            IfOk result (λ visit. Tells S.got S.ended S.loads visit before after)
-            × Leaves S.ended S.loads S.pair S.plan before after) }
+            IfOk result (λ visit. VisitTells S.got S.ended S.loads visit before after)
+            × KeepsRing S.ended S.loads S.pair S.plan before after) }
         ensures written { IfOk result IsWritten }
-        ensures few { IfOk result (TakesAtMost (batch_of self.old)) }
+        ensures few { IfOk result (TakesAtMost (roamer_batch self.old)) }
         ensures marks { Marks result writer self.old self.new }
         ensures writes { IfOk result (λ visit. ChangesOne (ends_of self.old) (ends_of self.new) writer
-            (Writes S.got S.ended S.loads self.old writer (K.put sink.old) (K.put sink.new) visit)) }
+            (VisitWrites S.got S.ended S.loads self.old writer (K.put sink.old) (K.put sink.new) visit)) }
         ensures stops { OnErr result (ChangesOne (ends_of self.old) (ends_of self.new) writer
-            (Stops S.got S.ended self.old writer (K.put sink.old) (K.put sink.new))) }
-        ensures wrote { Adds S.got S.ended self.old self.new (K.put sink.old) (K.put sink.new) }
+            (VisitStops S.got S.ended self.old writer (K.put sink.old) (K.put sink.new))) }
+        ensures wrote { AppendsToLog S.got S.ended self.old self.new (K.put sink.old) (K.put sink.new) }
         ensures counted { OnOk result (K.faults sink.new ≡ K.faults sink.old) }
         ensures cause { OnErr result (Rose (K.faults sink.old) (K.faults sink.new)) }
         ensures count { K.faults sink.old ≤ K.faults sink.new }
@@ -70,11 +70,12 @@ impl<'d, S: StageOut> Roamer<'d, S> {
         requires known { writer < length (ends_of self.old) }
         requires faulted { is_faulted self.old ≡ true }
         ensures visits { ChangesOne (ends_of self.old) (ends_of self.new) writer (λ before after.
-            Tells S.got S.ended S.loads result before after × Leaves S.ended S.loads S.pair S.plan before after) }
+            VisitTells S.got S.ended S.loads result before after
+            × KeepsRing S.ended S.loads S.pair S.plan before after) }
         ensures thrown { IsThrown result }
         ensures writes { (put : Told) → ChangesOne (ends_of self.old) (ends_of self.new) writer
-            (Writes S.got S.ended S.loads self.old writer put put result) }
-        ensures few { TakesAtMost (batch_of self.old) result }
+            (VisitWrites S.got S.ended S.loads self.old writer put put result) }
+        ensures few { TakesAtMost (roamer_batch self.old) result }
         ensures others { KeepsLog self.old self.new }
     {
         let Thrown { frames, ended } = self.toss(rt, writer);
@@ -106,19 +107,19 @@ impl<'d, S: StageOut> Roamer<'d, S> {
 
         // What the answer says of the writer's end. All other ends are as they were.
         ensures visits { ChangesOne (ends_of self.old) (ends_of self.new) writer (λ before after.
-            IfOk result (λ visit. Tells S.got S.ended S.loads visit before after)
-            × Leaves S.ended S.loads S.pair S.plan before after) }
+            IfOk result (λ visit. VisitTells S.got S.ended S.loads visit before after)
+            × KeepsRing S.ended S.loads S.pair S.plan before after) }
         ensures written { is_faulted self.old ≡ false → IfOk result IsWritten }
         ensures thrown { is_faulted self.old ≡ true → IfOk result IsThrown }
-        ensures few { IfOk result (TakesAtMost (batch_of self.old)) }
+        ensures few { IfOk result (TakesAtMost (roamer_batch self.old)) }
         ensures marks { Marks result writer self.old self.new }
 
         // What the sink was given, and why no more frames were taken.
         ensures writes { IfOk result (λ visit. ChangesOne (ends_of self.old) (ends_of self.new) writer
-            (Writes S.got S.ended S.loads self.old writer (K.put sink.old) (K.put sink.new) visit)) }
+            (VisitWrites S.got S.ended S.loads self.old writer (K.put sink.old) (K.put sink.new) visit)) }
         ensures stops { OnErr result (ChangesOne (ends_of self.old) (ends_of self.new) writer
-            (Stops S.got S.ended self.old writer (K.put sink.old) (K.put sink.new))) }
-        ensures wrote { Adds S.got S.ended self.old self.new (K.put sink.old) (K.put sink.new) }
+            (VisitStops S.got S.ended self.old writer (K.put sink.old) (K.put sink.new))) }
+        ensures wrote { AppendsToLog S.got S.ended self.old self.new (K.put sink.old) (K.put sink.new) }
         ensures untouched { is_faulted self.old ≡ true → sink.new ≡ sink.old }
         ensures counted { OnOk result (K.faults sink.new ≡ K.faults sink.old) }
         ensures cause { OnErr result (Rose (K.faults sink.old) (K.faults sink.new)) }

@@ -4,9 +4,9 @@ ghost use Rattle.std.specs.Prelude.{◌≡◌};
 
 use crate::late::LateStage;
 use log_dictionary::Severity;
-use log_session::{Dropped, FreeGate, Gate, Options, Outcome, Policy, RunFault, run};
 use nl_io::{MemSink, Sink};
 use ring_core::{Stage, StageDone};
+use session_options::{Options, Policy};
 use staging_ring::QueueStage;
 use std::alloc::Global;
 use std::hint::spin_loop;
@@ -15,6 +15,7 @@ use std::sync::atomic::{AtomicU64, Ordering};
 use std::sync::{Arc, Wait};
 use std::test::Fail;
 use std::thread::Threads;
+use trace_session::{Dropped, FreeGate, Gate, Outcome, RunFault, run};
 use trace_text::{Trace, read_text};
 
 /// What a session needs of the machine that it runs on.

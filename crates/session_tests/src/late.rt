@@ -6,7 +6,8 @@ ghost use Rattle.ring_core.specs.Answers.{IsFull};
 
 use arg_records::MAX_FRAME_WORDS;
 use log_dictionary::Dictionary;
-use ring_core::{Full, MAX_RING, MIN_RING, Stage, StageFault, StageIn, need};
+use ring_core::{Full, Stage, StageFault, StageIn, need};
+use session_options::{MAX_RING, MIN_RING};
 use staging_ring::{QueueDone, QueueIn, QueueOut, QueueStage};
 use std::alloc::Global;
 use std::sync::Wait;

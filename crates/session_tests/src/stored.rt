@@ -4,15 +4,14 @@ ghost use Rattle.std.specs.Prelude.{◌≤◌};
 
 use arg_records::MAX_FRAME_WORDS;
 use log_dictionary::Dictionary;
-use log_session::RunFault;
 use printf_grammar::Arg;
-use ring_core::{
-    MAX_POSITION, MAX_RING, MIN_RING, StageFault, StageOut, StoreFault, StoredOut, Taken, need,
-};
+use ring_core::{MAX_POSITION, StageFault, StageOut, StoreFault, StoredOut, Taken, need};
+use session_options::{MAX_RING, MIN_RING};
 use std::alloc::Global;
 use std::process::Abort;
 use std::sync::Wait;
 use std::test::Fail;
+use trace_session::RunFault;
 
 /// A dictionary of two messages, which take a number, and two texts.
 fn two_messages(alloc: Global) -> Result<Dictionary, Fail> {

@@ -7,11 +7,11 @@ use Rattle.std.proofs.lemmas.List.Sums.{sum_by-cons}
 use Rattle.source_tokens.specs.declared.kind.TokenKind.{TokenKind}
 use Rattle.source_tokens.specs.declared.kind.TokenKind.TheVariants.{Punctuator}
 use Rattle.source_tokens.specs.declared.token.Token.{Token}
-use Rattle.source_scan.specs.Arguments.{is_punctuator, opens, closes, is_bare, depth_behind, closing_from, IsOpenTo}
+use Rattle.source_scan.specs.Arguments.{is_punctuator, opens_parenthesis, closes_parenthesis, is_bare, depth_behind, closing_from, IsOpenTo}
 
 -- among so many tokens no more parentheses are closed than are opened and were open before them
 abbrev IsOpen : ℕ → List Token → ℕ → Type 0
-IsOpen depth tokens n = count_by closes (take n tokens) ≤ depth + count_by opens (take n tokens)
+IsOpen depth tokens n = count_by closes_parenthesis (take n tokens) ≤ depth + count_by opens_parenthesis (take n tokens)
 
 -- no token opens and closes
 one_byte : (kind : TokenKind) → is_punctuator 40 kind ≡ true → is_punctuator 41 kind ≡ false
@@ -26,19 +26,19 @@ depth_by (suc depth) false true apart bare = omega arith
 depth_by depth false false apart bare = omega arith
 
 -- the depth behind a token that closes nothing from before
-depth_step : (depth : ℕ) (token : Token) → is_bare 41 depth token ≡ false → depth_behind depth token + cond (closes token) 1 0 ≡ depth + cond (opens token) 1 0
-depth_step depth token bare = depth_by depth (opens token) (closes token) (one_byte token.kind) bare
+depth_step : (depth : ℕ) (token : Token) → is_bare 41 depth token ≡ false → depth_behind depth token + cond (closes_parenthesis token) 1 0 ≡ depth + cond (opens_parenthesis token) 1 0
+depth_step depth token bare = depth_by depth (opens_parenthesis token) (closes_parenthesis token) (one_byte token.kind) bare
 
 counted : (test : Token → Bool) (token : Token) (tokens : List Token) → count_by test (token ∷ tokens) ≡ cond (test token) 1 0 + count_by test tokens
 counted test token tokens = sum_by-cons (λ (one : Token). cond (test one) 1 0) token tokens
 
 -- what closes at depth 0 opens nothing
-closes_alone : (depth : ℕ) (token : Token) → is_bare 41 depth token ≡ true → (depth ≡ 0) × ◌≡◌ {A = ℕ} (cond (closes token) 1 0) 1 × ◌≡◌ {A = ℕ} (cond (opens token) 1 0) 0
+closes_alone : (depth : ℕ) (token : Token) → is_bare 41 depth token ≡ true → (depth ≡ 0) × ◌≡◌ {A = ℕ} (cond (closes_parenthesis token) 1 0) 1 × ◌≡◌ {A = ℕ} (cond (opens_parenthesis token) 1 0) 0
 closes_alone depth token bare =
-    let parts = and_parts (closes token) (depth == 0) bare in (
+    let parts = and_parts (closes_parenthesis token) (depth == 0) bare in (
       eqb-true depth 0 parts.1,
       ap (λ (b : Bool). cond b 1 0) parts.0,
-      elim (cases_Bool (opens token)) [
+      elim (cases_Bool (opens_parenthesis token)) [
         | inl up ↦ absurd (false≢true (sym (one_byte token.kind up) ∙ parts.0))
         | inr none ↦ ap (λ (b : Bool). cond b 1 0) none
       ],
@@ -48,10 +48,10 @@ closes_alone depth token bare =
 abbrev Closing : ℕ → List Token → Option ℕ → Type 0
 Closing depth tokens None = (n : ℕ) → IsOpen depth tokens n
 Closing depth tokens (Some place) =
-    ((n : ℕ) → n ≤ place → IsOpen depth tokens n) × (count_by closes (take (suc place) tokens) ≡ suc (depth + count_by opens (take (suc place) tokens)))
+    ((n : ℕ) → n ≤ place → IsOpen depth tokens n) × (count_by closes_parenthesis (take (suc place) tokens) ≡ suc (depth + count_by opens_parenthesis (take (suc place) tokens)))
 
 open_more : (depth : ℕ) (token : Token) (tokens : List Token) (n : ℕ) → is_bare 41 depth token ≡ false → IsOpen (depth_behind depth token) tokens n → IsOpen depth (token ∷ tokens) (suc n)
-open_more depth token tokens n bare later = omega (arith, later, depth_step depth token bare, counted closes token (take n tokens), counted opens token (take n tokens))
+open_more depth token tokens n bare later = omega (arith, later, depth_step depth token bare, counted closes_parenthesis token (take n tokens), counted opens_parenthesis token (take n tokens))
 
 closing_step : (depth : ℕ) (token : Token) (tokens : List Token) (here : Bool) (later : Option ℕ) → is_bare 41 depth token ≡ here → Closing (depth_behind depth token) tokens later → Closing depth (token ∷ tokens) (cond here (Some 0) (option_map suc later))
 closing_step depth token tokens true later bare closing =
@@ -67,7 +67,7 @@ closing_step depth token tokens false None bare closing = each
     each zero = omega arith
     each (suc n) = open_more depth token tokens n bare (closing n)
 closing_step depth token tokens false (Some place) bare closing =
-    (each, omega (arith, closing.1, depth_step depth token bare, counted closes token (take (suc place) tokens), counted opens token (take (suc place) tokens)))
+    (each, omega (arith, closing.1, depth_step depth token bare, counted closes_parenthesis token (take (suc place) tokens), counted opens_parenthesis token (take (suc place) tokens)))
   where
     each : (n : ℕ) → n ≤ suc place → IsOpen depth (token ∷ tokens) n
     each zero within = omega arith

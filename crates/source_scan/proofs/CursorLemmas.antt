@@ -5,8 +5,8 @@ use Rattle.std.proofs.lemmas.List.{take-append-drop, drop-take, drop-drop, take-
 use Rattle.std.proofs.lemmas.List.Sums.{sum_by-append}
 use Rattle.source_scan.specs.declared.position.PlacedChange.{PlacedChange}
 use Rattle.source_scan.specs.declared.cursor.Cursor.{Cursor}
-use Rattle.source_scan.specs.Positions.{InForce, in_force_of, changed, changed_to, at_front, is_line_end, line_of}
-use Rattle.source_scan.specs.Cursors.{SameFrom, IsMoved, Follows, IsHere}
+use Rattle.source_scan.specs.Positions.{InForce, in_force_of, changed, changed_to, at_front, is_line_end, line_number_at}
+use Rattle.source_scan.specs.Cursors.{SameFrom, IsMoved, CursorFollows, IsHere}
 
 pub same-itself : (source : List ℕ) (place : ℕ) (first : InForce) (changes : List PlacedChange) → SameFrom source place first changes first changes
 same-itself source place first changes = record { line = λ k later. refl; name = λ k later. refl }
@@ -29,7 +29,7 @@ sum-parts : (n x a b c : ℕ) → x ≡ a + c → c ≡ b → n + x ≡ (n + a) 
 sum-parts n x a b c whole same = omega (arith, whole, same)
 
 -- a position may be counted on from a later place
-line-rebased : (source : List ℕ) (before : InForce) (place k : ℕ) → before.from ≤ place → place ≤ k → line_of source before k ≡ line_of source (record { from = place; number = line_of source before place; name = before.name }) k
+line-rebased : (source : List ℕ) (before : InForce) (place k : ℕ) → before.from ≤ place → place ≤ k → line_number_at source before k ≡ line_number_at source (record { from = place; number = line_number_at source before place; name = before.name }) k
 line-rebased source before place k within far =
     let behind : List ℕ = drop before.from source in
     let m : ℕ = place - before.from in
@@ -42,14 +42,14 @@ line-rebased source before place k within far =
     (ap (λ (list : List ℕ). count_by is_line_end (take n list)) rest)
 
 -- and all goes on as it did
-pub same-rebased : (source : List ℕ) (before : InForce) (changes : List PlacedChange) (place : ℕ) → before.from ≤ place → SameFrom source place before changes (record { from = place; number = line_of source before place; name = before.name }) changes
+pub same-rebased : (source : List ℕ) (before : InForce) (changes : List PlacedChange) (place : ℕ) → before.from ≤ place → SameFrom source place before changes (record { from = place; number = line_number_at source before place; name = before.name }) changes
 unfolding changed_to
 same-rebased source before [] place within = record { line = λ k far. line-rebased source before place k within far; name = λ k far. refl }
 same-rebased source before (placed ∷ changes) place within =
-    let later : InForce = record { from = place; number = line_of source before place; name = before.name } in
+    let later : InForce = record { from = place; number = line_number_at source before place; name = before.name } in
     record {
       line = λ k far.
-          (elim (nat_le placed.from k) as (λ (b : Bool). line_of source (if b then changed_to k (changed before placed) changes else before) k ≡ line_of source (if b then changed_to k (changed later placed) changes else later) k) [
+          (elim (nat_le placed.from k) as (λ (b : Bool). line_number_at source (if b then changed_to k (changed before placed) changes else before) k ≡ line_number_at source (if b then changed_to k (changed later placed) changes else later) k) [
             | true ↦ refl
             | false ↦ line-rebased source before place k within far
           ]);
@@ -58,19 +58,19 @@ same-rebased source before (placed ∷ changes) place within =
     }
 
 -- the cursor behind the changes up to a place, set to that place
-pub moved-cursor : (source : List ℕ) (before after : InForce) (changes rest : List PlacedChange) (place number : ℕ) → after.from ≤ place → ((k : ℕ) → place ≤ k → changed_to k before changes ≡ changed_to k after rest) → number ≡ line_of source after place
+pub moved-cursor : (source : List ℕ) (before after : InForce) (changes rest : List PlacedChange) (place number : ℕ) → after.from ≤ place → ((k : ℕ) → place ≤ k → changed_to k before changes ≡ changed_to k after rest) → number ≡ line_number_at source after place
     → SameFrom source place before changes (record { from = place; number = number; name = after.name }) rest
 moved-cursor source before after changes rest place number within same is =
     let rebased : SameFrom source place after rest (record { from = place; number = number; name = after.name }) rest =
     subst (λ (n : ℕ). SameFrom source place after rest (record { from = place; number = n; name = after.name }) rest) (sym is) (same-rebased source after rest place within)
     in
     record {
-      line = λ k far. ap (λ (one : InForce). line_of source one k) (same k far) ∙ rebased.line k far;
+      line = λ k far. ap (λ (one : InForce). line_number_at source one k) (same k far) ∙ rebased.line k far;
       name = λ k far. ap (λ (one : InForce). one.name) (same k far) ∙ rebased.name k far;
     }
 
 -- the cursor goes on from where it said what is in force
-pub here-moved : (file source : List ℕ) (changes : List PlacedChange) (before moved : Cursor) (place : ℕ) → before.position.from ≤ place → Follows file source changes before → IsMoved source before place moved → IsHere file source changes place moved
+pub here-moved : (file source : List ℕ) (changes : List PlacedChange) (before moved : Cursor) (place : ℕ) → before.position.from ≤ place → CursorFollows file source changes before → IsMoved source before place moved → IsHere file source changes place moved
 here-moved file source changes before moved place within follows is = record {
   from = is.from;
   follows = subst (λ (n : ℕ). SameFrom source n (at_front file) changes (in_force_of moved.position) moved.changes.now) (sym is.from)
@@ -80,7 +80,7 @@ here-moved file source changes before moved place within follows is = record {
 }
 
 -- the cursor at the front
-pub follows-front : (file source : List ℕ) (changes : List PlacedChange) (cursor : Cursor) → in_force_of cursor.position ≡ at_front file → cursor.changes.now ≡ changes → Follows file source changes cursor
+pub follows-front : (file source : List ℕ) (changes : List PlacedChange) (cursor : Cursor) → in_force_of cursor.position ≡ at_front file → cursor.changes.now ≡ changes → CursorFollows file source changes cursor
 follows-front file source changes cursor position same =
     subst (λ (one : InForce). SameFrom source cursor.position.from (at_front file) changes one cursor.changes.now) (sym position)
     (subst (λ (list : List PlacedChange). SameFrom source cursor.position.from (at_front file) changes (at_front file) list) (sym same) (same-itself source cursor.position.from (at_front file) changes))

@@ -5,7 +5,7 @@ use Rattle.std.proofs.lemmas.List.{append-nil}
 use Rattle.source_tokens.specs.declared.token.Token.{Token}
 use Rattle.source_scan.specs.declared.found.Found.{Found}
 use Rattle.source_scan.specs.Arguments.{closing_from}
-use Rattle.source_scan.specs.Positions.{line_of}
+use Rattle.source_scan.specs.Positions.{line_number_at}
 use Rattle.source_scan.specs.Statements.{SourceText, in_force, begins, IsFoundIn, IsFoundAt, own_tokens, own_length, Finds}
 use Rattle.source_scan.proofs.Fronts.{behind, front_and_behind, nothing}
 
@@ -59,14 +59,14 @@ finds-all source tokens rest found none goes =
     subst (Finds source 0 tokens) (append-nil found) (goes [] (subst (λ (list : List Token). Finds source 0 list []) (sym (nothing rest none)) refl))
 
 -- what stands there, where the name and the line are in force
-pub found-in : (source : SourceText) (name : List ℕ) (line : ℕ) (token : Token) (inside : List Token) (closing : Option ℕ) (one : Found) → (in_force source token).name ≡ name → line_of source.bytes (in_force source token) token.start ≡ line
+pub found-in : (source : SourceText) (name : List ℕ) (line : ℕ) (token : Token) (inside : List Token) (closing : Option ℕ) (one : Found) → (in_force source token).name ≡ name → line_number_at source.bytes (in_force source token) token.start ≡ line
     → IsFoundIn source.bytes name line token inside closing one → IsFoundAt source token inside closing one
 found-in source name line token inside closing one named numbered at =
-    subst (λ (n : List ℕ). IsFoundIn source.bytes n (line_of source.bytes (in_force source token) token.start) token inside closing one) (sym named) (subst (λ (n : ℕ). IsFoundIn source.bytes name n token inside closing one) (sym numbered) at)
+    subst (λ (n : List ℕ). IsFoundIn source.bytes n (line_number_at source.bytes (in_force source token) token.start) token inside closing one) (sym named) (subst (λ (n : ℕ). IsFoundIn source.bytes name n token inside closing one) (sym numbered) at)
 
 -- the same as code finds it
 pub finds-next : (source : SourceText) (tokens rest : List Token) (found : List Found) (d : Token) (one : Found) (name : List ℕ) (line : ℕ) (inside after : List Token) (closing : Option ℕ) (own : ℕ) → 1 ≤ length rest → FindsTo source tokens found rest
-    → begins source.bytes (get_or rest 0 d) (behind rest) ≡ true → inside ≡ drop 1 (behind rest) → closing ≡ closing_from 0 inside → (in_force source (get_or rest 0 d)).name ≡ name → line_of source.bytes (in_force source (get_or rest 0 d)) (get_or rest 0 d).start ≡ line → IsFoundIn source.bytes name line (get_or rest 0 d) inside closing one → own ≡ own_tokens inside closing → after ≡ drop own inside
+    → begins source.bytes (get_or rest 0 d) (behind rest) ≡ true → inside ≡ drop 1 (behind rest) → closing ≡ closing_from 0 inside → (in_force source (get_or rest 0 d)).name ≡ name → line_number_at source.bytes (in_force source (get_or rest 0 d)) (get_or rest 0 d).start ≡ line → IsFoundIn source.bytes name line (get_or rest 0 d) inside closing one → own ≡ own_tokens inside closing → after ≡ drop own inside
     → FindsTo source tokens (found ++ one ∷ []) after
 finds-next source tokens rest found d one name line inside after closing own some goes is inside_is closing_is named numbered at_here own_is after_is =
     let at : IsFoundAt source (get_or rest 0 d) inside closing one = found-in source name line (get_or rest 0 d) inside closing one named numbered at_here in

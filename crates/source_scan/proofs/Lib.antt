@@ -4,7 +4,7 @@ pub mod Closing
 pub mod Commas
 pub mod CursorLemmas
 pub mod Digits
-pub mod Extents
+pub mod Spans
 pub mod FoundLists
 pub mod Fronts
 pub mod ItemLists

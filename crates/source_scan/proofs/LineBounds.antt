@@ -13,11 +13,11 @@ use Rattle.source_scan.specs.declared.line_change.TheConstants.{MAX_LINE}
 use Rattle.source_scan.specs.declared.line_change.LineChange.{LineChange}
 use Rattle.source_scan.specs.declared.position.PlacedChange.{PlacedChange}
 use Rattle.source_scan.specs.Texts.{unspliced, bytes_of, is_word, significant}
-use Rattle.source_scan.specs.LineNumbers.{is_decimal, number_of}
+use Rattle.source_scan.specs.LineNumbers.{is_decimal, spelled_number}
 use Rattle.source_scan.specs.LineChanges.{kind_number, line_number, file_name, with_both, with_number, named}
 use Rattle.source_scan.specs.LineChanges.{marker_change, line_change, directive_change, ReadsDirective}
 use Rattle.source_scan.specs.Positions.{InForce, has_next_line, with_change, Changes, changed, changed_to, at_front}
-use Rattle.source_scan.specs.Positions.{in_force_at, is_line_end, line_of}
+use Rattle.source_scan.specs.Positions.{in_force_at, is_line_end, line_number_at}
 
 -- ---- what directives say
 
@@ -32,7 +32,7 @@ chosen : (b : Bool) (number : ℕ) → (b ≡ true → IsWithin number) → IfSo
 chosen true number within = within refl
 chosen false number within = tt
 
-number-within : (text : List ℕ) → IfSome (number_of text) IsWithin
+number-within : (text : List ℕ) → IfSome (spelled_number text) IsWithin
 number-within text =
     chosen (list_all is_decimal text && nat_le (digits_value 10 text) MAX_LINE) (digits_value 10 text)
     (λ is. leb-true (digits_value 10 text) MAX_LINE (and_parts (list_all is_decimal text) (nat_le (digits_value 10 text) MAX_LINE) is).1)
@@ -110,7 +110,7 @@ passed-within place before (placed ∷ changes) within are =
     ]
 
 -- a line is at most so far behind the number in force as the source has bytes
-pub line-bound : (file source : List ℕ) (parts : List Token) (changes : List PlacedChange) → Changes source parts changes → (place : ℕ) → line_of source (in_force_at file changes place) place ≤ MAX_LINE + length source
+pub line-bound : (file source : List ℕ) (parts : List Token) (changes : List PlacedChange) → Changes source parts changes → (place : ℕ) → line_number_at source (in_force_at file changes place) place ≤ MAX_LINE + length source
 line-bound file source parts changes are place =
     let force : InForce = in_force_at file changes place in
     let number : force.number ≤ MAX_LINE = passed-within place (at_front file) changes (omega arith) (changes-within source parts changes are) in

@@ -2,12 +2,12 @@
 use Rattle.std.proofs.Common.{◌≡◌, ℕ, zero, suc, ◌<◌, ◌≤◌, List, [], ◌∷◌, ◌++◌, length, drop, get_or, Option, Some, None, refl, sym, ap, ◌∙◌, append_assoc}
 use Rattle.std.specs.Option.{option_map}
 use Rattle.source_scan.specs.declared.escape.Meaning.{Meaning}
-use Rattle.source_scan.specs.Escapes.{meaning_bytes, part_of, joined_part, unescaped_behind, unescaped}
+use Rattle.source_scan.specs.Escapes.{meaning_bytes, part_of, joined_part, unescaped_behind, unescaped_literal}
 use Rattle.std.proofs.lemmas.List.{append-nil}
 use Rattle.source_tokens.proofs.Passing.{back_of, first_and_back, nothing_there}
 
 -- the bytes of an escape may be passed at once
-pub behind-drop : (own : ℕ) (bytes : List ℕ) → unescaped_behind own bytes ≡ unescaped (drop own bytes)
+pub behind-drop : (own : ℕ) (bytes : List ℕ) → unescaped_behind own bytes ≡ unescaped_literal (drop own bytes)
 unfolding unescaped_behind
 behind-drop zero bytes = refl
 behind-drop (suc own) [] = refl
@@ -15,11 +15,11 @@ behind-drop (suc own) (byte ∷ bytes) = behind-drop own bytes
 
 -- a part at the front
 part-front : (first : ℕ) (behind : List ℕ) (meaning : Meaning) (len : ℕ) → part_of first behind ≡ Some (meaning, len)
-    → unescaped (first ∷ behind) ≡ option_map (λ (more : List ℕ). meaning_bytes meaning ++ more) (unescaped (drop len behind))
+    → unescaped_literal (first ∷ behind) ≡ option_map (λ (more : List ℕ). meaning_bytes meaning ++ more) (unescaped_literal (drop len behind))
 unfolding unescaped_behind
 part-front first behind meaning len part = ap (λ (one : Option (Meaning × ℕ)). joined_part one (λ own. unescaped_behind own behind)) part ∙ (ap (option_map (λ (more : List ℕ). meaning_bytes meaning ++ more)) (behind-drop len behind))
 
-wrong-front : (first : ℕ) (behind : List ℕ) → part_of first behind ≡ None → unescaped (first ∷ behind) ≡ None
+wrong-front : (first : ℕ) (behind : List ℕ) → part_of first behind ≡ None → unescaped_literal (first ∷ behind) ≡ None
 unfolding unescaped_behind
 wrong-front first behind part = ap (λ (one : Option (Meaning × ℕ)). joined_part one (λ own. unescaped_behind own behind)) part
 
@@ -28,21 +28,21 @@ option_map-append items front None = refl
 option_map-append items front (Some more) = ap Some (sym (append_assoc items front more))
 
 -- one part more was taken
-pub part-more : (body items rest : List ℕ) (meaning : Meaning) (len : ℕ) → 1 ≤ length rest → unescaped body ≡ option_map (λ (more : List ℕ). items ++ more) (unescaped rest) → part_of (get_or rest 0 0) (back_of rest) ≡ Some (meaning, len)
-    → unescaped body ≡ option_map (λ (more : List ℕ). (items ++ meaning_bytes meaning) ++ more) (unescaped (drop len (back_of rest)))
+pub part-more : (body items rest : List ℕ) (meaning : Meaning) (len : ℕ) → 1 ≤ length rest → unescaped_literal body ≡ option_map (λ (more : List ℕ). items ++ more) (unescaped_literal rest) → part_of (get_or rest 0 0) (back_of rest) ≡ Some (meaning, len)
+    → unescaped_literal body ≡ option_map (λ (more : List ℕ). (items ++ meaning_bytes meaning) ++ more) (unescaped_literal (drop len (back_of rest)))
 part-more body items rest meaning len some goes part =
-    goes ∙ ap (λ (front : List ℕ). option_map (λ (more : List ℕ). items ++ more) (unescaped front)) (first_and_back rest some)
+    goes ∙ ap (λ (front : List ℕ). option_map (λ (more : List ℕ). items ++ more) (unescaped_literal front)) (first_and_back rest some)
     ∙ ap (option_map (λ (more : List ℕ). items ++ more)) (part-front (get_or rest 0 0) (back_of rest) meaning len part)
-    ∙ option_map-append items (meaning_bytes meaning) (unescaped (drop len (back_of rest)))
+    ∙ option_map-append items (meaning_bytes meaning) (unescaped_literal (drop len (back_of rest)))
 
 -- what follows is no part
-pub part-wrong : (body items rest : List ℕ) → 1 ≤ length rest → unescaped body ≡ option_map (λ (more : List ℕ). items ++ more) (unescaped rest) → part_of (get_or rest 0 0) (back_of rest) ≡ None → unescaped body ≡ None
+pub part-wrong : (body items rest : List ℕ) → 1 ≤ length rest → unescaped_literal body ≡ option_map (λ (more : List ℕ). items ++ more) (unescaped_literal rest) → part_of (get_or rest 0 0) (back_of rest) ≡ None → unescaped_literal body ≡ None
 part-wrong body items rest some goes part =
-    goes ∙ ap (λ (front : List ℕ). option_map (λ (more : List ℕ). items ++ more) (unescaped front)) (first_and_back rest some)
+    goes ∙ ap (λ (front : List ℕ). option_map (λ (more : List ℕ). items ++ more) (unescaped_literal front)) (first_and_back rest some)
     ∙ ap (option_map (λ (more : List ℕ). items ++ more)) (wrong-front (get_or rest 0 0) (back_of rest) part)
 
 -- nothing follows
-pub parts-all : (body items rest : List ℕ) → length rest < 1 → unescaped body ≡ option_map (λ (more : List ℕ). items ++ more) (unescaped rest) → Some items ≡ unescaped body
+pub parts-all : (body items rest : List ℕ) → length rest < 1 → unescaped_literal body ≡ option_map (λ (more : List ℕ). items ++ more) (unescaped_literal rest) → Some items ≡ unescaped_literal body
 unfolding unescaped_behind
 parts-all body items rest none goes =
-    sym (goes ∙ ap (λ (front : List ℕ). option_map (λ (more : List ℕ). items ++ more) (unescaped front)) (nothing_there rest none) ∙ ap Some (append-nil items))
+    sym (goes ∙ ap (λ (front : List ℕ). option_map (λ (more : List ℕ). items ++ more) (unescaped_literal front)) (nothing_there rest none) ∙ ap Some (append-nil items))

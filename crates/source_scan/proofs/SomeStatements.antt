@@ -20,7 +20,7 @@ use Rattle.source_scan.specs.declared.found.StatementCause.TheVariants as causes
 use Rattle.source_scan.specs.Texts.{unspliced, bytes_of, significant}
 use Rattle.source_scan.specs.Severities.{last_name, without_scope, NamesSeverity}
 use Rattle.source_scan.specs.Items.{format_bytes}
-use Rattle.source_scan.specs.Positions.{line_of}
+use Rattle.source_scan.specs.Positions.{line_number_at}
 use Rattle.source_scan.specs.Readings.{Parted, IsFileName, HasSeverity, HasFormat, HasCause, IsRead}
 use Rattle.source_scan.specs.Arguments.{closing_from}
 use Rattle.source_scan.specs.Statements.{SourceText, begins, in_force, reading_of, IsFoundIn, own_length, Finds, Statements}
@@ -144,7 +144,7 @@ some_finds source (suc own) (token ∷ tokens) = some_finds source own tokens
 some_finds source zero (token ∷ tokens) =
     elim (cases_Bool (begins source.bytes token tokens)) [
       | inl is ↦
-          let one = some_found source.bytes (in_force source token).name (line_of source.bytes (in_force source token) token.start) token (drop 1 tokens) (closing_from 0 (drop 1 tokens)) in
+          let one = some_found source.bytes (in_force source token).name (line_number_at source.bytes (in_force source token) token.start) token (drop 1 tokens) (closing_from 0 (drop 1 tokens)) in
           let rest = some_finds source (own_length tokens) tokens in
           (one.0 ∷ rest.0, found-front source token tokens one.0 rest.0 is one.1 rest.1)
       | inr none ↦

@@ -5,9 +5,9 @@ use Rattle.std.specs.List.{flat_map}
 use Rattle.source_tokens.specs.declared.token.Token.{Token}
 use Rattle.source_tokens.specs.Splices.{past_splices}
 use Rattle.source_tokens.specs.Forms.{is_literal_body, has_mark, is_number_tail}
-use Rattle.source_tokens.specs.Reading.{Reads}
+use Rattle.source_tokens.specs.Reading.{ReadsUnspliced}
 use Rattle.source_tokens.specs.Tokens.{Tokens, IsToken}
-use Rattle.source_tokens.specs.Directives.{Line, Parts, line_tokens, line_parts}
+use Rattle.source_tokens.specs.Directives.{TokenLine, Parts, line_tokens, line_parts}
 use Rattle.source_scan.specs.declared.position.PlacedChange.{PlacedChange}
 use Rattle.source_scan.specs.Texts.{unspliced, significant}
 use Rattle.source_scan.specs.Escapes.{unescaped_behind}
@@ -38,7 +38,7 @@ bad_tokens = name_at 85 93 ∷ mark_at 40 93 ∷ name_at 94 95 ∷ mark_at 44 95
 abbrev open_tokens : List Token
 open_tokens = name_at 109 117 ∷ mark_at 40 117 ∷ name_at 118 126 ∷ mark_at 40 126 ∷ mark_at 41 127 ∷ []
 
-abbrev worked_lines : List Line
+abbrev worked_lines : List TokenLine
 worked_lines =
     record { tokens = directive_tokens; ending = line_end_at 19 }
     ∷ record { tokens = raw_tokens; ending = line_end_at 47 }
@@ -55,7 +55,7 @@ source_parts = flat_map line_parts worked_lines
 
 -- the raw string of the second line
 raw_here : IsToken 129 (drop 20 worked_source) (raw_at 20 34) (drop 34 worked_source)
-unfolding past_splices Reads
+unfolding past_splices ReadsUnspliced
 raw_here = record {
   stands = inl (record {
     raw = drop 22 worked_source;

@@ -5,7 +5,7 @@ use Rattle.std.proofs.lemmas.Bool.{and_parts, false≢true}
 use Rattle.source_tokens.specs.declared.token.Token.{Token}
 use Rattle.source_tokens.specs.Splices.{past_splices}
 use Rattle.source_tokens.specs.Forms.{opening_of, is_tail, token_kind}
-use Rattle.source_tokens.specs.Reading.{Reads}
+use Rattle.source_tokens.specs.Reading.{ReadsUnspliced}
 use Rattle.source_tokens.specs.RawStrings.{is_prefix_byte}
 use Rattle.source_tokens.specs.Tokens.{IsToken, Follow}
 use Rattle.source_tokens.proofs.Prefixes.{prefix-letter}
@@ -30,12 +30,12 @@ plain_front (first ∷ second ∷ third ∷ rest) plain =
     rw (other_front (first == 92) (second == 10) front, other_front (first == 92) (second == 13) front) refl
 
 -- and each front of the bytes is read as it stands there
-pub reads_plain : (text rest : List ℕ) → are_plain (text ++ rest) ≡ true → Reads (text ++ rest) text rest
-unfolding Reads
+pub reads_plain : (text rest : List ℕ) → are_plain (text ++ rest) ≡ true → ReadsUnspliced (text ++ rest) text rest
+unfolding ReadsUnspliced
 reads_plain [] rest plain = refl
 reads_plain (first ∷ text) rest plain =
     let later = (and_parts (not (first == 92)) (are_plain (text ++ rest)) plain).1 in
-    (refl, subst (λ (bytes : List ℕ). Reads bytes text rest) (sym (plain_front (text ++ rest) later)) (reads_plain text rest later))
+    (refl, subst (λ (bytes : List ℕ). ReadsUnspliced bytes text rest) (sym (plain_front (text ++ rest) later)) (reads_plain text rest later))
 
 -- what begins with this byte goes on with these, and no further
 token_here : (total first : ℕ) (tail rest : List ℕ) (token : Token) → are_plain (tail ++ rest) ≡ true → is_prefix_byte first ≡ false → is_tail (opening_of first (tail ++ rest)) first tail ≡ true

@@ -14,11 +14,11 @@ is_punctuator byte _ = false
 abbrev pub is_mark : ℕ → Token → Bool
 is_mark byte token = is_punctuator byte token.kind
 
-abbrev pub opens : Token → Bool
-opens token = is_mark 40 token
+abbrev pub opens_parenthesis : Token → Bool
+opens_parenthesis token = is_mark 40 token
 
-abbrev pub closes : Token → Bool
-closes token = is_mark 41 token
+abbrev pub closes_parenthesis : Token → Bool
+closes_parenthesis token = is_mark 41 token
 
 -- the token is this byte alone, at depth 0
 abbrev pub is_bare : ℕ → ℕ → Token → Bool
@@ -26,7 +26,8 @@ is_bare byte depth token = is_mark byte token && depth == 0
 
 -- the depth behind a token
 abbrev pub depth_behind : ℕ → Token → ℕ
-depth_behind depth token = if opens token then suc depth else (if closes token then depth - 1 else depth)
+depth_behind depth token =
+    if opens_parenthesis token then suc depth else (if closes_parenthesis token then depth - 1 else depth)
 
 -- the place of the parenthesis that closes what was opened before the tokens
 unfoldable pub closing_from : ℕ → List Token → Option ℕ
@@ -36,7 +37,7 @@ closing_from depth (token ∷ tokens) =
 
 -- among so many of the tokens no more parentheses are closed than opened
 abbrev pub IsOpenTo : List Token → ℕ → Type 0
-IsOpenTo tokens n = count_by closes (take n tokens) ≤ count_by opens (take n tokens)
+IsOpenTo tokens n = count_by closes_parenthesis (take n tokens) ≤ count_by opens_parenthesis (take n tokens)
 
 -- these lists with a token in front of the first
 abbrev pub onto_first : Token → List (List Token) → List (List Token)

@@ -95,5 +95,5 @@ unescaped_behind (suc own) (byte ∷ bytes) = unescaped_behind own bytes
 unescaped_behind zero (byte ∷ bytes) = joined_part (part_of byte bytes) (λ others. unescaped_behind others bytes)
 
 -- what the bytes between the marks of a literal stand for, if each escape is one
-abbrev pub unescaped : List ℕ → Option (List ℕ)
-unescaped bytes = unescaped_behind 0 bytes
+abbrev pub unescaped_literal : List ℕ → Option (List ℕ)
+unescaped_literal bytes = unescaped_behind 0 bytes

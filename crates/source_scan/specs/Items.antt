@@ -10,7 +10,7 @@ use Rattle.source_tokens.specs.declared.kind.TokenKind.TheVariants as kinds
 use Rattle.source_tokens.specs.declared.token.Token.{Token}
 use Rattle.source_tokens.specs.RawStrings.{past_delimiter, opens_raw, closing_of}
 use Rattle.source_scan.specs.Texts.{unspliced, bytes_of, is_word, touches}
-use Rattle.source_scan.specs.Escapes.{unescaped}
+use Rattle.source_scan.specs.Escapes.{unescaped_literal}
 use Rattle.source_scan.specs.PriWords.{pri_bytes}
 
 -- ---- literals
@@ -21,7 +21,7 @@ between_marks text = take (length text - 2) (drop 1 text)
 
 -- what a whole string literal stands for, from its bytes in the source
 abbrev pub string_bytes : List ℕ → Option (List ℕ)
-string_bytes bytes = unescaped (between_marks (unspliced bytes))
+string_bytes bytes = unescaped_literal (between_marks (unspliced bytes))
 
 abbrev pub is_quote : ℕ → Bool
 is_quote byte = byte == 34
@@ -73,16 +73,16 @@ is_prefix source token [] = false
 is_prefix source token (next ∷ tokens) = is_word (codes "u8") source token && is_string next.kind && touches token next
 
 -- the bytes of one item, and then those of others
-abbrev pub joined : Option (List ℕ) → Option (List ℕ) → Option (List ℕ)
-joined None others = None
-joined (Some bytes) others = option_map (λ (more : List ℕ). bytes ++ more) others
+abbrev pub joined_items : Option (List ℕ) → Option (List ℕ) → Option (List ℕ)
+joined_items None others = None
+joined_items (Some bytes) others = option_map (λ (more : List ℕ). bytes ++ more) others
 
 -- what items stand for, joined, if all of the tokens are items
 unfoldable pub items_bytes : List ℕ → List Token → Option (List ℕ)
 items_bytes source [] = Some []
 items_bytes source (token ∷ tokens) =
     if is_prefix source token tokens then items_bytes source tokens
-    else joined (item_bytes source token) (items_bytes source tokens)
+    else joined_items (item_bytes source token) (items_bytes source tokens)
 
 -- the format of an argument: items, of which one at least is a literal
 abbrev pub format_bytes : List ℕ → List Token → Option (List ℕ)

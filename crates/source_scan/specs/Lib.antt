@@ -1,7 +1,7 @@
 pub mod Arguments
 pub mod Cursors
 pub mod Escapes
-pub mod Extents
+pub mod Spans
 pub mod Items
 pub mod LineChanges
 pub mod LineNumbers

@@ -7,12 +7,12 @@ use Rattle.source_tokens.specs.Tokens.{Tokens}
 use Rattle.source_scan.specs.declared.line_change.LineChange.{LineChange}
 use Rattle.source_scan.specs.Texts.{unspliced, bytes_of, is_word, significant}
 use Rattle.source_scan.specs.Items.{string_bytes}
-use Rattle.source_scan.specs.LineNumbers.{number_of}
+use Rattle.source_scan.specs.LineNumbers.{spelled_number}
 
 -- ---- numbers and names
 
 abbrev pub kind_number : TokenKind → List ℕ → Option ℕ
-kind_number kinds.Number bytes = number_of (unspliced bytes)
+kind_number kinds.Number bytes = spelled_number (unspliced bytes)
 kind_number _ bytes = None
 
 -- the number of a line that a token spells

@@ -9,6 +9,6 @@ abbrev pub is_decimal : ℕ → Bool
 is_decimal byte = is_digit byte 10
 
 -- the number that a text spells: decimal digits, up to the limit
-abbrev pub number_of : List ℕ → Option ℕ
-number_of text =
+abbrev pub spelled_number : List ℕ → Option ℕ
+spelled_number text =
     if list_all is_decimal text && nat_le (digits_value 10 text) MAX_LINE then Some (digits_value 10 text) else None

@@ -6,7 +6,7 @@ use Rattle.source_tokens.specs.declared.kind.TokenKind.TheVariants as kinds
 use Rattle.source_tokens.specs.declared.token.Token.{Token}
 use Rattle.source_scan.specs.declared.line_change.LineChange.{LineChange}
 use Rattle.source_scan.specs.declared.position.PlacedChange.{PlacedChange}
-use Rattle.source_scan.specs.declared.position.Position.{Position}
+use Rattle.source_scan.specs.declared.position.SourcePosition.{SourcePosition}
 use Rattle.source_scan.specs.Texts.{bytes_of}
 use Rattle.source_scan.specs.LineChanges.{ReadsDirective}
 
@@ -43,7 +43,7 @@ pub record InForce : Type 0 where
   pub name : List ℕ
 
 -- the same as code holds it
-abbrev pub in_force_of : Position → InForce
+abbrev pub in_force_of : SourcePosition → InForce
 in_force_of position = record { from = position.from; number = position.number; name = position.name.now }
 
 -- what is in force behind a change
@@ -72,6 +72,6 @@ abbrev pub is_line_end : ℕ → Bool
 is_line_end byte = byte == 10
 
 -- the line at a place, where this is in force
-abbrev pub line_of : List ℕ → InForce → ℕ → ℕ
-line_of source in_force place =
+abbrev pub line_number_at : List ℕ → InForce → ℕ → ℕ
+line_number_at source in_force place =
     in_force.number + count_by is_line_end (take (place - in_force.from) (drop in_force.from source))

@@ -1,6 +1,6 @@
 -- The words of <inttypes.h> that stand for conversions (C11 7.8.1), but for those of the FAST and LEAST kinds.
 use Rattle.std.specs.Prelude.{ℕ, Bool, false, ◌&&◌, ◌||◌, ◌==◌, if◌then◌else◌, List, [], ◌∷◌, Option, Some, None}
-use Rattle.source_scan.specs.declared.pri_word.Conversion.{Conversion}
+use Rattle.source_scan.specs.declared.pri_word.PriConversion.{PriConversion}
 
 -- d, i, o, u, x or X
 abbrev pub is_pri_letter : ℕ → Bool
@@ -32,5 +32,5 @@ pri_bytes (first ∷ second ∷ third ∷ letter ∷ width) =
 pri_bytes _ = None
 
 -- the same as it is written in a format
-abbrev pub conversion_bytes : Conversion → List ℕ
+abbrev pub conversion_bytes : PriConversion → List ℕ
 conversion_bytes conversion = if conversion.is_long then 108 ∷ conversion.letter ∷ [] else conversion.letter ∷ []

@@ -14,7 +14,7 @@ use Rattle.source_scan.specs.declared.found.StatementCause.{StatementCause}
 use Rattle.source_scan.specs.declared.found.StatementCause.TheVariants as causes
 use Rattle.source_scan.specs.declared.found.Statement.{Statement}
 use Rattle.source_scan.specs.declared.found.BadStatement.{BadStatement}
-use Rattle.source_scan.specs.declared.reading.Reading.{Reading}
+use Rattle.source_scan.specs.declared.reading.StatementReading.{StatementReading}
 use Rattle.source_scan.specs.Severities.{NamesSeverity}
 use Rattle.source_scan.specs.Items.{format_bytes}
 
@@ -30,7 +30,7 @@ pub record Parted : Type 0 where
   pub end : ℕ
 
 -- the same as code holds it
-abbrev pub parted_of : Reading → Parted
+abbrev pub parted_of : StatementReading → Parted
 parted_of reading = record {
   file = reading.file.now;
   line = reading.line;

@@ -8,11 +8,11 @@ use Rattle.source_scan.specs.declared.found.Found.{Found}
 use Rattle.source_scan.specs.declared.found.Found.TheVariants as found
 use Rattle.source_scan.specs.declared.found.StatementCause.TheVariants as causes
 use Rattle.source_scan.specs.declared.found.BadStatement.{BadStatement}
-use Rattle.source_scan.specs.declared.statement.Source.{Source}
+use Rattle.source_scan.specs.declared.statement.ScanInput.{ScanInput}
 use Rattle.source_scan.specs.Texts.{is_word, significant}
-use Rattle.source_scan.specs.Arguments.{opens, closing_from, parted_from, first_argument}
+use Rattle.source_scan.specs.Arguments.{opens_parenthesis, closing_from, parted_from, first_argument}
 use Rattle.source_scan.specs.Readings.{Parted, IsRead}
-use Rattle.source_scan.specs.Positions.{InForce, Changes, in_force_at, line_of}
+use Rattle.source_scan.specs.Positions.{InForce, Changes, in_force_at, line_number_at}
 
 -- ---- statements among tokens
 
@@ -23,17 +23,18 @@ pub record SourceText : Type 0 where
   pub changes : List PlacedChange
 
 -- the same as code holds it
-abbrev pub text_of : Source → SourceText
-text_of source = record { file = source.file.now; bytes = source.bytes.now; changes = source.changes.now }
+abbrev pub source_text : ScanInput → SourceText
+source_text source = record { file = source.file.now; bytes = source.bytes.now; changes = source.changes.now }
 
 -- `NANO_LOG` and `(`, where these tokens stand behind the first
 abbrev pub begins : List ℕ → Token → List Token → Bool
 begins source token [] = false
-begins source token (next ∷ tokens) = is_word (codes "NANO_LOG") source token && opens next
+begins source token (next ∷ tokens) = is_word (codes "NANO_LOG") source token && opens_parenthesis next
 
 -- the line at each place fits its type
 abbrev pub LinesFit : SourceText → Type 0
-LinesFit source = (place : ℕ) → line_of source.bytes (in_force_at source.file source.changes place) place < 2 ^ 32
+LinesFit source =
+    (place : ℕ) → line_number_at source.bytes (in_force_at source.file source.changes place) place < 2 ^ 32
 
 -- what is in force at a token
 abbrev pub in_force : SourceText → Token → InForce
@@ -72,7 +73,8 @@ IsFoundIn source name line token inside (Some place) one = IsRead source (readin
 -- the same by what is in force at the token
 abbrev pub IsFoundAt : SourceText → Token → List Token → Option ℕ → Found → Type 0
 IsFoundAt source token inside closing one =
-    IsFoundIn source.bytes (in_force source token).name (line_of source.bytes (in_force source token) token.start)
+    IsFoundIn source.bytes (in_force source token).name (line_number_at source.bytes
+    (in_force source token) token.start)
     token inside closing one
 
 -- how many of the tokens behind `(` are a statement's own, by the place where its parenthesis closes

@@ -1,15 +1,15 @@
 //! Cursors, which tell the line and the name that are in force as they move on in a source.
 
 ghost use Rattle.std.specs.Prelude.{◌≡◌, ◌≤◌, ◌<◌, ◌^◌, ℕ};
-ghost use Rattle.source_scan.specs.Positions.{in_force_of, changed_to, at_front, line_of};
+ghost use Rattle.source_scan.specs.Positions.{in_force_of, changed_to, at_front, line_number_at};
 ghost use Rattle.source_scan.specs.Cursors.{IsMoved};
 
-use crate::position::{PlacedChange, Position, changed, line_at};
+use crate::position::{PlacedChange, SourcePosition, changed, line_at};
 
 /// What is in force from a place on, with the changes behind it.
 #[derive(Clone, Copy, Debug)]
 pub struct Cursor<'a> {
-    pub position: Position<'a>,
+    pub position: SourcePosition<'a>,
     pub changes: &'a [PlacedChange],
 }
 
@@ -18,7 +18,7 @@ pub(crate) fn front_cursor<'a>(file: &'a [u8], changes: &'a [PlacedChange]) -> C
     ensures position { in_force_of result.position ≡ at_front file.now }
     ensures changes { result.changes.now ≡ changes.now }
 {
-    let position = Position {
+    let position = SourcePosition {
         from: 0,
         number: 1,
         name: file,
@@ -49,12 +49,12 @@ fn past_changes<'a>(cursor: Cursor<'a>, place: usize) -> Cursor<'a>
 /// The cursor moved on to a place.
 pub(crate) fn moved_to<'a>(source: &[u8], cursor: Cursor<'a>, place: usize) -> Cursor<'a>
     requires from { cursor.position.from ≤ place }
-    requires line { line_of source.now
+    requires line { line_number_at source.now
         (changed_to place (in_force_of cursor.position) cursor.changes.now) place < 2 ^ 32 }
     ensures { IsMoved source.now cursor.entry place result }
 {
     let behind = past_changes(cursor, place);
-    let position = Position {
+    let position = SourcePosition {
         from: place,
         number: line_at(source, behind.position, place),
         name: behind.position.name,

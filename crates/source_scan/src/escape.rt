@@ -28,7 +28,7 @@ pub enum Meaning {
 }
 
 /// What a part of a literal stands for, and how many bytes of it follow.
-type Part = (Meaning, usize);
+type EscapePart = (Meaning, usize);
 
 /// The byte of an escape of one letter.
 fn letter_escape(letter: u8) -> Option<u8>
@@ -112,7 +112,7 @@ fn character_of(count: usize, digits: &[u8]) -> Option<Meaning>
 }
 
 /// What an escape stands for that goes on with these bytes behind its backslash, and how many of them are its own.
-fn escape_of(bytes: &[u8]) -> Option<Part>
+fn escape_of(bytes: &[u8]) -> Option<EscapePart>
     ensures value { result ≡ escape_of bytes.now }
     ensures within { IfSome result (λ part. part.1 ≤ length bytes.now) }
 {
@@ -141,7 +141,7 @@ fn escape_of(bytes: &[u8]) -> Option<Part>
 }
 
 /// What the part of a literal stands for that begins with this byte, and how many of the bytes behind it are its own.
-pub(crate) fn part_of(first: u8, bytes: &[u8]) -> Option<Part>
+pub(crate) fn part_of(first: u8, bytes: &[u8]) -> Option<EscapePart>
     ensures value { result ≡ part_of first bytes.now }
     ensures within { IfSome result (λ part. part.1 ≤ length bytes.now) }
 {

@@ -14,13 +14,13 @@ ghost use Rattle.source_scan.specs.declared.line_change.TheConstants.{MAX_LINE};
 ghost use Rattle.source_scan.specs.declared.position.PlacedChange.{PlacedChange};
 ghost use Rattle.source_scan.specs.declared.statement.TheConstants.{MAX_SOURCE};
 ghost use Rattle.source_scan.specs.Texts.{unspliced, bytes_of, significant};
-ghost use Rattle.source_scan.specs.Escapes.{unescaped};
+ghost use Rattle.source_scan.specs.Escapes.{unescaped_literal};
 ghost use Rattle.source_scan.specs.PriWords.{pri_bytes};
 ghost use Rattle.source_scan.specs.Items.{items_bytes};
 ghost use Rattle.source_scan.specs.Severities.{last_name};
 ghost use Rattle.source_scan.specs.Arguments.{closing_from, parted_from, IsOpenTo};
 ghost use Rattle.source_scan.specs.LineChanges.{directive_change};
-ghost use Rattle.source_scan.specs.Positions.{Changes, in_force_at, at_front, line_of};
+ghost use Rattle.source_scan.specs.Positions.{Changes, in_force_at, at_front, line_number_at};
 ghost use Rattle.source_scan.specs.Rising.{RiseFrom};
 ghost use Rattle.source_scan.specs.Rows.{mark_at, name_at, number_at, literal_at};
 ghost use Rattle.source_scan.specs.Rows.{in_braces, in_parentheses, behind_word, worked_statement, scoped};
@@ -28,7 +28,7 @@ ghost use Rattle.source_scan.specs.Rows.{worked_source, worked_found};
 ghost use Rattle.source_scan.specs.Rows.{pri_words, letters, long_letters};
 ghost use Rattle.source_scan.specs.Rows.{worked_words, word, error, integer, store, IsToldOf};
 ghost use Rattle.source_scan.specs.Statements.{reading_of, IsFoundIn, Statements};
-ghost use Rattle.source_scan.specs.Extents.{AreAll};
+ghost use Rattle.source_scan.specs.Spans.{AreAll};
 
 /// A source has one list of statements under each name of its file.
 pub fn one_list()
@@ -57,7 +57,7 @@ pub fn closing_parenthesis()
 pub fn bounds()
     ensures line { (file source : List ℕ) (parts : List Token) (changes : List PlacedChange)
         → Changes source parts changes
-        → (place : ℕ) → line_of source (in_force_at file changes place) place ≤ MAX_LINE + length source }
+        → (place : ℕ) → line_number_at source (in_force_at file changes place) place ≤ MAX_LINE + length source }
     ensures tokens { (source : List ℕ) (parts : List Token) → Parts source parts
         → RiseFrom 0 (significant parts) (length source) }
 {}
@@ -123,19 +123,21 @@ pub fn worked_formats()
 
 /// What each escape stands for, and some that are none.
 pub fn worked_escapes()
-    ensures letters { unescaped (codes "\\'\\\"\\?\\\\\\a\\b\\f\\n\\r\\t\\v\\e")
+    ensures letters { unescaped_literal (codes "\\'\\\"\\?\\\\\\a\\b\\f\\n\\r\\t\\v\\e")
         ≡ Some (39 ∷ 34 ∷ 63 ∷ 92 ∷ 7 ∷ 8 ∷ 12 ∷ 10 ∷ 13 ∷ 9 ∷ 11 ∷ 27 ∷ []) }
-    ensures octal { unescaped (codes "\\377") ≡ Some (255 ∷ []) }
-    ensures octal_digits { unescaped (codes "\\0017\\18") ≡ Some (1 ∷ 55 ∷ 1 ∷ 56 ∷ []) }
-    ensures hexadecimal { unescaped (codes "\\x00fFg") ≡ Some (255 ∷ 103 ∷ []) }
-    ensures short { unescaped (codes "\\u00e99") ≡ Some (195 ∷ 169 ∷ 57 ∷ []) }
-    ensures long { unescaped (codes "\\U000000e99") ≡ Some (195 ∷ 169 ∷ 57 ∷ []) }
-    ensures greatest { unescaped (codes "\\U0010ffff") ≡ Some (244 ∷ 143 ∷ 191 ∷ 191 ∷ []) }
-    ensures too_great { map unescaped (codes "\\400" ∷ codes "\\x100" ∷ codes "\\ud800" ∷ codes "\\U00110000" ∷ [])
+    ensures octal { unescaped_literal (codes "\\377") ≡ Some (255 ∷ []) }
+    ensures octal_digits { unescaped_literal (codes "\\0017\\18") ≡ Some (1 ∷ 55 ∷ 1 ∷ 56 ∷ []) }
+    ensures hexadecimal { unescaped_literal (codes "\\x00fFg") ≡ Some (255 ∷ 103 ∷ []) }
+    ensures short { unescaped_literal (codes "\\u00e99") ≡ Some (195 ∷ 169 ∷ 57 ∷ []) }
+    ensures long { unescaped_literal (codes "\\U000000e99") ≡ Some (195 ∷ 169 ∷ 57 ∷ []) }
+    ensures greatest { unescaped_literal (codes "\\U0010ffff") ≡ Some (244 ∷ 143 ∷ 191 ∷ 191 ∷ []) }
+    ensures too_great { map unescaped_literal (codes "\\400" ∷ codes "\\x100" ∷ codes "\\ud800"
+        ∷ codes "\\U00110000" ∷ [])
         ≡ replicate 4 None }
-    ensures too_short { map unescaped (codes "\\" ∷ codes "\\xg" ∷ codes "\\u0e9" ∷ codes "\\U00000e9" ∷ [])
+    ensures too_short { map unescaped_literal (codes "\\" ∷ codes "\\xg" ∷ codes "\\u0e9" ∷ codes "\\U00000e9" ∷ [])
         ≡ replicate 4 None }
-    ensures unknown { map unescaped (codes "\\8" ∷ codes "\\c" ∷ codes "\\X41" ∷ codes "\\N" ∷ []) ≡ replicate 4 None }
+    ensures unknown { map unescaped_literal (codes "\\8" ∷ codes "\\c" ∷ codes "\\X41" ∷ codes "\\N" ∷ [])
+        ≡ replicate 4 None }
 {}
 
 /// What each PRI word stands for, and some words that are none.
@@ -177,5 +179,5 @@ pub fn worked_names()
         ≡ Some (record { number = 2147483647; name = None }) }
     ensures line_over { directive_change (codes "#line 2147483648") (name_at 1 5 ∷ number_at 6 16 ∷ []) ≡ None }
     ensures splices { unspliced (97 ∷ 92 ∷ 10 ∷ 98 ∷ 92 ∷ 13 ∷ 10 ∷ []) ≡ codes "ab" }
-    ensures spliced_line { line_of (97 ∷ 92 ∷ 10 ∷ 98 ∷ []) (at_front (codes "t.cc")) 3 ≡ 2 }
+    ensures spliced_line { line_number_at (97 ∷ 92 ∷ 10 ∷ 98 ∷ []) (at_front (codes "t.cc")) 3 ≡ 2 }
 {}

@@ -2,7 +2,7 @@
 
 ghost use Rattle.std.specs.Prelude.{◌≡◌, IfOk};
 ghost use Rattle.std.specs.List.{list_all};
-ghost use Rattle.source_scan.specs.LineNumbers.{is_decimal, number_of};
+ghost use Rattle.source_scan.specs.LineNumbers.{is_decimal, spelled_number};
 ghost use Rattle.source_scan.specs.LineChanges.{line_number, file_name, named, unnamed};
 ghost use Rattle.source_scan.specs.LineChanges.{marker_change, line_change, directive_change, ReadsDirective};
 
@@ -37,8 +37,8 @@ fn are_decimal(text: &[u8]) -> bool
 }
 
 /// The number of a line that the text spells.
-fn number_of(text: &[u8]) -> Option<u32>
-    ensures { result ≡ number_of text.now }
+fn spelled_number(text: &[u8]) -> Option<u32>
+    ensures { result ≡ spelled_number text.now }
 {
     if !are_decimal(text) {
         return None;
@@ -53,7 +53,7 @@ fn line_number(alloc: Global, source: &[u8], token: &Token) -> Result<Option<u32
     match token.kind {
         TokenKind::Number => {
             let text = unspliced(alloc, bytes_of(source, token))?;
-            Ok(number_of(&text))
+            Ok(spelled_number(&text))
         }
         _ => Ok(None),
     }

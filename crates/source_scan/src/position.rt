@@ -1,7 +1,7 @@
 //! The line and the name of a file that are in force at a place of a source.
 
 ghost use Rattle.std.specs.Prelude.{◌≡◌, ◌≤◌, ◌<◌, ◌^◌, length, count_by, IfOk};
-ghost use Rattle.source_scan.specs.Positions.{has_next_line, Changes, in_force_of, changed, is_line_end, line_of};
+ghost use Rattle.source_scan.specs.Positions.{has_next_line, Changes, in_force_of, changed, is_line_end, line_number_at};
 
 use crate::line_change::{LineChange, read_directive};
 use crate::text::{between, bytes_of};
@@ -46,21 +46,24 @@ pub fn line_changes(
 
 /// From a place on, up to the next change: the number of the line that begins there, and the name of the file.
 #[derive(Clone, Copy, Debug)]
-pub struct Position<'a> {
+pub struct SourcePosition<'a> {
     pub from: usize,
     pub number: u32,
     pub name: &'a [u8],
 }
 
 /// What is in force behind a change.
-pub(crate) fn changed<'a>(before: Position<'a>, placed: &'a PlacedChange) -> Position<'a>
+pub(crate) fn changed<'a>(
+    before: SourcePosition<'a>,
+    placed: &'a PlacedChange,
+) -> SourcePosition<'a>
     ensures { in_force_of result ≡ changed (in_force_of before.entry) placed.now }
 {
     let name = match &placed.change.name {
         Some(name) => name.as_slice(),
         None => before.name,
     };
-    Position {
+    SourcePosition {
         from: placed.from,
         number: placed.change.number,
         name,
@@ -82,9 +85,9 @@ fn count_line_ends(bytes: &[u8]) -> usize
 }
 
 /// The line at a place where the position is in force.
-pub(crate) fn line_at(source: &[u8], position: Position<'_>, place: usize) -> u32
-    requires { line_of source.now (in_force_of position) place < 2 ^ 32 }
-    ensures { result ≡ line_of source.now (in_force_of position.entry) place }
+pub(crate) fn line_at(source: &[u8], position: SourcePosition<'_>, place: usize) -> u32
+    requires { line_number_at source.now (in_force_of position) place < 2 ^ 32 }
+    ensures { result ≡ line_number_at source.now (in_force_of position.entry) place }
 {
     let lines = count_line_ends(between(source, position.from, place));
     position.number + lines as u32

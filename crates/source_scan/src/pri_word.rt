@@ -6,7 +6,7 @@ ghost use Rattle.source_scan.specs.PriWords.{is_pri_letter, is_int_width, is_lon
 
 /// What a PRI word stands for.
 #[derive(Clone, Copy, Debug, PartialEq, Eq)]
-pub struct Conversion {
+pub struct PriConversion {
     /// The letter of the conversion: one of `diouxX`.
     pub letter: u8,
     /// Whether `l` stands before it.
@@ -35,7 +35,7 @@ fn is_long_width(width: &[u8]) -> bool
 }
 
 /// What the word stands for: PRI, a letter and a width.
-pub fn pri_conversion(word: &[u8]) -> Option<Conversion>
+pub fn pri_conversion(word: &[u8]) -> Option<PriConversion>
     ensures { option_map conversion_bytes result ≡ pri_bytes word.now }
 {
     let [b'P', b'R', b'I', letter, width @ ..] = word else {
@@ -46,13 +46,13 @@ pub fn pri_conversion(word: &[u8]) -> Option<Conversion>
         return None;
     }
     if is_int_width(width) {
-        return Some(Conversion {
+        return Some(PriConversion {
             letter,
             is_long: false,
         });
     }
     if is_long_width(width) {
-        return Some(Conversion {
+        return Some(PriConversion {
             letter,
             is_long: true,
         });

@@ -13,7 +13,7 @@ use std::alloc::{AllocError, Global};
 
 /// Where a statement stands, and the tokens of its first two arguments.
 #[derive(Clone, Copy, Debug)]
-pub struct Reading<'a> {
+pub struct StatementReading<'a> {
     pub file: &'a [u8],
     pub line: u32,
     pub severity: &'a [Token],
@@ -30,7 +30,7 @@ fn is_file_name(name: &[u8]) -> bool
     name.len() >= 1 && name.len() <= MAX_FILE_NAME
 }
 
-impl Reading<'_> {
+impl StatementReading<'_> {
     ghost use Rattle.source_scan.specs.Readings.{parted_of, IsRefused, IsWithFormat, IsRead};
 
     /// The statement, refused from this cause.

@@ -3,17 +3,17 @@
 ghost use Rattle.std.specs.Prelude.{◌≡◌, ◌≤◌, ◌<◌, ◌^◌, length, IfOk};
 ghost use Rattle.std.specs.Option.{ForSome};
 ghost use Rattle.source_scan.specs.Readings.{parted_of};
-ghost use Rattle.source_scan.specs.Positions.{in_force_at, line_of};
-ghost use Rattle.source_scan.specs.Cursors.{Follows, IsHere};
+ghost use Rattle.source_scan.specs.Positions.{in_force_at, line_number_at};
+ghost use Rattle.source_scan.specs.Cursors.{CursorFollows, IsHere};
 ghost use Rattle.source_scan.specs.Rising.{RiseFrom};
-ghost use Rattle.source_scan.specs.Statements.{text_of, LinesFit, begins, reading_of, IsUnclosedFound};
+ghost use Rattle.source_scan.specs.Statements.{source_text, LinesFit, begins, reading_of, IsUnclosedFound};
 ghost use Rattle.source_scan.specs.Statements.{IsFoundIn, own_tokens, Finds, Statements};
 
 use crate::arguments::{arguments_of, closing_place, is_mark};
 use crate::cursor::{Cursor, front_cursor, moved_to};
 use crate::found::{BadStatement, Found, StatementCause};
-use crate::position::{PlacedChange, Position, line_changes};
-use crate::reading::Reading;
+use crate::position::{PlacedChange, SourcePosition, line_changes};
+use crate::reading::StatementReading;
 use crate::text::{is_word, significant};
 use printf_grammar::Bytes;
 use source_tokens::{Token, parts};
@@ -24,7 +24,7 @@ pub const MAX_SOURCE: usize = 16_777_216;
 
 /// A source with the name of its file and its line directives.
 #[derive(Clone, Copy, Debug)]
-pub struct Source<'a> {
+pub struct ScanInput<'a> {
     pub file: &'a [u8],
     pub bytes: &'a [u8],
     pub changes: &'a [PlacedChange],
@@ -42,17 +42,17 @@ fn begins(source: &[u8], token: &Token, behind: &[Token]) -> bool
 
 /// The statement that begins with the token and whose parenthesis closes at the place.
 fn reading_of<'a>(
-    here: Position<'a>,
+    here: SourcePosition<'a>,
     token: &Token,
     inside: &'a [Token],
     place: usize,
-) -> Reading<'a>
+) -> StatementReading<'a>
     requires place { place < length inside.now }
     requires rise { RiseFrom 0 inside.now MAX_SOURCE }
     ensures { parted_of result ≡ reading_of here.entry.name.now here.entry.number token.now inside.now place }
 {
     let arguments = arguments_of(inside.split_at(place).0);
-    Reading {
+    StatementReading {
         file: here.name,
         line: here.number,
         severity: arguments.first,
@@ -64,7 +64,7 @@ fn reading_of<'a>(
 }
 
 /// A statement that nothing closes.
-fn unclosed(alloc: Global, here: Position<'_>) -> Result<Found, AllocError>
+fn unclosed(alloc: Global, here: SourcePosition<'_>) -> Result<Found, AllocError>
     ensures { IfOk result (IsUnclosedFound here.entry.name.now here.entry.number) }
 {
     let file = Bytes::from_slice(alloc, here.name)?;
@@ -77,7 +77,7 @@ fn unclosed(alloc: Global, here: Position<'_>) -> Result<Found, AllocError>
 fn found_at(
     alloc: Global,
     source: &[u8],
-    here: Position<'_>,
+    here: SourcePosition<'_>,
     token: &Token,
     inside: &[Token],
     closing: Option<usize>,
@@ -105,10 +105,11 @@ fn own_tokens(inside: &[Token], closing: Option<usize>) -> usize
 }
 
 /// The cursor, moved on to a place of its source.
-fn cursor_at<'a>(source: Source<'a>, cursor: Cursor<'a>, place: usize) -> Cursor<'a>
+fn cursor_at<'a>(source: ScanInput<'a>, cursor: Cursor<'a>, place: usize) -> Cursor<'a>
     requires from { cursor.position.from ≤ place }
-    requires follows { Follows source.file.now source.bytes.now source.changes.now cursor }
-    requires line { line_of source.bytes.now (in_force_at source.file.now source.changes.now place) place < 2 ^ 32 }
+    requires follows { CursorFollows source.file.now source.bytes.now source.changes.now cursor }
+    requires line { line_number_at source.bytes.now (in_force_at source.file.now source.changes.now place) place
+        < 2 ^ 32 }
     ensures { IsHere source.entry.file.now source.entry.bytes.now source.entry.changes.now place result }
 {
     moved_to(source.bytes, cursor, place)
@@ -117,12 +118,12 @@ fn cursor_at<'a>(source: Source<'a>, cursor: Cursor<'a>, place: usize) -> Cursor
 /// The statements among the tokens, in order.
 fn find_statements(
     alloc: Global,
-    source: Source<'_>,
+    source: ScanInput<'_>,
     tokens: &[Token],
 ) -> Result<Vec<Found>, AllocError>
     requires rise { RiseFrom 0 tokens.now MAX_SOURCE }
-    requires lines { LinesFit (text_of source) }
-    ensures { IfOk result (λ found. Finds (text_of source.entry) 0 tokens.now found.items) }
+    requires lines { LinesFit (source_text source) }
+    ensures { IfOk result (λ found. Finds (source_text source.entry) 0 tokens.now found.items) }
 {
     let mut found = Vec::new(alloc);
     let mut rest = tokens;
@@ -153,7 +154,7 @@ pub fn scan(alloc: Global, file: &[u8], source: &[u8]) -> Result<Vec<Found>, All
     let parts = parts(alloc, source)?;
     let changes = line_changes(alloc, source, parts.as_slice())?;
     let tokens = significant(alloc, parts.as_slice())?;
-    let source = Source {
+    let source = ScanInput {
         file,
         bytes: source,
         changes: &changes,

@@ -1,7 +1,7 @@
 //! What literals stand for.
 
 ghost use Rattle.std.specs.Prelude.{◌≡◌, ◌++◌, ℕ, List, IfOk, OnOk};
-ghost use Rattle.source_scan.specs.Escapes.{meaning_bytes, unescaped};
+ghost use Rattle.source_scan.specs.Escapes.{meaning_bytes, unescaped_literal};
 
 use crate::escape::{Meaning, part_of};
 use printf_grammar::Bytes;
@@ -26,7 +26,7 @@ fn push_meaning(bytes: &mut Vec<u8>, meaning: Meaning) -> Result<(), AllocError>
 
 /// What the text between the marks of a literal stands for, if each escape in it is one. The text has no splices.
 pub fn literal_bytes(alloc: Global, body: &[u8]) -> Result<Option<Bytes>, AllocError>
-    ensures { IfOk result (λ bytes. bytes ≡ unescaped body.now) }
+    ensures { IfOk result (λ bytes. bytes ≡ unescaped_literal body.now) }
 {
     let mut bytes = Vec::new(alloc);
     let mut rest = body;

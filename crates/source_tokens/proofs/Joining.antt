@@ -7,7 +7,7 @@ use Rattle.source_tokens.specs.declared.token.Token.{Token}
 use Rattle.source_tokens.specs.Splices.{past_splices}
 use Rattle.source_tokens.specs.RawStrings.{EndsAt, past_delimiter, delimiter_of, closing_of}
 use Rattle.source_tokens.specs.Tokens.{Tokens, Stands, Follow, past_front, front_tokens}
-use Rattle.source_tokens.specs.Directives.{Line, Parts, of_line, is_blank, is_hash, directive_of, last_end, line_tokens, line_parts}
+use Rattle.source_tokens.specs.Directives.{TokenLine, Parts, of_line, is_blank, is_hash, directive_of, last_end, line_tokens, line_parts}
 use Rattle.source_tokens.specs.Joins.{JoinsFrom}
 use Rattle.source_tokens.proofs.Splicing.{length-past}
 use Rattle.source_tokens.proofs.Texts.{reads-length}
@@ -84,7 +84,7 @@ unfolding JoinsFrom
 line-join start end [] joins = joins
 line-join start end (token ∷ tokens) joins = line-front (is_blank token.kind) (is_hash token.kind) token tokens (of_line tokens) start end joins (line-join token.end end tokens joins.2)
 
-lines-join : (start end : ℕ) (lines : List Line) (last : List Token) → JoinsFrom start (flat_map line_tokens lines ++ last) end → JoinsFrom start (flat_map line_parts lines ++ of_line last) end
+lines-join : (start end : ℕ) (lines : List TokenLine) (last : List Token) → JoinsFrom start (flat_map line_tokens lines ++ last) end → JoinsFrom start (flat_map line_parts lines ++ of_line last) end
 lines-join start end [] last joins = line-join start end last joins
 lines-join start end (line ∷ lines) last joins =
     let behind : List Token = flat_map line_tokens lines ++ last in

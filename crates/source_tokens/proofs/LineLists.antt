@@ -4,13 +4,13 @@ use Rattle.std.specs.List.{flat_map, AllByRecursion}
 use Rattle.std.proofs.lemmas.List.{append-nil}
 use Rattle.std.proofs.lemmas.List.Concat.{flat_map-append}
 use Rattle.source_tokens.specs.declared.token.Token.{Token}
-use Rattle.source_tokens.specs.declared.line_parts.Place.{Place}
-use Rattle.source_tokens.specs.declared.line_parts.Place.TheVariants.{Front, Behind, Inside}
+use Rattle.source_tokens.specs.declared.line_parts.LinePlace.{LinePlace}
+use Rattle.source_tokens.specs.declared.line_parts.LinePlace.TheVariants.{Front, Behind, Inside}
 use Rattle.source_tokens.specs.Tokens.{front_tokens}
-use Rattle.source_tokens.specs.Directives.{Line, IsLine, InLines, InLinesTo, of_line, left_at, line_tokens, line_parts, ends_line}
+use Rattle.source_tokens.specs.Directives.{TokenLine, IsLine, InLines, InLinesTo, of_line, left_at, line_tokens, line_parts, ends_line}
 
 -- the tokens end here
-pub lines-end : (tokens parts : List Token) (place : Place) → InLinesTo tokens parts place → InLines tokens (parts ++ left_at place [])
+pub lines-end : (tokens parts : List Token) (place : LinePlace) → InLinesTo tokens parts place → InLines tokens (parts ++ left_at place [])
 lines-end tokens parts place to =
     let whole : of_line to.last ≡ to.front ++ left_at place [] = ap of_line (sym (append-nil to.last)) ∙ to.goes [] in
     record {
@@ -22,21 +22,21 @@ lines-end tokens parts place to =
       parts_are = ap (λ front. front ++ left_at place []) to.parts_are ∙ append_assoc (flat_map line_parts to.lines) to.front (left_at place []) ∙ ap (λ line. flat_map line_parts to.lines ++ line) (sym whole);
     }
 
-all-join : (lines : List Line) (line : Line) → AllByRecursion IsLine lines → IsLine line → AllByRecursion IsLine (lines ++ line ∷ [])
+all-join : (lines : List TokenLine) (line : TokenLine) → AllByRecursion IsLine lines → IsLine line → AllByRecursion IsLine (lines ++ line ∷ [])
 all-join [] line all is = (is, tt)
 all-join (first ∷ lines) line all is = (all.0, all-join lines line all.1 is)
 
-flat-join : (f : Line → List Token) (lines : List Line) (line : Line) → flat_map f (lines ++ line ∷ []) ≡ flat_map f lines ++ f line
+flat-join : (f : TokenLine → List Token) (lines : List TokenLine) (line : TokenLine) → flat_map f (lines ++ line ∷ []) ≡ flat_map f lines ++ f line
 flat-join f lines line = flat_map-append f lines (line ∷ []) ∙ ap (λ last. flat_map f lines ++ last) (append-nil (f line))
 
-line-join : (f : Line → List Token) (lines : List Line) (line : Line) (list head : List Token) (token : Token) → list ≡ flat_map f lines ++ head → f line ≡ head ++ token ∷ [] → list ++ token ∷ [] ≡ flat_map f (lines ++ line ∷ []) ++ []
+line-join : (f : TokenLine → List Token) (lines : List TokenLine) (line : TokenLine) (list head : List Token) (token : Token) → list ≡ flat_map f lines ++ head → f line ≡ head ++ token ∷ [] → list ++ token ∷ [] ≡ flat_map f (lines ++ line ∷ []) ++ []
 line-join f lines line list head token are ends =
     ap (λ l. l ++ token ∷ []) are ∙ append_assoc (flat_map f lines) head (token ∷ []) ∙ ap (λ l. flat_map f lines ++ l) (sym ends) ∙ sym (flat-join f lines line) ∙ sym (append-nil (flat_map f (lines ++ line ∷ [])))
 
 -- a line ends here, and the next begins
 pub lines-line : (tokens parts : List Token) (token : Token) → InLines tokens parts → ends_line token.kind ≡ true → InLinesTo (tokens ++ token ∷ []) (parts ++ token ∷ []) Front
 lines-line tokens parts token in_lines ends =
-    let line : Line = record { tokens = in_lines.last; ending = token } in
+    let line : TokenLine = record { tokens = in_lines.last; ending = token } in
     record {
       lines = in_lines.lines ++ line ∷ [];
       last = [];
@@ -49,7 +49,7 @@ lines-line tokens parts token in_lines ends =
     }
 
 -- nothing is unfinished outside directives
-pub left_none : (place : Place) → ((directive : Token) → place ≡ Inside directive → ⊥) → left_at place [] ≡ []
+pub left_none : (place : LinePlace) → ((directive : Token) → place ≡ Inside directive → ⊥) → left_at place [] ≡ []
 left_none Front outside = refl
 left_none Behind outside = refl
 left_none (Inside directive) outside = absurd (outside directive refl)

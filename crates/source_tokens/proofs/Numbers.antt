@@ -3,9 +3,9 @@ use Rattle.std.proofs.Common.{◌≡◌, ℕ, ◌<◌, ◌≤◌, Bool, true, fa
 use Rattle.std.proofs.lemmas.Bool.{cases_Bool, eqb-true, and_parts}
 use Rattle.std.proofs.Math.Bool.{and-false}
 use Rattle.source_tokens.specs.Bytes.{is_number_byte, is_sign, is_exponent}
-use Rattle.source_tokens.specs.Forms.{is_number_tail, begins_with}
+use Rattle.source_tokens.specs.Forms.{is_number_tail, first_passes}
 use Rattle.source_tokens.specs.Splices.{past_splices}
-use Rattle.source_tokens.specs.Reading.{Reads, EndsLongest}
+use Rattle.source_tokens.specs.Reading.{ReadsUnspliced, EndsLongest}
 use Rattle.source_tokens.proofs.Texts.{reads-first, reads-nothing}
 use Rattle.source_tokens.proofs.Passing.{Passes, back_of, passes-front, ends-nothing, ends-front}
 
@@ -15,7 +15,7 @@ goes_on_alone before byte = is_number_byte byte || byte == 46 || (is_sign byte &
 
 byte_out : (before byte : ℕ) → goes_on_alone before byte ≡ true → (more : List ℕ) → is_number_tail before (byte ∷ more) ≡ is_number_tail byte more
 unfolding is_number_tail
-byte_out before byte on more = ap (λ b. (b || (byte == 39 && begins_with is_number_byte more)) && is_number_tail byte more) on
+byte_out before byte on more = ap (λ b. (b || (byte == 39 && first_passes is_number_byte more)) && is_number_tail byte more) on
 
 pub number-front : (first before : ℕ) (bytes rest : List ℕ) → Passes (is_number_tail first) (is_number_tail before) bytes rest → 1 ≤ length rest → goes_on_alone before (get_or rest 0 0) ≡ true → Passes (is_number_tail first) (is_number_tail (get_or rest 0 0)) bytes (past_splices (back_of rest))
 number-front first before bytes rest passes some on = passes-front (is_number_tail first) (is_number_tail before) (is_number_tail (get_or rest 0 0)) bytes rest passes some (byte_out before (get_or rest 0 0) on)
@@ -50,7 +50,7 @@ number-nothing first before bytes rest passes none = ends-nothing (is_number_tai
 abbrev pub NoPair : ℕ → List ℕ → Type 0
 NoPair byte next = byte ≡ 39 → 1 ≤ length next → is_number_byte (get_or next 0 0) ≡ true → ⊥
 
-no_pair : (byte : ℕ) (next more behind : List ℕ) → NoPair byte next → Reads next more behind → (byte == 39 && begins_with is_number_byte more) ≡ false
+no_pair : (byte : ℕ) (next more behind : List ℕ) → NoPair byte next → ReadsUnspliced next more behind → (byte == 39 && first_passes is_number_byte more) ≡ false
 no_pair byte next [] behind none reads = and-false (byte == 39)
 no_pair byte [] (first ∷ more) behind none reads = absurd (reads-nothing first more behind reads)
 no_pair byte (other ∷ next) (first ∷ more) behind none reads =
@@ -62,10 +62,10 @@ no_pair byte (other ∷ next) (first ∷ more) behind none reads =
       | inr neither ↦ neither
     ]
 
-stops_out : (before byte : ℕ) (next more behind : List ℕ) → goes_on_alone before byte ≡ false → NoPair byte next → Reads next more behind → is_number_tail before (byte ∷ more) ≡ false
+stops_out : (before byte : ℕ) (next more behind : List ℕ) → goes_on_alone before byte ≡ false → NoPair byte next → ReadsUnspliced next more behind → is_number_tail before (byte ∷ more) ≡ false
 unfolding is_number_tail
 stops_out before byte next more behind alone none reads =
-    let pair : (byte == 39 && begins_with is_number_byte more) ≡ false = no_pair byte next more behind none reads in
+    let pair : (byte == 39 && first_passes is_number_byte more) ≡ false = no_pair byte next more behind none reads in
     rw (alone, pair) refl
 
 pub number-ends : (first before : ℕ) (bytes rest next : List ℕ) → next ≡ past_splices (back_of rest) → Passes (is_number_tail first) (is_number_tail before) bytes rest → 1 ≤ length rest → goes_on_alone before (get_or rest 0 0) ≡ false → NoPair (get_or rest 0 0) next → EndsLongest (is_number_tail first) bytes rest

@@ -3,13 +3,13 @@ use Rattle.std.proofs.Common.{◌≡◌, ℕ, ◌-◌, ◌<◌, ◌≤◌, Bool,
 use Rattle.std.proofs.lemmas.List.{take_rest, append-nil}
 use Rattle.source_tokens.specs.Splices.{past_splices}
 use Rattle.source_tokens.specs.Forms.{is_empty}
-use Rattle.source_tokens.specs.Reading.{Reads, IsLongest, EndsLongest}
+use Rattle.source_tokens.specs.Reading.{ReadsUnspliced, IsLongest, EndsLongest}
 use Rattle.source_tokens.proofs.Texts.{Stops, reads-none, reads-push, reads-first, reads-more, reads-nothing, longest-stops}
 
 -- a text stands at the front, and the form of a longer one is told by what follows
 pub record Passes {V : Type 0} (form left : List ℕ → V) (bytes rest : List ℕ) : Type 0 where
   pub text : List ℕ
-  pub reads : Reads bytes text rest
+  pub reads : ReadsUnspliced bytes text rest
   pub goes : (more : List ℕ) → form (text ++ more) ≡ left more
 
 -- what stands behind the first byte
@@ -50,12 +50,12 @@ passes-end form left bytes rest passes right stops =
 
 -- nothing follows at the end
 pub stops-nothing : (left : List ℕ → Bool) (rest : List ℕ) → length rest < 1 → Stops left [] rest
-stops-nothing left rest none byte more behind reads ok = reads-nothing byte more behind (subst (λ (front : List ℕ). Reads front (byte ∷ more) behind) (nothing_there rest none) reads)
+stops-nothing left rest none byte more behind reads ok = reads-nothing byte more behind (subst (λ (front : List ℕ). ReadsUnspliced front (byte ∷ more) behind) (nothing_there rest none) reads)
 
 -- nothing that begins with the byte that follows goes on
-pub stops-front : (left : List ℕ → Bool) (rest : List ℕ) → 1 ≤ length rest → ((more behind : List ℕ) → Reads (past_splices (back_of rest)) more behind → left (get_or rest 0 0 ∷ more) ≡ false) → Stops left [] rest
+pub stops-front : (left : List ℕ → Bool) (rest : List ℕ) → 1 ≤ length rest → ((more behind : List ℕ) → ReadsUnspliced (past_splices (back_of rest)) more behind → left (get_or rest 0 0 ∷ more) ≡ false) → Stops left [] rest
 stops-front left rest some fails byte more behind reads ok =
-    let first = reads-first (get_or rest 0 0) (back_of rest) byte more behind (subst (λ (front : List ℕ). Reads front (byte ∷ more) behind) (first_and_back rest some) reads) in
+    let first = reads-first (get_or rest 0 0) (back_of rest) byte more behind (subst (λ (front : List ℕ). ReadsUnspliced front (byte ∷ more) behind) (first_and_back rest some) reads) in
     let no : left (get_or rest 0 0 ∷ more) ≡ false = fails more behind first.1 in
     let yes : left (get_or rest 0 0 ∷ more) ≡ true = ap (λ (front : ℕ). left (front ∷ more)) first.0 ∙ ok in
     cc
@@ -64,7 +64,7 @@ pub ends-nothing : (form left : List ℕ → Bool) (bytes rest : List ℕ) → P
 ends-nothing form left bytes rest passes right none = (passes.text, passes-end form left bytes rest passes right (stops-nothing left rest none))
 
 pub ends-front : (form left : List ℕ → Bool) (bytes rest : List ℕ) → Passes form left bytes rest → left [] ≡ true → 1 ≤ length rest
-    → ((more behind : List ℕ) → Reads (past_splices (back_of rest)) more behind → left (get_or rest 0 0 ∷ more) ≡ false) → EndsLongest form bytes rest
+    → ((more behind : List ℕ) → ReadsUnspliced (past_splices (back_of rest)) more behind → left (get_or rest 0 0 ∷ more) ≡ false) → EndsLongest form bytes rest
 ends-front form left bytes rest passes right some fails = (passes.text, passes-end form left bytes rest passes right (stops-front left rest some fails))
 
 -- nothing goes on, whatever follows
@@ -73,8 +73,8 @@ ends-here form left bytes rest passes right fails =
     (passes.text, passes-end form left bytes rest passes right (λ byte more behind reads ok. let no : left (byte ∷ more) ≡ false = fails byte more in cc))
 
 within_front : (form tail : List ℕ → Bool) (first : ℕ) (bytes text longer behind : List ℕ) → ((more : List ℕ) → form (first ∷ more) ≡ tail more)
-    → ((other end : List ℕ) → Reads (past_splices bytes) other end → tail other ≡ true → length other ≤ length text)
-    → Reads (first ∷ bytes) longer behind → form longer ≡ true → length longer ≤ length (first ∷ text)
+    → ((other end : List ℕ) → ReadsUnspliced (past_splices bytes) other end → tail other ≡ true → length other ≤ length text)
+    → ReadsUnspliced (first ∷ bytes) longer behind → form longer ≡ true → length longer ≤ length (first ∷ text)
 within_front form tail first bytes text [] behind goes longest read ok = omega arith
 within_front form tail first bytes text (byte ∷ more) behind goes longest read ok =
     let front = reads-first first bytes byte more behind read in
@@ -86,8 +86,8 @@ pub longest-front : (form tail : List ℕ → Bool) (bytes rest : List ℕ) → 
 longest-front form tail bytes rest some goes ends =
     let first = get_or bytes 0 0 in
     let longest = ends.1 in
-    let reads : Reads (first ∷ back_of bytes) (first ∷ ends.0) rest = reads-more first (back_of bytes) ends.0 rest longest.reads in
-    let within : (longer behind : List ℕ) → Reads (first ∷ back_of bytes) longer behind → form longer ≡ true → length longer ≤ length (first ∷ ends.0) =
+    let reads : ReadsUnspliced (first ∷ back_of bytes) (first ∷ ends.0) rest = reads-more first (back_of bytes) ends.0 rest longest.reads in
+    let within : (longer behind : List ℕ) → ReadsUnspliced (first ∷ back_of bytes) longer behind → form longer ≡ true → length longer ≤ length (first ∷ ends.0) =
     λ longer behind read ok. within_front form tail first (back_of bytes) ends.0 longer behind goes longest.longest read ok
     in
     let all : IsLongest form (first ∷ back_of bytes) (first ∷ ends.0) rest = record { reads = reads; of_form = goes ends.0 ∙ longest.of_form; longest = within } in

@@ -4,32 +4,32 @@ use Rattle.std.specs.List.{list_all, flat_map, AllByRecursion}
 use Rattle.std.proofs.lemmas.Bool.{cases_Bool, and_from}
 use Rattle.source_tokens.specs.declared.token.Token.{Token}
 use Rattle.source_tokens.specs.Tokens.{Tokens}
-use Rattle.source_tokens.specs.Directives.{Line, IsLine, Parts, of_line, line_tokens, line_parts, goes_on, ends_line}
+use Rattle.source_tokens.specs.Directives.{TokenLine, IsLine, Parts, of_line, line_tokens, line_parts, continues_line, ends_line}
 
 -- tokens parted into lines
 record Parted (tokens : List Token) : Type 0 where
-  lines : List Line
+  lines : List TokenLine
   last : List Token
   are_lines : AllByRecursion IsLine lines
-  last_goes_on : list_all goes_on last ≡ true
+  last_goes_on : list_all continues_line last ≡ true
   tokens_are : tokens ≡ flat_map line_tokens lines ++ last
 
 -- a token that ends a line stands in front
 parted-end : (token : Token) (tokens : List Token) → ends_line token.kind ≡ true → Parted tokens → Parted (token ∷ tokens)
 parted-end token tokens ends parted =
-    let line : Line = record { tokens = []; ending = token } in
+    let line : TokenLine = record { tokens = []; ending = token } in
     record { lines = line ∷ parted.lines; last = parted.last; are_lines = ((refl, ends), parted.are_lines); last_goes_on = parted.last_goes_on; tokens_are = ap (λ list. token ∷ list) parted.tokens_are }
 
 -- another token stands in front
-parted-on : (token : Token) (tokens : List Token) (lines : List Line) (last : List Token) → ends_line token.kind ≡ false → AllByRecursion IsLine lines → list_all goes_on last ≡ true → tokens ≡ flat_map line_tokens lines ++ last → Parted (token ∷ tokens)
+parted-on : (token : Token) (tokens : List Token) (lines : List TokenLine) (last : List Token) → ends_line token.kind ≡ false → AllByRecursion IsLine lines → list_all continues_line last ≡ true → tokens ≡ flat_map line_tokens lines ++ last → Parted (token ∷ tokens)
 parted-on token tokens [] last on are ons same =
-    record { lines = []; last = token ∷ last; are_lines = tt; last_goes_on = and_from (goes_on token) (list_all goes_on last) (ap not on) ons; tokens_are = ap (λ list. token ∷ list) same }
+    record { lines = []; last = token ∷ last; are_lines = tt; last_goes_on = and_from (continues_line token) (list_all continues_line last) (ap not on) ons; tokens_are = ap (λ list. token ∷ list) same }
 parted-on token tokens (line ∷ lines) last on are ons same =
-    let longer : Line = record { tokens = token ∷ line.tokens; ending = line.ending } in
+    let longer : TokenLine = record { tokens = token ∷ line.tokens; ending = line.ending } in
     record {
       lines = longer ∷ lines;
       last = last;
-      are_lines = ((and_from (goes_on token) (list_all goes_on line.tokens) (ap not on) are.0.0, are.0.1), are.1);
+      are_lines = ((and_from (continues_line token) (list_all continues_line line.tokens) (ap not on) are.0.0, are.0.1), are.1);
       last_goes_on = ons;
       tokens_are = ap (λ list. token ∷ list) same;
     }

@@ -6,7 +6,7 @@ use Rattle.memchr.specs.Find.{IsFirst}
 use Rattle.source_tokens.specs.declared.kind.TokenKind.{TokenKind}
 use Rattle.source_tokens.specs.declared.token.Token.{Token}
 use Rattle.source_tokens.specs.Splices.{past_splices}
-use Rattle.source_tokens.specs.Reading.{Reads, IsLongest}
+use Rattle.source_tokens.specs.Reading.{ReadsUnspliced, IsLongest}
 use Rattle.source_tokens.specs.RawStrings.{EndsRaw, EndsAt}
 use Rattle.source_tokens.specs.Forms.{opening_of, is_tail, token_kind}
 use Rattle.source_tokens.specs.Tokens.{Tokens, IsToken, Follow, Stands, GoesOn, past_front, front_tokens}
@@ -26,7 +26,7 @@ longest_once form bytes text rest other behind here there =
     let found = reads-longer bytes text rest other behind here.reads there.reads ge in
     let none : found.0 ≡ [] = no_more found.0 text other found.1 le in
     let same : other ≡ text = found.1 ∙ ap (λ more. text ++ more) none ∙ append-nil text in
-    (same, reads-once bytes text behind rest (subst (λ (front : List ℕ). Reads bytes front behind) same there.reads) here.reads)
+    (same, reads-once bytes text behind rest (subst (λ (front : List ℕ). ReadsUnspliced bytes front behind) same there.reads) here.reads)
 
 -- the first place is one
 first_once : (P : ℕ → Type 0) (end : ℕ) (place other : Option ℕ) → IsFirst P 0 end place → IsFirst P 0 end other → place ≡ other

@@ -13,8 +13,8 @@ abbrev pub begins_word : ℕ → Bool
 begins_word byte = is_ascii_alphabetic byte || byte == 95 || byte == 36 || nat_le 128 byte
 
 -- what an identifier goes on with
-abbrev pub is_word : ℕ → Bool
-is_word byte = begins_word byte || is_ascii_digit byte
+abbrev pub continues_word : ℕ → Bool
+continues_word byte = begins_word byte || is_ascii_digit byte
 
 -- a letter, a digit or `_`: what a number goes on with, and what stands behind its `'`
 abbrev pub is_number_byte : ℕ → Bool
@@ -34,5 +34,5 @@ is_within_line byte = not (byte == 10)
 -- the byte is of the class
 abbrev pub is_of_class : Class → ℕ → Bool
 is_of_class Space byte = is_space byte
-is_of_class Word byte = is_word byte
+is_of_class Word byte = continues_word byte
 is_of_class Line byte = is_within_line byte

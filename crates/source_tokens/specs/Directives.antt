@@ -5,8 +5,8 @@ use Rattle.source_tokens.specs.declared.kind.TokenKind.{TokenKind}
 use Rattle.source_tokens.specs.declared.kind.TokenKind.TheVariants.{Space, NewLine, LineComment, BlockComment}
 use Rattle.source_tokens.specs.declared.kind.TokenKind.TheVariants.{Punctuator, Directive}
 use Rattle.source_tokens.specs.declared.token.Token.{Token}
-use Rattle.source_tokens.specs.declared.line_parts.Place.{Place}
-use Rattle.source_tokens.specs.declared.line_parts.Place.TheVariants as places
+use Rattle.source_tokens.specs.declared.line_parts.LinePlace.{LinePlace}
+use Rattle.source_tokens.specs.declared.line_parts.LinePlace.TheVariants as places
 use Rattle.source_tokens.specs.Tokens.{Tokens}
 
 -- ---- one line
@@ -47,29 +47,29 @@ of_line (token ∷ tokens) =
 -- ---- all lines
 
 -- the tokens of a line, and the LF that ends it
-pub record Line : Type 0 where
+pub record TokenLine : Type 0 where
   pub tokens : List Token
   pub ending : Token
 
-abbrev pub goes_on : Token → Bool
-goes_on token = not (ends_line token.kind)
+abbrev pub continues_line : Token → Bool
+continues_line token = not (ends_line token.kind)
 
 -- only its last token ends the line
-abbrev pub IsLine : Line → Type 0
-IsLine line = (list_all goes_on line.tokens ≡ true) × (ends_line line.ending.kind ≡ true)
+abbrev pub IsLine : TokenLine → Type 0
+IsLine line = (list_all continues_line line.tokens ≡ true) × (ends_line line.ending.kind ≡ true)
 
-abbrev pub line_tokens : Line → List Token
+abbrev pub line_tokens : TokenLine → List Token
 line_tokens line = line.tokens ++ line.ending ∷ []
 
-abbrev pub line_parts : Line → List Token
+abbrev pub line_parts : TokenLine → List Token
 line_parts line = of_line line.tokens ++ line.ending ∷ []
 
 -- the parts are the tokens line by line, with the directives of each line
 pub record InLines (tokens parts : List Token) : Type 0 where
-  pub lines : List Line
+  pub lines : List TokenLine
   pub last : List Token
   pub are_lines : AllByRecursion IsLine lines
-  pub last_goes_on : list_all goes_on last ≡ true
+  pub last_goes_on : list_all continues_line last ≡ true
   pub tokens_are : tokens ≡ flat_map line_tokens lines ++ last
   pub parts_are : parts ≡ flat_map line_parts lines ++ of_line last
 
@@ -82,18 +82,18 @@ pub record Parts (source : List ℕ) (parts : List Token) : Type 0 where
 -- ---- a part of the lines
 
 -- what the tokens that follow within a line become, by the place in the line
-abbrev pub left_at : Place → List Token → List Token
+abbrev pub left_at : LinePlace → List Token → List Token
 left_at places.Front tokens = of_line tokens
 left_at places.Behind tokens = tokens
 left_at (places.Inside directive) tokens = record directive { end = last_end directive.end tokens } ∷ []
 
 -- the parts are those of the tokens up to this place of a line, but for an unfinished directive
-pub record InLinesTo (tokens parts : List Token) (place : Place) : Type 0 where
-  pub lines : List Line
+pub record InLinesTo (tokens parts : List Token) (place : LinePlace) : Type 0 where
+  pub lines : List TokenLine
   pub last : List Token
   pub front : List Token
   pub are_lines : AllByRecursion IsLine lines
-  pub last_goes_on : list_all goes_on last ≡ true
+  pub last_goes_on : list_all continues_line last ≡ true
   pub tokens_are : tokens ≡ flat_map line_tokens lines ++ last
   pub parts_are : parts ≡ flat_map line_parts lines ++ front
   pub goes : (more : List Token) → of_line (last ++ more) ≡ front ++ left_at place more

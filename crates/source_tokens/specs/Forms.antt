@@ -2,7 +2,7 @@
 use Rattle.std.specs.Prelude.{ℕ, Bool, true, false, not, ◌&&◌, ◌||◌, ◌==◌, if◌then◌else◌, List, [], ◌∷◌, drop}
 use Rattle.std.specs.List.{list_all}
 use Rattle.std.specs.Char.{is_ascii_digit}
-use Rattle.source_tokens.specs.Bytes.{is_space, begins_word, is_word, is_number_byte, is_exponent, is_sign}
+use Rattle.source_tokens.specs.Bytes.{is_space, begins_word, continues_word, is_number_byte, is_exponent, is_sign}
 use Rattle.source_tokens.specs.Bytes.{is_within_line}
 use Rattle.source_tokens.specs.declared.kind.TokenKind.{TokenKind}
 use Rattle.source_tokens.specs.declared.kind.TokenKind.TheVariants as kinds
@@ -12,9 +12,9 @@ use Rattle.source_tokens.specs.declared.opening.Opening.TheVariants.{Identifier,
 use Rattle.source_tokens.specs.declared.opening.Opening.TheVariants.{CharacterConstant, Punctuator}
 
 -- the bytes begin with one that passes the test
-abbrev pub begins_with : (ℕ → Bool) → List ℕ → Bool
-begins_with test [] = false
-begins_with test (byte ∷ bytes) = test byte
+abbrev pub first_passes : (ℕ → Bool) → List ℕ → Bool
+first_passes test [] = false
+first_passes test (byte ∷ bytes) = test byte
 
 abbrev pub is_empty : List ℕ → Bool
 is_empty [] = true
@@ -27,12 +27,12 @@ abbrev pub opening_of : ℕ → List ℕ → Opening
 opening_of first behind =
     if first == 10 then NewLine
     else (if is_space first then Space
-    else (if first == 47 && begins_with (λ byte. byte == 47) behind then LineComment
-    else (if first == 47 && begins_with (λ byte. byte == 42) behind then BlockComment
+    else (if first == 47 && first_passes (λ byte. byte == 47) behind then LineComment
+    else (if first == 47 && first_passes (λ byte. byte == 42) behind then BlockComment
     else (if first == 34 then StringLiteral
     else (if first == 39 then CharacterConstant
     else (if begins_word first then Identifier
-    else (if is_ascii_digit first || (first == 46 && begins_with is_ascii_digit behind) then Number
+    else (if is_ascii_digit first || (first == 46 && first_passes is_ascii_digit behind) then Number
     else Punctuator)))))))
 
 -- ---- comments
@@ -73,7 +73,7 @@ is_literal_body mark (byte ∷ next ∷ bytes) =
 abbrev pub number_goes_on : ℕ → ℕ → List ℕ → Bool
 number_goes_on before byte behind =
     is_number_byte byte || byte == 46 || (is_sign byte && is_exponent before)
-    || (byte == 39 && begins_with is_number_byte behind)
+    || (byte == 39 && first_passes is_number_byte behind)
 
 -- each of the bytes goes on with a number behind the byte `before`
 unfoldable pub is_number_tail : ℕ → List ℕ → Bool
@@ -88,7 +88,7 @@ is_tail Space first bytes = list_all is_space bytes
 is_tail NewLine first bytes = is_empty bytes
 is_tail LineComment first bytes = list_all is_within_line bytes
 is_tail BlockComment first bytes = is_comment_tail bytes
-is_tail Identifier first bytes = list_all is_word bytes
+is_tail Identifier first bytes = list_all continues_word bytes
 is_tail Number first bytes = is_number_tail first bytes
 is_tail StringLiteral first bytes = is_literal_body 34 bytes
 is_tail CharacterConstant first bytes = is_literal_body 39 bytes

@@ -5,9 +5,9 @@ use Rattle.memchr.specs.Find.{FindsNeedle}
 use Rattle.source_tokens.specs.declared.kind.TokenKind.{TokenKind}
 use Rattle.source_tokens.specs.declared.kind.TokenKind.TheVariants.{RawString, BrokenRawString}
 use Rattle.source_tokens.specs.declared.raw_string.TheConstants.{MAX_DELIMITER}
-use Rattle.source_tokens.specs.Forms.{begins_with}
+use Rattle.source_tokens.specs.Forms.{first_passes}
 use Rattle.source_tokens.specs.Splices.{past_splices}
-use Rattle.source_tokens.specs.Reading.{Reads}
+use Rattle.source_tokens.specs.Reading.{ReadsUnspliced}
 
 -- the prefix of a raw string
 abbrev pub IsRawPrefix : List ℕ → Type 0
@@ -34,7 +34,7 @@ past_delimiter raw = drop (length (delimiter_of raw)) raw
 -- the bytes behind a mark are those of a raw string: a delimiter of at most sixteen bytes, and `(`
 abbrev pub opens_raw : List ℕ → Bool
 opens_raw raw =
-    nat_le (length (delimiter_of raw)) MAX_DELIMITER && begins_with (λ byte. byte == 40) (past_delimiter raw)
+    nat_le (length (delimiter_of raw)) MAX_DELIMITER && first_passes (λ byte. byte == 40) (past_delimiter raw)
 
 -- what ends a raw string: `)`, its delimiter and the mark
 abbrev pub closing_of : List ℕ → List ℕ
@@ -44,7 +44,7 @@ closing_of raw = 41 ∷ (delimiter_of raw ++ 34 ∷ [])
 pub record BeginsRaw (bytes raw : List ℕ) : Type 0 where
   pub prefix : List ℕ
   pub is_prefix : IsRawPrefix prefix
-  pub reads : Reads bytes prefix (34 ∷ raw)
+  pub reads : ReadsUnspliced bytes prefix (34 ∷ raw)
   pub opens : opens_raw raw ≡ true
 
 -- what stands behind a raw string whose closing stands at the place, and behind a broken one, which goes to the end of

@@ -4,16 +4,17 @@ use Rattle.source_tokens.specs.Splices.{past_splices}
 
 -- the bytes begin with this text and the rest follows, if each byte of the text is taken with the splices behind it;
 -- no splice stands at the front
-unfoldable pub Reads : List ℕ → List ℕ → List ℕ → Type 0
-Reads bytes [] rest = bytes ≡ rest
-Reads [] (first ∷ text) rest = ⊥
-Reads (byte ∷ bytes) (first ∷ text) rest = (byte ≡ first) × Reads (past_splices bytes) text rest
+unfoldable pub ReadsUnspliced : List ℕ → List ℕ → List ℕ → Type 0
+ReadsUnspliced bytes [] rest = bytes ≡ rest
+ReadsUnspliced [] (first ∷ text) rest = ⊥
+ReadsUnspliced (byte ∷ bytes) (first ∷ text) rest = (byte ≡ first) × ReadsUnspliced (past_splices bytes) text rest
 
 -- the text stands at the front, is of the form, and no longer text that stands there is
 pub record IsLongest (form : List ℕ → Bool) (bytes text rest : List ℕ) : Type 0 where
-  pub reads : Reads bytes text rest
+  pub reads : ReadsUnspliced bytes text rest
   pub of_form : form text ≡ true
-  pub longest : (longer behind : List ℕ) → Reads bytes longer behind → form longer ≡ true → length longer ≤ length text
+  pub longest : (longer behind : List ℕ) → ReadsUnspliced bytes longer behind → form longer ≡ true
+      → length longer ≤ length text
 
 -- the rest stands behind the longest text of the form
 abbrev pub EndsLongest : (List ℕ → Bool) → List ℕ → List ℕ → Type 0

@@ -1,7 +1,7 @@
 //! Classes of bytes that stand in runs.
 
 ghost use Rattle.std.specs.Prelude.{◌≡◌};
-ghost use Rattle.source_tokens.specs.Bytes.{begins_word, is_word, is_space, is_number_byte};
+ghost use Rattle.source_tokens.specs.Bytes.{begins_word, continues_word, is_space, is_number_byte};
 
 /// A class of bytes.
 #[derive(Clone, Copy, Debug)]
@@ -23,7 +23,7 @@ impl Class {
     {
         match self {
             Class::Space => is_space(byte),
-            Class::Word => is_word(byte),
+            Class::Word => continues_word(byte),
             Class::Line => byte != b'\n',
         }
     }
@@ -44,8 +44,8 @@ pub(crate) fn begins_word(byte: u8) -> bool
 }
 
 #[inline]
-pub(crate) fn is_word(byte: u8) -> bool
-    ensures { result ≡ is_word byte }
+pub(crate) fn continues_word(byte: u8) -> bool
+    ensures { result ≡ continues_word byte }
 {
     begins_word(byte) || byte.is_ascii_digit()
 }

@@ -6,7 +6,7 @@ ghost use Rattle.source_tokens.specs.declared.token.Token.{Token};
 ghost use Rattle.source_tokens.specs.declared.opening.Opening.TheVariants.{BlockComment, Identifier, Number};
 ghost use Rattle.source_tokens.specs.declared.opening.Opening.TheVariants.{StringLiteral, Punctuator};
 ghost use Rattle.source_tokens.specs.Splices.{past_splices};
-ghost use Rattle.source_tokens.specs.Reading.{Reads};
+ghost use Rattle.source_tokens.specs.Reading.{ReadsUnspliced};
 ghost use Rattle.source_tokens.specs.Forms.{opening_of, is_tail, has_mark};
 ghost use Rattle.source_tokens.specs.RawStrings.{opens_raw, closing_of};
 ghost use Rattle.source_tokens.specs.Tokens.{Tokens};
@@ -49,7 +49,7 @@ pub fn worked_splices()
     ensures both { past_splices (92 ∷ 10 ∷ 92 ∷ 13 ∷ 10 ∷ 97 ∷ []) ≡ 97 ∷ [] }
     ensures second { past_splices (92 ∷ 92 ∷ 10 ∷ 10 ∷ []) ≡ 92 ∷ 92 ∷ 10 ∷ 10 ∷ [] }
     ensures carriage_return { past_splices (92 ∷ 13 ∷ 97 ∷ []) ≡ 92 ∷ 13 ∷ 97 ∷ [] }
-    ensures inside { Reads (47 ∷ 92 ∷ 10 ∷ 47 ∷ 97 ∷ 92 ∷ 10 ∷ 10 ∷ []) (codes "//a") (10 ∷ []) }
+    ensures inside { ReadsUnspliced (47 ∷ 92 ∷ 10 ∷ 47 ∷ 97 ∷ 92 ∷ 10 ∷ 10 ∷ []) (codes "//a") (10 ∷ []) }
 {}
 
 /// What begins with a byte.

@@ -11,7 +11,7 @@ use std::alloc::{AllocError, Global};
 
 /// Where in a line the next token stands.
 #[derive(Clone, Copy, Debug)]
-pub(crate) enum Place {
+pub(crate) enum LinePlace {
     /// Behind nothing but space and comments.
     Front,
     /// Behind another token.
@@ -45,7 +45,7 @@ fn ends_line(kind: TokenKind) -> bool
 #[derive(Debug, Drop)]
 pub(crate) struct LineParts {
     pub(crate) parts: TokenList,
-    pub(crate) place: Place,
+    pub(crate) place: LinePlace,
 }
 
 impl LineParts {
@@ -54,7 +54,7 @@ impl LineParts {
         ensures { IfOk result (λ lines. InLinesTo (front_tokens front) lines.parts lines.place) }
     {
         let parts = front_tokens(alloc, front)?;
-        let place = Place::Front;
+        let place = LinePlace::Front;
         Ok(LineParts { parts, place })
     }
 
@@ -65,20 +65,20 @@ impl LineParts {
             → InLinesTo (tokens ++ token ∷ []) self.new.parts self.new.place) }
     {
         match self.place {
-            Place::Front if is_blank(token.kind) => self.parts.push(token),
-            Place::Front if is_hash(token.kind) => {
+            LinePlace::Front if is_blank(token.kind) => self.parts.push(token),
+            LinePlace::Front if is_hash(token.kind) => {
                 let kind = TokenKind::Directive;
-                self.place = Place::Inside(Token { kind, ..token });
+                self.place = LinePlace::Inside(Token { kind, ..token });
                 Ok(())
             }
-            Place::Front => {
-                self.place = Place::Behind;
+            LinePlace::Front => {
+                self.place = LinePlace::Behind;
                 self.parts.push(token)
             }
-            Place::Behind => self.parts.push(token),
-            Place::Inside(directive) => {
+            LinePlace::Behind => self.parts.push(token),
+            LinePlace::Inside(directive) => {
                 let end = token.end;
-                self.place = Place::Inside(Token { end, ..directive });
+                self.place = LinePlace::Inside(Token { end, ..directive });
                 Ok(())
             }
         }
@@ -88,12 +88,12 @@ impl LineParts {
     fn end_line(&mut self) -> Result<(), AllocError>
         ensures parts { OnOk result ((tokens : List SourceToken)
             → InLinesTo tokens self.old.parts self.old.place → InLines tokens self.new.parts) }
-        ensures place { OnOk result (self.new.place ≡ Place.Front) }
+        ensures place { OnOk result (self.new.place ≡ LinePlace.Front) }
     {
-        if let Place::Inside(directive) = self.place {
+        if let LinePlace::Inside(directive) = self.place {
             self.parts.push(directive)?;
         }
-        self.place = Place::Front;
+        self.place = LinePlace::Front;
         Ok(())
     }
 

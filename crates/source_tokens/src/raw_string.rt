@@ -1,10 +1,10 @@
 //! Raw strings.
 
 ghost use Rattle.std.specs.Prelude.{◌≡◌, ◌≤◌, ◌<◌, ℕ, List, ◌∷◌, true, false, length, MatchOption};
-ghost use Rattle.source_tokens.specs.Forms.{begins_with};
+ghost use Rattle.source_tokens.specs.Forms.{first_passes};
 ghost use Rattle.source_tokens.specs.RawStrings.{BeginsRaw, EndsRaw, IsRawPrefix, is_prefix_byte};
 ghost use Rattle.source_tokens.specs.RawStrings.{is_delimiter_byte, opens_raw, delimiter_of};
-ghost use Rattle.source_tokens.specs.Reading.{Reads};
+ghost use Rattle.source_tokens.specs.Reading.{ReadsUnspliced};
 ghost use Rattle.source_tokens.specs.Tokens.{StandsRaw};
 
 use crate::kind::TokenKind;
@@ -22,8 +22,8 @@ const MAX_CLOSING: usize = 18;
 /// The bytes behind the mark, where this prefix and a mark stand at the front.
 fn past_mark<'a>(bytes: &'a [u8], prefix: &[u8]) -> Option<&'a [u8]>
     ensures { MatchOption result
-        ((raw : List ℕ) → ¬ (Reads bytes.now prefix.now (34 ∷ raw)))
-        (λ raw. Reads bytes.now prefix.now (34 ∷ raw.now)) }
+        ((raw : List ℕ) → ¬ (ReadsUnspliced bytes.now prefix.now (34 ∷ raw)))
+        (λ raw. ReadsUnspliced bytes.now prefix.now (34 ∷ raw.now)) }
 {
     let mut rest = bytes;
     for letter in prefix {
@@ -47,7 +47,7 @@ fn past_mark<'a>(bytes: &'a [u8], prefix: &[u8]) -> Option<&'a [u8]>
 /// Whether the first byte is that of a prefix: few bytes are.
 #[inline]
 fn begins_prefix(bytes: &[u8]) -> bool
-    ensures { result ≡ begins_with is_prefix_byte bytes.now }
+    ensures { result ≡ first_passes is_prefix_byte bytes.now }
 {
     matches!(bytes, [b'R' | b'u' | b'U' | b'L', ..])
 }
@@ -55,8 +55,8 @@ fn begins_prefix(bytes: &[u8]) -> bool
 /// The bytes behind the mark, where the prefix and the mark of a raw string stand at the front.
 fn past_any_mark(bytes: &[u8]) -> Option<&[u8]>
     ensures { MatchOption result
-        ((prefix raw : List ℕ) → IsRawPrefix prefix → ¬ (Reads bytes.now prefix (34 ∷ raw)))
-        (λ raw. (prefix : List ℕ) × IsRawPrefix prefix × Reads bytes.now prefix (34 ∷ raw.now)) }
+        ((prefix raw : List ℕ) → IsRawPrefix prefix → ¬ (ReadsUnspliced bytes.now prefix (34 ∷ raw)))
+        (λ raw. (prefix : List ℕ) × IsRawPrefix prefix × ReadsUnspliced bytes.now prefix (34 ∷ raw.now)) }
 {
     if !begins_prefix(bytes) {
         return None;

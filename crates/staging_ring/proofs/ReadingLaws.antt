@@ -9,8 +9,8 @@ use Rattle.arg_records.proofs.Lengths.{length-Frame}
 use Rattle.ring_core.specs.Plans.{Plan, Lawful, BeginsWith}
 use Rattle.ring_core.proofs.Frames.{Lawful-front, Lawful-frames}
 use Rattle.staging_ring.specs.declared.reading.Reading.{Reading}
-use Rattle.staging_ring.specs.Readings.{IsSettled, reading, stream, words_read, is_whole, is_mark, read_as, joined, read_on, with_frame, frames_with}
-use Rattle.staging_ring.specs.Rule.{GoesOn}
+use Rattle.staging_ring.specs.Readings.{IsSettled, reading, stream, words_read, is_whole, is_closing_mark, read_as, read_with, read_on, with_frame, frames_with}
+use Rattle.staging_ring.specs.Rule.{CanBeCompleted}
 
 -- ---- one word more
 
@@ -19,48 +19,48 @@ concat-push [] words = append-nil words
 concat-push (frame ∷ frames) words = ap (λ (ws : List ℕ). frame ++ ws) (concat-push frames words) ∙ sym (append_assoc frame (concat frames) words)
 
 -- what holds of each of the three readings of words holds of theirs
-read_as_cases : (P : Reading → Type 0) (frames : List (List ℕ)) (words : List ℕ) → (is_mark words ≡ true → P (reading frames [] true))
-    → (is_whole words ≡ true → P (reading (frames ++ words ∷ []) [] false)) → (is_mark words ≡ false → is_whole words ≡ false → P (reading frames words false))
+read_as_cases : (P : Reading → Type 0) (frames : List (List ℕ)) (words : List ℕ) → (is_closing_mark words ≡ true → P (reading frames [] true))
+    → (is_whole words ≡ true → P (reading (frames ++ words ∷ []) [] false)) → (is_closing_mark words ≡ false → is_whole words ≡ false → P (reading frames words false))
     → P (read_as frames words)
 unfolding read_as
 read_as_cases P frames words mark whole part =
-    cond_both (is_mark words) (reading frames [] true) (if is_whole words then reading (frames ++ words ∷ []) [] false else reading frames words false) P mark
+    cond_both (is_closing_mark words) (reading frames [] true) (if is_whole words then reading (frames ++ words ∷ []) [] false else reading frames words false) P mark
     (λ no_mark. cond_both (is_whole words) (reading (frames ++ words ∷ []) [] false) (reading frames words false) P whole (part no_mark))
 
 joined_cases : (P : Reading → Type 0) (r : Reading) (word : ℕ) → (r.over ≡ true → P (reading r.frames (r.part ++ word ∷ []) true))
-    → (r.over ≡ false → P (read_as r.frames (r.part ++ word ∷ []))) → P (joined r word)
-unfolding joined
+    → (r.over ≡ false → P (read_as r.frames (r.part ++ word ∷ []))) → P (read_with r word)
+unfolding read_with
 joined_cases P r word over unfinished = cond_both r.over (reading r.frames (r.part ++ word ∷ []) true) (read_as r.frames (r.part ++ word ∷ [])) P over unfinished
 
-pub joined-over : (r : Reading) (word : ℕ) → r.over ≡ true → joined r word ≡ reading r.frames (r.part ++ word ∷ []) true
-unfolding joined
-joined-over r word over = cond-true r.over (reading r.frames (r.part ++ word ∷ []) true) (read_as r.frames (r.part ++ word ∷ [])) over
+pub read_with-over : (r : Reading) (word : ℕ) → r.over ≡ true → read_with r word ≡ reading r.frames (r.part ++ word ∷ []) true
+unfolding read_with
+read_with-over r word over = cond-true r.over (reading r.frames (r.part ++ word ∷ []) true) (read_as r.frames (r.part ++ word ∷ [])) over
 
-pub joined-reads : (r : Reading) (word : ℕ) → r.over ≡ false → joined r word ≡ read_as r.frames (r.part ++ word ∷ [])
-unfolding joined
-joined-reads r word unfinished = cond-false r.over (reading r.frames (r.part ++ word ∷ []) true) (read_as r.frames (r.part ++ word ∷ [])) unfinished
+pub read_with-reads : (r : Reading) (word : ℕ) → r.over ≡ false → read_with r word ≡ read_as r.frames (r.part ++ word ∷ [])
+unfolding read_with
+read_with-reads r word unfinished = cond-false r.over (reading r.frames (r.part ++ word ∷ []) true) (read_as r.frames (r.part ++ word ∷ [])) unfinished
 
-pub read_as-mark : (frames : List (List ℕ)) (words : List ℕ) → is_mark words ≡ true → read_as frames words ≡ reading frames [] true
+pub read_as-mark : (frames : List (List ℕ)) (words : List ℕ) → is_closing_mark words ≡ true → read_as frames words ≡ reading frames [] true
 unfolding read_as
-read_as-mark frames words mark = cond-true (is_mark words) (reading frames [] true) (if is_whole words then reading (frames ++ words ∷ []) [] false else reading frames words false) mark
+read_as-mark frames words mark = cond-true (is_closing_mark words) (reading frames [] true) (if is_whole words then reading (frames ++ words ∷ []) [] false else reading frames words false) mark
 
-pub read_as-whole : (frames : List (List ℕ)) (words : List ℕ) → is_mark words ≡ false → is_whole words ≡ true → read_as frames words ≡ reading (frames ++ words ∷ []) [] false
+pub read_as-whole : (frames : List (List ℕ)) (words : List ℕ) → is_closing_mark words ≡ false → is_whole words ≡ true → read_as frames words ≡ reading (frames ++ words ∷ []) [] false
 unfolding read_as
 read_as-whole frames words no_mark whole =
-    cond-false (is_mark words) (reading frames [] true) (if is_whole words then reading (frames ++ words ∷ []) [] false else reading frames words false) no_mark
+    cond-false (is_closing_mark words) (reading frames [] true) (if is_whole words then reading (frames ++ words ∷ []) [] false else reading frames words false) no_mark
     ∙ cond-true (is_whole words) (reading (frames ++ words ∷ []) [] false) (reading frames words false) whole
 
-pub read_as-part : (frames : List (List ℕ)) (words : List ℕ) → is_mark words ≡ false → is_whole words ≡ false → read_as frames words ≡ reading frames words false
+pub read_as-part : (frames : List (List ℕ)) (words : List ℕ) → is_closing_mark words ≡ false → is_whole words ≡ false → read_as frames words ≡ reading frames words false
 unfolding read_as
 read_as-part frames words no_mark part =
-    cond-false (is_mark words) (reading frames [] true) (if is_whole words then reading (frames ++ words ∷ []) [] false else reading frames words false) no_mark
+    cond-false (is_closing_mark words) (reading frames [] true) (if is_whole words then reading (frames ++ words ∷ []) [] false else reading frames words false) no_mark
     ∙ cond-false (is_whole words) (reading (frames ++ words ∷ []) [] false) (reading frames words false) part
 
 -- the closing mark is the word 0
-pub is_mark-is : (words : List ℕ) → is_mark words ≡ true → words ≡ 0 ∷ []
-is_mark-is [] e = absurd (true≢false (sym e))
-is_mark-is (word ∷ []) e = ap (λ (n : ℕ). n ∷ []) (eqb-true word 0 e)
-is_mark-is (word ∷ other ∷ words) e = absurd (true≢false (sym e))
+pub is_closing_mark-is : (words : List ℕ) → is_closing_mark words ≡ true → words ≡ 0 ∷ []
+is_closing_mark-is [] e = absurd (true≢false (sym e))
+is_closing_mark-is (word ∷ []) e = ap (λ (n : ℕ). n ∷ []) (eqb-true word 0 e)
+is_closing_mark-is (word ∷ other ∷ words) e = absurd (true≢false (sym e))
 
 no_words_before : (part : List ℕ) (word : ℕ) → part ++ word ∷ [] ≡ 0 ∷ [] → part ≡ []
 no_words_before [] word e = refl
@@ -70,13 +70,13 @@ no_words_before (head ∷ part) word e = absurd (omega (arith, length-append par
 
 pub read_on-append : (r : Reading) (words more : List ℕ) → read_on r (words ++ more) ≡ read_on (read_on r words) more
 read_on-append r [] more = refl
-read_on-append r (word ∷ words) more = read_on-append (joined r word) words more
+read_on-append r (word ∷ words) more = read_on-append (read_with r word) words more
 
 -- what is read behind the closing mark
 pub read_on-over : (r : Reading) (words : List ℕ) → r.over ≡ true → read_on r words ≡ reading r.frames (r.part ++ words) true
 read_on-over r [] over = λ i. reading r.frames (sym (append-nil r.part) i) (over i)
 read_on-over r (word ∷ words) over =
-    ap (λ (s : Reading). read_on s words) (joined-over r word over)
+    ap (λ (s : Reading). read_on s words) (read_with-over r word over)
     ∙ read_on-over (reading r.frames (r.part ++ word ∷ []) true) words refl
     ∙ ap (λ (part : List ℕ). reading r.frames part true) (append_assoc r.part (word ∷ []) words)
 
@@ -90,12 +90,12 @@ nothing_behind r (word ∷ words) over none =
 read_as-words : (frames : List (List ℕ)) (words : List ℕ) → words_read (read_as frames words) ≡ concat frames ++ words
 read_as-words frames words =
     read_as_cases (λ r. words_read r ≡ concat frames ++ words) frames words
-    (λ mark. append-nil (concat frames ++ 0 ∷ []) ∙ ap (λ (ws : List ℕ). concat frames ++ ws) (sym (is_mark-is words mark)))
+    (λ mark. append-nil (concat frames ++ 0 ∷ []) ∙ ap (λ (ws : List ℕ). concat frames ++ ws) (sym (is_closing_mark-is words mark)))
     (λ whole. append-nil (stream (frames ++ words ∷ []) false) ∙ append-nil (concat (frames ++ words ∷ [])) ∙ concat-push frames words)
     (λ no_mark part. ap (λ (ws : List ℕ). ws ++ words) (append-nil (concat frames)))
 
 -- the words that were read, with one word more
-pub words_read-joined : (r : Reading) (word : ℕ) → words_read (joined r word) ≡ words_read r ++ word ∷ []
+pub words_read-joined : (r : Reading) (word : ℕ) → words_read (read_with r word) ≡ words_read r ++ word ∷ []
 words_read-joined r word =
     joined_cases (λ s. words_read s ≡ words_read r ++ word ∷ []) r word
     (λ over. sym (append_assoc (stream r.frames true) r.part (word ∷ [])) ∙ ap (λ (b : Bool). (stream r.frames b ++ r.part) ++ word ∷ []) (sym over))
@@ -107,7 +107,7 @@ words_read-joined r word =
 pub words_read-read_on : (r : Reading) (words : List ℕ) → words_read (read_on r words) ≡ words_read r ++ words
 words_read-read_on r [] = sym (append-nil (words_read r))
 words_read-read_on r (word ∷ words) =
-    words_read-read_on (joined r word) words ∙ ap (λ (ws : List ℕ). ws ++ words) (words_read-joined r word) ∙ append_assoc (words_read r) (word ∷ []) words
+    words_read-read_on (read_with r word) words ∙ ap (λ (ws : List ℕ). ws ++ words) (words_read-joined r word) ∙ append_assoc (words_read r) (word ∷ []) words
 
 -- ---- the frame to come
 
@@ -121,30 +121,30 @@ Lawful-before plan frames [] h = h
 Lawful-before plan frames (head ∷ words) h = Lawful-front plan frames ((head ∷ words) ∷ []) h
 
 -- the frames that were read are lawful
-pub GoesOn-frames : (plan : Plan) (r : Reading) → GoesOn plan r → Lawful plan r.frames
-GoesOn-frames plan r h = Lawful-before plan r.frames (r.part ++ h.0) h.1
+pub CanBeCompleted-frames : (plan : Plan) (r : Reading) → CanBeCompleted plan r → Lawful plan r.frames
+CanBeCompleted-frames plan r h = Lawful-before plan r.frames (r.part ++ h.0) h.1
 
-read_as-front : (plan : Plan) (frames : List (List ℕ)) (part : List ℕ) (word : ℕ) → GoesOn plan (read_as frames (part ++ word ∷ []))
+read_as-front : (plan : Plan) (frames : List (List ℕ)) (part : List ℕ) (word : ℕ) → CanBeCompleted plan (read_as frames (part ++ word ∷ []))
     → (coming : List ℕ) × Lawful plan (with_frame frames (part ++ coming))
 read_as-front plan frames part word =
-    read_as_cases (λ r. GoesOn plan r → (coming : List ℕ) × Lawful plan (with_frame frames (part ++ coming))) frames (part ++ word ∷ [])
+    read_as_cases (λ r. CanBeCompleted plan r → (coming : List ℕ) × Lawful plan (with_frame frames (part ++ coming))) frames (part ++ word ∷ [])
     (λ mark h.
-    let none : part ≡ [] = no_words_before part word (is_mark-is (part ++ word ∷ []) mark) in
+    let none : part ≡ [] = no_words_before part word (is_closing_mark-is (part ++ word ∷ []) mark) in
     (h.0, subst (λ (ws : List ℕ). Lawful plan (with_frame frames (ws ++ h.0))) (sym none) h.1))
     (λ whole h.
     (word ∷ [], subst (Lawful plan) (sym (with_frame-push frames part word [])) (Lawful-before plan (frames ++ (part ++ word ∷ []) ∷ []) h.0 h.1)))
     (λ no_mark is_part h. (word ∷ h.0, subst (λ (ws : List ℕ). Lawful plan (with_frame frames ws)) (append_assoc part (word ∷ []) h.0) h.1))
 
 -- what goes on to lawful frames went on to them before its last word came
-GoesOn-before : (plan : Plan) (r : Reading) (word : ℕ) → GoesOn plan (joined r word) → GoesOn plan r
-GoesOn-before plan r word =
-    joined_cases (λ s. GoesOn plan s → GoesOn plan r) r word
+CanBeCompleted-before : (plan : Plan) (r : Reading) (word : ℕ) → CanBeCompleted plan (read_with r word) → CanBeCompleted plan r
+CanBeCompleted-before plan r word =
+    joined_cases (λ s. CanBeCompleted plan s → CanBeCompleted plan r) r word
     (λ over h. (word ∷ h.0, subst (λ (ws : List ℕ). Lawful plan (with_frame r.frames ws)) (append_assoc r.part (word ∷ []) h.0) h.1))
     (λ unfinished. read_as-front plan r.frames r.part word)
 
-pub GoesOn-front : (plan : Plan) (r : Reading) (words : List ℕ) → GoesOn plan (read_on r words) → GoesOn plan r
-GoesOn-front plan r [] h = h
-GoesOn-front plan r (word ∷ words) h = GoesOn-before plan r word (GoesOn-front plan (joined r word) words h)
+pub CanBeCompleted-front : (plan : Plan) (r : Reading) (words : List ℕ) → CanBeCompleted plan (read_on r words) → CanBeCompleted plan r
+CanBeCompleted-front plan r [] h = h
+CanBeCompleted-front plan r (word ∷ words) h = CanBeCompleted-before plan r word (CanBeCompleted-front plan (read_with r word) words h)
 
 -- the first word of a frame tells how many words it has
 pub frame_head : (words : List ℕ) → IsFrame words → (get_or words 0 0 % 65536 ≡ length words) × (2 ≤ length words) × (length words ≤ 512)
@@ -179,10 +179,10 @@ whole_is_last part word (next ∷ more) is whole =
     let here : get_or (part ++ word ∷ []) 0 0 % 65536 ≡ length (part ++ word ∷ []) = is_whole-head (part ++ word ∷ []) whole in
     absurd (omega (arith, all.0, here, head_before part word (next ∷ more), length-append part (word ∷ []), length-append part (word ∷ next ∷ more)))
 
-no_mark_in_frame : (part : List ℕ) (word : ℕ) (more : List ℕ) → IsFrame (part ++ word ∷ more) → is_mark (part ++ word ∷ []) ≡ true → ⊥
+no_mark_in_frame : (part : List ℕ) (word : ℕ) (more : List ℕ) → IsFrame (part ++ word ∷ more) → is_closing_mark (part ++ word ∷ []) ≡ true → ⊥
 no_mark_in_frame part word more is mark =
     let all = frame_head (part ++ word ∷ more) is in
-    let zero_first : get_or (part ++ word ∷ []) 0 0 ≡ 0 = ap (λ (ws : List ℕ). get_or ws 0 0) (is_mark-is (part ++ word ∷ []) mark) in
+    let zero_first : get_or (part ++ word ∷ []) 0 0 ≡ 0 = ap (λ (ws : List ℕ). get_or ws 0 0) (is_closing_mark-is (part ++ word ∷ []) mark) in
     omega (arith, all.0, all.1, zero_first, head_before part word more)
 
 -- the next word of a frame to come is put: the frames with those to come are the same
@@ -202,13 +202,13 @@ read_as-next r word more is =
     (λ no_mark part. (ap (λ (ws : List ℕ). with_frame r.frames ws) (append_assoc r.part (word ∷ []) more), refl))
 
 pub put_next : (plan : Plan) (r : Reading) (word : ℕ) (more : List ℕ) → r.over ≡ false → Lawful plan (frames_with r (word ∷ more))
-    → (frames_with (joined r word) more ≡ frames_with r (word ∷ more)) × ((joined r word).over ≡ false)
+    → (frames_with (read_with r word) more ≡ frames_with r (word ∷ more)) × ((read_with r word).over ≡ false)
 unfolding Puts
 put_next plan r word more unfinished h =
-    subst (Puts r word more) (sym (joined-reads r word unfinished)) (read_as-next r word more (coming_frame plan r.frames r.part word more h))
+    subst (Puts r word more) (sym (read_with-reads r word unfinished)) (read_as-next r word more (coming_frame plan r.frames r.part word more h))
 
-pub joined-settled : (r : Reading) (word : ℕ) → IsSettled (joined r word)
-joined-settled r word =
+pub read_with-settled : (r : Reading) (word : ℕ) → IsSettled (read_with r word)
+read_with-settled r word =
     joined_cases IsSettled r word (λ over no. absurd (true≢false no))
     (λ unfinished. read_as_cases IsSettled r.frames (r.part ++ word ∷ []) (λ mark no. absurd (true≢false no)) (λ whole _. refl) (λ no_mark part _. part))
 
@@ -232,13 +232,13 @@ pub none_to_come : (plan : Plan) (r : Reading) → Lawful plan (frames_with r []
 none_to_come plan r h settled = no_part plan r.frames r.part h settled
 
 -- the words of a frame that isn't whole are fewer than the greatest frame has
-pub part_is_short : (plan : Plan) (r : Reading) → GoesOn plan r → is_whole r.part ≡ false → length r.part < 512
+pub part_is_short : (plan : Plan) (r : Reading) → CanBeCompleted plan r → is_whole r.part ≡ false → length r.part < 512
 part_is_short plan r h settled = short_part plan r.frames r.part h.0 h.1 settled
 
 -- the closing mark, where a frame would begin
-pub joined-close : (r : Reading) → r.over ≡ false → r.part ≡ [] → joined r 0 ≡ reading r.frames [] true
-joined-close r unfinished none =
-    joined-reads r 0 unfinished ∙ ap (λ (ws : List ℕ). read_as r.frames (ws ++ 0 ∷ [])) none ∙ read_as-mark r.frames (0 ∷ []) refl
+pub read_with-close : (r : Reading) → r.over ≡ false → r.part ≡ [] → read_with r 0 ≡ reading r.frames [] true
+read_with-close r unfinished none =
+    read_with-reads r 0 unfinished ∙ ap (λ (ws : List ℕ). read_as r.frames (ws ++ 0 ∷ [])) none ∙ read_as-mark r.frames (0 ∷ []) refl
 
 -- ---- frames come behind frames
 
@@ -246,8 +246,8 @@ read_as-frames : (frames : List (List ℕ)) (words : List ℕ) → BeginsWith (r
 read_as-frames frames words =
     read_as_cases (λ r. BeginsWith r.frames frames) frames words (λ mark. ([], sym (append-nil frames))) (λ whole. (words ∷ [], refl)) (λ no_mark part. ([], sym (append-nil frames)))
 
-joined-frames : (r : Reading) (word : ℕ) → BeginsWith (joined r word).frames r.frames
-joined-frames r word =
+read_with-frames : (r : Reading) (word : ℕ) → BeginsWith (read_with r word).frames r.frames
+read_with-frames r word =
     joined_cases (λ s. BeginsWith s.frames r.frames) r word (λ over. ([], sym (append-nil r.frames))) (λ unfinished. read_as-frames r.frames (r.part ++ word ∷ []))
 
 begins_through : (all some few : List (List ℕ)) → BeginsWith all some → BeginsWith some few → BeginsWith all few
@@ -255,7 +255,7 @@ begins_through all some few p q = (q.0 ++ p.0, p.1 ∙ ap (λ (fs : List (List �
 
 pub read_on-frames : (r : Reading) (words : List ℕ) → BeginsWith (read_on r words).frames r.frames
 read_on-frames r [] = ([], sym (append-nil r.frames))
-read_on-frames r (word ∷ words) = begins_through (read_on (joined r word) words).frames (joined r word).frames r.frames (read_on-frames (joined r word) words) (joined-frames r word)
+read_on-frames r (word ∷ words) = begins_through (read_on (read_with r word) words).frames (read_with r word).frames r.frames (read_on-frames (read_with r word) words) (read_with-frames r word)
 
 with_frame-begins : (frames : List (List ℕ)) (words : List ℕ) → BeginsWith (with_frame frames words) frames
 with_frame-begins frames [] = ([], sym (append-nil frames))

@@ -8,10 +8,10 @@ use Rattle.staging_ring.specs.declared.reading.Reading.{Reading}
 use Rattle.staging_ring.specs.declared.known.Known.{Known}
 use Rattle.staging_ring.specs.declared.queue_out.QueueOut.TheInside.{Inside}
 use Rattle.staging_ring.specs.Ends.{RoamerEnd, GoesOnTo, numbers_of}
-use Rattle.staging_ring.specs.Readings.{reading, is_mark, is_whole, read_as, joined}
+use Rattle.staging_ring.specs.Readings.{reading, is_closing_mark, is_whole, read_as, read_with}
 use Rattle.staging_ring.specs.RoamerInside.{roamer_knows, roamer_end_of, IsRoamer}
-use Rattle.staging_ring.specs.Rule.{plan_in, GoesOn, Takes}
-use Rattle.staging_ring.proofs.ReadingLaws.{joined-reads, read_as-mark, read_as-whole, read_as-part, part_is_short, GoesOn-frames}
+use Rattle.staging_ring.specs.Rule.{plan_in, CanBeCompleted, TakesWord}
+use Rattle.staging_ring.proofs.ReadingLaws.{read_with-reads, read_as-mark, read_as-whole, read_as-part, part_is_short, CanBeCompleted-frames}
 
 -- the end with these parts in place of its own
 abbrev pub changed : Inside → Pass ℕ Known → List ℕ → Bool → ℕ → Inside
@@ -21,38 +21,38 @@ changed s pass part ended frames = record s { pass = pass; part = part; ended = 
 pub record WordTaken (s : Inside) (pass : Pass ℕ Known) (word : ℕ) : Type 0 where
   pub table : pass.table_id ≡ s.pass.table_id
   pub home : pass.me.1 ≡ []
-  pub takes : Takes (roamer_knows s) word (view pass)
+  pub takes : TakesWord (roamer_knows s) word (view pass)
 
 not_over : (s : Inside) → IsRoamer s → s.ended ≡ false → (roamer_knows s).taken.over ≡ false
 not_over s h going = sym h.ended ∙ going
 
 -- what the word makes of the reading
-pub mark_comes : (s : Inside) (word : ℕ) → IsRoamer s → s.ended ≡ false → is_mark (s.part ++ word ∷ []) ≡ true
-    → joined (roamer_knows s).taken word ≡ reading (roamer_knows s).taken.frames [] true
+pub mark_comes : (s : Inside) (word : ℕ) → IsRoamer s → s.ended ≡ false → is_closing_mark (s.part ++ word ∷ []) ≡ true
+    → read_with (roamer_knows s).taken word ≡ reading (roamer_knows s).taken.frames [] true
 mark_comes s word h going mark =
-    joined-reads (roamer_knows s).taken word (not_over s h going)
+    read_with-reads (roamer_knows s).taken word (not_over s h going)
     ∙ ap (λ (part : List ℕ). read_as (roamer_knows s).taken.frames (part ++ word ∷ [])) (sym (h.part going))
     ∙ read_as-mark (roamer_knows s).taken.frames (s.part ++ word ∷ []) mark
 
-pub part_comes : (s : Inside) (word : ℕ) → IsRoamer s → s.ended ≡ false → is_mark (s.part ++ word ∷ []) ≡ false → is_whole (s.part ++ word ∷ []) ≡ false
-    → joined (roamer_knows s).taken word ≡ reading (roamer_knows s).taken.frames (s.part ++ word ∷ []) false
+pub part_comes : (s : Inside) (word : ℕ) → IsRoamer s → s.ended ≡ false → is_closing_mark (s.part ++ word ∷ []) ≡ false → is_whole (s.part ++ word ∷ []) ≡ false
+    → read_with (roamer_knows s).taken word ≡ reading (roamer_knows s).taken.frames (s.part ++ word ∷ []) false
 part_comes s word h going mark whole =
-    joined-reads (roamer_knows s).taken word (not_over s h going)
+    read_with-reads (roamer_knows s).taken word (not_over s h going)
     ∙ ap (λ (part : List ℕ). read_as (roamer_knows s).taken.frames (part ++ word ∷ [])) (sym (h.part going))
     ∙ read_as-part (roamer_knows s).taken.frames (s.part ++ word ∷ []) mark whole
 
-pub frame_comes : (s : Inside) (word : ℕ) → IsRoamer s → s.ended ≡ false → is_mark (s.part ++ word ∷ []) ≡ false → is_whole (s.part ++ word ∷ []) ≡ true
-    → joined (roamer_knows s).taken word ≡ reading ((roamer_knows s).taken.frames ++ (s.part ++ word ∷ []) ∷ []) [] false
+pub frame_comes : (s : Inside) (word : ℕ) → IsRoamer s → s.ended ≡ false → is_closing_mark (s.part ++ word ∷ []) ≡ false → is_whole (s.part ++ word ∷ []) ≡ true
+    → read_with (roamer_knows s).taken word ≡ reading ((roamer_knows s).taken.frames ++ (s.part ++ word ∷ []) ∷ []) [] false
 frame_comes s word h going mark whole =
-    joined-reads (roamer_knows s).taken word (not_over s h going)
+    read_with-reads (roamer_knows s).taken word (not_over s h going)
     ∙ ap (λ (part : List ℕ). read_as (roamer_knows s).taken.frames (part ++ word ∷ [])) (sym (h.part going))
     ∙ read_as-whole (roamer_knows s).taken.frames (s.part ++ word ∷ []) mark whole
 
-pub taken_is : (s : Inside) (pass : Pass ℕ Known) (word : ℕ) (next : Reading) → WordTaken s pass word → joined (roamer_knows s).taken word ≡ next → (view pass).taken ≡ next
+pub taken_is : (s : Inside) (pass : Pass ℕ Known) (word : ℕ) (next : Reading) → WordTaken s pass word → read_with (roamer_knows s).taken word ≡ next → (view pass).taken ≡ next
 taken_is s pass word next w is = ap (λ (k : Known). k.taken) w.takes.0 ∙ is
 
 pub still_roamer : (s : Inside) (pass : Pass ℕ Known) (word : ℕ) (next : Reading) (part : List ℕ) (ended : Bool) (frames : ℕ) → IsRoamer s → WordTaken s pass word
-    → joined (roamer_knows s).taken word ≡ next → ended ≡ next.over → (ended ≡ false → part ≡ next.part) → (ended ≡ false → length part < 512)
+    → read_with (roamer_knows s).taken word ≡ next → ended ≡ next.over → (ended ≡ false → part ≡ next.part) → (ended ≡ false → length part < 512)
     → frames ≡ min (length next.frames) (2 ^ 64 - 1) → IsRoamer (changed s pass part ended frames)
 still_roamer s pass word next part ended frames h w is over part_is short counts =
     let taken : (view pass).taken ≡ next = taken_is s pass word next w is in
@@ -66,21 +66,21 @@ still_roamer s pass word next part ended frames h w is over part_is short counts
     }
 
 -- a part of a lawful frame is short
-pub short_part : (s : Inside) (pass : Pass ℕ Known) (word : ℕ) → IsRoamer s → s.ended ≡ false → WordTaken s pass word → is_mark (s.part ++ word ∷ []) ≡ false
+pub short_part : (s : Inside) (pass : Pass ℕ Known) (word : ℕ) → IsRoamer s → s.ended ≡ false → WordTaken s pass word → is_closing_mark (s.part ++ word ∷ []) ≡ false
     → is_whole (s.part ++ word ∷ []) ≡ false → length (s.part ++ word ∷ []) < 512
 short_part s pass word h going w mark whole =
     let is = part_comes s word h going mark whole in
     part_is_short (plan_in (roamer_knows s)) (reading (roamer_knows s).taken.frames (s.part ++ word ∷ []) false)
-    (subst (GoesOn (plan_in (roamer_knows s))) is w.takes.1) whole
+    (subst (CanBeCompleted (plan_in (roamer_knows s))) is w.takes.1) whole
 
 pub lawful_taken : (s : Inside) (pass : Pass ℕ Known) (word : ℕ) → WordTaken s pass word → Lawful (plan_in (roamer_knows s)) (view pass).taken.frames
 lawful_taken s pass word w =
     subst (λ (r : Reading). Lawful (plan_in (roamer_knows s)) r.frames) (sym (ap (λ (k : Known). k.taken) w.takes.0))
-    (GoesOn-frames (plan_in (roamer_knows s)) (joined (roamer_knows s).taken word) w.takes.1)
+    (CanBeCompleted-frames (plan_in (roamer_knows s)) (read_with (roamer_knows s).taken word) w.takes.1)
 
 -- what contracts see of it
 pub ends_there : (s : Inside) (pass : Pass ℕ Known) (word : ℕ) (part : List ℕ) (ended : Bool) (frames : ℕ) (into : List ℕ) → WordTaken s pass word
-    → joined (roamer_knows s).taken word ≡ reading (roamer_knows s).taken.frames [] true
+    → read_with (roamer_knows s).taken word ≡ reading (roamer_knows s).taken.frames [] true
     → GoesOnTo (roamer_end_of s) (roamer_end_of (changed s pass part ended frames)) into (Some answers.Ended)
 ends_there s pass word part ended frames into w is =
     let taken = taken_is s pass word (reading (roamer_knows s).taken.frames [] true) w is in
@@ -95,7 +95,7 @@ ends_there s pass word part ended frames into w is =
     }
 
 pub goes_on_there : (s : Inside) (pass : Pass ℕ Known) (word : ℕ) (part : List ℕ) (ended : Bool) (frames : ℕ) (into : List ℕ) → WordTaken s pass word
-    → joined (roamer_knows s).taken word ≡ reading (roamer_knows s).taken.frames (s.part ++ word ∷ []) false
+    → read_with (roamer_knows s).taken word ≡ reading (roamer_knows s).taken.frames (s.part ++ word ∷ []) false
     → GoesOnTo (roamer_end_of s) (roamer_end_of (changed s pass part ended frames)) into None
 goes_on_there s pass word part ended frames into w is =
     let taken = taken_is s pass word (reading (roamer_knows s).taken.frames (s.part ++ word ∷ []) false) w is in
@@ -110,7 +110,7 @@ goes_on_there s pass word part ended frames into w is =
     }
 
 pub frame_there : (s : Inside) (pass : Pass ℕ Known) (word : ℕ) (part : List ℕ) (ended : Bool) (frames : ℕ) (into : List ℕ) (n : ℕ) → WordTaken s pass word
-    → joined (roamer_knows s).taken word ≡ reading ((roamer_knows s).taken.frames ++ (s.part ++ word ∷ []) ∷ []) [] false → n ≤ 512 → take n into ≡ s.part ++ word ∷ []
+    → read_with (roamer_knows s).taken word ≡ reading ((roamer_knows s).taken.frames ++ (s.part ++ word ∷ []) ∷ []) [] false → n ≤ 512 → take n into ≡ s.part ++ word ∷ []
     → GoesOnTo (roamer_end_of s) (roamer_end_of (changed s pass part ended frames)) into (Some (answers.Frame n))
 frame_there s pass word part ended frames into n w is within words =
     let old = (roamer_knows s).taken.frames in

@@ -8,9 +8,9 @@ use Rattle.ring_core.specs.Plans.{Plan}
 use Rattle.ring_core.proofs.Frames.{AreFramesOf-nil}
 use Rattle.staging_ring.specs.declared.reading.Reading.{Reading}
 use Rattle.staging_ring.specs.declared.known.Known.{Known}
-use Rattle.staging_ring.specs.Readings.{nothing_read, words_read, joined, read_on}
-use Rattle.staging_ring.specs.Rule.{plan_in, no_plan, newcomer, writer_of, roamer_of, both_of, spent, InOrder, HasPut, putting, GoesOn, Takes, Fits, Staged}
-use Rattle.staging_ring.proofs.ReadingLaws.{read_on-append, words_read-read_on, GoesOn-front}
+use Rattle.staging_ring.specs.Readings.{nothing_read, words_read, read_with, read_on}
+use Rattle.staging_ring.specs.Rule.{plan_in, no_plan, newcomer, writer_of, roamer_of, both_of, spent, InOrder, HasPut, putting, CanBeCompleted, TakesWord, PassKnows, Staged}
+use Rattle.staging_ring.proofs.ReadingLaws.{read_on-append, words_read-read_on, CanBeCompleted-front}
 
 -- what holds of each pass
 abbrev Each : (ℕ → Known → Type 0) → List Known → Type 0
@@ -32,7 +32,7 @@ at_end (x ∷ xs) a b (suc j) n e = ap suc (at_end xs a b j n e)
 no_true : {P : Type 0} → false ≡ true → P
 no_true e = absurd (true≢false (sym e))
 
-Lawful-none : (plan : Plan) → GoesOn plan nothing_read
+Lawful-none : (plan : Plan) → CanBeCompleted plan nothing_read
 Lawful-none plan = ([], ([], AreFramesOf-nil plan))
 
 pub begins : Staged [] (newcomer ∷ [])
@@ -44,26 +44,26 @@ begins = record {
   taken = nothing_read;
   in_order = refl;
   lawful = Lawful-none no_plan;
-  each = Each-set (Fits no_plan 0 nothing_read 0 nothing_read) (newcomer ∷ []) 0 newcomer
+  each = Each-set (PassKnows no_plan 0 nothing_read 0 nothing_read) (newcomer ∷ []) 0 newcomer
       (record { puts = λ _. (refl, refl, refl); takes = λ _. (refl, refl, refl) })
       (λ j u other e. absurd (other (at_end [] newcomer u j (λ x. some-ne-none u (sym x)) e)));
 }
 
 -- one word more is put, which the frames to come begin with
-pub puts : (n port : ℕ) (v : Known) (word : ℕ) → v.puts ≡ true → GoesOn (plan_in v) (joined v.put word) → Pushes Staged n port v word (putting v word)
+pub puts : (n port : ℕ) (v : Known) (word : ℕ) → v.puts ≡ true → CanBeCompleted (plan_in v) (read_with v.put word) → Pushes Staged n port v word (putting v word)
 puts n port v word may lawful items views room h at =
-    let w : Known = record v { put = joined v.put word } in
+    let w : Known = record v { put = read_with v.put word } in
     let mine = (h.each port v at).puts may in (
       w,
       record {
         plan = h.plan;
         writer = h.writer;
-        put = joined v.put word;
+        put = read_with v.put word;
         roamer = h.roamer;
         taken = h.taken;
-        in_order = ap (λ (r : Reading). joined r word) (mine.1 ∙ h.in_order) ∙ sym (read_on-append h.taken items (word ∷ []));
-        lawful = subst (λ (p : Plan). GoesOn p (joined v.put word)) mine.2 lawful;
-        each = Each-set (Fits h.plan h.writer (joined v.put word) h.roamer h.taken) views port w
+        in_order = ap (λ (r : Reading). read_with r word) (mine.1 ∙ h.in_order) ∙ sym (read_on-append h.taken items (word ∷ []));
+        lawful = subst (λ (p : Plan). CanBeCompleted p (read_with v.put word)) mine.2 lawful;
+        each = Each-set (PassKnows h.plan h.writer (read_with v.put word) h.roamer h.taken) views port w
             (record { puts = λ _. (mine.0, refl, mine.2); takes = (h.each port v at).takes })
             (λ j u other e. record {
               puts = λ p. absurd (other (((h.each j u e).puts p).0 ∙ sym mine.0));
@@ -74,28 +74,28 @@ puts n port v word may lawful items views room h at =
     )
 
 -- one word more is taken
-pub takes : (port : ℕ) (v : Known) → v.takes ≡ true → Pops Staged port v (Takes v)
+pub takes : (port : ℕ) (v : Known) → v.takes ≡ true → Pops Staged port v (TakesWord v)
 takes port v may word items views h at =
-    let w : Known = record v { taken = joined v.taken word } in
+    let w : Known = record v { taken = read_with v.taken word } in
     let mine = (h.each port v at).takes may in
-    let in_order : h.put ≡ read_on (joined v.taken word) items = h.in_order ∙ ap (λ (r : Reading). read_on (joined r word) items) (sym mine.1) in (
+    let in_order : h.put ≡ read_on (read_with v.taken word) items = h.in_order ∙ ap (λ (r : Reading). read_on (read_with r word) items) (sym mine.1) in (
       w,
       record {
         plan = h.plan;
         writer = h.writer;
         put = h.put;
         roamer = h.roamer;
-        taken = joined v.taken word;
+        taken = read_with v.taken word;
         in_order = in_order;
         lawful = h.lawful;
-        each = Each-set (Fits h.plan h.writer h.put h.roamer (joined v.taken word)) views port w
+        each = Each-set (PassKnows h.plan h.writer h.put h.roamer (read_with v.taken word)) views port w
             (record { puts = (h.each port v at).puts; takes = λ _. (mine.0, refl, mine.2) })
             (λ j u other e. record {
               puts = (h.each j u e).puts;
               takes = λ p. absurd (other (((h.each j u e).takes p).0 ∙ sym mine.0));
             });
       },
-      (refl, GoesOn-front (plan_in v) (joined v.taken word) items (subst (λ (y : Plan × Reading). GoesOn y.0 y.1) (λ i. (sym mine.2 i, in_order i)) h.lawful)),
+      (refl, CanBeCompleted-front (plan_in v) (read_with v.taken word) items (subst (λ (y : Plan × Reading). CanBeCompleted y.0 y.1) (λ i. (sym mine.2 i, in_order i)) h.lawful)),
     )
 
 -- the two roles are parted before anything is put
@@ -121,7 +121,7 @@ forks plan port v a b none items views h at =
       roamer = length vs;
       taken = h.taken;
       in_order = h.in_order;
-      lawful = subst (GoesOn plan) (sym none ∙ put.1) (Lawful-none plan);
+      lawful = subst (CanBeCompleted plan) (sym none ∙ put.1) (Lawful-none plan);
       each = λ j u e. record {
         puts = λ p. ⊎_elim (λ x. (old j u x).0 p) (λ (is : roamer ≡ u). no_true (ap (λ (y : Known). y.puts) is ∙ p)) (at_snoc vs roamer u j e);
         takes = λ p. ⊎_elim (λ x. absurd ((old j u x).1 p))
@@ -139,7 +139,7 @@ merges port v other u a b items views h at two at' =
     let vs : List Known = set views port both in
     let was : get_elem? views other ≡ some u = ⊎_elim (λ x. absurd (two x.0)) (λ x. x.1) (at_set views port other both u at') in
     let taken = (h.each other u was).takes b in
-    let Now : ℕ → Known → Type 0 = λ j y. j ≢ other → Fits h.plan h.writer h.put port h.taken j y in
+    let Now : ℕ → Known → Type 0 = λ j y. j ≢ other → PassKnows h.plan h.writer h.put port h.taken j y in
     let now : Each Now vs =
     Each-set Now views port both (λ _. record { puts = λ _. put; takes = λ _. (refl, taken.1, put.2) })
     (λ j y _ e apart. record { puts = (h.each j y e).puts; takes = λ p. absurd (apart (((h.each j y e).takes p).0 ∙ sym taken.0)) })
@@ -152,7 +152,7 @@ merges port v other u a b items views h at two at' =
       taken = h.taken;
       in_order = h.in_order;
       lawful = h.lawful;
-      each = Each-set (Fits h.plan h.writer h.put port h.taken) vs other spent (record { puts = λ p. no_true p; takes = λ p. no_true p }) (λ j y apart e. now j y e apart);
+      each = Each-set (PassKnows h.plan h.writer h.put port h.taken) vs other spent (record { puts = λ p. no_true p; takes = λ p. no_true p }) (λ j y apart e. now j y e apart);
     }
 
 -- the queue holds no more than was put

@@ -21,5 +21,5 @@ both_ends_of s = record {
 }
 
 -- the frames that were taken are counted
-pub record IsDone (s : Inside) : Type 0 where
+pub record FramesAreCounted (s : Inside) : Type 0 where
   pub frames : s.frames ≡ length (both_know s).taken.frames

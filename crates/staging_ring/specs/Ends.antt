@@ -4,7 +4,7 @@ use Rattle.std.specs.Option.{option_map_or}
 use Rattle.arg_records.specs.declared.frame.TheConstants.{MAX_FRAME_WORDS}
 use Rattle.atomic_table.specs.Seated.{TableId}
 use Rattle.nl_io.specs.Count.{counted, Rose}
-use Rattle.ring_core.specs.declared.limits.TheConstants.{MIN_RING, MAX_RING}
+use Rattle.session_options.specs.declared.limits.TheConstants.{MIN_RING, MAX_RING}
 use Rattle.ring_core.specs.declared.answers.Taken.{Taken}
 use Rattle.ring_core.specs.declared.answers.Taken.TheVariants as answers
 use Rattle.ring_core.specs.Answers.{IfFrame, IfNoFrame, is_ended}
@@ -51,13 +51,13 @@ numbers_of table =
     table.words ∷ table.slots ∷ table.views_name ∷ table.atom ∷ table.block ∷ table.offset ∷ table.slot_names
 
 -- The ring refused a word, since all its places were taken up. Words that waited may have been put before.
-pub record IsRefused (old new : WriterEnd) : Type 0 where
+pub record WordRefused (old new : WriterEnd) : Type 0 where
   pub full : old.words ≤ old.at
   pub same : new ≡ record old { waiting = new.waiting; looks = counted old.looks }
   pub looks : old.looks ≤ new.looks
 
 -- The ring accepted a frame. Its last words may have to wait.
-pub record Accepts (old : WriterEnd) (frame : List ℕ) (new : WriterEnd) : Type 0 where
+pub record FrameAccepted (old : WriterEnd) (frame : List ℕ) (new : WriterEnd) : Type 0 where
   pub same : new ≡ record old {
     sent = old.sent ++ frame ∷ [];
     waiting = new.waiting;

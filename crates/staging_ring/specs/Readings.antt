@@ -25,26 +25,26 @@ is_whole [] = false
 is_whole (head ∷ words) = head % 65536 == length (head ∷ words)
 
 -- the one word is the closing mark
-abbrev pub is_mark : List ℕ → Bool
-is_mark [] = false
-is_mark (word ∷ []) = word == 0
-is_mark (word ∷ _ ∷ _) = false
+abbrev pub is_closing_mark : List ℕ → Bool
+is_closing_mark [] = false
+is_closing_mark (word ∷ []) = word == 0
+is_closing_mark (word ∷ _ ∷ _) = false
 
 -- the frames, and behind them these words: the closing mark, a whole frame, or a part of one
 unfoldable pub read_as : List (List ℕ) → List ℕ → Reading
 read_as frames words =
-    if is_mark words then reading frames [] true
+    if is_closing_mark words then reading frames [] true
     else (if is_whole words then reading (frames ++ words ∷ []) [] false else reading frames words false)
 
 -- what is read with one word more. No word behind the mark is one of a frame
-unfoldable pub joined : Reading → ℕ → Reading
-joined r word =
+unfoldable pub read_with : Reading → ℕ → Reading
+read_with r word =
     if r.over then reading r.frames (r.part ++ word ∷ []) true else read_as r.frames (r.part ++ word ∷ [])
 
 -- what is read with these words behind
 abbrev pub read_on : Reading → List ℕ → Reading
 read_on r [] = r
-read_on r (word ∷ words) = read_on (joined r word) words
+read_on r (word ∷ words) = read_on (read_with r word) words
 
 -- the frames, and that of these words behind them, if there are any
 abbrev pub with_frame : List (List ℕ) → List ℕ → List (List ℕ)

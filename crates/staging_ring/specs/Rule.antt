@@ -6,7 +6,7 @@ use lib.ListN.{get_elem?}
 use Rattle.ring_core.specs.Plans.{Plan, Lawful}
 use Rattle.staging_ring.specs.declared.reading.Reading.{Reading}
 use Rattle.staging_ring.specs.declared.known.Known.{Known}
-use Rattle.staging_ring.specs.Readings.{reading, nothing_read, words_read, joined, read_on, frames_with}
+use Rattle.staging_ring.specs.Readings.{reading, nothing_read, words_read, read_with, read_on, frames_with}
 
 -- the plan that a pass knows
 abbrev pub plan_in : Known → Plan
@@ -52,7 +52,7 @@ HasPut v items = length items ≤ length (words_read v.put)
 
 -- one word more was put
 abbrev pub putting : Known → ℕ → Known → Type 0
-putting v word w = w ≡ record v { put = joined v.put word }
+putting v word w = w ≡ record v { put = read_with v.put word }
 
 -- these words more were put
 abbrev pub having_put : Known → List ℕ → Known
@@ -63,15 +63,16 @@ abbrev pub having_closed : Known → Known
 having_closed v = record v { put = reading v.put.frames [] true }
 
 -- some words complete what was read to lawful frames
-abbrev pub GoesOn : Plan → Reading → Type 0
-GoesOn plan r = (coming : List ℕ) × Lawful plan (frames_with r coming)
+abbrev pub CanBeCompleted : Plan → Reading → Type 0
+CanBeCompleted plan r = (coming : List ℕ) × Lawful plan (frames_with r coming)
 
 -- one word more was taken, of lawful frames
-abbrev pub Takes : Known → ℕ → Known → Type 0
-Takes v word w = (w ≡ record v { taken = joined v.taken word }) × GoesOn (plan_in v) (joined v.taken word)
+abbrev pub TakesWord : Known → ℕ → Known → Type 0
+TakesWord v word w =
+    (w ≡ record v { taken = read_with v.taken word }) × CanBeCompleted (plan_in v) (read_with v.taken word)
 
 -- what the pass with this number knows
-pub record Fits (plan : Plan) (writer : ℕ) (put : Reading) (roamer : ℕ) (taken : Reading) (port : ℕ)
+pub record PassKnows (plan : Plan) (writer : ℕ) (put : Reading) (roamer : ℕ) (taken : Reading) (port : ℕ)
     (v : Known) : Type 0 where
   pub puts : v.puts ≡ true → (port ≡ writer) × (v.put ≡ put) × (plan_in v ≡ plan)
   pub takes : v.takes ≡ true → (port ≡ roamer) × (v.taken ≡ taken) × (plan_in v ≡ plan)
@@ -83,5 +84,5 @@ pub record Staged (items : List ℕ) (views : List Known) : Type 0 where
   pub roamer : ℕ
   pub taken : Reading
   pub in_order : put ≡ read_on taken items
-  pub lawful : GoesOn plan put
-  pub each : (port : ℕ) (v : Known) → get_elem? views port ≡ some v → Fits plan writer put roamer taken port v
+  pub lawful : CanBeCompleted plan put
+  pub each : (port : ℕ) (v : Known) → get_elem? views port ≡ some v → PassKnows plan writer put roamer taken port v

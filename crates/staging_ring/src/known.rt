@@ -84,9 +84,9 @@ impl Lesson<u64, Known> for Put {
 pub struct Took;
 
 impl Outcome<u64, Known> for Took {
-    ghost use Rattle.staging_ring.specs.Rule.{Takes};
+    ghost use Rattle.staging_ring.specs.Rule.{TakesWord};
 
-    ghost then = { Takes };
+    ghost then = { TakesWord };
 }
 
 impl Lesson<u64, Known> for Took {

@@ -4,7 +4,7 @@ ghost use Rattle.std.specs.Prelude.{◌≡◌, ◌<◌, ◌≤◌, ◌++◌, [],
 ghost use Rattle.crossbeam_queue.specs.Passes.{view, IsPassOf, ruled_capacity};
 ghost use Rattle.ring_core.specs.Plans.{Lawful};
 ghost use Rattle.staging_ring.specs.Readings.{words_read, frames_with, IsSettled};
-ghost use Rattle.staging_ring.specs.Rule.{plan_in, having_put, having_closed, Takes};
+ghost use Rattle.staging_ring.specs.Rule.{plan_in, having_put, having_closed, TakesWord};
 
 use crate::known::{Known, Put, Staging, Took};
 use crossbeam_queue::{Pass, RuledArrayQueue};
@@ -64,7 +64,7 @@ pub fn pop_word<R: Wait>(rt: &R, line: &Line, pass: &mut LinePass) -> Option<u64
     requires takes { (view pass.old).takes ≡ true }
     ensures queue { IsPassOf line.now pass.new × (pass.new.table_id ≡ pass.old.table_id) }
     ensures word { MatchOption result (view pass.new ≡ view pass.old)
-        (λ word. Takes (view pass.old) word (view pass.new)) }
+        (λ word. TakesWord (view pass.old) word (view pass.new)) }
 {
     line.pop_as::<Took, R>(rt, pass)
 }

@@ -2,7 +2,7 @@
 
 ghost use Rattle.std.specs.Prelude.{◌≡◌, ◌<◌, ◌≤◌, ◌++◌, ◌∷◌, [], length, take};
 ghost use Rattle.arg_records.specs.declared.frame.TheConstants.{MAX_FRAME_WORDS};
-ghost use Rattle.staging_ring.specs.Readings.{is_mark, is_whole};
+ghost use Rattle.staging_ring.specs.Readings.{is_closing_mark, is_whole};
 
 use arg_records::MAX_FRAME_WORDS;
 use std::marker::Model;
@@ -38,7 +38,7 @@ impl Part {
 
     /// Whether this word, as the next one, is the closing mark.
     pub fn is_closed_by(&self, word: u64) -> bool
-        ensures { result ≡ is_mark (self.now ++ word ∷ []) }
+        ensures { result ≡ is_closing_mark (self.now ++ word ∷ []) }
     {
         self.len == 0 && word == 0
     }

@@ -25,11 +25,11 @@ impl Model for QueueDone {
 
     ghost Value = { BothEnds };
 
-    ghost use Rattle.staging_ring.specs.DoneInside.{both_ends_of, IsDone};
+    ghost use Rattle.staging_ring.specs.DoneInside.{both_ends_of, FramesAreCounted};
 
     ghost view = { both_ends_of };
 
-    ghost invariant = { IsDone };
+    ghost invariant = { FramesAreCounted };
 }
 
 impl QueueDone {

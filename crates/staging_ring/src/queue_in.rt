@@ -9,7 +9,7 @@ ghost use Rattle.ring_core.specs.declared.limits.TheConstants.{MAX_POSITION, OFF
 ghost use Rattle.ring_core.specs.Answers.{IsFull};
 ghost use Rattle.ring_core.specs.Plans.{Plan, Lawful};
 ghost use Rattle.ring_core.specs.Positions.{Need};
-ghost use Rattle.staging_ring.specs.Ends.{Accepts, IsRefused, IsRingSize, numbers_of};
+ghost use Rattle.staging_ring.specs.Ends.{FrameAccepted, WordRefused, IsRingSize, numbers_of};
 ghost use Rattle.staging_ring.specs.Readings.{nothing_read};
 ghost use Rattle.staging_ring.specs.Rule.{plan_in, writer_of};
 
@@ -88,7 +88,7 @@ impl QueueIn {
     fn flush<R: Wait>(&mut self, rt: &R) -> bool
         requires { self.old.closed ≡ false }
         ensures done { IsTrue result → self.new ≡ record self.old { waiting = [] } }
-        ensures refused { IsFalse result → IsRefused self.old self.new }
+        ensures refused { IsFalse result → WordRefused self.old self.new }
     {
         let queue = &self.queue;
         let count = push_words(rt, queue, &mut self.pass, self.waiting.words());
@@ -104,8 +104,8 @@ impl QueueIn {
         requires lawful { Lawful self.old.plan (self.old.sent ++ frame.now ∷ []) }
         requires ready { (self.old.closed ≡ false) × (self.old.waiting ≡ []) }
         requires position { self.old.at + OFFER_ROOM ≤ MAX_POSITION }
-        ensures put { IsTrue result → Accepts self.old frame.now self.new }
-        ensures refused { IsFalse result → IsRefused self.old self.new }
+        ensures put { IsTrue result → FrameAccepted self.old frame.now self.new }
+        ensures refused { IsFalse result → WordRefused self.old self.new }
     {
         let queue = &self.queue;
         let words = queue.capacity() as u64;
@@ -125,7 +125,7 @@ impl QueueIn {
     fn mark<R: Wait>(&mut self, rt: &R) -> bool
         requires { (self.old.closed ≡ false) × (self.old.waiting ≡ []) }
         ensures put { IsTrue result → self.new ≡ record self.old { closed = true } }
-        ensures refused { IsFalse result → IsRefused self.old self.new }
+        ensures refused { IsFalse result → WordRefused self.old self.new }
     {
         let queue = &self.queue;
         if push_mark(rt, queue, &mut self.pass) {

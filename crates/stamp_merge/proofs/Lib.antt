@@ -1,3 +1,4 @@
+pub mod Comparing
+pub mod Ordering
 pub mod Sorted
-pub mod Insertion
-pub mod Heads
+pub mod MergeKeys

@@ -1,11 +1,20 @@
--- A list can be sorted in one way, where two elements of which neither is less are the same.
-use Rattle.std.proofs.Common.{◌≡◌, ℕ, suc, ◌+◌, ◌<◌, Bool, true, false, List, [], ◌∷◌, length, get_or, refl, ap, sym, ◌∙◌, subst, arith}
+-- A list can be sorted in one way, where elements that compare as equal are the same.
+use Rattle.std.proofs.Common.{◌≡◌, ℕ, suc, ◌+◌, ◌<◌, Bool, true, false, List, [], ◌∷◌, length, get_or, refl, ap, sym, ◌∙◌, arith}
 use Rattle.std.specs.Prelude.{sum_by}
-use Rattle.std.specs.Cmp.{IsStrictWeakOrder}
+use Rattle.std.specs.Cmp.{IsStrictWeakOrder, IsTotalOrder}
+use Rattle.std.specs.declared.cmp.Ordering.{Ordering}
+use Rattle.std.specs.Ordering.{is_lt}
 use Rattle.std.specs.List.{AllByRecursion}
-use Rattle.std.specs.List.Sorted.{IsSortedBy, IsPermutation}
+use Rattle.std.specs.List.Sorted.{IsSorted, IsSortedBy, IsPermutation}
+use Rattle.std.proofs.lemmas.List.MinMax.{ranks_by}
 use Rattle.std.proofs.lemmas.List.Sums.{sum_by-cons}
 use Rattle.std.proofs.lemmas.List.Sorted.{sorted_far, sum_by-IsPermutation}
+use Rattle.std.proofs.lemmas.Map.Lookups.{CmpEqualImpliesEq}
+use Rattle.stamp_merge.specs.Ordering.{in_order_by}
+use Rattle.stamp_merge.proofs.Comparing.{neither}
+use Rattle.stamp_merge.proofs.Ordering.{in_order_by-permutation, in_order_by-rises, sorted_rest}
+
+-- ---- counts
 
 -- 1 for what passes a test, and 0 for all else
 abbrev passed : Bool → ℕ
@@ -21,7 +30,18 @@ none_pass : {X : Type 0} (test : X → Bool) (xs : List X) → AllByRecursion (�
 none_pass test [] all = refl
 none_pass test (x ∷ xs) all = omega (arith, sum_by-cons (λ y. passed (test y)) x xs, none_pass test xs all.1, ap passed all.0)
 
-module _ {X : Type 0} (lt : X → X → Bool) (order : IsStrictWeakOrder lt) (tied : (a b : X) → lt a b ≡ false → lt b a ≡ false → a ≡ b) where
+-- ---- sorted lists
+
+module _ {X : Type 0} (cmp : X → X → Ordering) (total : IsTotalOrder cmp) (exact : CmpEqualImpliesEq cmp) where
+  abbrev lt : X → X → Bool
+  lt a b = is_lt (cmp a b)
+
+  order : IsStrictWeakOrder lt
+  order = ranks_by total (λ x. x)
+
+  tied : (a b : X) → lt a b ≡ false → lt b a ≡ false → a ≡ b
+  tied a b there back = exact a b (neither (cmp a b) (cmp b a) (total.antisymm a b) there back)
+
   -- in a sorted list nothing is less than the first element
   rest_not_less : (x : X) (ys : List X) → ((k : ℕ) (d : X) → k < length ys → lt (get_or ys k d) x ≡ false) → AllByRecursion (λ y. lt y x ≡ false) ys
   rest_not_less x [] h = tt
@@ -29,11 +49,6 @@ module _ {X : Type 0} (lt : X → X → Bool) (order : IsStrictWeakOrder lt) (ti
 
   none_less : (x : X) (xs : List X) → IsSortedBy lt (x ∷ xs) → AllByRecursion (λ y. lt y x ≡ false) (x ∷ xs)
   none_less x xs sorted = rest_not_less x (x ∷ xs) (λ k d within. sorted_far lt order (x ∷ xs) sorted 0 k d (omega arith) within)
-
-  sorted_rest : (x : X) (xs : List X) → IsSortedBy lt (x ∷ xs) → IsSortedBy lt xs
-  sorted_rest x xs sorted k d least within =
-      let next : suc k + 1 ≡ suc (k + 1) = omega arith in
-      subst (λ j. lt (get_or (x ∷ xs) j d) (get_or xs k d) ≡ false) next (sorted (suc k) d (omega arith) (omega (arith, within)))
 
   first_not_less : (x y : X) (xs ys : List X) → IsSortedBy lt (x ∷ xs) → ((f : X → ℕ) → sum_by f (x ∷ xs) ≡ sum_by f (y ∷ ys)) → lt y x ≡ false
   first_not_less x y xs ys sorted same =
@@ -49,9 +64,11 @@ module _ {X : Type 0} (lt : X → X → Bool) (order : IsStrictWeakOrder lt) (ti
   same_counts (x ∷ xs) [] first second same = absurd (omega (arith, sum_by-cons (λ _. 1) x xs, same (λ _. 1)))
   same_counts (x ∷ xs) (y ∷ ys) first second same =
       let e : x ≡ y = tied x y (first_not_less y x ys xs second (λ f. sym (same f))) (first_not_less x y xs ys first same) in
-      let rest : xs ≡ ys = same_counts xs ys (sorted_rest x xs first) (sorted_rest y ys second) (λ f. omega (arith, same f, sum_by-cons f x xs, sum_by-cons f y ys, ap f e)) in
+      let rest : xs ≡ ys = same_counts xs ys (sorted_rest lt x xs first) (sorted_rest lt y ys second) (λ f. omega (arith, same f, sum_by-cons f x xs, sum_by-cons f y ys, ap f e)) in
       cc
 
-  pub sorted_once : (all xs ys : List X) → IsPermutation all xs → IsPermutation ys all → IsSortedBy lt xs → IsSortedBy lt ys → xs ≡ ys
-  sorted_once all xs ys first second up also =
-      same_counts xs ys up also (λ f. sum_by-IsPermutation f all xs first ∙ sum_by-IsPermutation f ys all second)
+  -- elements that were sorted are the elements in order
+  pub sorted-in_order : (xs sorted : List X) → IsPermutation xs sorted → IsSorted cmp sorted → sorted ≡ in_order_by lt xs
+  sorted-in_order xs sorted moved up =
+      same_counts sorted (in_order_by lt xs) up (in_order_by-rises lt order xs)
+      (λ f. sum_by-IsPermutation f xs sorted moved ∙ sym (sum_by-IsPermutation f xs (in_order_by lt xs) (in_order_by-permutation lt xs)))

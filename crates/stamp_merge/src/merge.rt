@@ -1,23 +1,23 @@
 //! The order in which sorted lists of stamps are merged.
 
 ghost use Rattle.std.specs.Prelude.{◌≡◌, ◌++◌, ◌<◌, ◌^◌, length, map, IfOk, OnOk};
-ghost use Rattle.stamp_merge.specs.Merging.{list_heads, merge_order};
+ghost use Rattle.stamp_merge.specs.Merging.{list_keys, merge_order};
 
 use std::alloc::{AllocError, Global};
 
-/// A stamp at the head of a list.
+/// A stamp and the number of its list.
 #[derive(Clone, Copy, Debug, PartialEq, Eq, PartialOrd, Ord)]
-struct Head {
+struct MergeKey {
     stamp: u64,
     list: u32,
 }
 
 /// Appends the stamps of a list, each with the list's number.
-fn add_heads(list: u32, stamps: &[u64], heads: &mut Vec<Head>) -> Result<(), AllocError>
-    ensures { OnOk result (heads.new.items ≡ heads.old.items ++ list_heads (list, stamps.now)) }
+fn add_keys(list: u32, stamps: &[u64], keys: &mut Vec<MergeKey>) -> Result<(), AllocError>
+    ensures { OnOk result (keys.new.items ≡ keys.old.items ++ list_keys (list, stamps.now)) }
 {
     for &stamp in stamps {
-        heads.push(Head { stamp, list })?;
+        keys.push(MergeKey { stamp, list })?;
     }
     Ok(())
 }
@@ -32,15 +32,15 @@ pub fn merge_order(alloc: Global, lists: &[Vec<u64>]) -> Result<Vec<u32>, AllocE
     requires { length lists.now < 2 ^ 32 }
     ensures { IfOk result (λ order. order.items ≡ merge_order (map (λ list. list.items) lists.now)) }
 {
-    let mut heads = Vec::new(alloc);
+    let mut keys = Vec::new(alloc);
     for (list, stamps) in lists.iter().enumerate() {
-        add_heads(list as u32, stamps, &mut heads)?;
+        add_keys(list as u32, stamps, &mut keys)?;
     }
     // The stable sort keeps rising runs and merges them, and each list is one.
-    heads.sort()?;
-    let mut order = Vec::with_capacity(alloc, heads.len())?;
-    for head in heads.iter() {
-        order.push(head.list)?;
+    keys.sort()?;
+    let mut order = Vec::with_capacity(alloc, keys.len())?;
+    for key in keys.iter() {
+        order.push(key.list)?;
     }
     Ok(order)
 }

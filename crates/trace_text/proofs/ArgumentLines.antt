@@ -22,8 +22,8 @@ use Rattle.log_dictionary.proofs.NumberLaws.{IsShort, integer_decimal, decimal_i
 use Rattle.log_dictionary.proofs.TextLaws.{opens_read, read_opens_text}
 use Rattle.trace_text.specs.declared.cause.TraceCause.{TraceCause}
 use Rattle.trace_text.specs.declared.cause.TraceCause.TheVariants.{ArgKind, ArgRange, NulInText, TooLong}
-use Rattle.trace_text.specs.Lines.{SpellsArgument, SpellsArguments}
-use Rattle.trace_text.specs.CallReading.{◌>>=◌, Item, number, text, ends_field, number_item, item_behind, item_at, signed_within, unsigned_below, text_of, argument_of, arguments_at}
+use Rattle.trace_text.specs.Lines.{SpellsArgument, SpellsArgumentFields}
+use Rattle.trace_text.specs.CallReading.{◌>>=◌, Item, number, text, ends_field, number_item, item_behind, item_at, signed_within, unsigned_below, checked_text, argument_of, arguments_at}
 use Rattle.trace_text.proofs.DecimalBytes.{decimal_all}
 use Rattle.trace_text.proofs.Arguments.{with_value, with_item, bind-ok, ok_or-ok, passes, holds_back}
 
@@ -147,7 +147,7 @@ no_zero (byte ∷ bytes) all = rw (ne_eqb byte 0 all.0) (no_zero bytes all.1)
 not_over : (n limit : ℕ) → n ≤ limit → ltb limit n ≡ false
 not_over n limit h = grind (arith, nat_tests)
 
-text_value_read : (bytes : List ℕ) → IsText bytes → text_of bytes ≡ Ok (values.Text bytes)
+text_value_read : (bytes : List ℕ) → IsText bytes → checked_text bytes ≡ Ok (values.Text bytes)
 text_value_read bytes is = rw (no_zero bytes is.no_nul, not_over (length bytes) MAX_TEXT is.short) refl
 
 least_int : (z : ℤ) → FitsSigned w32 z → int_le (negsuc 2147483647) z ≡ true
@@ -243,7 +243,7 @@ unsigned_taken limit (pos n) value field large spells e =
     subst (SpellsArgument field) passed.1 (integer_decimal field (pos n) (omega (arith, small, large)) spells)
 unsigned_taken limit (negsuc n) value field large spells e = absurd cc
 
-text_value_taken : (bytes : List ℕ) (value : Value) (field : List ℕ) → SpellsItem field (text bytes) → text_of bytes ≡ Ok value → SpellsArgument field value
+text_value_taken : (bytes : List ℕ) (value : Value) (field : List ℕ) → SpellsItem field (text bytes) → checked_text bytes ≡ Ok value → SpellsArgument field value
 text_value_taken bytes value field spells e =
     let short = holds_back (list_any (λ byte. eqb byte 0) bytes) NulInText (cond (ltb MAX_TEXT (length bytes)) (Err TooLong) (Ok (values.Text bytes))) value e in
     let last = holds_back (ltb MAX_TEXT (length bytes)) TooLong (Ok (values.Text bytes)) value short.1 in
@@ -268,7 +268,7 @@ argument_taken types.Precision (text bytes) value field spells e = absurd cc
 
 -- ---- all arguments
 
-pub arguments_end : (fields : List ℕ) (args : List Value) → SpellsArguments fields args → ends_field fields ≡ true
+pub arguments_end : (fields : List ℕ) (args : List Value) → SpellsArgumentFields fields args → ends_field fields ≡ true
 arguments_end fields [] is = subst (λ l. ends_field l ≡ true) (sym is) refl
 arguments_end fields (value ∷ args) (field, others, is, argument, rest) = subst (λ l. ends_field l ≡ true) (sym is) refl
 
@@ -277,7 +277,7 @@ pub bind-Ok : {A B : Type 0} (r : Result A TraceCause) (a : A) (next : A → Res
 bind-Ok r a next e = ap (λ r. r >>= next) e
 
 -- arguments that fit their types are read as these arguments
-pub arguments_read : (types : List ArgType) (fields : List ℕ) (args : List Value) → SpellsArguments fields args → Fits args types → arguments_at types fields ≡ Ok args
+pub arguments_read : (types : List ArgType) (fields : List ℕ) (args : List Value) → SpellsArgumentFields fields args → Fits args types → arguments_at types fields ≡ Ok args
 arguments_read [] fields [] spells fits = ap (arguments_at []) spells
 arguments_read (type ∷ types) fields (value ∷ args) (field, others, is, argument, rest) fits =
     ap (arguments_at (type ∷ types)) is
@@ -288,8 +288,8 @@ arguments_read [] fields (value ∷ args) spells fits = absurd fits
 arguments_read (type ∷ types) fields [] spells fits = absurd fits
 
 -- what arguments are read of spells them
-pub arguments_taken : (types : List ArgType) (fields : List ℕ) (args : List Value) → ends_field fields ≡ true → arguments_at types fields ≡ Ok args → SpellsArguments fields args
-arguments_taken [] [] args ends e = let none : [] ≡ args = cc in subst (SpellsArguments []) none refl
+pub arguments_taken : (types : List ArgType) (fields : List ℕ) (args : List Value) → ends_field fields ≡ true → arguments_at types fields ≡ Ok args → SpellsArgumentFields fields args
+arguments_taken [] [] args ends e = let none : [] ≡ args = cc in subst (SpellsArgumentFields []) none refl
 arguments_taken [] (byte ∷ bytes) args ends e = absurd cc
 arguments_taken (type ∷ types) [] args ends e = absurd cc
 arguments_taken (type ∷ types) (space ∷ bytes) args ends e =
@@ -301,4 +301,4 @@ arguments_taken (type ∷ types) (space ∷ bytes) args ends e =
     let others = arguments_taken types item.0.1 rest.0 taken.ends rest.1 in
     let whole : space ∷ bytes ≡ 32 ∷ taken.field ++ item.0.1 = ap (λ byte. byte ∷ bytes) (eqb-true space 32 ends) ∙ ap (λ l. 32 ∷ l) taken.joined in
     let all : value.0 ∷ rest.0 ≡ args = cc in
-    subst (SpellsArguments (space ∷ bytes)) all (taken.field, item.0.1, whole, argument, others)
+    subst (SpellsArgumentFields (space ∷ bytes)) all (taken.field, item.0.1, whole, argument, others)

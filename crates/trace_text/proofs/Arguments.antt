@@ -14,7 +14,7 @@ use Rattle.log_dictionary.specs.Texts.{has_nul}
 use Rattle.printf_grammar.specs.Types.{FitsType, Fits}
 use Rattle.trace_text.specs.declared.cause.TraceCause.{TraceCause}
 use Rattle.trace_text.specs.declared.cause.TraceCause.TheVariants.{ArgKind, ArgRange, NulInText, TooLong}
-use Rattle.trace_text.specs.CallReading.{◌>>=◌, Item, number, text, item_at, signed_within, unsigned_below, text_of, argument_of, arguments_at}
+use Rattle.trace_text.specs.CallReading.{◌>>=◌, Item, number, text, item_at, signed_within, unsigned_below, checked_text, argument_of, arguments_at}
 
 pub bind-ok : {A B : Type 0} (x : Result A TraceCause) (next : A → Result B TraceCause) (y : B) → (x >>= next) ≡ Ok y → (a : A) × (x ≡ Ok a) × (next a ≡ Ok y)
 bind-ok (Ok a) next y e = (a, refl, e)
@@ -75,7 +75,7 @@ precision_fits (negsuc n) least most = record { sfits = omega (arith, leb-true _
 at_most : (a b : ℤ) → int_le a b ≡ true → a ≤ℤ b
 at_most a b e = record { le = subst T (sym e) tt }
 
-text_fits : (bytes : List ℕ) (value : Value) → text_of bytes ≡ Ok value → FitsType value types.Text
+text_fits : (bytes : List ℕ) (value : Value) → checked_text bytes ≡ Ok value → FitsType value types.Text
 text_fits bytes value e =
     let whole = holds_back (has_nul bytes) NulInText (cond (nat_lt MAX_TEXT (length bytes)) (Err TooLong) (Ok (values.Text bytes))) value e in
     let short = holds_back (nat_lt MAX_TEXT (length bytes)) TooLong (Ok (values.Text bytes)) value whole.1 in

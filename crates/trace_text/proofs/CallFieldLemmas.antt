@@ -10,7 +10,7 @@ use Rattle.arg_records.specs.Frames.{FrameLen, argument_words}
 use Rattle.trace_text.specs.declared.cause.TraceCause.{TraceCause}
 use Rattle.trace_text.specs.declared.cause.TraceCause.TheVariants.{ArgCount, ArgKind}
 use Rattle.trace_text.specs.CallReading.{◌>>=◌, Item, item_at, argument_of, arguments_at}
-use Rattle.trace_text.specs.CallFields.{argument_at}
+use Rattle.trace_text.specs.CallFields.{spaced_argument}
 
 -- arguments, with these in front
 abbrev pub with_args : List Value → Result (List Value) TraceCause → Result (List Value) TraceCause
@@ -35,7 +35,7 @@ step_at None type types = refl
 step_at (Some item) type types = step_in (argument_of type item.0) types item.1
 
 -- the first argument, and those behind it
-argument_step : (type : ArgType) (types : List ArgType) (bytes : List ℕ) → arguments_at (type ∷ types) bytes ≡ (argument_at type bytes >>= behind types)
+argument_step : (type : ArgType) (types : List ArgType) (bytes : List ℕ) → arguments_at (type ∷ types) bytes ≡ (spaced_argument type bytes >>= behind types)
 argument_step type types [] = refl
 argument_step type types (space ∷ bytes) = step_at (item_at bytes) type types
 
@@ -55,12 +55,12 @@ none_before (Err cause) = refl
 pub none_read : (types : List ArgType) (bytes : List ℕ) → AreRead types bytes 0 bytes []
 none_read types bytes = record { goes = none_before (arguments_at types bytes); len = refl }
 
-at_place : (types : List ArgType) (place : ℕ) (d : ArgType) (rest : List ℕ) → place < length types → arguments_at (drop place types) rest ≡ (argument_at (get_or types place d) rest >>= behind (drop (place + 1) types))
+at_place : (types : List ArgType) (place : ℕ) (d : ArgType) (rest : List ℕ) → place < length types → arguments_at (drop place types) rest ≡ (spaced_argument (get_or types place d) rest >>= behind (drop (place + 1) types))
 at_place types place d rest within = ap (λ (l : List ArgType). arguments_at l rest) (drop_more types place d within) ∙ argument_step (get_or types place d) (drop (place + 1) types) rest
 
 -- one more argument
 pub one_read : (types : List ArgType) (bytes : List ℕ) (place : ℕ) (rest : List ℕ) (args : List Value) (d : ArgType) (value : Value) (after : List ℕ) → AreRead types bytes place rest args → place < length types
-    → ◌≡◌ {A = Result (Value × List ℕ) TraceCause} (Ok (value, after)) (argument_at (get_or types place d) rest) → AreRead types bytes (place + 1) after (args ++ value ∷ [])
+    → ◌≡◌ {A = Result (Value × List ℕ) TraceCause} (Ok (value, after)) (spaced_argument (get_or types place d) rest) → AreRead types bytes (place + 1) after (args ++ value ∷ [])
 one_read types bytes place rest args d value after read within found = record {
   goes = read.goes
       ∙ ap (with_args args) (at_place types place d rest within ∙ ap (λ (r : Result (Value × List ℕ) TraceCause). r >>= behind (drop (place + 1) types)) (sym found) ∙ bound (arguments_at (drop (place + 1) types) after) value)
@@ -70,7 +70,7 @@ one_read types bytes place rest args d value after read within found = record {
 
 -- an argument is refused
 pub one_refused : (types : List ArgType) (bytes : List ℕ) (place : ℕ) (rest : List ℕ) (args : List Value) (d : ArgType) (cause : TraceCause) → AreRead types bytes place rest args → place < length types
-    → ◌≡◌ {A = Result (Value × List ℕ) TraceCause} (Err cause) (argument_at (get_or types place d) rest) → arguments_at types bytes ≡ Err cause
+    → ◌≡◌ {A = Result (Value × List ℕ) TraceCause} (Err cause) (spaced_argument (get_or types place d) rest) → arguments_at types bytes ≡ Err cause
 one_refused types bytes place rest args d cause read within found =
     read.goes ∙ ap (with_args args) (at_place types place d rest within ∙ ap (λ (r : Result (Value × List ℕ) TraceCause). r >>= behind (drop (place + 1) types)) (sym found))
 

@@ -19,7 +19,7 @@ use Rattle.trace_text.specs.declared.cause.TraceCause.TheVariants.{TooMany, Call
 use Rattle.trace_text.specs.declared.trace.TheConstants.{MAX_CALLS}
 use Rattle.trace_text.specs.Recordings.{Recording, IsRecording}
 use Rattle.trace_text.specs.Lines.{WriterCall, SpellsCall}
-use Rattle.trace_text.specs.LineFields.{begins_with, number_of, CallHead, head_at}
+use Rattle.trace_text.specs.LineFields.{begins_with, field_number, CallHead, head_at}
 use Rattle.trace_text.specs.CallReading.{refused_if, ends_field, arguments_at, last_stamp, call_at}
 use Rattle.trace_text.proofs.NumberFields.{number_read, number_taken}
 use Rattle.trace_text.proofs.HeadLines.{found, split_number, three_joined}
@@ -59,16 +59,16 @@ abbrev at_id : ℕ → ℕ → List ℕ → ℕ → Option CallHead
 at_id writer stamp fields id = Some (record { writer = writer; stamp = stamp; id = id; fields = fields })
 
 abbrev at_stamp : ℕ → List ℕ → ℕ → Option CallHead
-at_stamp writer rest stamp = number_of (first_field rest).0 >>> at_id writer stamp (first_field rest).1
+at_stamp writer rest stamp = field_number (first_field rest).0 >>> at_id writer stamp (first_field rest).1
 
 abbrev at_second : ℕ → List ℕ × List ℕ → Option CallHead
-at_second writer parts = number_of parts.0 >>> at_stamp writer parts.1
+at_second writer parts = field_number parts.0 >>> at_stamp writer parts.1
 
 abbrev at_writer : List ℕ → ℕ → Option CallHead
 at_writer rest writer = split_at_first 32 rest >>> at_second writer
 
 abbrev at_first : List ℕ × List ℕ → Option CallHead
-at_first parts = number_of parts.0 >>> at_writer parts.1
+at_first parts = field_number parts.0 >>> at_writer parts.1
 
 abbrev at_fields : List ℕ → Option CallHead
 at_fields fields = split_at_first 32 fields >>> at_first
@@ -82,10 +82,10 @@ head_taken : (line : List ℕ) (head : CallHead) → head_at line ≡ Some head 
 head_taken line head e =
     let fields = found (after (codes "call ") line) at_fields head e in
     let first = found (split_at_first 32 fields.x) at_first head fields.second in
-    let writer = found (number_of first.x.0) (at_writer first.x.1) head first.second in
+    let writer = found (field_number first.x.0) (at_writer first.x.1) head first.second in
     let second = found (split_at_first 32 first.x.1) (at_second writer.x) head writer.second in
-    let stamp = found (number_of second.x.0) (at_stamp writer.x second.x.1) head second.second in
-    let id = found (number_of (first_field second.x.1).0) (at_id writer.x stamp.x (first_field second.x.1).1) head stamp.second in
+    let stamp = found (field_number second.x.0) (at_stamp writer.x second.x.1) head second.second in
+    let id = found (field_number (first_field second.x.1).0) (at_id writer.x stamp.x (first_field second.x.1).1) head stamp.second in
     let made : CallHead = record { writer = writer.x; stamp = stamp.x; id = id.x; fields = (first_field second.x.1).1 } in
     let same : made ≡ head = same_Some made head id.second in
     let parted = first_taken second.x.1 in

@@ -12,11 +12,11 @@ use Rattle.arg_records.specs.Calls.{log_call, writer_calls}
 use Rattle.direct_printf.specs.Lines.{in_order}
 use Rattle.direct_printf.proofs.Sorting.{in_order-permutation}
 use Rattle.trace_text.specs.Recordings.{Recording, calls_of}
-use Rattle.trace_text.specs.Order.{place_of, places_in_order, call_in}
+use Rattle.trace_text.specs.Order.{call_place, places_in_order, call_in}
 
 -- the call is the one at its place
 abbrev pub IsAtPlace : Recording → LogCall → Type 0
-IsAtPlace run call = call_in run (place_of call) ≡ Some call
+IsAtPlace run call = call_in run (call_place call) ≡ Some call
 
 all-append : (run : Recording) (front back : List LogCall) → AllByRecursion (IsAtPlace run) front → AllByRecursion (IsAtPlace run) back → AllByRecursion (IsAtPlace run) (front ++ back)
 all-append run [] back first second = second
@@ -48,9 +48,9 @@ all_found run n (calls ∷ writers) found =
     (writer_found run n calls (first_found run.writers n calls writers found) 0 calls (λ k. let same : 0 + k ≡ k = omega arith in ap (slice_get calls) same))
     (all_found run (n + 1) writers (rest_found run.writers n calls writers found))
 
-found_again : (run : Recording) (calls : List LogCall) → AllByRecursion (IsAtPlace run) calls → map (call_in run) (map place_of calls) ≡ map Some calls
+found_again : (run : Recording) (calls : List LogCall) → AllByRecursion (IsAtPlace run) calls → map (call_in run) (map call_place calls) ≡ map Some calls
 found_again run [] all = refl
-found_again run (call ∷ calls) all = ap (λ found. found ∷ map (call_in run) (map place_of calls)) all.0 ∙ ap (λ others. Some call ∷ others) (found_again run calls all.1)
+found_again run (call ∷ calls) all = ap (λ found. found ∷ map (call_in run) (map call_place calls)) all.0 ∙ ap (λ others. Some call ∷ others) (found_again run calls all.1)
 
 -- each call in order is the one at its place
 pub all_at_places : (run : Recording) → AllByRecursion (IsAtPlace run) (in_order (calls_of run))

@@ -14,11 +14,11 @@ use Rattle.log_dictionary.proofs.Written.{written_text, written_message}
 use Rattle.arg_records.specs.declared.call.Call.{Call}
 use Rattle.arg_records.specs.Calls.{IsCall, NeverFalls, log_call}
 use Rattle.direct_printf.specs.Lines.{in_order}
-use Rattle.trace_text.specs.declared.order.Place.{Place}
+use Rattle.trace_text.specs.declared.order.CallPlace.{CallPlace}
 use Rattle.trace_text.specs.declared.trace.TheConstants.{MAX_TRACE}
 use Rattle.trace_text.specs.Recordings.{Recording, calls_of}
-use Rattle.trace_text.specs.Order.{place_of}
-use Rattle.trace_text.specs.Lines.{WriterCall, first_line, last_line, clock_line, writers_line, SpellsArguments, SpellsCall, SpellsMessages, SpellsCalls, text_of_lines}
+use Rattle.trace_text.specs.Order.{call_place}
+use Rattle.trace_text.specs.Lines.{WriterCall, first_line, last_line, clock_line, writers_line, SpellsArgumentFields, SpellsCall, SpellsMessages, SpellsCalls, text_of_lines}
 use Rattle.trace_text.specs.Traces.{TraceText, calls_by}
 use Rattle.trace_text.specs.Canonical.{argument_text, call_line, call_text, made_by, made_at, calls_in_order, Canonical, HasBytes, HasCallLine, HasText}
 use Rattle.trace_text.proofs.OwnCalls.{is_of, own_in_order}
@@ -38,7 +38,7 @@ record IsMade (run : Recording) (made : WriterCall) : Type 0 where
   of_writer : slice_get run.writers made.writer ≡ Some calls
   at_ordinal : slice_get calls ordinal ≡ Some made.call
 
-found_made : (run : Recording) (place : Place) (made : WriterCall) → made_at run place ≡ Some made → IsMade run made × (made.writer ≡ place.writer)
+found_made : (run : Recording) (place : CallPlace) (made : WriterCall) → made_at run place ≡ Some made → IsMade run made × (made.writer ≡ place.writer)
 found_made run place made is = by_writer (slice_get run.writers place.writer) refl is
   where
     by_call : (calls : List Call) (o : Option Call) → slice_get run.writers place.writer ≡ Some calls → slice_get calls place.ordinal ≡ o → option_map (made_by place.writer) o ≡ Some made → IsMade run made × (made.writer ≡ place.writer)
@@ -53,7 +53,7 @@ found_made run place made is = by_writer (slice_get run.writers place.writer) re
     by_writer None there found = absurd cc
     by_writer (Some calls) there found = by_call calls (slice_get calls place.ordinal) there refl found
 
-all_made : (run : Recording) (P : WriterCall → Type 0) → ((made : WriterCall) → IsMade run made → P made) → (places : List Place) → AllByRecursion P (filter_map (made_at run) places)
+all_made : (run : Recording) (P : WriterCall → Type 0) → ((made : WriterCall) → IsMade run made → P made) → (places : List CallPlace) → AllByRecursion P (filter_map (made_at run) places)
 all_made run P holds [] = tt
 all_made run P holds (place ∷ places) = at_place (made_at run place) refl (all_made run P holds places)
   where
@@ -65,30 +65,30 @@ all_made run P holds (place ∷ places) = at_place (made_at run place) refl (all
 
 module _ (run : Recording) (writer : ℕ) where
   -- the calls that are its own stand at the places of those that are its own
-  own_places : (calls : List LogCall) → filter (λ (made : WriterCall). eqb made.writer writer) (filter_map (made_at run) (map place_of calls)) ≡ filter_map (made_at run) (map place_of (filter (is_of writer) calls))
+  own_places : (calls : List LogCall) → filter (λ (made : WriterCall). eqb made.writer writer) (filter_map (made_at run) (map call_place calls)) ≡ filter_map (made_at run) (map call_place (filter (is_of writer) calls))
   own_places [] = refl
-  own_places (call ∷ calls) = at_call (made_at run (place_of call)) refl (own_places calls)
+  own_places (call ∷ calls) = at_call (made_at run (call_place call)) refl (own_places calls)
     where
-      with_own : (made : WriterCall) (own : Bool) (others : List LogCall) → made_at run (place_of call) ≡ Some made → filter_map (made_at run) (map place_of (cond own (call ∷ others) others)) ≡ cond own (made ∷ filter_map (made_at run) (map place_of others)) (filter_map (made_at run) (map place_of others))
+      with_own : (made : WriterCall) (own : Bool) (others : List LogCall) → made_at run (call_place call) ≡ Some made → filter_map (made_at run) (map call_place (cond own (call ∷ others) others)) ≡ cond own (made ∷ filter_map (made_at run) (map call_place others)) (filter_map (made_at run) (map call_place others))
       with_own made true others is = rw is refl
       with_own made false others is = refl
 
-      without : (own : Bool) (others : List LogCall) → made_at run (place_of call) ≡ None → filter_map (made_at run) (map place_of (cond own (call ∷ others) others)) ≡ filter_map (made_at run) (map place_of others)
+      without : (own : Bool) (others : List LogCall) → made_at run (call_place call) ≡ None → filter_map (made_at run) (map call_place (cond own (call ∷ others) others)) ≡ filter_map (made_at run) (map call_place others)
       without true others is = rw is refl
       without false others is = refl
 
-      at_call : (o : Option WriterCall) → made_at run (place_of call) ≡ o → filter (λ (made : WriterCall). eqb made.writer writer) (filter_map (made_at run) (map place_of calls)) ≡ filter_map (made_at run) (map place_of (filter (is_of writer) calls))
-          → filter (λ (made : WriterCall). eqb made.writer writer) (cons_option o (filter_map (made_at run) (map place_of calls))) ≡ filter_map (made_at run) (map place_of (cond (is_of writer call) (call ∷ filter (is_of writer) calls) (filter (is_of writer) calls)))
+      at_call : (o : Option WriterCall) → made_at run (call_place call) ≡ o → filter (λ (made : WriterCall). eqb made.writer writer) (filter_map (made_at run) (map call_place calls)) ≡ filter_map (made_at run) (map call_place (filter (is_of writer) calls))
+          → filter (λ (made : WriterCall). eqb made.writer writer) (cons_option o (filter_map (made_at run) (map call_place calls))) ≡ filter_map (made_at run) (map call_place (cond (is_of writer call) (call ∷ filter (is_of writer) calls) (filter (is_of writer) calls)))
       at_call None is behind = behind ∙ sym (without (is_of writer call) (filter (is_of writer) calls) is)
       at_call (Some made) is behind =
-          ap (λ (n : ℕ). cond (eqb n writer) (made ∷ filter (λ (m : WriterCall). eqb m.writer writer) (filter_map (made_at run) (map place_of calls))) (filter (λ (m : WriterCall). eqb m.writer writer) (filter_map (made_at run) (map place_of calls)))) (found_made run (place_of call) made is).1
+          ap (λ (n : ℕ). cond (eqb n writer) (made ∷ filter (λ (m : WriterCall). eqb m.writer writer) (filter_map (made_at run) (map call_place calls))) (filter (λ (m : WriterCall). eqb m.writer writer) (filter_map (made_at run) (map call_place calls)))) (found_made run (call_place call) made is).1
           ∙ ap (λ (others : List WriterCall). cond (is_of writer call) (made ∷ others) others) behind
           ∙ sym (with_own made (is_of writer call) (filter (is_of writer) calls) is)
 
   -- what stands at the places of its calls are its calls
   module _ (calls : List Call) (known : slice_get run.writers writer ≡ Some calls) where
     own_found : (n : ℕ) (rest : List Call) → ((k : ℕ) → slice_get calls (n + k) ≡ slice_get rest k) → AllByRecursion (IsCall run.dictionary) rest
-        → map (λ (made : WriterCall). made.call) (filter_map (made_at run) (map place_of (filter_map (log_call run.dictionary writer) (enumerate_from n rest)))) ≡ rest
+        → map (λ (made : WriterCall). made.call) (filter_map (made_at run) (map call_place (filter_map (log_call run.dictionary writer) (enumerate_from n rest)))) ≡ rest
     own_found n [] found all = refl
     own_found n (call ∷ rest) found all =
         let here : slice_get calls n ≡ Some call = ap (slice_get calls) (sym (add-zero n)) ∙ found 0 in
@@ -99,7 +99,7 @@ module _ (run : Recording) (writer : ℕ) where
     own_again has =
         let all = has.recorded.calls in
         let own = item_has (AllByRecursion (IsCall run.dictionary)) run.writers writer calls all known in
-        ap (map (λ (made : WriterCall). made.call)) (own_places (in_order (calls_of run)) ∙ ap (λ (cs : List LogCall). filter_map (made_at run) (map place_of cs)) (own_in_order run.dictionary run.writers writer run.clock.tick calls known all own (item_has (NeverFalls run.clock.tick) run.writers writer calls has.recorded.stamps known)))
+        ap (map (λ (made : WriterCall). made.call)) (own_places (in_order (calls_of run)) ∙ ap (λ (cs : List LogCall). filter_map (made_at run) (map call_place cs)) (own_in_order run.dictionary run.writers writer run.clock.tick calls known all own (item_has (NeverFalls run.clock.tick) run.writers writer calls has.recorded.stamps known)))
         ∙ own_found 0 calls (λ k. let same : 0 + k ≡ k = omega arith in ap (slice_get calls) same) own
 
 restored : (f : ℕ → List Call) (n : ℕ) (writers : List (List Call)) → ((k : ℕ) (calls : List Call) → slice_get writers k ≡ Some calls → f (n + k) ≡ calls) → writers ≡ map f (range_with_len n (length writers))
@@ -146,7 +146,7 @@ spells_messages : (n : ℕ) (messages : List Message) → n + length messages �
 spells_messages n [] few all = tt
 spells_messages n (message ∷ messages) few all = (written_message n message (omega (arith, few)) all.0, spells_messages (n + 1) messages (omega (arith, few)) all.1)
 
-spells_arguments : (args : List Value) → AllByRecursion HasBytes args → SpellsArguments (flat_map argument_text args) args
+spells_arguments : (args : List Value) → AllByRecursion HasBytes args → SpellsArgumentFields (flat_map argument_text args) args
 spells_arguments [] all = refl
 spells_arguments (values.Signed z ∷ args) all = (_, flat_map argument_text args, refl, refl, spells_arguments args all.1)
 spells_arguments (values.Unsigned n ∷ args) all = (_, flat_map argument_text args, refl, refl, spells_arguments args all.1)

@@ -5,7 +5,7 @@ use Rattle.std.proofs.lemmas.List.Elements.{recursion_from_All}
 use Rattle.log_dictionary.specs.Fields.{IsFirstSplit}
 use Rattle.trace_text.specs.Lines.{text_of_lines}
 use Rattle.std.specs.List.{AllByRecursion}
-use Rattle.trace_text.specs.Reading.{IsOneLine, IsCut}
+use Rattle.trace_text.specs.Reading.{IsOneLine, IsCutIntoLines}
 
 -- ---- every list of bytes is cut in one way
 
@@ -13,7 +13,7 @@ use Rattle.trace_text.specs.Reading.{IsOneLine, IsCut}
 pub record CutOf (bytes : List ℕ) : Type 0 where
   pub lines : List (List ℕ)
   pub rest : List ℕ
-  pub cut : IsCut bytes lines rest
+  pub cut : IsCutIntoLines bytes lines rest
 
 -- a byte more in front, which ends an empty line
 cut_at_feed : (byte : ℕ) (bytes : List ℕ) → byte ≡ 10 → CutOf bytes → CutOf (byte ∷ bytes)
@@ -24,7 +24,7 @@ cut_at_feed byte bytes feed found = record {
 }
 
 -- a byte more in front, which is the first one of the first line, or of the rest
-longer : (byte : ℕ) (bytes : List ℕ) (lines : List (List ℕ)) (rest : List ℕ) → byte ≢ 10 → IsCut bytes lines rest → CutOf (byte ∷ bytes)
+longer : (byte : ℕ) (bytes : List ℕ) (lines : List (List ℕ)) (rest : List ℕ) → byte ≢ 10 → IsCutIntoLines bytes lines rest → CutOf (byte ∷ bytes)
 longer byte bytes [] rest no_feed cut = record {
   lines = [];
   rest = byte ∷ rest;
@@ -47,7 +47,7 @@ cut_of (byte ∷ bytes) = cut_more byte bytes (eqb byte 10) refl (cut_of bytes)
 -- ---- the first line
 
 -- a line in front of what is cut
-pub cut_behind : (bytes line behind : List ℕ) (lines : List (List ℕ)) (rest : List ℕ) → IsFirstSplit 10 bytes line behind → IsCut behind lines rest → IsCut bytes (line ∷ lines) rest
+pub cut_behind : (bytes line behind : List ℕ) (lines : List (List ℕ)) (rest : List ℕ) → IsFirstSplit 10 bytes line behind → IsCutIntoLines behind lines rest → IsCutIntoLines bytes (line ∷ lines) rest
 cut_behind bytes line behind lines rest split cut = record {
   joined = split.parts ∙ ap (λ (r : List ℕ). line ++ 10 ∷ r) cut.joined ∙ sym (append_assoc line (10 ∷ text_of_lines lines) rest);
   whole = (recursion_from_All (λ byte. byte ≢ 10) line split.first, cut.whole);
@@ -55,11 +55,11 @@ cut_behind bytes line behind lines rest split cut = record {
 }
 
 -- bytes in which no line ends
-pub cut_unended : (bytes : List ℕ) → All (λ byte. byte ≢ 10) bytes → IsCut bytes [] bytes
+pub cut_unended : (bytes : List ℕ) → All (λ byte. byte ≢ 10) bytes → IsCutIntoLines bytes [] bytes
 cut_unended bytes none = record { joined = refl; whole = tt; unended = recursion_from_All (λ byte. byte ≢ 10) bytes none }
 
 -- whole lines in front of what is cut
-pub cut_lines : (lines : List (List ℕ)) (bytes : List ℕ) (more : List (List ℕ)) (rest : List ℕ) → AllByRecursion IsOneLine lines → IsCut bytes more rest → IsCut (text_of_lines lines ++ bytes) (lines ++ more) rest
+pub cut_lines : (lines : List (List ℕ)) (bytes : List ℕ) (more : List (List ℕ)) (rest : List ℕ) → AllByRecursion IsOneLine lines → IsCutIntoLines bytes more rest → IsCutIntoLines (text_of_lines lines ++ bytes) (lines ++ more) rest
 cut_lines [] bytes more rest whole cut = cut
 cut_lines (line ∷ lines) bytes more rest whole cut =
     let others = cut_lines lines bytes more rest whole.1 cut in

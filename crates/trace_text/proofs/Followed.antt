@@ -9,7 +9,7 @@ use Rattle.trace_text.specs.Recordings.{Recording}
 use Rattle.trace_text.specs.Lines.{text_of_lines}
 use Rattle.trace_text.specs.Traces.{TraceText}
 use Rattle.trace_text.specs.Reading as parts
-use Rattle.trace_text.specs.Reading.{Part, Broken, IsOneLine, IsCut, Reads, Gives, TraceBreak}
+use Rattle.trace_text.specs.Reading.{TracePart, Broken, IsOneLine, IsCutIntoLines, ReadsLines, Gives, TraceBreak}
 use Rattle.trace_text.proofs.Cuts.{CutOf, cut_of, cut_lines}
 use Rattle.trace_text.proofs.Steps.{refused_after}
 use Rattle.trace_text.proofs.OneOutcome.{one_cut}
@@ -19,11 +19,11 @@ use Rattle.trace_text.proofs.ToldApart.{ok_of, err_of, same_break, no_run_breaks
 -- ---- where a refusal stands
 
 -- what is given where no whole line is left
-abbrev AtEnd : Part → ℕ → List ℕ → ℕ → TraceCause → Type 0
+abbrev AtEnd : TracePart → ℕ → List ℕ → ℕ → TraceCause → Type 0
 AtEnd part n rest line cause = err_of line cause ≡ parts.at_end part n rest
 
 -- it is that of the next line, and the end is wanting there or isn't the last
-at_next : (part : Part) (n : ℕ) (rest : List ℕ) (line : ℕ) (cause : TraceCause) → AtEnd part n rest line cause → (line ≡ n) × (cause ≢ NoEnd → cause ≢ AfterEnd → ⊥)
+at_next : (part : TracePart) (n : ℕ) (rest : List ℕ) (line : ℕ) (cause : TraceCause) → AtEnd part n rest line cause → (line ≡ n) × (cause ≢ NoEnd → cause ≢ AfterEnd → ⊥)
 at_next parts.opening n rest line cause e = let same = same_break line n cause NoEnd e in (same.0, λ no_end last. no_end same.1)
 at_next (parts.messages before) n rest line cause e = let same = same_break line n cause NoEnd e in (same.0, λ no_end last. no_end same.1)
 at_next (parts.clock dictionary time) n rest line cause e = let same = same_break line n cause NoEnd e in (same.0, λ no_end last. no_end same.1)
@@ -32,33 +32,33 @@ at_next (parts.ended run) n [] line cause e = absurd (no_run_breaks run line cau
 at_next (parts.ended run) n (byte ∷ rest) line cause e = let same = same_break line n cause AfterEnd e in (same.0, λ no_end last. last same.1)
 
 -- no line that was read before is refused
-not_before : (part : Part) (n : ℕ) (lines : List (List ℕ)) (rest : List ℕ) (line : ℕ) (cause : TraceCause) → Reads part n lines rest (err_of line cause) → n ≤ line
+not_before : (part : TracePart) (n : ℕ) (lines : List (List ℕ)) (rest : List ℕ) (line : ℕ) (cause : TraceCause) → ReadsLines part n lines rest (err_of line cause) → n ≤ line
 not_before part n [] rest line cause reads = omega (arith, (at_next part n rest line cause reads).0)
 not_before part n (first ∷ lines) rest line cause (inl (next, follows, reads)) = omega (arith, not_before next (n + 1) lines rest line cause reads)
 not_before part n (first ∷ lines) rest line cause (inr (other, breaks, is)) = omega (arith, (same_break line n cause other is).0)
 
 -- the line that is refused is one of the whole ones, but where the end is wanting or isn't the last
-within_lines : (part : Part) (n : ℕ) (lines : List (List ℕ)) (rest : List ℕ) (line : ℕ) (cause : TraceCause) → cause ≢ NoEnd → cause ≢ AfterEnd → Reads part n lines rest (err_of line cause) → line < n + length lines
+within_lines : (part : TracePart) (n : ℕ) (lines : List (List ℕ)) (rest : List ℕ) (line : ℕ) (cause : TraceCause) → cause ≢ NoEnd → cause ≢ AfterEnd → ReadsLines part n lines rest (err_of line cause) → line < n + length lines
 within_lines part n [] rest line cause no_end last reads = absurd ((at_next part n rest line cause reads).1 no_end last)
 within_lines part n (first ∷ lines) rest line cause no_end last (inl (next, follows, reads)) = omega (arith, within_lines next (n + 1) lines rest line cause no_end last reads)
 within_lines part n (first ∷ lines) rest line cause no_end last (inr (other, breaks, is)) = omega (arith, (same_break line n cause other is).0)
 
 -- ---- other lines behind the one that is refused
 
-stays : (part : Part) (n : ℕ) (lines more others : List (List ℕ)) (rest other : List ℕ) (line : ℕ) (cause : TraceCause) → line < n + length lines → Reads part n (lines ++ more) rest (err_of line cause) → Reads part n (lines ++ others) other (err_of line cause)
+stays : (part : TracePart) (n : ℕ) (lines more others : List (List ℕ)) (rest other : List ℕ) (line : ℕ) (cause : TraceCause) → line < n + length lines → ReadsLines part n (lines ++ more) rest (err_of line cause) → ReadsLines part n (lines ++ others) other (err_of line cause)
 stays part n [] more others rest other line cause within reads = absurd (omega (arith, within, not_before part n more rest line cause reads))
 stays part n (first ∷ lines) more others rest other line cause within (inl (next, follows, reads)) = inl (next, follows, stays next (n + 1) lines more others rest other line cause (omega (arith, within)) reads)
 stays part n (first ∷ lines) more others rest other line cause within (inr breaks) = inr breaks
 
 -- how a text is read that begins with these lines
 reads_lines : (lines : List (List ℕ)) (rest : List ℕ) (outcome : Result Recording Broken) → AllByRecursion IsOneLine lines → Gives parts.opening 1 (text_of_lines lines ++ rest) outcome
-    → let found = cut_of rest in Reads parts.opening 1 (lines ++ found.lines) found.rest outcome
+    → let found = cut_of rest in ReadsLines parts.opening 1 (lines ++ found.lines) found.rest outcome
 reads_lines lines rest outcome whole gives =
     let found = cut_of rest in
     let same = one_cut (text_of_lines lines ++ rest) gives.lines (lines ++ found.lines) gives.rest found.rest gives.cut (cut_lines lines rest found.lines found.rest whole found.cut) in
-    subst (λ (last : List ℕ). Reads parts.opening 1 (lines ++ found.lines) last outcome) same.1 (subst (λ (all : List (List ℕ)). Reads parts.opening 1 all gives.rest outcome) same.0 gives.reads)
+    subst (λ (last : List ℕ). ReadsLines parts.opening 1 (lines ++ found.lines) last outcome) same.1 (subst (λ (all : List (List ℕ)). ReadsLines parts.opening 1 all gives.rest outcome) same.0 gives.reads)
 
-gives_lines : (lines : List (List ℕ)) (rest : List ℕ) (outcome : Result Recording Broken) → AllByRecursion IsOneLine lines → let found = cut_of rest in Reads parts.opening 1 (lines ++ found.lines) found.rest outcome
+gives_lines : (lines : List (List ℕ)) (rest : List ℕ) (outcome : Result Recording Broken) → AllByRecursion IsOneLine lines → let found = cut_of rest in ReadsLines parts.opening 1 (lines ++ found.lines) found.rest outcome
     → Gives parts.opening 1 (text_of_lines lines ++ rest) outcome
 gives_lines lines rest outcome whole reads =
     let found = cut_of rest in
@@ -98,7 +98,7 @@ some_bytes [] some = absurd (omega (arith, some))
 some_bytes (byte ∷ bytes) some = (byte, bytes, refl)
 
 -- what a part at its end says of a run
-ends_run : (part : Part) (n byte : ℕ) (bytes : List ℕ) (run : Recording) → ok_of run ≡ parts.at_end part n [] → let found = cut_of (byte ∷ bytes) in Reads part n found.lines found.rest (err_of n AfterEnd)
+ends_run : (part : TracePart) (n byte : ℕ) (bytes : List ℕ) (run : Recording) → ok_of run ≡ parts.at_end part n [] → let found = cut_of (byte ∷ bytes) in ReadsLines part n found.lines found.rest (err_of n AfterEnd)
 ends_run parts.opening n byte bytes run e = absurd cc
 ends_run (parts.messages before) n byte bytes run e = absurd cc
 ends_run (parts.clock dictionary time) n byte bytes run e = absurd cc
@@ -107,19 +107,19 @@ ends_run (parts.ended other) n byte bytes run e =
     let found = cut_of (byte ∷ bytes) in
     let gives = refused_after other n byte bytes in
     let same = one_cut (byte ∷ bytes) gives.lines found.lines gives.rest found.rest gives.cut found.cut in
-    subst (λ (last : List ℕ). Reads (parts.ended other) n found.lines last (err_of n AfterEnd)) same.1 (subst (λ (all : List (List ℕ)). Reads (parts.ended other) n all gives.rest (err_of n AfterEnd)) same.0 gives.reads)
+    subst (λ (last : List ℕ). ReadsLines (parts.ended other) n found.lines last (err_of n AfterEnd)) same.1 (subst (λ (all : List (List ℕ)). ReadsLines (parts.ended other) n all gives.rest (err_of n AfterEnd)) same.0 gives.reads)
 
 -- lines that give a run give none with more bytes behind them
-reads_more : (part : Part) (n byte : ℕ) (lines : List (List ℕ)) (bytes : List ℕ) (run : Recording) → Reads part n lines [] (ok_of run) → let found = cut_of (byte ∷ bytes) in Reads part n (lines ++ found.lines) found.rest (err_of (n + length lines) AfterEnd)
-reads_more part n byte [] bytes run reads = let found = cut_of (byte ∷ bytes) in let same : n ≡ n + 0 = omega arith in subst (λ (line : ℕ). Reads part n found.lines found.rest (err_of line AfterEnd)) same (ends_run part n byte bytes run reads)
+reads_more : (part : TracePart) (n byte : ℕ) (lines : List (List ℕ)) (bytes : List ℕ) (run : Recording) → ReadsLines part n lines [] (ok_of run) → let found = cut_of (byte ∷ bytes) in ReadsLines part n (lines ++ found.lines) found.rest (err_of (n + length lines) AfterEnd)
+reads_more part n byte [] bytes run reads = let found = cut_of (byte ∷ bytes) in let same : n ≡ n + 0 = omega arith in subst (λ (line : ℕ). ReadsLines part n found.lines found.rest (err_of line AfterEnd)) same (ends_run part n byte bytes run reads)
 reads_more part n byte (line ∷ lines) bytes run (inl (next, follows, reads)) =
     let found = cut_of (byte ∷ bytes) in
     let same : n + 1 + length lines ≡ n + length (line ∷ lines) = omega arith in
-    inl (next, follows, subst (λ (at : ℕ). Reads next (n + 1) (lines ++ found.lines) found.rest (err_of at AfterEnd)) same (reads_more next (n + 1) byte lines bytes run reads))
+    inl (next, follows, subst (λ (at : ℕ). ReadsLines next (n + 1) (lines ++ found.lines) found.rest (err_of at AfterEnd)) same (reads_more next (n + 1) byte lines bytes run reads))
 reads_more part n byte (line ∷ lines) bytes run (inr (cause, breaks, is)) = absurd (no_run_breaks run n cause is)
 
 -- nothing is left behind the last line
-ends_whole : (part : Part) (n : ℕ) (lines : List (List ℕ)) (rest : List ℕ) (run : Recording) → Reads part n lines rest (ok_of run) → rest ≡ []
+ends_whole : (part : TracePart) (n : ℕ) (lines : List (List ℕ)) (rest : List ℕ) (run : Recording) → ReadsLines part n lines rest (ok_of run) → rest ≡ []
 ends_whole parts.opening n [] rest run reads = absurd cc
 ends_whole (parts.messages before) n [] rest run reads = absurd cc
 ends_whole (parts.clock dictionary time) n [] rest run reads = absurd cc
@@ -135,14 +135,14 @@ refused_behind_end bytes rest run text some short =
     let gives = text_reads bytes run text in
     let behind = some_bytes rest some in
     let nothing = ends_whole parts.opening 1 gives.lines gives.rest run gives.reads in
-    let reads = subst (λ (last : List ℕ). Reads parts.opening 1 gives.lines last (ok_of run)) nothing gives.reads in
+    let reads = subst (λ (last : List ℕ). ReadsLines parts.opening 1 gives.lines last (ok_of run)) nothing gives.reads in
     let lined : bytes ≡ text_of_lines gives.lines = gives.cut.joined ∙ ap (λ (last : List ℕ). text_of_lines gives.lines ++ last) nothing ∙ append-nil (text_of_lines gives.lines) in
     let line = 1 + length gives.lines in
     let refused = gives_lines gives.lines (behind.0 ∷ behind.1) (err_of line AfterEnd) gives.cut.whole (reads_more parts.opening 1 behind.0 gives.lines behind.1 run reads) in
     (line, inr (short, subst (λ (whole : List ℕ). Gives parts.opening 1 whole (err_of line AfterEnd)) (ap (λ (all : List ℕ). all ++ behind.0 ∷ behind.1) (sym lined) ∙ ap (λ (last : List ℕ). bytes ++ last) (sym behind.2)) refused))
 
 -- the part where a line more is right says that the end is wanting
-wants_end : (part : Part) (n : ℕ) (line : List ℕ) (lines : List (List ℕ)) (rest last : List ℕ) (run : Recording) → Reads part n (line ∷ lines) rest (ok_of run) → err_of n NoEnd ≡ parts.at_end part n last
+wants_end : (part : TracePart) (n : ℕ) (line : List ℕ) (lines : List (List ℕ)) (rest last : List ℕ) (run : Recording) → ReadsLines part n (line ∷ lines) rest (ok_of run) → err_of n NoEnd ≡ parts.at_end part n last
 wants_end parts.opening n line lines rest last run reads = refl
 wants_end (parts.messages before) n line lines rest last run reads = refl
 wants_end (parts.clock dictionary time) n line lines rest last run reads = refl
@@ -151,14 +151,14 @@ wants_end (parts.ended other) n line lines rest last run (inl (next, follows, re
 wants_end (parts.ended other) n line lines rest last run (inr (cause, breaks, is)) = absurd (no_run_breaks run n cause is)
 
 -- the first of the lines that give a run give none
-reads_fewer : (part : Part) (n : ℕ) (lines : List (List ℕ)) (line : List ℕ) (others : List (List ℕ)) (rest last : List ℕ) (run : Recording) → Reads part n (lines ++ line ∷ others) rest (ok_of run) → Reads part n lines last (err_of (n + length lines) NoEnd)
+reads_fewer : (part : TracePart) (n : ℕ) (lines : List (List ℕ)) (line : List ℕ) (others : List (List ℕ)) (rest last : List ℕ) (run : Recording) → ReadsLines part n (lines ++ line ∷ others) rest (ok_of run) → ReadsLines part n lines last (err_of (n + length lines) NoEnd)
 reads_fewer part n [] line others rest last run reads = let same : n ≡ n + 0 = omega arith in subst (λ (at : ℕ). err_of at NoEnd ≡ parts.at_end part n last) same (wants_end part n line others rest last run reads)
 reads_fewer part n (first ∷ lines) line others rest last run (inl (next, follows, reads)) =
     let same : n + 1 + length lines ≡ n + length (first ∷ lines) = omega arith in
-    inl (next, follows, subst (λ (at : ℕ). Reads next (n + 1) lines last (err_of at NoEnd)) same (reads_fewer next (n + 1) lines line others rest last run reads))
+    inl (next, follows, subst (λ (at : ℕ). ReadsLines next (n + 1) lines last (err_of at NoEnd)) same (reads_fewer next (n + 1) lines line others rest last run reads))
 reads_fewer part n (first ∷ lines) line others rest last run (inr (cause, breaks, is)) = absurd (no_run_breaks run n cause is)
 
-lacks_end : (front rest : List ℕ) (run : Recording) (found : CutOf front) (lines : List (List ℕ)) (last : List ℕ) → IsCut (found.rest ++ rest) lines last → Reads parts.opening 1 (found.lines ++ lines) last (ok_of run) → 1 ≤ length rest
+lacks_end : (front rest : List ℕ) (run : Recording) (found : CutOf front) (lines : List (List ℕ)) (last : List ℕ) → IsCutIntoLines (found.rest ++ rest) lines last → ReadsLines parts.opening 1 (found.lines ++ lines) last (ok_of run) → 1 ≤ length rest
     → Gives parts.opening 1 front (err_of (1 + length found.lines) NoEnd)
 lacks_end front rest run found [] last cut reads some =
     let nothing = ends_whole parts.opening 1 (found.lines ++ []) last run reads in

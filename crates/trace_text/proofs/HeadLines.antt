@@ -2,13 +2,13 @@
 use Rattle.std.proofs.Common.{◌≡◌, ◌≢◌, ℕ, ◌<◌, ◌≤◌, ◌^◌, Bool, true, false, cond, eqb, leb, List, ◌∷◌, ◌++◌, Option, Some, None, refl, sym, ap, ◌∙◌, subst, append_assoc, inl, arith}
 use Rattle.std.specs.Prelude.{codes, decimal, ◌&&◌}
 use Rattle.std.proofs.lemmas.Bool.{eqb-false, ne_eqb, and_parts, leb-true, le-leb}
-use Rattle.arg_records.specs.declared.call.TheConstants.{MAX_WRITERS}
 use Rattle.log_dictionary.specs.declared.clock.Clock.{Clock}
 use Rattle.log_dictionary.specs.Fields.{◌>>=◌, after, split_at_first}
 use Rattle.log_dictionary.proofs.Splits.{split_again, split_takes, after_takes}
 use Rattle.log_dictionary.proofs.Lines.{decimal_none}
+use Rattle.session_options.specs.declared.limits.TheConstants.{MAX_WRITERS}
 use Rattle.trace_text.specs.Lines.{clock_line, writers_line, FitsLine}
-use Rattle.trace_text.specs.LineFields.{number_of, clock_of, clock_at, writer_count, writers_at}
+use Rattle.trace_text.specs.LineFields.{field_number, clock_of, clock_at, writer_count, writers_at}
 use Rattle.trace_text.proofs.NumberFields.{number_read, number_taken}
 
 -- what came of a part that was found
@@ -55,16 +55,16 @@ abbrev at_rate : ℕ → ℕ → ℕ → Option Clock
 at_rate tick nanos rate = cond (eqb rate 0) None (Some (record { tick = tick; nanos = nanos; rate = rate }))
 
 abbrev at_nanos : ℕ → List ℕ → ℕ → Option Clock
-at_nanos tick last nanos = number_of last >>= at_rate tick nanos
+at_nanos tick last nanos = field_number last >>= at_rate tick nanos
 
 abbrev at_second : ℕ → List ℕ × List ℕ → Option Clock
-at_second tick parts = number_of parts.0 >>= at_nanos tick parts.1
+at_second tick parts = field_number parts.0 >>= at_nanos tick parts.1
 
 abbrev at_tick : List ℕ → ℕ → Option Clock
 at_tick rest tick = split_at_first 32 rest >>= at_second tick
 
 abbrev at_first : List ℕ × List ℕ → Option Clock
-at_first parts = number_of parts.0 >>= at_tick parts.1
+at_first parts = field_number parts.0 >>= at_tick parts.1
 
 made_at : (b : Bool) (made clock : Clock) → cond b None (Some made) ≡ Some clock → (b ≡ false) × (made ≡ clock)
 made_at true made clock e = absurd cc
@@ -75,10 +75,10 @@ pub clock_taken : (line : List ℕ) (clock : Clock) → clock_at line ≡ Some c
 clock_taken line clock e =
     let fields = found (after (codes "clock ") line) clock_of clock e in
     let first = found (split_at_first 32 fields.x) at_first clock fields.second in
-    let tick = found (number_of first.x.0) (at_tick first.x.1) clock first.second in
+    let tick = found (field_number first.x.0) (at_tick first.x.1) clock first.second in
     let second = found (split_at_first 32 first.x.1) (at_second tick.x) clock tick.second in
-    let nanos = found (number_of second.x.0) (at_nanos tick.x second.x.1) clock second.second in
-    let rate = found (number_of second.x.1) (at_rate tick.x nanos.x) clock nanos.second in
+    let nanos = found (field_number second.x.0) (at_nanos tick.x second.x.1) clock second.second in
+    let rate = found (field_number second.x.1) (at_rate tick.x nanos.x) clock nanos.second in
     let made : Clock = record { tick = tick.x; nanos = nanos.x; rate = rate.x } in
     let last = made_at (eqb rate.x 0) made clock rate.second in
     let tick_is = number_taken first.x.0 tick.x tick.first in
@@ -114,8 +114,8 @@ counted false found count e = absurd cc
 -- the line of which a number of writers is read is that number's
 pub writers_taken : (line : List ℕ) (count : ℕ) → writers_at line ≡ Some count → SaysWriters line count
 writers_taken line count e =
-    let number = found (after (codes "writers ") line >>= number_of) writer_count count e in
-    let field = found (after (codes "writers ") line) number_of number.x number.first in
+    let number = found (after (codes "writers ") line >>= field_number) writer_count count e in
+    let field = found (after (codes "writers ") line) field_number number.x number.first in
     let last = counted (leb 1 number.x && leb number.x MAX_WRITERS) number.x count number.second in
     let both = and_parts (leb 1 number.x) (leb number.x MAX_WRITERS) last.0 in
     let is = number_taken field.x number.x field.second in

@@ -32,6 +32,3 @@ pub mod CallTexts
 pub mod OwnCalls
 pub mod CanonicalLaws
 pub mod SpelledRuns
-pub mod GeneratedFormats
-pub mod GeneratedCalls
-pub mod GeneratedTexts

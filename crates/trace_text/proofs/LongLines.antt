@@ -23,13 +23,13 @@ use Rattle.trace_text.specs.declared.cause.TraceCause.{TraceCause}
 use Rattle.trace_text.specs.declared.cause.TraceCause.TheVariants.{TooMany, CallForm, ArgKind, TooLong}
 use Rattle.trace_text.specs.declared.trace.TheConstants.{MAX_CALLS}
 use Rattle.trace_text.specs.Recordings.{Recording}
-use Rattle.trace_text.specs.Lines.{last_line, SpellsArguments, SpellsCall}
+use Rattle.trace_text.specs.Lines.{last_line, SpellsArgumentFields, SpellsCall}
 use Rattle.trace_text.specs.LineFields.{CallHead, head_at}
-use Rattle.trace_text.specs.CallReading.{◌>>=◌, Item, last_stamp, item_behind, item_at, text_of, arguments_at, call_at}
+use Rattle.trace_text.specs.CallReading.{◌>>=◌, Item, last_stamp, item_behind, item_at, checked_text, arguments_at, call_at}
 use Rattle.trace_text.specs.CallReading.Item.{text}
 use Rattle.trace_text.specs.Reading as parts
 use Rattle.trace_text.specs.Reading.{Follows, Breaks}
-use Rattle.trace_text.specs.Rows.{begun_run, letters, texts_line, texts_made, many_calls}
+use Rattle.trace_text.specs.Rows.{begun_run, letters_text, texts_line, texts_made, many_calls}
 use Rattle.trace_text.proofs.Worked.{high, plain_text}
 use Rattle.trace_text.proofs.RecordingLaws.{row_is_call, calls_recorded}
 use Rattle.trace_text.proofs.ArgumentLines.{arguments_read}
@@ -44,13 +44,13 @@ abbrev two_texts : ℕ → ℕ → List Value
 two_texts n m = Text (replicate n 97) ∷ Text (replicate m 97) ∷ []
 
 abbrev texts_head : ℕ → ℕ → CallHead
-texts_head n m = record { writer = 0; stamp = 1003; id = 1; fields = letters n ++ letters m }
+texts_head n m = record { writer = 0; stamp = 1003; id = 1; fields = letters_text n ++ letters_text m }
 
 spelled : (n : ℕ) → SpellsText (replicate n 97) (replicate n 97)
 spelled n = plain_text (replicate n 97) (all_copies IsPlain 97 n (high 97 (lit≤ tt) (lit≤ tt)))
 
-both_spelled : (n m : ℕ) → SpellsArguments (letters n ++ letters m) (two_texts n m)
-both_spelled n m = (34 ∷ replicate n 97 ++ 34 ∷ [], letters m, refl, (replicate n 97, refl, spelled n), (34 ∷ replicate m 97 ++ 34 ∷ [], [], sym (append-nil (letters m)), (replicate m 97, refl, spelled m), refl))
+both_spelled : (n m : ℕ) → SpellsArgumentFields (letters_text n ++ letters_text m) (two_texts n m)
+both_spelled n m = (34 ∷ replicate n 97 ++ 34 ∷ [], letters_text m, refl, (replicate n 97, refl, spelled n), (34 ∷ replicate m 97 ++ 34 ∷ [], [], sym (append-nil (letters_text m)), (replicate m 97, refl, spelled m), refl))
 
 is_text : (n : ℕ) → n ≤ 4000 → IsText (replicate n 97)
 is_text n small = record { short = omega (arith, length-replicate {A = ℕ} n 97, small); no_nul = all_copies (λ b. b ≢ 0) 97 n (λ e. omega (arith, e)) }
@@ -60,12 +60,12 @@ head_is : (n m : ℕ) → head_at (texts_line n m) ≡ Some (texts_head n m)
 unfolding digits
 head_is n m = head_read (texts_head n m) (record { writer = lit< tt; stamp = lit< tt; id = lit< tt; ends = refl })
 
-begun : (n m : ℕ) → call_at begun_run (texts_line n m) ≡ (arguments_at (types.Text ∷ types.Text ∷ []) (letters n ++ letters m) >>= with_args (texts_head n m))
+begun : (n m : ℕ) → call_at begun_run (texts_line n m) ≡ (arguments_at (types.Text ∷ types.Text ∷ []) (letters_text n ++ letters_text m) >>= with_args (texts_head n m))
 begun n m = ap (λ (o : Option CallHead). ok_or o CallForm >>= with_head begun_run) (head_is n m)
 
 -- two texts that are short enough are read
-both_read : (n m : ℕ) → n ≤ 4000 → m ≤ 4000 → arguments_at (types.Text ∷ types.Text ∷ []) (letters n ++ letters m) ≡ Ok (two_texts n m)
-both_read n m first second = arguments_read (types.Text ∷ types.Text ∷ []) (letters n ++ letters m) (two_texts n m) (both_spelled n m) (is_text n first, (is_text m second, tt))
+both_read : (n m : ℕ) → n ≤ 4000 → m ≤ 4000 → arguments_at (types.Text ∷ types.Text ∷ []) (letters_text n ++ letters_text m) ≡ Ok (two_texts n m)
+both_read n m first second = arguments_read (types.Text ∷ types.Text ∷ []) (letters_text n ++ letters_text m) (two_texts n m) (both_spelled n m) (is_text n first, (is_text m second, tt))
 
 frame_is : (n m : ℕ) → FrameLen (two_texts n m) ≡ 4 + (n + 7) / 8 + (m + 7) / 8
 frame_is n m = omega (arith, ap (λ (k : ℕ). (k + 7) / 8) (length-replicate {A = ℕ} n 97), ap (λ (k : ℕ). (k + 7) / 8) (length-replicate {A = ℕ} m 97))
@@ -88,7 +88,7 @@ first_item n rest =
     let bytes = 34 ∷ replicate n 97 ++ 34 ∷ 32 ∷ rest in
     ap (item_behind bytes) (opens_read bytes (replicate n 97) (32 ∷ rest) (record { spelled = replicate n 97; whole = refl; spells = spelled n }))
 
-long_value : (n : ℕ) → 4000 < n → text_of (replicate n 97) ≡ Err TooLong
+long_value : (n : ℕ) → 4000 < n → checked_text (replicate n 97) ≡ Err TooLong
 long_value n long =
     let bytes : List ℕ = replicate n 97 in
     let more : nat_lt MAX_TEXT (length bytes) ≡ true = lt-ltb MAX_TEXT (length bytes) (omega (arith, length-replicate {A = ℕ} n 97, long)) in
@@ -98,9 +98,9 @@ pub long_text : (n m : ℕ) → 4000 < n → call_at begun_run (texts_line n m) 
 long_text n m long =
     begun n m
     ∙ ap (λ (args : Result (List Value) TraceCause). args >>= with_args (texts_head n m)) (
-    ap (λ (bytes : List ℕ). arguments_at (types.Text ∷ types.Text ∷ []) (32 ∷ bytes)) (append_assoc (34 ∷ replicate n 97) (34 ∷ []) (letters m))
+    ap (λ (bytes : List ℕ). arguments_at (types.Text ∷ types.Text ∷ []) (32 ∷ bytes)) (append_assoc (34 ∷ replicate n 97) (34 ∷ []) (letters_text m))
     ∙ ap (λ (item : Option (Item × List ℕ)). ok_or item ArgKind >>= with_item types.Text (types.Text ∷ [])) (first_item n (34 ∷ replicate m 97 ++ 34 ∷ []))
-    ∙ ap (λ (value : Result Value TraceCause). value >>= with_value (types.Text ∷ []) (letters m)) (long_value n long)
+    ∙ ap (λ (value : Result Value TraceCause). value >>= with_value (types.Text ∷ []) (letters_text m)) (long_value n long)
     )
 
 -- ---- full runs

@@ -13,7 +13,7 @@ use Rattle.log_dictionary.specs.Severities.{severity_name}
 use Rattle.log_dictionary.specs.Texts.{IsPlain, SpellsByte, itself, quotation_mark, backslash, line_feed, tab, hexadecimal, SpellsText}
 use Rattle.log_dictionary.specs.Messages.{SpellsMessage}
 use Rattle.log_dictionary.proofs.Lines.{none_by_test, severity_none, natural_none}
-use Rattle.trace_text.specs.Lines.{first_line, last_line, clock_line, writers_line, SpellsArgument, SpellsArguments, WriterCall, SpellsCall}
+use Rattle.trace_text.specs.Lines.{first_line, last_line, clock_line, writers_line, SpellsArgument, SpellsArgumentFields, WriterCall, SpellsCall}
 use Rattle.trace_text.specs.Reading.{IsOneLine}
 use Rattle.trace_text.proofs.DecimalBytes.{decimal_all}
 
@@ -102,7 +102,7 @@ argument_is_line field (values.Unsigned n) is = subst IsOneLine (sym is) (number
 argument_is_line field (values.Text bytes) (spelled, is, text) =
     subst IsOneLine (sym is) (joined (34 ∷ spelled) (34 ∷ []) ((λ e. omega (arith, e)), text_is_line spelled bytes text) (none_by_test 10 (34 ∷ []) refl))
 
-arguments_are_line : (fields : List ℕ) (args : List Value) → SpellsArguments fields args → IsOneLine fields
+arguments_are_line : (fields : List ℕ) (args : List Value) → SpellsArgumentFields fields args → IsOneLine fields
 arguments_are_line fields [] is = subst IsOneLine (sym is) tt
 arguments_are_line fields (value ∷ args) (field, others, is, argument, rest) =
     subst IsOneLine (sym is) (joined (32 ∷ field) others ((λ e. omega (arith, e)), argument_is_line field value argument) (arguments_are_line others args rest))

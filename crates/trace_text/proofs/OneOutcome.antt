@@ -6,7 +6,7 @@ use Rattle.trace_text.specs.Recordings.{Recording}
 use Rattle.trace_text.specs.Lines.{WriterCall, text_of_lines}
 use Rattle.trace_text.specs.CallReading.{with_call}
 use Rattle.trace_text.specs.Reading as parts
-use Rattle.trace_text.specs.Reading.{Part, Broken, IsOneLine, IsCut, Follows, Breaks, FollowsMessages, BreaksMessages, at_end, Reads, Gives}
+use Rattle.trace_text.specs.Reading.{TracePart, Broken, IsOneLine, IsCutIntoLines, Follows, Breaks, FollowsMessages, BreaksMessages, at_end, ReadsLines, Gives}
 use Rattle.log_dictionary.proofs.LineMessages.{one_message}
 
 -- ---- one way to cut
@@ -25,7 +25,7 @@ same_first (byte ∷ a) (head ∷ b) x y none other same =
     let first : byte ≡ head = cc in
     (ap (λ (n : ℕ). n ∷ a) first ∙ ap (λ (l : List ℕ). head ∷ l) others.0, others.1)
 
-pub one_cut : (bytes : List ℕ) (a b : List (List ℕ)) (x y : List ℕ) → IsCut bytes a x → IsCut bytes b y → (a ≡ b) × (x ≡ y)
+pub one_cut : (bytes : List ℕ) (a b : List (List ℕ)) (x y : List ℕ) → IsCutIntoLines bytes a x → IsCutIntoLines bytes b y → (a ≡ b) × (x ≡ y)
 one_cut bytes [] [] x y first second = (refl, sym first.joined ∙ second.joined)
 one_cut bytes [] (line ∷ b) x y first second =
     absurd (feed_inside line (text_of_lines b ++ y) (subst IsOneLine (sym first.joined ∙ second.joined ∙ append_assoc line (10 ∷ text_of_lines b) y) first.unended))
@@ -38,12 +38,12 @@ one_cut bytes (line ∷ a) (other ∷ b) x y first second =
 
 -- ---- one next part, or one cause
 
-one_next_message : (before : List Message) (line : List ℕ) (next other : Part) → FollowsMessages before line next → FollowsMessages before line other → next ≡ other
+one_next_message : (before : List Message) (line : List ℕ) (next other : TracePart) → FollowsMessages before line next → FollowsMessages before line other → next ≡ other
 one_next_message before line next other first second =
     let same = (one_message line (length before) (length before) first.2.0 second.2.0 first.2.1.spelled second.2.1.spelled).1 in
     first.2.2 ∙ ap (λ (m : Message). parts.messages (before ++ m ∷ [])) same ∙ sym second.2.2
 
-one_next : (part : Part) (line : List ℕ) (next other : Part) → Follows part line next → Follows part line other → next ≡ other
+one_next : (part : TracePart) (line : List ℕ) (next other : TracePart) → Follows part line next → Follows part line other → next ≡ other
 one_next parts.opening line next other first second = first.1 ∙ sym second.1
 one_next (parts.messages before) line next other (inl first) (inl second) = one_next_message before line next other first second
 one_next (parts.messages before) line next other (inl first) (inr second) = absurd cc
@@ -62,7 +62,7 @@ one_next (parts.calls run) line next other (inr first) (inr second) =
     first.1.2 ∙ ap (λ (made : WriterCall). parts.calls (with_call run made)) same ∙ sym second.1.2
 one_next (parts.ended run) line next other first second = absurd first
 
-one_cause : (part : Part) (line : List ℕ) (cause other : TraceCause) → Breaks part line cause → Breaks part line other → cause ≡ other
+one_cause : (part : TracePart) (line : List ℕ) (cause other : TraceCause) → Breaks part line cause → Breaks part line other → cause ≡ other
 one_cause parts.opening line cause other first second = first.1 ∙ sym second.1
 one_cause (parts.messages before) line cause other (inl (_, inl first)) (inl (_, inl second)) = first.1 ∙ sym second.1
 one_cause (parts.messages before) line cause other (inl (_, inl first)) (inl (_, inr second)) = absurd (omega (arith, first.0, second.0))
@@ -76,11 +76,11 @@ one_cause (parts.calls run) line cause other first second = let same = sym first
 one_cause (parts.ended run) line cause other first second = first ∙ sym second
 
 -- no line is right and refused
-not_both_messages : (before : List Message) (line : List ℕ) (next : Part) (cause : TraceCause) → FollowsMessages before line next → ¬ (BreaksMessages before line cause)
+not_both_messages : (before : List Message) (line : List ℕ) (next : TracePart) (cause : TraceCause) → FollowsMessages before line next → ¬ (BreaksMessages before line cause)
 not_both_messages before line next cause follows (_, inl full) = omega (arith, follows.1, full.0)
 not_both_messages before line next cause follows (_, inr none) = none.1 follows.2.0 follows.2.1
 
-not_both : (part : Part) (line : List ℕ) (next : Part) (cause : TraceCause) → Follows part line next → ¬ (Breaks part line cause)
+not_both : (part : TracePart) (line : List ℕ) (next : TracePart) (cause : TraceCause) → Follows part line next → ¬ (Breaks part line cause)
 not_both parts.opening line next cause follows breaks = breaks.0 follows.0
 not_both (parts.messages before) line next cause (inl follows) (inl breaks) = not_both_messages before line next cause follows breaks
 not_both (parts.messages before) line next cause (inl follows) (inr breaks) = absurd cc
@@ -93,18 +93,18 @@ not_both (parts.ended run) line next cause follows breaks = follows
 
 -- ---- one outcome
 
-one_reading : (part : Part) (n : ℕ) (lines : List (List ℕ)) (rest : List ℕ) (a b : Result Recording Broken) → Reads part n lines rest a → Reads part n lines rest b → a ≡ b
+one_reading : (part : TracePart) (n : ℕ) (lines : List (List ℕ)) (rest : List ℕ) (a b : Result Recording Broken) → ReadsLines part n lines rest a → ReadsLines part n lines rest b → a ≡ b
 one_reading part n [] rest a b first second = first ∙ sym second
 one_reading part n (line ∷ lines) rest a b (inl first) (inl second) =
     let same = one_next part line first.0 second.0 first.1 second.1 in
-    one_reading second.0 (n + 1) lines rest a b (subst (λ (p : Part). Reads p (n + 1) lines rest a) same first.2) second.2
+    one_reading second.0 (n + 1) lines rest a b (subst (λ (p : TracePart). ReadsLines p (n + 1) lines rest a) same first.2) second.2
 one_reading part n (line ∷ lines) rest a b (inl first) (inr second) = absurd (not_both part line first.0 second.0 first.1 second.1)
 one_reading part n (line ∷ lines) rest a b (inr first) (inl second) = absurd (not_both part line second.0 first.0 second.1 first.1)
 one_reading part n (line ∷ lines) rest a b (inr first) (inr second) =
     first.2 ∙ ap (λ (cause : TraceCause). Err (record { line = n; cause = cause })) (one_cause part line first.0 second.0 first.1 second.1) ∙ sym second.2
 
-pub one_outcome : (part : Part) (n : ℕ) (bytes : List ℕ) (a b : Result Recording Broken) → Gives part n bytes a → Gives part n bytes b → a ≡ b
+pub one_outcome : (part : TracePart) (n : ℕ) (bytes : List ℕ) (a b : Result Recording Broken) → Gives part n bytes a → Gives part n bytes b → a ≡ b
 one_outcome part n bytes a b first second =
     let same = one_cut bytes first.lines second.lines first.rest second.rest first.cut second.cut in
-    let moved : Reads part n second.lines second.rest a = subst (λ (rest : List ℕ). Reads part n second.lines rest a) same.1 (subst (λ (lines : List (List ℕ)). Reads part n lines first.rest a) same.0 first.reads) in
+    let moved : ReadsLines part n second.lines second.rest a = subst (λ (rest : List ℕ). ReadsLines part n second.lines rest a) same.1 (subst (λ (lines : List (List ℕ)). ReadsLines part n lines first.rest a) same.0 first.reads) in
     one_reading part n second.lines second.rest a b moved second.reads

@@ -1,5 +1,5 @@
 -- The calls of each writer among all calls in order are its own, in its order.
-use Rattle.std.proofs.Common.{◌≡◌, ◌≢◌, ℕ, zero, suc, ◌+◌, ◌<◌, ◌≤◌, Bool, true, false, cond, eqb, List, [], ◌∷◌, ◌++◌, Some, refl, ap, sym, subst, ◌∙◌, arith}
+use Rattle.std.proofs.Common.{◌≡◌, ◌≢◌, ℕ, zero, suc, ◌+◌, ◌<◌, ◌≤◌, Bool, eqb, List, [], ◌∷◌, ◌++◌, Some, refl, ap, sym, subst, ◌∙◌, arith}
 use Rattle.std.specs.Prelude.{filter, slice_get}
 use Rattle.std.specs.List.{AllByRecursion, flat_map, filter_map, enumerate_from}
 use Rattle.std.proofs.lemmas.Bool.{eq-eqb, ne_eqb}
@@ -10,57 +10,13 @@ use Rattle.log_dictionary.specs.declared.message.Message.{Message}
 use Rattle.log_dictionary.specs.Calls.{LogCall}
 use Rattle.arg_records.specs.declared.call.Call.{Call}
 use Rattle.arg_records.specs.Calls.{IsCall, NeverFalls, log_call, writer_calls}
-use Rattle.direct_printf.specs.Lines.{comes_before, insert_call, in_order}
-use Rattle.direct_printf.specs.InOrder.{comes_before-later}
+use Rattle.stamp_merge.proofs.Ordering.{NoneBefore, IsRising, in_order_by-filter}
+use Rattle.direct_printf.specs.Lines.{call_before, in_order}
+use Rattle.direct_printf.proofs.Sorting.{later_not_before}
 
 -- the call is that writer's
 abbrev pub is_of : ℕ → LogCall → Bool
 is_of writer call = eqb call.writer writer
-
--- none of the calls comes before the call
-abbrev NoneBefore : LogCall → List LogCall → Type 0
-NoneBefore call calls = AllByRecursion (λ later. comes_before later call ≡ false) calls
-
--- no call comes before one that stands in front of it
-abbrev IsRising : List LogCall → Type 0
-IsRising [] = Unit {0}
-IsRising (call ∷ calls) = NoneBefore call calls × IsRising calls
-
--- ---- a call put at its place
-
-module _ (writer : ℕ) where
-  others_stay : (call : LogCall) (calls : List LogCall) → is_of writer call ≡ false → filter (is_of writer) (insert_call call calls) ≡ filter (is_of writer) calls
-  unfolding insert_call
-  others_stay call [] other = rw other refl
-  others_stay call (first ∷ others) other = at_place (comes_before first call) (others_stay call others other)
-    where
-      at_place : (before : Bool) → filter (is_of writer) (insert_call call others) ≡ filter (is_of writer) others → filter (is_of writer) (cond before (first ∷ insert_call call others) (call ∷ first ∷ others)) ≡ filter (is_of writer) (first ∷ others)
-      at_place true behind = ap (λ (calls : List LogCall). cond (is_of writer first) (first ∷ calls) calls) behind
-      at_place false behind = rw other refl
-
-  own_in_front : (call : LogCall) (calls : List LogCall) → is_of writer call ≡ true → NoneBefore call (filter (is_of writer) calls) → filter (is_of writer) (insert_call call calls) ≡ call ∷ filter (is_of writer) calls
-  unfolding insert_call
-  own_in_front call [] own none = rw own refl
-  own_in_front call (first ∷ others) own none = at_place (comes_before first call) (is_of writer first) refl refl none (own_in_front call others own)
-    where
-      at_place : (before same : Bool) → comes_before first call ≡ before → is_of writer first ≡ same → NoneBefore call (cond same (first ∷ filter (is_of writer) others) (filter (is_of writer) others))
-          → (NoneBefore call (filter (is_of writer) others) → filter (is_of writer) (insert_call call others) ≡ call ∷ filter (is_of writer) others)
-          → filter (is_of writer) (cond before (first ∷ insert_call call others) (call ∷ first ∷ others)) ≡ call ∷ cond (is_of writer first) (first ∷ filter (is_of writer) others) (filter (is_of writer) others)
-      at_place true true is_before is_own none behind = let both : true ≡ false = sym is_before ∙ none.0 in absurd cc
-      at_place true false is_before is_own none behind = rw is_own (behind none)
-      at_place false same is_before is_own none behind = rw own refl
-
-  own_calls : (calls : List LogCall) → IsRising (filter (is_of writer) calls) → filter (is_of writer) (in_order calls) ≡ filter (is_of writer) calls
-  unfolding in_order
-  own_calls [] rising = refl
-  own_calls (call ∷ calls) rising = at_call (is_of writer call) refl rising (own_calls calls)
-    where
-      at_call : (own : Bool) → is_of writer call ≡ own → IsRising (cond own (call ∷ filter (is_of writer) calls) (filter (is_of writer) calls)) → (IsRising (filter (is_of writer) calls) → filter (is_of writer) (in_order calls) ≡ filter (is_of writer) calls)
-          → filter (is_of writer) (insert_call call (in_order calls)) ≡ cond own (call ∷ filter (is_of writer) calls) (filter (is_of writer) calls)
-      at_call true is_own rising behind =
-          let same = behind rising.1 in
-          own_in_front call (in_order calls) is_own (subst (NoneBefore call) (sym same) rising.0) ∙ ap (λ (cs : List LogCall). call ∷ cs) same
-      at_call false is_own rising behind = others_stay call (in_order calls) is_own ∙ behind rising
 
 -- ---- the calls of one writer
 
@@ -97,15 +53,15 @@ module _ (messages : List Message) where
       ∙ among_all (n + 1) place writer writers calls (omega (arith, is)) there all.1
 
   none_earlier : (writer first n least : ℕ) (call : Call) (message : Message) (calls : List Call) → first < n → call.stamp ≤ least → AllByRecursion (IsCall messages) calls → NeverFalls least calls
-      → NoneBefore (record { writer = writer; ordinal = first; stamp = call.stamp; message = message; args = call.args }) (filter_map (log_call messages writer) (enumerate_from n calls))
+      → NoneBefore call_before (record { writer = writer; ordinal = first; stamp = call.stamp; message = message; args = call.args }) (filter_map (log_call messages writer) (enumerate_from n calls))
   none_earlier writer first n least call message [] later risen all rises = tt
   none_earlier writer first n least call message (next ∷ calls) later risen all rises =
       rw all.0.known (
-        comes_before-later (record { writer = writer; ordinal = first; stamp = call.stamp; message = message; args = call.args }) (record { writer = writer; ordinal = n; stamp = next.stamp; message = all.0.message; args = next.args }) (omega (arith, risen, rises.0)) refl (omega (arith, later)),
+        later_not_before (record { writer = writer; ordinal = first; stamp = call.stamp; message = message; args = call.args }) (record { writer = writer; ordinal = n; stamp = next.stamp; message = all.0.message; args = next.args }) (omega (arith, risen, rises.0)) (omega arith) (omega (arith, later)),
         none_earlier writer first (n + 1) next.stamp call message calls (omega (arith, later)) (omega (arith, risen, rises.0)) all.1 rises.1,
       )
 
-  writer_rises : (writer n least : ℕ) (calls : List Call) → AllByRecursion (IsCall messages) calls → NeverFalls least calls → IsRising (filter_map (log_call messages writer) (enumerate_from n calls))
+  writer_rises : (writer n least : ℕ) (calls : List Call) → AllByRecursion (IsCall messages) calls → NeverFalls least calls → IsRising call_before (filter_map (log_call messages writer) (enumerate_from n calls))
   writer_rises writer n least [] all rises = tt
   writer_rises writer n least (call ∷ calls) all rises =
       rw all.0.known (none_earlier writer n (n + 1) call.stamp call all.0.message calls (omega arith) (omega arith) all.1 rises.1, writer_rises writer (n + 1) call.stamp calls all.1 rises.1)
@@ -115,4 +71,4 @@ pub own_in_order : (messages : List Message) (writers : List (List Call)) (write
     → AllByRecursion (IsCall messages) calls → NeverFalls least calls → filter (is_of writer) (in_order (flat_map (writer_calls messages) (enumerate_from 0 writers))) ≡ writer_calls messages (writer, calls)
 own_in_order messages writers writer least calls there all own rises =
     let same = among_all messages 0 writer writer writers calls (omega arith) there all in
-    own_calls writer (flat_map (writer_calls messages) (enumerate_from 0 writers)) (subst IsRising (sym same) (writer_rises messages writer 0 least calls own rises)) ∙ same
+    in_order_by-filter call_before (is_of writer) (flat_map (writer_calls messages) (enumerate_from 0 writers)) (subst (IsRising call_before) (sym same) (writer_rises messages writer 0 least calls own rises)) ∙ same

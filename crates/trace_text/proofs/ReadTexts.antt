@@ -11,14 +11,14 @@ use Rattle.log_dictionary.proofs.Distinct.{still_distinct}
 use Rattle.trace_text.specs.declared.trace.TheConstants.{MAX_TRACE}
 use Rattle.trace_text.specs.declared.reading.TraceFault.{TraceFault}
 use Rattle.trace_text.specs.declared.reading.TraceFault.TheVariants.{ReadFault, Refused, NoMemory}
-use Rattle.trace_text.specs.Progress.{Finishes}
+use Rattle.trace_text.specs.Progress.{ReadsToEnd}
 use Rattle.trace_text.specs.TraceReading.{IsAnswer}
 use Rattle.trace_text.specs.Recordings.{Recording, IsRecording}
 use Rattle.trace_text.specs.Lines.{WriterCall, first_line, last_line, clock_line, writers_line, SpellsMessages, SpellsCalls, text_of_lines}
 use Rattle.trace_text.specs.LineFields.{clock_at, writers_at}
 use Rattle.trace_text.specs.Traces.{calls_by, TraceText}
 use Rattle.trace_text.specs.CallReading.{with_call_of, with_call}
-use Rattle.trace_text.specs.Reading.{Part, opening, messages, clock, calls, ended, Reads, Gives}
+use Rattle.trace_text.specs.Reading.{TracePart, opening, messages, clock, calls, ended, ReadsLines, Gives}
 use Rattle.trace_text.proofs.HeadLines.{clock_taken, writers_taken}
 use Rattle.trace_text.proofs.CallRuns.{with_calls, writers_are, recorded_after, length-writers_with, length-with_call_of}
 use Rattle.trace_text.proofs.RunSteps.{start_of, start_recorded}
@@ -28,7 +28,7 @@ use Rattle.trace_text.proofs.CallSteps.{can_follow, writer_is_there}
 
 -- ---- part by part, from the last
 
-ended_taken : (run outcome : Recording) (n : ℕ) (lines : List (List ℕ)) (rest : List ℕ) → Reads (ended run) n lines rest (Ok outcome) → (lines ≡ []) × (rest ≡ []) × (outcome ≡ run)
+ended_taken : (run outcome : Recording) (n : ℕ) (lines : List (List ℕ)) (rest : List ℕ) → ReadsLines (ended run) n lines rest (Ok outcome) → (lines ≡ []) × (rest ≡ []) × (outcome ≡ run)
 ended_taken run outcome n [] [] reads = (refl, refl, cc)
 ended_taken run outcome n [] (byte ∷ rest) reads = absurd cc
 ended_taken run outcome n (line ∷ lines) rest (inl (next, follows, reads)) = absurd follows
@@ -43,13 +43,13 @@ record CallsTaken (run : Recording) (lines : List (List ℕ)) (rest : List ℕ) 
   next : NextCalls run call_lines made
   is : outcome ≡ with_calls run made
 
-calls_taken : (run outcome : Recording) (n : ℕ) (lines : List (List ℕ)) (rest : List ℕ) → Reads (calls run) n lines rest (Ok outcome) → CallsTaken run lines rest outcome
+calls_taken : (run outcome : Recording) (n : ℕ) (lines : List (List ℕ)) (rest : List ℕ) → ReadsLines (calls run) n lines rest (Ok outcome) → CallsTaken run lines rest outcome
 calls_taken run outcome n [] rest reads = absurd cc
 calls_taken run outcome n (line ∷ lines) rest (inl (next, inl (last, is), reads)) =
-    let end = ended_taken run outcome (n + 1) lines rest (subst (λ (part : Part). Reads part (n + 1) lines rest (Ok outcome)) is reads) in
+    let end = ended_taken run outcome (n + 1) lines rest (subst (λ (part : TracePart). ReadsLines part (n + 1) lines rest (Ok outcome)) is reads) in
     record { call_lines = []; made = []; split = ap (λ (text : List ℕ). text ∷ lines) last ∙ ap (λ (others : List (List ℕ)). last_line ∷ others) end.0; nothing = end.1; next = tt; is = end.2 }
 calls_taken run outcome n (line ∷ lines) rest (inl (next, inr (other, (made, found, is)), reads)) =
-    let then = calls_taken (with_call run made) outcome (n + 1) lines rest (subst (λ (part : Part). Reads part (n + 1) lines rest (Ok outcome)) is reads) in
+    let then = calls_taken (with_call run made) outcome (n + 1) lines rest (subst (λ (part : TracePart). ReadsLines part (n + 1) lines rest (Ok outcome)) is reads) in
     record { call_lines = line ∷ then.call_lines; made = made ∷ then.made; split = ap (λ (others : List (List ℕ)). line ∷ others) then.split; nothing = then.nothing; next = (found, then.next); is = then.is }
 calls_taken run outcome n (line ∷ lines) rest (inr (cause, breaks, is)) = absurd cc
 
@@ -61,12 +61,12 @@ record WritersTaken (dictionary : List Message) (time : Clock) (lines : List (Li
   n : ℕ
   split : lines ≡ text ∷ behind
   found : writers_at text ≡ Some count
-  reads : Reads (calls (start_of dictionary time count)) n behind rest (Ok outcome)
+  reads : ReadsLines (calls (start_of dictionary time count)) n behind rest (Ok outcome)
 
-writers_taken_from : (dictionary : List Message) (time : Clock) (outcome : Recording) (n : ℕ) (lines : List (List ℕ)) (rest : List ℕ) → Reads (clock dictionary time) n lines rest (Ok outcome) → WritersTaken dictionary time lines rest outcome
+writers_taken_from : (dictionary : List Message) (time : Clock) (outcome : Recording) (n : ℕ) (lines : List (List ℕ)) (rest : List ℕ) → ReadsLines (clock dictionary time) n lines rest (Ok outcome) → WritersTaken dictionary time lines rest outcome
 writers_taken_from dictionary time outcome n [] rest reads = absurd cc
 writers_taken_from dictionary time outcome n (line ∷ lines) rest (inl (next, (count, found, is), reads)) =
-    record { text = line; count = count; behind = lines; n = n + 1; split = refl; found = found; reads = subst (λ (part : Part). Reads part (n + 1) lines rest (Ok outcome)) is reads }
+    record { text = line; count = count; behind = lines; n = n + 1; split = refl; found = found; reads = subst (λ (part : TracePart). ReadsLines part (n + 1) lines rest (Ok outcome)) is reads }
 writers_taken_from dictionary time outcome n (line ∷ lines) rest (inr (cause, breaks, is)) = absurd cc
 
 -- lines of messages and that of the clock, and what follows them
@@ -82,14 +82,14 @@ record MessagesTaken (before : List Message) (lines : List (List ℕ)) (rest : L
   distinct : AreDistinct (before ++ dictionary)
   few : length (before ++ dictionary) ≤ MAX_MESSAGES
   found : clock_at text ≡ Some time
-  reads : Reads (clock (before ++ dictionary) time) n behind rest (Ok outcome)
+  reads : ReadsLines (clock (before ++ dictionary) time) n behind rest (Ok outcome)
 
-messages_taken : (before : List Message) (outcome : Recording) (n : ℕ) (lines : List (List ℕ)) (rest : List ℕ) → AreDistinct before → length before ≤ MAX_MESSAGES → Reads (messages before) n lines rest (Ok outcome) → MessagesTaken before lines rest outcome
+messages_taken : (before : List Message) (outcome : Recording) (n : ℕ) (lines : List (List ℕ)) (rest : List ℕ) → AreDistinct before → length before ≤ MAX_MESSAGES → ReadsLines (messages before) n lines rest (Ok outcome) → MessagesTaken before lines rest outcome
 messages_taken before outcome n [] rest distinct few reads = absurd cc
 messages_taken before outcome n (line ∷ lines) rest distinct few (inl (next, inl (begins, room, (message, new, is)), reads)) =
     let after : List Message = before ++ message ∷ [] in
     let count : length after ≡ length before + 1 = length-append before (message ∷ []) in
-    let then = messages_taken after outcome (n + 1) lines rest (still_distinct before message distinct new.new) (omega (arith, count, room)) (subst (λ (part : Part). Reads part (n + 1) lines rest (Ok outcome)) is reads) in
+    let then = messages_taken after outcome (n + 1) lines rest (still_distinct before message distinct new.new) (omega (arith, count, room)) (subst (λ (part : TracePart). ReadsLines part (n + 1) lines rest (Ok outcome)) is reads) in
     let one : after ++ then.dictionary ≡ before ++ message ∷ then.dictionary = append_assoc before (message ∷ []) then.dictionary in
     record {
       message_lines = line ∷ then.message_lines;
@@ -103,7 +103,7 @@ messages_taken before outcome n (line ∷ lines) rest distinct few (inl (next, i
       distinct = subst AreDistinct one then.distinct;
       few = subst (λ (all : List Message). length all ≤ MAX_MESSAGES) one then.few;
       found = then.found;
-      reads = subst (λ (all : List Message). Reads (clock all then.time) then.n then.behind rest (Ok outcome)) one then.reads;
+      reads = subst (λ (all : List Message). ReadsLines (clock all then.time) then.n then.behind rest (Ok outcome)) one then.reads;
     }
 messages_taken before outcome n (line ∷ lines) rest distinct few (inl (next, inr (other, (time, found, is)), reads)) =
     let all : before ≡ before ++ [] = sym (append-nil before) in
@@ -119,7 +119,7 @@ messages_taken before outcome n (line ∷ lines) rest distinct few (inl (next, i
       distinct = subst AreDistinct all distinct;
       few = subst (λ (all : List Message). length all ≤ MAX_MESSAGES) all few;
       found = found;
-      reads = subst (λ (part : Part). Reads part (n + 1) lines rest (Ok outcome)) (is ∙ ap (λ (all : List Message). clock all time) all) reads;
+      reads = subst (λ (part : TracePart). ReadsLines part (n + 1) lines rest (Ok outcome)) (is ∙ ap (λ (all : List Message). clock all time) all) reads;
     }
 messages_taken before outcome n (line ∷ lines) rest distinct few (inr (cause, breaks, is)) = absurd cc
 
@@ -128,12 +128,12 @@ record OpeningTaken (lines : List (List ℕ)) (rest : List ℕ) (outcome : Recor
   behind : List (List ℕ)
   n : ℕ
   split : lines ≡ first_line ∷ behind
-  reads : Reads (messages []) n behind rest (Ok outcome)
+  reads : ReadsLines (messages []) n behind rest (Ok outcome)
 
-opening_taken : (outcome : Recording) (n : ℕ) (lines : List (List ℕ)) (rest : List ℕ) → Reads opening n lines rest (Ok outcome) → OpeningTaken lines rest outcome
+opening_taken : (outcome : Recording) (n : ℕ) (lines : List (List ℕ)) (rest : List ℕ) → ReadsLines opening n lines rest (Ok outcome) → OpeningTaken lines rest outcome
 opening_taken outcome n [] rest reads = absurd cc
 opening_taken outcome n (line ∷ lines) rest (inl (next, (first, is), reads)) =
-    record { behind = lines; n = n + 1; split = ap (λ (text : List ℕ). text ∷ lines) first; reads = subst (λ (part : Part). Reads part (n + 1) lines rest (Ok outcome)) is reads }
+    record { behind = lines; n = n + 1; split = ap (λ (text : List ℕ). text ∷ lines) first; reads = subst (λ (part : TracePart). ReadsLines part (n + 1) lines rest (Ok outcome)) is reads }
 opening_taken outcome n (line ∷ lines) rest (inr (cause, breaks, is)) = absurd cc
 
 -- ---- the calls
@@ -191,7 +191,7 @@ read_spells bytes run short gives =
     })
 
 -- what a reader of the whole text says
-pub answered : (text : List ℕ) (r : Result Recording TraceFault) → length text ≤ MAX_TRACE → Finishes (record { part = opening; number = 1; bytes = text }) r → IsAnswer text r
+pub answered : (text : List ℕ) (r : Result Recording TraceFault) → length text ≤ MAX_TRACE → ReadsToEnd (record { part = opening; number = 1; bytes = text }) r → IsAnswer text r
 answered text (Ok run) short gives = read_spells text run short gives
 answered text (Err (Refused line cause)) short gives = inr (short, gives)
 answered text (Err NoMemory) short gives = tt

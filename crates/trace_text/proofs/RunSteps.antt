@@ -5,13 +5,13 @@ use Rattle.std.proofs.lemmas.List.{length-replicate}
 use Rattle.log_dictionary.specs.declared.clock.Clock.{Clock}
 use Rattle.log_dictionary.specs.declared.message.Message.{Message}
 use Rattle.arg_records.specs.declared.call.Call.{Call}
-use Rattle.arg_records.specs.declared.call.TheConstants.{MAX_WRITERS}
 use Rattle.arg_records.specs.Calls.{IsCall, NeverFalls}
 use Rattle.trace_text.specs.Recordings.{Recording, IsRecording}
 use Rattle.trace_text.specs.Lines.{WriterCall}
 use Rattle.trace_text.specs.Canonical.{HasText}
 use Rattle.trace_text.specs.CallReading.{with_call_of, with_call}
 use Rattle.printf_grammar.proofs.Worked.{all_copies}
+use Rattle.session_options.specs.declared.limits.TheConstants.{MAX_WRITERS}
 use Rattle.trace_text.proofs.RecordingLaws.{sum_of_none}
 
 -- a run of so many writers without calls

@@ -16,7 +16,7 @@ use Rattle.trace_text.specs.Lines.{WriterCall, first_line, last_line}
 use Rattle.trace_text.specs.LineFields.{begins_with, clock_at, writers_at}
 use Rattle.trace_text.specs.CallReading.{call_at, with_call}
 use Rattle.trace_text.specs.Reading as parts
-use Rattle.trace_text.specs.Reading.{Part, Broken, Follows, Breaks, at_end, Reads, Gives}
+use Rattle.trace_text.specs.Reading.{TracePart, Broken, Follows, Breaks, at_end, ReadsLines, Gives}
 use Rattle.trace_text.proofs.Cuts.{cut_of}
 use Rattle.trace_text.proofs.LineFronts.{same_line, other_line}
 use Rattle.log_dictionary.proofs.LineMessages.{one_message}
@@ -24,8 +24,8 @@ use Rattle.log_dictionary.proofs.LineLaws.{message_or_not}
 use Rattle.log_dictionary.proofs.Distinct.{there_from_test, none_from_test}
 
 -- a line is right in the part, or it is refused
-abbrev Judged : Part → List ℕ → Type 0
-Judged part line = ((next : Part) × Follows part line next) ⊎ ((cause : TraceCause) × Breaks part line cause)
+abbrev Judged : TracePart → List ℕ → Type 0
+Judged part line = ((next : TracePart) × Follows part line next) ⊎ ((cause : TraceCause) × Breaks part line cause)
 
 same_or_other : (line other : List ℕ) → (line ≡ other) ⊎ (line ≢ other)
 same_or_other line other = told (pointwise eqb line other) refl
@@ -90,7 +90,7 @@ judge_calls : (run : Recording) (line : List ℕ) → (line ≡ last_line) ⊎ (
 judge_calls run line (inl same) = inl (parts.ended run, inl (same, refl))
 judge_calls run line (inr other) = judge_call run line (call_at run line) other refl
 
-judge : (part : Part) (line : List ℕ) → Judged part line
+judge : (part : TracePart) (line : List ℕ) → Judged part line
 judge parts.opening line = judge_first line (same_or_other line first_line)
 judge (parts.messages before) line = judge_front before line (begins_with (codes "message ") line) refl
 judge (parts.clock dictionary time) line = judge_writers dictionary time line (writers_at line) refl
@@ -100,17 +100,17 @@ judge (parts.ended run) line = inr (causes.AfterEnd, refl)
 -- ---- all lines
 
 -- an outcome of the lines
-abbrev SomeReading : Part → ℕ → List (List ℕ) → List ℕ → Type 0
-SomeReading part n lines rest = (outcome : Result Recording Broken) × Reads part n lines rest outcome
+abbrev SomeReading : TracePart → ℕ → List (List ℕ) → List ℕ → Type 0
+SomeReading part n lines rest = (outcome : Result Recording Broken) × ReadsLines part n lines rest outcome
 
-some_reading : (part : Part) (n : ℕ) (lines : List (List ℕ)) (rest : List ℕ) → SomeReading part n lines rest
+some_reading : (part : TracePart) (n : ℕ) (lines : List (List ℕ)) (rest : List ℕ) → SomeReading part n lines rest
 some_reading part n [] rest = (at_end part n rest, refl)
 some_reading part n (line ∷ lines) rest = elim (judge part line) [
   | inl follows ↦ let others = some_reading follows.0 (n + 1) lines rest in (others.0, inl (follows.0, follows.1, others.1))
   | inr breaks ↦ (Err (record { line = n; cause = breaks.0 }), inr (breaks.0, breaks.1, refl))
 ]
 
-pub some_outcome : (part : Part) (n : ℕ) (bytes : List ℕ) → (outcome : Result Recording Broken) × Gives part n bytes outcome
+pub some_outcome : (part : TracePart) (n : ℕ) (bytes : List ℕ) → (outcome : Result Recording Broken) × Gives part n bytes outcome
 some_outcome part n bytes =
     let found = cut_of bytes in
     let read = some_reading part n found.lines found.rest in

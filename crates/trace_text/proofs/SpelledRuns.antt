@@ -14,18 +14,18 @@ use Rattle.log_dictionary.specs.Messages.{SpellsMessage}
 use Rattle.log_dictionary.specs.Additions.{ReadsLine}
 use Rattle.log_dictionary.specs.declared.clock.Clock.{Clock}
 use Rattle.log_dictionary.proofs.Distinct.{still_distinct}
-use Rattle.arg_records.specs.declared.call.TheConstants.{MAX_WRITERS}
 use Rattle.printf_grammar.proofs.Worked.{all_copies}
 use Rattle.std.proofs.lemmas.List.{length-append}
+use Rattle.session_options.specs.declared.limits.TheConstants.{MAX_WRITERS}
 use Rattle.trace_text.specs.CallReading.{call_at, with_call}
 use Rattle.trace_text.proofs.CallRuns.{all-push, all_after, all_at, recorded_after}
 use Rattle.trace_text.proofs.CallLines.{call_spelled}
 use Rattle.trace_text.proofs.CallSteps.{can_follow}
 use Rattle.trace_text.proofs.RunSteps.{start_of, start_recorded}
 use Rattle.trace_text.specs.Recordings.{Recording}
-use Rattle.trace_text.specs.Lines.{WriterCall, FitsLine, SpellsArguments, SpellsCall, SpellsMessages, SpellsCalls}
+use Rattle.trace_text.specs.Lines.{WriterCall, FitsLine, SpellsArgumentFields, SpellsCall, SpellsMessages, SpellsCalls}
 use Rattle.trace_text.specs.Traces.{TraceText, calls_by}
-use Rattle.trace_text.specs.Canonical.{HasBytes, HasCallLine, HaveLines, HasText}
+use Rattle.trace_text.specs.Canonical.{HasBytes, HasCallLine, HaveMessageLines, HasText}
 
 digit_small : (b : ℕ) → IsAsciiHexdigit b → digit_value b < 16
 digit_small b is = grind (arith, nat_tests)
@@ -52,7 +52,7 @@ spelled_messages n (line ∷ lines) (message ∷ messages) spells = (spelled_mes
 spelled_messages n [] (message ∷ messages) spells = absurd spells
 spelled_messages n (line ∷ lines) [] spells = absurd spells
 
-spelled_arguments : (fields : List ℕ) (args : List Value) → SpellsArguments fields args → AllByRecursion HasBytes args
+spelled_arguments : (fields : List ℕ) (args : List Value) → SpellsArgumentFields fields args → AllByRecursion HasBytes args
 spelled_arguments fields [] spells = tt
 spelled_arguments fields (values.Signed z ∷ args) (field, others, joined, argument, rest) = (tt, spelled_arguments others args rest)
 spelled_arguments fields (values.Unsigned n ∷ args) (field, others, joined, argument, rest) = (tt, spelled_arguments others args rest)
@@ -93,20 +93,20 @@ read_has_text bytes run text = record {
 
 -- ---- runs that are read line by line
 
-pub no_messages : HaveLines []
+pub no_messages : HaveMessageLines []
 no_messages = record { distinct = λ i j d earlier within. absurd (omega (arith, within)); few = lit≤ tt; lines = tt }
 
 -- the messages with the one that a line brings
-pub lines_after : (before after : List Message) (line : List ℕ) (u : Unit {0}) → HaveLines before → ReadsLine before line after (Ok u) → HaveLines after
+pub lines_after : (before after : List Message) (line : List ℕ) (u : Unit {0}) → HaveMessageLines before → ReadsLine before line after (Ok u) → HaveMessageLines after
 lines_after before after line u have (message, new, room, is) =
-    subst HaveLines (sym is) (record {
+    subst HaveMessageLines (sym is) (record {
       distinct = still_distinct before message have.distinct new.new;
       few = omega (arith, length-append before (message ∷ []), room);
       lines = all-push HasLine before message have.lines (spelled_message line (length before) message new.spelled);
     })
 
 -- a run without calls
-pub start_has_text : (dictionary : List Message) (clock : Clock) (count : ℕ) → HaveLines dictionary → FitsLine clock → 1 ≤ clock.rate → 1 ≤ count → count ≤ MAX_WRITERS → HasText (start_of dictionary clock count)
+pub start_has_text : (dictionary : List Message) (clock : Clock) (count : ℕ) → HaveMessageLines dictionary → FitsLine clock → 1 ≤ clock.rate → 1 ≤ count → count ≤ MAX_WRITERS → HasText (start_of dictionary clock count)
 start_has_text dictionary clock count have fits rate some few =
     record { recorded = start_recorded dictionary clock count rate some few; messages = have; clock_fits = fits; calls = all_copies (AllByRecursion HasCallLine) [] count tt }
 

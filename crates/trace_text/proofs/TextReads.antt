@@ -15,7 +15,7 @@ use Rattle.trace_text.specs.Lines.{WriterCall, first_line, last_line, clock_line
 use Rattle.trace_text.specs.LineFields.{begins_with}
 use Rattle.trace_text.specs.Traces.{TraceText}
 use Rattle.trace_text.specs.CallReading.{call_at, with_call_of, with_call}
-use Rattle.trace_text.specs.Reading.{opening, messages, clock, calls, ended, Broken, IsOneLine, Reads, Gives}
+use Rattle.trace_text.specs.Reading.{opening, messages, clock, calls, ended, Broken, IsOneLine, ReadsLines, Gives}
 use Rattle.trace_text.proofs.OneLines.{first_is_line, last_is_line, clock_is_line, writers_is_line, message_is_line, call_is_line}
 use Rattle.trace_text.proofs.HeadLines.{clock_read, writers_read}
 use Rattle.trace_text.proofs.CallRuns.{writers_with, with_calls, writers_are, recorded_before, length-with_call_of}
@@ -48,8 +48,8 @@ message_begins line id message spells = subst (λ text. begins_with (codes "mess
 module _ (rest : List ℕ) (outcome : Result Recording Broken) where
   -- lines of messages lead from the messages before them to all messages
   messages_read : (before : List Message) (lines : List (List ℕ)) (dictionary : List Message) (behind : List (List ℕ)) (n : ℕ) → SpellsMessages (length before) lines dictionary → AreDistinct (before ++ dictionary) → length (before ++ dictionary) ≤ MAX_MESSAGES
-      → ((m : ℕ) → Reads (messages (before ++ dictionary)) m behind rest outcome) → Reads (messages before) n (lines ++ behind) rest outcome
-  messages_read before [] [] behind n spells distinct few then = subst (λ all. Reads (messages all) n behind rest outcome) (append-nil before) (then n)
+      → ((m : ℕ) → ReadsLines (messages (before ++ dictionary)) m behind rest outcome) → ReadsLines (messages before) n (lines ++ behind) rest outcome
+  messages_read before [] [] behind n spells distinct few then = subst (λ all. ReadsLines (messages all) n behind rest outcome) (append-nil before) (then n)
   messages_read before (line ∷ lines) (message ∷ dictionary) behind n spells distinct few then =
       let one : (before ++ message ∷ []) ++ dictionary ≡ before ++ message ∷ dictionary = append_assoc before (message ∷ []) dictionary in
       let next = before ++ message ∷ [] in
@@ -58,7 +58,7 @@ module _ (rest : List ℕ) (outcome : Result Recording Broken) where
       inl (
         messages next,
         inl (message_begins line (length before) message spells.0, room, (message, record { spelled = spells.0; new = is_new before dictionary message distinct }, refl)),
-        messages_read next lines dictionary behind (n + 1) (subst (λ id. SpellsMessages id lines dictionary) count spells.1) (subst AreDistinct (sym one) distinct) (subst (λ all. length all ≤ MAX_MESSAGES) (sym one) few) (λ m. subst (λ all. Reads (messages all) m behind rest outcome) (sym one) (then m)),
+        messages_read next lines dictionary behind (n + 1) (subst (λ id. SpellsMessages id lines dictionary) count spells.1) (subst AreDistinct (sym one) distinct) (subst (λ all. length all ≤ MAX_MESSAGES) (sym one) few) (λ m. subst (λ all. ReadsLines (messages all) m behind rest outcome) (sym one) (then m)),
       )
   messages_read before [] (message ∷ dictionary) behind n spells distinct few then = absurd spells
   messages_read before (line ∷ lines) [] behind n spells distinct few then = absurd spells
@@ -79,7 +79,7 @@ not_last run line made found last = let wrong : Err CallForm ≡ Ok made = subst
 module _ (rest : List ℕ) (outcome : Result Recording Broken) where
   -- lines of calls lead from a run to the run with these calls
   calls_read : (run : Recording) (lines : List (List ℕ)) (made : List WriterCall) (behind : List (List ℕ)) (n : ℕ) → NextCalls run lines made
-      → ((m : ℕ) → Reads (calls (with_calls run made)) m behind rest outcome) → Reads (calls run) n (lines ++ behind) rest outcome
+      → ((m : ℕ) → ReadsLines (calls (with_calls run made)) m behind rest outcome) → ReadsLines (calls run) n (lines ++ behind) rest outcome
   calls_read run [] [] behind n next then = then n
   calls_read run (line ∷ lines) (made ∷ others) behind n next then =
       inl (calls (with_call run made), inr (not_last run line made next.0, (made, next.0, refl)), calls_read (with_call run made) lines others behind (n + 1) next.1 then)
@@ -116,10 +116,10 @@ text_reads bytes run text =
     let made : run ≡ with_calls start text.calls = ap (λ (writers : List (List Call)). record run { writers = writers }) all in
     let long : count ≡ length start.writers = sym (length-replicate count []) in
     let follow = calls_follow start text.call_lines text.calls text.few_messages text.calls_spelled (subst (λ (n : ℕ). AllByRecursion (λ (call : WriterCall). call.writer < n) text.calls) long text.known_writers) (subst IsRecording made text.recorded) in
-    let ends : (m : ℕ) → Reads (calls (with_calls start text.calls)) m (last_line ∷ []) [] (Ok run) = λ m. inl (ended (with_calls start text.calls), inl (refl, refl), ap Ok made) in
-    let from_calls : (m : ℕ) → Reads (calls start) m last [] (Ok run) = λ m. calls_read [] (Ok run) start text.call_lines text.calls (last_line ∷ []) m follow.1 ends in
-    let from_writers : (m : ℕ) → Reads (clock run.dictionary run.clock) m numbered [] (Ok run) = λ m. inl (calls start, (count, writers_read count text.recorded.some_writer text.recorded.few_writers, refl), from_calls (m + 1)) in
-    let from_clock : (m : ℕ) → Reads (messages run.dictionary) m clocked [] (Ok run) = λ m. inl (clock run.dictionary run.clock, inr (refl, (run.clock, clock_read run.clock text.clock_fits text.recorded.rate, refl)), from_writers (m + 1)) in
+    let ends : (m : ℕ) → ReadsLines (calls (with_calls start text.calls)) m (last_line ∷ []) [] (Ok run) = λ m. inl (ended (with_calls start text.calls), inl (refl, refl), ap Ok made) in
+    let from_calls : (m : ℕ) → ReadsLines (calls start) m last [] (Ok run) = λ m. calls_read [] (Ok run) start text.call_lines text.calls (last_line ∷ []) m follow.1 ends in
+    let from_writers : (m : ℕ) → ReadsLines (clock run.dictionary run.clock) m numbered [] (Ok run) = λ m. inl (calls start, (count, writers_read count text.recorded.some_writer text.recorded.few_writers, refl), from_calls (m + 1)) in
+    let from_clock : (m : ℕ) → ReadsLines (messages run.dictionary) m clocked [] (Ok run) = λ m. inl (clock run.dictionary run.clock, inr (refl, (run.clock, clock_read run.clock text.clock_fits text.recorded.rate, refl)), from_writers (m + 1)) in
     let last_lines = lines-append text.call_lines (last_line ∷ []) (calls_are_lines text.call_lines text.calls text.calls_spelled) (last_is_line, tt) in
     let other_lines = lines-append text.message_lines clocked (messages_are_lines 0 text.message_lines run.dictionary text.messages_spelled) (clock_is_line run.clock, (writers_is_line count, last_lines)) in
     record {

@@ -8,7 +8,7 @@ use Rattle.trace_text.specs.Recordings.{IsRecording}
 use Rattle.arg_records.specs.Calls.{IsCall}
 use Rattle.trace_text.specs.Lines.{SpellsCall}
 use Rattle.trace_text.specs.Traces.{TraceText}
-use Rattle.trace_text.specs.Rows.{three_writers, three_writers_text, text_call, text_call_line}
+use Rattle.trace_text.specs.Rows.{three_writers_run, three_writers_text, text_call, text_call_line}
 use Rattle.arg_records.specs.Rows.{row_call}
 use Rattle.log_dictionary.specs.Rows.{row_message}
 use Rattle.log_dictionary.proofs.LineWorked.{row_spelled}
@@ -36,7 +36,7 @@ second_second = record { fields = codes " 3"; spelled = refl; arguments = (codes
 is_call : (n : ℕ) → n ≤ 9 → IsCall (row_message ∷ []) (row_call n)
 is_call n small = record { message = row_message; known = refl; fits = (record { sfits = omega (arith, small) }, tt); short = lit≤ tt }
 
-recorded : IsRecording three_writers
+recorded : IsRecording three_writers_run
 recorded = record {
   some_writer = lit≤ tt;
   few_writers = lit≤ tt;
@@ -46,7 +46,7 @@ recorded = record {
   stamps = ((lit≤ tt, tt), ((lit≤ tt, (lit≤ tt, tt)), (tt, tt)));
 }
 
-pub mixed : TraceText three_writers_text three_writers
+pub mixed : TraceText three_writers_text three_writers_run
 unfolding digits
 mixed = record {
   short = lit≤ tt;

@@ -19,7 +19,7 @@ use Rattle.log_dictionary.proofs.Written.{written_message}
 use Rattle.trace_text.specs.declared.cause.TraceCause.TheVariants as causes
 use Rattle.trace_text.specs.Recordings.{Recording}
 use Rattle.trace_text.specs.Lines.{first_line}
-use Rattle.trace_text.specs.Reading.{opening, messages, clock, calls, ended, Broken, Reads, IsOneLine, TraceBreak}
+use Rattle.trace_text.specs.Reading.{opening, messages, clock, calls, ended, Broken, ReadsLines, IsOneLine, TraceBreak}
 
 is_line : (line : List ℕ) → list_all (λ byte. not (eqb byte 10)) line ≡ true → IsOneLine line
 is_line line e = none_by_test 10 line e
@@ -35,7 +35,7 @@ abbrev front : List (List ℕ)
 front = first_line ∷ codes "clock 1 2 3" ∷ codes "writers 2" ∷ []
 
 -- the lines of that run lead to its calls
-begins : (lines : List (List ℕ)) (rest : List ℕ) (outcome : Result Recording Broken) → Reads (calls two_writers) 4 lines rest outcome → Reads opening 1 (first_line ∷ codes "clock 1 2 3" ∷ codes "writers 2" ∷ lines) rest outcome
+begins : (lines : List (List ℕ)) (rest : List ℕ) (outcome : Result Recording Broken) → ReadsLines (calls two_writers) 4 lines rest outcome → ReadsLines opening 1 (first_line ∷ codes "clock 1 2 3" ∷ codes "writers 2" ∷ lines) rest outcome
 unfolding split_at_first number_from
 begins lines rest outcome reads =
     inl (messages [], (refl, refl), inl (clock [] small_clock, inr (refl, (small_clock, refl, refl)), inl (calls two_writers, (2, refl, refl), reads)))

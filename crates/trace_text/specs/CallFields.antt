@@ -6,22 +6,22 @@ use Rattle.printf_grammar.specs.declared.argument.Value.{Value}
 use Rattle.printf_grammar.specs.declared.argument.Value.TheVariants as values
 use Rattle.trace_text.specs.declared.cause.TraceCause.{TraceCause}
 use Rattle.trace_text.specs.declared.cause.TraceCause.TheVariants.{ArgCount, ArgKind}
-use Rattle.trace_text.specs.declared.call_fields.Field.{Field}
-use Rattle.trace_text.specs.declared.call_fields.Field.TheVariants as fields
+use Rattle.trace_text.specs.declared.call_fields.CallField.{CallField}
+use Rattle.trace_text.specs.declared.call_fields.CallField.TheVariants as fields
 use Rattle.trace_text.specs.declared.call_line.CallFault.{CallFault}
 use Rattle.trace_text.specs.declared.call_line.CallFault.TheVariants.{Refused, NoMemory}
 use Rattle.trace_text.specs.CallReading.{◌>>=◌, item_at, argument_of, arguments_at}
 
 -- an argument without where its text lies
-abbrev pub field_value : Field → Value
+abbrev pub field_value : CallField → Value
 field_value (fields.Signed z) = values.Signed z
 field_value (fields.Unsigned n) = values.Unsigned n
 field_value (fields.Text bytes) = values.Text bytes
 
 -- what was read, seen so, or the cause
-abbrev pub read_as : {A B : Type 0} → (A → B) → Result A TraceCause → Result B TraceCause
-read_as view (Ok x) = Ok (view x)
-read_as view (Err cause) = Err cause
+abbrev pub result_as : {A B : Type 0} → (A → B) → Result A TraceCause → Result B TraceCause
+result_as view (Ok x) = Ok (view x)
+result_as view (Err cause) = Err cause
 
 -- an argument of the type, and what follows it
 abbrev pub item_argument : ArgType → List ℕ → Result (Value × List ℕ) TraceCause
@@ -31,9 +31,9 @@ item_argument type bytes = do
   Ok (value, item.1)
 
 -- an argument of the type behind a space, and what follows it
-abbrev pub argument_at : ArgType → List ℕ → Result (Value × List ℕ) TraceCause
-argument_at type [] = Err ArgCount
-argument_at type (space ∷ bytes) = item_argument type bytes
+abbrev pub spaced_argument : ArgType → List ℕ → Result (Value × List ℕ) TraceCause
+spaced_argument type [] = Err ArgCount
+spaced_argument type (space ∷ bytes) = item_argument type bytes
 
 -- the values are the arguments, or are refused so; want of memory says nothing of them
 abbrev pub ReadsArguments : List ArgType → List ℕ → Result (List Value) CallFault → Type 0

@@ -66,8 +66,8 @@ unsigned_below limit (pos n) = if nat_lt n limit then Ok (values.Unsigned n) els
 unsigned_below limit (negsuc n) = Err ArgRange
 
 -- a text without a byte 0 and of at most 4,000 bytes
-abbrev pub text_of : List ℕ → Result Value TraceCause
-text_of bytes =
+abbrev pub checked_text : List ℕ → Result Value TraceCause
+checked_text bytes =
     if has_nul bytes then Err NulInText
     else (if nat_lt MAX_TEXT (length bytes) then Err TooLong else Ok (values.Text bytes))
 
@@ -79,7 +79,7 @@ argument_of types.Long (number z) = signed_within (negsuc 9223372036854775807) (
 argument_of types.ULong (number z) = unsigned_below (2 ^ 64) z
 argument_of types.Width (number z) = signed_within (negsuc 4094) (pos 4095) z
 argument_of types.Precision (number z) = signed_within (negsuc 2147483647) (pos 4095) z
-argument_of types.Text (text bytes) = text_of bytes
+argument_of types.Text (text bytes) = checked_text bytes
 argument_of _ _ = Err ArgKind
 
 -- The arguments of these types, each behind a space. A field ends before a space or at the end, so that the byte in

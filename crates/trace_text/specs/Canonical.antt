@@ -10,7 +10,7 @@ use Rattle.log_dictionary.specs.Canonical.{quoted_text, dictionary_text, AreByte
 use Rattle.log_dictionary.specs.Messages.{AreDistinct}
 use Rattle.log_dictionary.specs.declared.message.Message.{Message}
 use Rattle.arg_records.specs.declared.call.Call.{Call}
-use Rattle.trace_text.specs.declared.order.Place.{Place}
+use Rattle.trace_text.specs.declared.order.CallPlace.{CallPlace}
 use Rattle.trace_text.specs.Recordings.{Recording, IsRecording}
 use Rattle.trace_text.specs.Lines.{WriterCall, FitsLine, clock_line, writers_line}
 use Rattle.trace_text.specs.Order.{places_in_order}
@@ -40,7 +40,7 @@ abbrev pub made_by : ℕ → Call → WriterCall
 made_by writer call = record { writer = writer; call = call }
 
 -- the call that stands in the run at a place, with its writer
-abbrev pub made_at : Recording → Place → Option WriterCall
+abbrev pub made_at : Recording → CallPlace → Option WriterCall
 made_at run place =
     option_and_then
     (λ calls. option_map (made_by place.writer) (slice_get calls place.ordinal))
@@ -74,7 +74,7 @@ pub record HasCallLine (call : Call) : Type 0 where
   pub texts : AllByRecursion HasBytes call.args
 
 -- messages that the front of a text can spell: no two are equal, they are at most 65,536, and each has a line
-pub record HaveLines (messages : List Message) : Type 0 where
+pub record HaveMessageLines (messages : List Message) : Type 0 where
   pub distinct : AreDistinct messages
   pub few : length messages ≤ MAX_MESSAGES
   pub lines : AllByRecursion HasLine messages
@@ -82,6 +82,6 @@ pub record HaveLines (messages : List Message) : Type 0 where
 -- a run that a text can spell: its messages, its clock and its calls have lines
 pub record HasText (run : Recording) : Type 0 where
   pub recorded : IsRecording run
-  pub messages : HaveLines run.dictionary
+  pub messages : HaveMessageLines run.dictionary
   pub clock_fits : FitsLine run.clock
   pub calls : AllByRecursion (AllByRecursion HasCallLine) run.writers

@@ -14,4 +14,3 @@ pub mod Rows
 pub mod Order
 pub mod Canonical
 pub mod Writing
-pub mod Generated

@@ -1,28 +1,28 @@
 -- The fields of the lines of a trace that are no messages.
 use Rattle.std.specs.Prelude.{ℕ, Bool, ◌==◌, ◌&&◌, nat_le, List, codes, Option, None, Some, if◌then◌else◌}
 use Rattle.std.specs.Option.{is_some}
-use Rattle.arg_records.specs.declared.call.TheConstants.{MAX_WRITERS}
 use Rattle.log_dictionary.specs.declared.clock.Clock.{Clock}
 use Rattle.log_dictionary.specs.Fields.{first_field}
 use Rattle.log_dictionary.specs.Numbers.{natural_of, if_small}
 use Rattle.log_dictionary.specs.Fields.{◌>>=◌, after, split_at_first}
+use Rattle.session_options.specs.declared.limits.TheConstants.{MAX_WRITERS}
 
 -- the line begins with these bytes
 abbrev pub begins_with : List ℕ → List ℕ → Bool
 begins_with front line = is_some (after front line)
 
 -- the number below 2^64 that the field spells
-abbrev pub number_of : List ℕ → Option ℕ
-number_of field = if_small (natural_of field)
+abbrev pub field_number : List ℕ → Option ℕ
+field_number field = if_small (natural_of field)
 
 -- the tick, the nanoseconds and the rate of a clock, which ticks
 abbrev pub clock_of : List ℕ → Option Clock
 clock_of fields = do
   first ← split_at_first 32 fields
-  tick ← number_of first.0
+  tick ← field_number first.0
   second ← split_at_first 32 first.1
-  nanos ← number_of second.0
-  rate ← number_of second.1
+  nanos ← field_number second.0
+  rate ← field_number second.1
   if rate == 0 then None else Some (record { tick = tick; nanos = nanos; rate = rate })
 
 -- what a line of a clock says
@@ -35,7 +35,7 @@ writer_count writers = if nat_le 1 writers && nat_le writers MAX_WRITERS then So
 
 -- the number of writers of their line
 abbrev pub writers_at : List ℕ → Option ℕ
-writers_at line = after (codes "writers ") line >>= number_of >>= writer_count
+writers_at line = after (codes "writers ") line >>= field_number >>= writer_count
 
 -- what a line of a call says before its arguments, and the bytes behind its id: none, or a space and more
 pub record CallHead : Type 0 where
@@ -48,10 +48,10 @@ pub record CallHead : Type 0 where
 abbrev pub head_of : List ℕ → Option CallHead
 head_of fields = do
   first ← split_at_first 32 fields
-  writer ← number_of first.0
+  writer ← field_number first.0
   second ← split_at_first 32 first.1
-  stamp ← number_of second.0
-  id ← number_of (first_field second.1).0
+  stamp ← field_number second.0
+  id ← field_number (first_field second.1).0
   Some (record { writer = writer; stamp = stamp; id = id; fields = (first_field second.1).1 })
 
 -- the front of a line of a call

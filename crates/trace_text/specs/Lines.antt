@@ -38,11 +38,11 @@ SpellsArgument field (values.Text bytes) =
     (spelled : List ℕ) × (field ≡ 34 ∷ spelled ++ 34 ∷ []) × SpellsText spelled bytes
 
 -- the arguments, each after a space
-abbrev pub SpellsArguments : List ℕ → List Value → Type 0
-SpellsArguments fields [] = fields ≡ []
-SpellsArguments fields (value ∷ args) =
+abbrev pub SpellsArgumentFields : List ℕ → List Value → Type 0
+SpellsArgumentFields fields [] = fields ≡ []
+SpellsArgumentFields fields (value ∷ args) =
     (field : List ℕ) × (others : List ℕ) × (fields ≡ 32 ∷ field ++ others)
-    × SpellsArgument field value × SpellsArguments others args
+    × SpellsArgument field value × SpellsArgumentFields others args
 
 -- a call of a writer
 pub record WriterCall : Type 0 where
@@ -54,7 +54,7 @@ pub record SpellsCall (line : List ℕ) (made : WriterCall) : Type 0 where
   pub fields : List ℕ
   pub spelled : line ≡ codes "call " ++ decimal made.writer ++ 32 ∷ decimal made.call.stamp
       ++ 32 ∷ decimal made.call.id ++ fields
-  pub arguments : SpellsArguments fields made.call.args
+  pub arguments : SpellsArgumentFields fields made.call.args
   pub stamp_fits : made.call.stamp < 2 ^ 64
 
 -- the lines spell the messages, with ids that count from this number

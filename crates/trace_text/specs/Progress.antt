@@ -9,41 +9,41 @@ use Rattle.trace_text.specs.declared.reading.TraceFault.{TraceFault}
 use Rattle.trace_text.specs.declared.reading.TraceFault.TheVariants.{ReadFault, Refused, NoMemory}
 use Rattle.trace_text.specs.declared.cause.TraceCause.TheVariants as causes
 use Rattle.trace_text.specs.Recordings.{Recording}
-use Rattle.trace_text.specs.Reading.{Part, Broken, Gives}
+use Rattle.trace_text.specs.Reading.{TracePart, Broken, Gives}
 
 -- the part that was come to, the number of the next line, and the bytes from that line on
-pub record Progress : Type 0 where
-  pub part : Part
+pub record TraceProgress : Type 0 where
+  pub part : TracePart
   pub number : ℕ
   pub bytes : List ℕ
 
 -- in this part, before these lines
-abbrev pub progress : Part → Lines → Progress
+abbrev pub progress : TracePart → Lines → TraceProgress
 progress part lines = record { part = part; number = lines.number; bytes = lines.bytes.now }
 
 -- what the text gives from there on
-abbrev pub GivesFrom : Progress → Result Recording Broken → Type 0
+abbrev pub GivesFrom : TraceProgress → Result Recording Broken → Type 0
 GivesFrom from outcome = Gives from.part from.number from.bytes outcome
 
 -- what the text gives from the second on it gives from the first on
-abbrev pub Leads : Progress → Progress → Type 0
+abbrev pub Leads : TraceProgress → TraceProgress → Type 0
 Leads from to = (outcome : Result Recording Broken) → GivesFrom to outcome → GivesFrom from outcome
 
 -- the text is refused so; want of memory says nothing of it, and no source failed
-abbrev pub IsRefusal : Progress → TraceFault → Type 0
+abbrev pub IsRefusal : TraceProgress → TraceFault → Type 0
 IsRefusal from (Refused line cause) = GivesFrom from (Err (record { line = line; cause = cause }))
 IsRefusal from NoMemory = ⊤
 IsRefusal from ReadFault = ⊥
 
 -- the answer of a reader that goes on from the first: with what it found it came to another
-abbrev pub Comes : {A : Type 0} → Progress → (A → Progress) → Result A TraceFault → Type 0
+abbrev pub Comes : {A : Type 0} → TraceProgress → (A → TraceProgress) → Result A TraceFault → Type 0
 Comes from to (Ok found) = Leads from (to found)
 Comes from to (Err fault) = IsRefusal from fault
 
 -- the answer of a reader that reads the rest of the text: the text gives the run
-abbrev pub Finishes : Progress → Result Recording TraceFault → Type 0
-Finishes from (Ok run) = GivesFrom from (Ok run)
-Finishes from (Err fault) = IsRefusal from fault
+abbrev pub ReadsToEnd : TraceProgress → Result Recording TraceFault → Type 0
+ReadsToEnd from (Ok run) = GivesFrom from (Ok run)
+ReadsToEnd from (Err fault) = IsRefusal from fault
 
 -- how a line of a message with this number is refused
 abbrev pub message_fault : ℕ → LineFault → TraceFault

@@ -14,16 +14,16 @@ use Rattle.trace_text.specs.LineFields.{begins_with, clock_at, writers_at}
 use Rattle.trace_text.specs.CallReading.{call_at, with_call}
 
 -- how far the lines of a text have come
-pub data Part : Type 0 where
-  opening : Part
+pub data TracePart : Type 0 where
+  opening : TracePart
   -- behind the first line
-  messages : List Message → Part
+  messages : List Message → TracePart
   -- behind the clock's line
-  clock : List Message → Clock → Part
+  clock : List Message → Clock → TracePart
   -- behind the writers' line: the run so far
-  calls : Recording → Part
+  calls : Recording → TracePart
   -- behind the last line
-  ended : Recording → Part
+  ended : Recording → TracePart
 
 -- a line that is refused, and why
 pub record Broken : Type 0 where
@@ -33,7 +33,7 @@ pub record Broken : Type 0 where
 -- ---- one line
 
 -- the line spells a new message with the next id
-abbrev pub FollowsMessages : List Message → List ℕ → Part → Type 0
+abbrev pub FollowsMessages : List Message → List ℕ → TracePart → Type 0
 FollowsMessages before line next =
     (begins_with (codes "message ") line ≡ true)
     × (length before < MAX_MESSAGES)
@@ -49,7 +49,7 @@ BreaksMessages before line cause =
     × (cause ≡ causes.Message)))
 
 -- the line is right in this part, and the next line stands in that part
-abbrev pub Follows : Part → List ℕ → Part → Type 0
+abbrev pub Follows : TracePart → List ℕ → TracePart → Type 0
 Follows opening line next = (line ≡ first_line) × (next ≡ messages [])
 Follows (messages before) line next =
     FollowsMessages before line next
@@ -64,7 +64,7 @@ Follows (calls run) line next =
 Follows (ended run) line next = ⊥
 
 -- the line is refused in this part, and this is the first cause that holds
-abbrev pub Breaks : Part → List ℕ → TraceCause → Type 0
+abbrev pub Breaks : TracePart → List ℕ → TraceCause → Type 0
 Breaks opening line cause = (line ≢ first_line) × (cause ≡ causes.Header)
 Breaks (messages before) line cause =
     BreaksMessages before line cause
@@ -76,16 +76,16 @@ Breaks (ended run) line cause = cause ≡ causes.AfterEnd
 -- ---- all lines
 
 -- what it gives that no whole line is left, where the next line would have this number and these bytes are left
-abbrev pub at_end : Part → ℕ → List ℕ → Result Recording Broken
+abbrev pub at_end : TracePart → ℕ → List ℕ → Result Recording Broken
 at_end (ended run) n [] = Ok run
 at_end (ended run) n (byte ∷ rest) = Err (record { line = n; cause = causes.AfterEnd })
 at_end _ n rest = Err (record { line = n; cause = causes.NoEnd })
 
 -- what whole lines, of which the first has this number, and the bytes after them give
-abbrev pub Reads : Part → ℕ → List (List ℕ) → List ℕ → Result Recording Broken → Type 0
-Reads part n [] rest outcome = outcome ≡ at_end part n rest
-Reads part n (line ∷ lines) rest outcome =
-    ((next : Part) × Follows part line next × Reads next (n + 1) lines rest outcome)
+abbrev pub ReadsLines : TracePart → ℕ → List (List ℕ) → List ℕ → Result Recording Broken → Type 0
+ReadsLines part n [] rest outcome = outcome ≡ at_end part n rest
+ReadsLines part n (line ∷ lines) rest outcome =
+    ((next : TracePart) × Follows part line next × ReadsLines next (n + 1) lines rest outcome)
     ⊎ ((cause : TraceCause) × Breaks part line cause × (outcome ≡ Err (record { line = n; cause = cause })))
 
 -- bytes without a line feed
@@ -93,17 +93,17 @@ abbrev pub IsOneLine : List ℕ → Type 0
 IsOneLine bytes = AllByRecursion (λ byte. byte ≢ 10) bytes
 
 -- the bytes are whole lines, and a rest in which no line ends
-pub record IsCut (bytes : List ℕ) (lines : List (List ℕ)) (rest : List ℕ) : Type 0 where
+pub record IsCutIntoLines (bytes : List ℕ) (lines : List (List ℕ)) (rest : List ℕ) : Type 0 where
   pub joined : bytes ≡ text_of_lines lines ++ rest
   pub whole : AllByRecursion IsOneLine lines
   pub unended : IsOneLine rest
 
 -- what the bytes from a line on give, which has this number
-pub record Gives (part : Part) (n : ℕ) (bytes : List ℕ) (outcome : Result Recording Broken) : Type 0 where
+pub record Gives (part : TracePart) (n : ℕ) (bytes : List ℕ) (outcome : Result Recording Broken) : Type 0 where
   pub lines : List (List ℕ)
   pub rest : List ℕ
-  pub cut : IsCut bytes lines rest
-  pub reads : Reads part n lines rest outcome
+  pub cut : IsCutIntoLines bytes lines rest
+  pub reads : ReadsLines part n lines rest outcome
 
 -- ---- a text
 

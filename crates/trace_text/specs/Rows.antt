@@ -12,8 +12,8 @@ use Rattle.trace_text.specs.Lines.{WriterCall}
 use Rattle.trace_text.specs.CallReading.{call_at}
 
 -- the second writer's two calls stand around the first writer's one, and the third made none
-abbrev pub three_writers : Recording
-three_writers = record {
+abbrev pub three_writers_run : Recording
+three_writers_run = record {
   dictionary = row_message ∷ [];
   clock = record { tick = 1000; nanos = 1514764800000000000; rate = 2000000000 };
   writers = (row_call 1 ∷ []) ∷ (row_call 2 ∷ row_call 3 ∷ []) ∷ [] ∷ [];
@@ -32,7 +32,7 @@ three_writers_text =
 
 -- three writers with calls of two messages; the second writer's first call is at the clock's tick
 abbrev pub two_messages : Recording
-two_messages = record three_writers {
+two_messages = record three_writers_run {
   dictionary = row_message ∷ full_message ∷ [];
   writers = mixed_calls;
 }
@@ -51,19 +51,19 @@ text_call_line = codes "call 3 5 2 \"a\\\"\\\\\\n\\t\\xFe\" 18446744073709551615
 -- a run of two writers, of which the first made one call; the second message takes two texts
 abbrev pub begun_run : Recording
 begun_run =
-    record three_writers { dictionary = row_message ∷ texts_message ∷ []; writers = (row_call 1 ∷ []) ∷ [] ∷ [] }
+    record three_writers_run { dictionary = row_message ∷ texts_message ∷ []; writers = (row_call 1 ∷ []) ∷ [] ∷ [] }
 
 -- the cause from which the line is refused in that run
 abbrev pub refused : List ℕ → TraceCause → Type 0
 refused line cause = call_at begun_run line ≡ Err cause
 
 -- a text of so many letters, behind its space
-abbrev pub letters : ℕ → List ℕ
-letters n = 32 ∷ 34 ∷ replicate n 97 ++ 34 ∷ []
+abbrev pub letters_text : ℕ → List ℕ
+letters_text n = 32 ∷ 34 ∷ replicate n 97 ++ 34 ∷ []
 
 -- a line of a call with two texts of so many letters each, which goes on with that run, and its call
 abbrev pub texts_line : ℕ → ℕ → List ℕ
-texts_line n m = codes "call 0 1003 1" ++ letters n ++ letters m
+texts_line n m = codes "call 0 1003 1" ++ letters_text n ++ letters_text m
 
 abbrev pub texts_made : ℕ → ℕ → WriterCall
 texts_made n m = record {
@@ -91,7 +91,7 @@ three_writers_canonical =
 
 -- a run of one writer before its first call, whose message takes one text
 abbrev pub one_text_run : Recording
-one_text_run = record three_writers {
+one_text_run = record three_writers_run {
   dictionary =
       record row_message {
         format = record { bytes = codes "%s"; pieces = Field (record plain_d { conversion = S }) ∷ [] };
@@ -102,42 +102,3 @@ one_text_run = record three_writers {
 -- a call of it with a letter, another one and a line feed
 abbrev pub one_text_call : WriterCall
 one_text_call = record { writer = 0; call = record { stamp = 1003; id = 0; args = Text (97 ∷ 65 ∷ 10 ∷ []) ∷ [] } }
-
--- ---- generated traces
-
--- the states that follow each other behind the seed 1
-abbrev pub first_states : List ℕ
-first_states =
-    1103527590 ∷ 377401575 ∷ 662824084 ∷ 1147902781 ∷ 2035015474 ∷ 368800899 ∷ 1508029952 ∷ []
-
--- the messages and the clock of a generated trace
-abbrev pub generated_front : List ℕ
-generated_front =
-    codes "nanolog-trace 1\n"
-    ++ codes "message 0 ERROR 10 \"gen.cc\" \"disk %u failed at %#lx\"\n"
-    ++ codes "message 1 WARNING 20 \"gen.cc\" \"queue %s is %d%% full\"\n"
-    ++ codes "message 2 NOTICE 30 \"gen.cc\" \"request %llu took %5d us\"\n"
-    ++ codes "message 3 DEBUG 40 \"gen.cc\" \"state %c\"\n"
-    ++ codes "clock 1000 1514764800000000000 2000000000\n"
-
--- two calls of one writer
-abbrev pub two_calls_text : List ℕ
-two_calls_text =
-    generated_front
-    ++ codes "writers 1\n"
-    ++ codes "call 0 1058 2 10113 17515\n"
-    ++ codes "call 0 1085 3 107\n"
-    ++ codes "end\n"
-
--- the same calls of two writers
-abbrev pub turns_text : List ℕ
-turns_text =
-    generated_front
-    ++ codes "writers 2\n"
-    ++ codes "call 0 1058 2 10113 17515\n"
-    ++ codes "call 1 1085 3 107\n"
-    ++ codes "end\n"
-
--- no calls
-abbrev pub no_calls_text : List ℕ
-no_calls_text = generated_front ++ codes "writers 3\n" ++ codes "end\n"

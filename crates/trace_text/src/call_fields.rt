@@ -6,7 +6,7 @@ ghost use Rattle.log_dictionary.specs.Numbers.{integer_read, if_signed};
 ghost use Rattle.arg_records.specs.Frames.{FrameLen, IsShort, argument_words};
 ghost use Rattle.trace_text.specs.CallReading.{ends_field, signed_within, unsigned_below, argument_of, arguments_at};
 ghost use Rattle.trace_text.specs.CallReading.Item.{number, text};
-ghost use Rattle.trace_text.specs.CallFields.{field_value, read_as, item_argument, argument_at, ReadsArguments};
+ghost use Rattle.trace_text.specs.CallFields.{field_value, result_as, item_argument, spaced_argument, ReadsArguments};
 ghost use Rattle.log_dictionary.specs.Texts.{text_at};
 
 use crate::call_line::CallFault;
@@ -18,7 +18,7 @@ use std::alloc::{AllocError, Global};
 
 /// An argument that stands in a line. A text isn't copied.
 #[derive(Debug, Drop)]
-pub(crate) enum Field<'a> {
+pub(crate) enum CallField<'a> {
     Signed(i64),
     Unsigned(u64),
     Text(SpelledText<'a>),
@@ -35,33 +35,33 @@ fn signed_of(integer: Integer) -> Option<i64>
 }
 
 // An integer from `least` to `most`.
-fn signed_field<'a>(integer: Integer, least: i64, most: i64) -> Result<Field<'a>, TraceCause>
+fn signed_field<'a>(integer: Integer, least: i64, most: i64) -> Result<CallField<'a>, TraceCause>
     ensures short { IfOk result (λ field. IsShort (field_value field)) }
     ensures value { (z : ℤ) → integer ≡ integer_read z
-        → read_as field_value result ≡ signed_within least most z }
+        → result_as field_value result ≡ signed_within least most z }
 {
     match signed_of(integer) {
-        Some(signed) if signed >= least && signed <= most => Ok(Field::Signed(signed)),
+        Some(signed) if signed >= least && signed <= most => Ok(CallField::Signed(signed)),
         _ => Err(TraceCause::ArgRange),
     }
 }
 
 // An integer from 0 to `most`.
-fn unsigned_field<'a>(integer: Integer, most: u64) -> Result<Field<'a>, TraceCause>
+fn unsigned_field<'a>(integer: Integer, most: u64) -> Result<CallField<'a>, TraceCause>
     ensures short { IfOk result (λ field. IsShort (field_value field)) }
     ensures value { (z : ℤ) → integer ≡ integer_read z
-        → read_as field_value result ≡ unsigned_below (most + 1) z }
+        → result_as field_value result ≡ unsigned_below (most + 1) z }
 {
     match integer {
-        Integer::Unsigned(unsigned) if unsigned <= most => Ok(Field::Unsigned(unsigned)),
+        Integer::Unsigned(unsigned) if unsigned <= most => Ok(CallField::Unsigned(unsigned)),
         _ => Err(TraceCause::ArgRange),
     }
 }
 
-fn number_field<'a>(kind: ArgType, integer: Integer) -> Result<Field<'a>, TraceCause>
+fn number_field<'a>(kind: ArgType, integer: Integer) -> Result<CallField<'a>, TraceCause>
     ensures short { IfOk result (λ field. IsShort (field_value field)) }
     ensures value { (z : ℤ) → integer ≡ integer_read z
-        → read_as field_value result ≡ argument_of kind (number z) }
+        → result_as field_value result ≡ argument_of kind (number z) }
 {
     match kind {
         ArgType::Int => signed_field(integer, i32::MIN as i64, i32::MAX as i64),
@@ -74,8 +74,8 @@ fn number_field<'a>(kind: ArgType, integer: Integer) -> Result<Field<'a>, TraceC
     }
 }
 
-fn text_field(kind: ArgType, spelled: SpelledText<'_>) -> Result<Field<'_>, TraceCause>
-    ensures value { read_as field_value result ≡ argument_of kind (text spelled.entry) }
+fn text_field(kind: ArgType, spelled: SpelledText<'_>) -> Result<CallField<'_>, TraceCause>
+    ensures value { result_as field_value result ≡ argument_of kind (text spelled.entry) }
     ensures short { IfOk result (λ field. IsShort (field_value field)) }
 {
     if kind != ArgType::Text {
@@ -87,7 +87,7 @@ fn text_field(kind: ArgType, spelled: SpelledText<'_>) -> Result<Field<'_>, Trac
     if spelled.len() > MAX_TEXT {
         return Err(TraceCause::TooLong);
     }
-    Ok(Field::Text(spelled))
+    Ok(CallField::Text(spelled))
 }
 
 fn ends_field(rest: &[u8]) -> bool
@@ -100,10 +100,10 @@ fn ends_field(rest: &[u8]) -> bool
 }
 
 // A number up to the next space, and the bytes from that space on.
-fn read_number_field(kind: ArgType, bytes: &[u8]) -> Result<(Field<'_>, &[u8]), TraceCause>
+fn read_number_field(kind: ArgType, bytes: &[u8]) -> Result<(CallField<'_>, &[u8]), TraceCause>
     ensures short { IfOk result (λ found. IsShort (field_value found.0)) }
     ensures value { text_at bytes.now ≡ None
-        → read_as (λ found. (field_value found.0, found.1.now)) result ≡ item_argument kind bytes.now }
+        → result_as (λ found. (field_value found.0, found.1.now)) result ≡ item_argument kind bytes.now }
 {
     let (field, rest) = first_field(bytes);
     let Some(integer) = read_integer(field) else {
@@ -120,10 +120,10 @@ fn read_text_field<'a>(
     kind: ArgType,
     text: SpelledText<'a>,
     rest: &'a [u8],
-) -> Result<(Field<'a>, &'a [u8]), TraceCause>
+) -> Result<(CallField<'a>, &'a [u8]), TraceCause>
     ensures short { IfOk result (λ found. IsShort (field_value found.0)) }
     ensures value { (bytes : List ℕ) → text_at bytes ≡ Some (text.entry, rest.now)
-        → read_as (λ found. (field_value found.0, found.1.now)) result ≡ item_argument kind bytes }
+        → result_as (λ found. (field_value found.0, found.1.now)) result ≡ item_argument kind bytes }
 {
     if !ends_field(rest) {
         return Err(TraceCause::ArgKind);
@@ -134,9 +134,9 @@ fn read_text_field<'a>(
     }
 }
 
-fn read_item(kind: ArgType, bytes: &[u8]) -> Result<(Field<'_>, &[u8]), TraceCause>
+fn read_item(kind: ArgType, bytes: &[u8]) -> Result<(CallField<'_>, &[u8]), TraceCause>
     ensures short { IfOk result (λ found. IsShort (field_value found.0)) }
-    ensures value { read_as (λ found. (field_value found.0, found.1.now)) result ≡ item_argument kind bytes.now }
+    ensures value { result_as (λ found. (field_value found.0, found.1.now)) result ≡ item_argument kind bytes.now }
 {
     match split_text(bytes) {
         Some((text, rest)) => read_text_field(kind, text, rest),
@@ -145,9 +145,9 @@ fn read_item(kind: ArgType, bytes: &[u8]) -> Result<(Field<'_>, &[u8]), TraceCau
 }
 
 // An argument of the type behind a space, and the bytes behind it.
-fn read_field(kind: ArgType, bytes: &[u8]) -> Result<(Field<'_>, &[u8]), TraceCause>
+fn read_field(kind: ArgType, bytes: &[u8]) -> Result<(CallField<'_>, &[u8]), TraceCause>
     ensures short { IfOk result (λ found. IsShort (field_value found.0)) }
-    ensures value { read_as (λ found. (field_value found.0, found.1.now)) result ≡ argument_at kind bytes.now }
+    ensures value { result_as (λ found. (field_value found.0, found.1.now)) result ≡ spaced_argument kind bytes.now }
 {
     match bytes {
         [] => Err(TraceCause::ArgCount),
@@ -155,28 +155,28 @@ fn read_field(kind: ArgType, bytes: &[u8]) -> Result<(Field<'_>, &[u8]), TraceCa
     }
 }
 
-fn field_words(field: &Field) -> u64
+fn field_words(field: &CallField) -> u64
     requires { IsShort (field_value field.now) }
     ensures value { result ≡ argument_words (field_value field.now) }
     ensures bound { result ≤ 501 }
 {
     match field {
-        Field::Signed(_) | Field::Unsigned(_) => 1,
-        Field::Text(text) => text_words(text.len()),
+        CallField::Signed(_) | CallField::Unsigned(_) => 1,
+        CallField::Text(text) => text_words(text.len()),
     }
 }
 
-fn kept(alloc: Global, field: Field) -> Result<Value, AllocError>
+fn kept(alloc: Global, field: CallField) -> Result<Value, AllocError>
     ensures { IfOk result (λ value. value ≡ field_value field.entry) }
 {
     match field {
-        Field::Signed(signed) => Ok(Value::Signed(signed)),
-        Field::Unsigned(unsigned) => Ok(Value::Unsigned(unsigned)),
-        Field::Text(text) => Ok(Value::Text(text.to_bytes(alloc)?)),
+        CallField::Signed(signed) => Ok(Value::Signed(signed)),
+        CallField::Unsigned(unsigned) => Ok(Value::Unsigned(unsigned)),
+        CallField::Text(text) => Ok(Value::Text(text.to_bytes(alloc)?)),
     }
 }
 
-fn push_field(alloc: Global, values: &mut Values, field: Field) -> Result<(), CallFault>
+fn push_field(alloc: Global, values: &mut Values, field: CallField) -> Result<(), CallFault>
     requires { length values.old < MAX_ARGUMENTS }
     ensures ok { OnOk result (values.new ≡ values.old ++ field_value field.entry ∷ []) }
     ensures err { IfErr result (λ fault. fault ≡ CallFault.NoMemory) }
@@ -194,7 +194,7 @@ fn push_field(alloc: Global, values: &mut Values, field: Field) -> Result<(), Ca
 /// takes no memory.
 pub(crate) fn frame_len_of(types: &[ArgType], bytes: &[u8]) -> Result<u64, TraceCause>
     requires { length types.now ≤ MAX_ARGUMENTS }
-    ensures { result ≡ read_as FrameLen (arguments_at types.now bytes.now) }
+    ensures { result ≡ result_as FrameLen (arguments_at types.now bytes.now) }
 {
     let mut words = 2;
     let mut rest = bytes;

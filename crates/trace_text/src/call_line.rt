@@ -6,7 +6,7 @@ ghost use Rattle.log_dictionary.specs.declared.dictionary.TheConstants.{MAX_MESS
 ghost use Rattle.trace_text.specs.LineFields.{head_of, head_at};
 ghost use Rattle.trace_text.specs.CallReading.{last_stamp, call_at};
 ghost use Rattle.trace_text.specs.CallAnswers.{ReadsCall};
-ghost use Rattle.trace_text.specs.CallPlaces.{head_view, call_of};
+ghost use Rattle.trace_text.specs.CallPlaces.{head_view, begun_call};
 
 use crate::call_fields::{frame_len_of, read_arguments};
 use crate::cause::TraceCause;
@@ -24,7 +24,7 @@ pub(crate) enum CallFault {
 
 /// What a call's line says before its arguments, and the bytes from behind its id on.
 #[derive(Clone, Copy)]
-struct Head<'a> {
+struct CallLineHead<'a> {
     writer: u64,
     stamp: u64,
     id: u64,
@@ -33,7 +33,7 @@ struct Head<'a> {
 
 /// A call whose writer, stamp and id are right, before its arguments are read.
 #[derive(Clone, Copy)]
-struct Begun<'a> {
+struct BegunCall<'a> {
     writer: u32,
     stamp: u64,
     id: u32,
@@ -42,7 +42,7 @@ struct Begun<'a> {
 }
 
 // A writer, a stamp and an id, and what follows them.
-fn head_of(fields: &[u8]) -> Option<Head<'_>>
+fn head_of(fields: &[u8]) -> Option<CallLineHead<'_>>
     ensures { option_map head_view result ≡ head_of fields.now }
 {
     let (writer, rest) = split_at_byte(fields, b' ')?;
@@ -51,7 +51,7 @@ fn head_of(fields: &[u8]) -> Option<Head<'_>>
     let stamp = read_number(stamp)?;
     let (id, fields) = first_field(rest);
     let id = read_number(id)?;
-    Some(Head {
+    Some(CallLineHead {
         writer,
         stamp,
         id,
@@ -59,7 +59,7 @@ fn head_of(fields: &[u8]) -> Option<Head<'_>>
     })
 }
 
-fn head_at(line: &[u8]) -> Option<Head<'_>>
+fn head_at(line: &[u8]) -> Option<CallLineHead<'_>>
     ensures { option_map head_view result ≡ head_at line.now }
 {
     head_of(line.strip_prefix(b"call ")?)
@@ -85,9 +85,9 @@ fn message_at(dictionary: &Dictionary, id: u64) -> Option<&Message>
 }
 
 // All of a line but its arguments.
-fn begin_call<'a>(run: &'a Trace, calls: usize, line: &'a [u8]) -> Result<Begun<'a>, TraceCause>
+fn begin_call<'a>(run: &'a Trace, calls: usize, line: &'a [u8]) -> Result<BegunCall<'a>, TraceCause>
     requires { calls ≡ sum_by length run.now.writers }
-    ensures ok { IfOk result (λ begun. call_at run.now line.now ≡ call_of begun) }
+    ensures ok { IfOk result (λ begun. call_at run.now line.now ≡ begun_call begun) }
     ensures err { IfErr result (λ cause. call_at run.now line.now ≡ Err cause) }
 {
     if line.starts_with(b"call ") && calls >= MAX_CALLS {
@@ -108,7 +108,7 @@ fn begin_call<'a>(run: &'a Trace, calls: usize, line: &'a [u8]) -> Result<Begun<
     let Some(message) = message_at(&run.dictionary, head.id) else {
         return Err(TraceCause::Id);
     };
-    Ok(Begun {
+    Ok(BegunCall {
         writer: head.writer as u32,
         stamp: head.stamp,
         id: head.id as u32,

@@ -3,8 +3,8 @@
 ghost use Rattle.std.specs.Prelude.{◌≡◌};
 ghost use Rattle.trace_text.specs.LineFields.{clock_of, clock_at, writers_at};
 
-use arg_records::MAX_WRITERS;
 use log_dictionary::{Clock, read_number, split_at_byte};
+use session_options::MAX_WRITERS;
 
 // The tick, the nanoseconds and the rate of a clock.
 fn clock_of(fields: &[u8]) -> Option<Clock>

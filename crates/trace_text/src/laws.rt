@@ -12,24 +12,20 @@ ghost use Rattle.arg_records.specs.Calls.{IsCall, NeverFalls};
 ghost use Rattle.log_dictionary.specs.Additions.{SpellsNew};
 ghost use Rattle.log_dictionary.specs.declared.message.Message.{Message as MessageValue};
 ghost use Rattle.trace_text.specs.Reading as parts;
-ghost use Rattle.trace_text.specs.Reading.{Part, Broken, IsOneLine, Follows, Breaks, Gives, opening, TraceBreak};
+ghost use Rattle.trace_text.specs.Reading.{TracePart, Broken, IsOneLine, Follows, Breaks, Gives, opening, TraceBreak};
 ghost use Rattle.trace_text.specs.Traces.{TraceText};
 ghost use Rattle.trace_text.specs.Canonical.{call_line, Canonical, HasText};
 ghost use Rattle.trace_text.specs.Lines.{SpellsCall, text_of_lines};
-ghost use Rattle.trace_text.specs.Rows.{three_writers, three_writers_text, two_messages, text_call, text_call_line, begun_run, refused, texts_line, texts_made, many_calls, three_writers_canonical, one_text_run, one_text_call};
+ghost use Rattle.trace_text.specs.Rows.{three_writers_run, three_writers_text, two_messages, text_call, text_call_line, begun_run, refused, texts_line, texts_made, many_calls, three_writers_canonical, one_text_run, one_text_call};
 ghost use Rattle.trace_text.specs.CallReading.{call_at};
 ghost use Rattle.trace_text.specs.declared.cause.TraceCause.{TraceCause};
 ghost use Rattle.trace_text.specs.declared.cause.TraceCause.TheVariants.{TooLarge, NoEnd, Header, Message, Clock, Writers, CallForm, Writer, BeforeClock, StampFalls, Id, ArgCount, ArgKind, ArgRange, NulInText, TooLong, AfterEnd, TooMany};
 ghost use Rattle.trace_text.specs.Causes.{cause_number};
 ghost use Rattle.printf_grammar.specs.declared.argument.Value.TheVariants.{Signed, Text};
 ghost use Rattle.std.specs.List.{range_with_len};
-ghost use Rattle.arg_records.specs.declared.call.TheConstants.{MAX_WRITERS};
-ghost use Rattle.trace_text.specs.declared.generating.TheConstants.{MAX_GENERATED};
 ghost use Rattle.trace_text.specs.declared.trace.TheConstants.{MAX_CALLS, MAX_TRACE};
-ghost use Rattle.trace_text.specs.Generated.{state_after, Generated};
-ghost use Rattle.trace_text.specs.Rows.{first_states, two_calls_text, turns_text, no_calls_text};
 
-use crate::order::Place;
+use crate::order::CallPlace;
 use crate::reading::TraceFault;
 use crate::trace::Trace;
 use crate::writer_calls::WriterCalls;
@@ -39,13 +35,11 @@ use crate::writing::WriteTraceFault;
 pub fn limits_have_these_numbers()
     ensures bytes { MAX_TRACE ≡ 67108864 }
     ensures calls { MAX_CALLS ≡ 4194304 }
-    ensures writers { MAX_WRITERS ≡ 64 }
-    ensures generated { MAX_GENERATED ≡ 1000000 }
 {}
 
 /// A run of three writers, whose calls are mixed.
 pub fn writers_are_mixed()
-    ensures { TraceText three_writers_text three_writers }
+    ensures { TraceText three_writers_text three_writers_run }
 {}
 
 /// A call with each escape in a text, and the greatest number.
@@ -197,7 +191,7 @@ pub fn canonical_texts_spell()
 pub fn calls_are_written()
     ensures read { call_at one_text_run (codes "call 0 1003 0 \"a\\x41\\n\"") ≡ Ok one_text_call }
     ensures written { call_line one_text_call ≡ codes "call 0 1003 0 \"aA\\n\"" }
-    ensures in_order { Canonical three_writers ≡ three_writers_canonical }
+    ensures in_order { Canonical three_writers_run ≡ three_writers_canonical }
 {}
 
 /// The runs that texts spell are the runs that reading the texts line by line gives.
@@ -217,27 +211,10 @@ pub fn texts_are_told_apart()
     ensures one_run { (bytes : List ℕ) (a b : Recording) → TraceText bytes a → TraceText bytes b → a ≡ b }
     ensures one_break { (bytes : List ℕ) (i j : ℕ) (a b : TraceCause)
         → TraceBreak bytes i a → TraceBreak bytes j b → (i ≡ j) × (a ≡ b) }
-    ensures some_outcome { (part : Part) (n : ℕ) (bytes : List ℕ)
+    ensures some_outcome { (part : TracePart) (n : ℕ) (bytes : List ℕ)
         → (outcome : Result Recording Broken) × Gives part n bytes outcome }
-    ensures one_outcome { (part : Part) (n : ℕ) (bytes : List ℕ) (a b : Result Recording Broken)
+    ensures one_outcome { (part : TracePart) (n : ℕ) (bytes : List ℕ) (a b : Result Recording Broken)
         → Gives part n bytes a → Gives part n bytes b → a ≡ b }
-{}
-
-/// The states of the generator behind the seed 1, and the traces of two calls of one writer, of the same calls of two
-/// writers, which take turns, and of no calls.
-pub fn traces_are_generated()
-    ensures states { map (λ draws. state_after draws 1) (range_with_len 1 7) ≡ first_states }
-    ensures two_calls { Canonical (Generated 1 2 1) ≡ two_calls_text }
-    ensures turns { Canonical (Generated 1 2 2) ≡ turns_text }
-    ensures no_calls { Canonical (Generated 1 0 3) ≡ no_calls_text }
-    ensures large_seeds { (seed other calls writers : ℕ) → seed % 2147483648 ≡ other % 2147483648
-        → Generated seed calls writers ≡ Generated other calls writers }
-{}
-
-/// Each generated trace is one that a text can spell.
-pub fn generated_traces_have_texts()
-    ensures { (seed calls writers : ℕ) → calls ≤ 1000000 → 1 ≤ writers → writers ≤ 64
-        → HasText (Generated seed calls writers) }
 {}
 
 /// Runs, their parts and faults go from thread to thread, and threads share them.
@@ -246,7 +223,7 @@ pub fn threads() {
     crosses_threads::<WriterCalls>();
     crosses_threads::<TraceFault>();
     crosses_threads::<WriteTraceFault>();
-    crosses_threads::<Place>();
+    crosses_threads::<CallPlace>();
 }
 
 fn crosses_threads<T: Send + Sync>() {}

@@ -4,8 +4,6 @@
 mod call_fields;
 mod call_line;
 mod cause;
-mod generating;
-mod generator;
 mod head_lines;
 pub mod laws;
 mod lines;
@@ -17,8 +15,7 @@ mod writing;
 
 pub use arg_records::{Call, Calls};
 pub use cause::TraceCause;
-pub use generating::{MAX_GENERATED, generate};
-pub use order::{Place, call_count, places_in_order};
+pub use order::{CallPlace, call_count, places_in_order};
 pub use reading::{TraceFault, read_text, read_trace};
 pub use trace::{MAX_CALLS, MAX_TRACE, Trace};
 pub use writer_calls::WriterCalls;

@@ -11,7 +11,7 @@ use std::alloc::{AllocError, Global};
 /// Where a call of a run stands. Calls are printed and written by stamp, those of one stamp by
 /// writer, and those of one writer in the order in which it made them.
 #[derive(Clone, Copy, Debug, PartialEq, Eq, PartialOrd, Ord)]
-pub struct Place {
+pub struct CallPlace {
     /// When the call was made, by the ticks of the clock.
     pub stamp: u64,
     /// The number of the writer that made it.
@@ -32,12 +32,12 @@ pub fn call_count(trace: &Trace) -> usize
 }
 
 /// Appends the places of the calls of a writer.
-fn add_places(writer: u32, calls: &Calls, places: &mut Vec<Place>) -> Result<(), AllocError>
+fn add_places(writer: u32, calls: &Calls, places: &mut Vec<CallPlace>) -> Result<(), AllocError>
     requires { length calls.now ≤ MAX_CALLS }
     ensures { OnOk result (places.new.items ≡ places.old.items ++ writer_places (writer, calls.now)) }
 {
     for (ordinal, call) in calls.iter().enumerate() {
-        places.push(Place {
+        places.push(CallPlace {
             stamp: call.stamp,
             writer,
             ordinal: ordinal as u32,
@@ -51,7 +51,7 @@ fn add_places(writer: u32, calls: &Calls, places: &mut Vec<Place>) -> Result<(),
 /// # Errors
 ///
 /// There is no memory for the places.
-pub fn places_in_order(alloc: Global, trace: &Trace) -> Result<Vec<Place>, AllocError>
+pub fn places_in_order(alloc: Global, trace: &Trace) -> Result<Vec<CallPlace>, AllocError>
     ensures { IfOk result (λ places. places.items ≡ places_in_order trace.now) }
 {
     let mut places = Vec::with_capacity(alloc, call_count(trace))?;

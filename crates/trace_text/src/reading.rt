@@ -4,10 +4,10 @@ ghost use Rattle.std.specs.Prelude.{◌≡◌, ℕ, ◌≤◌, [], Err, length, 
 ghost use Rattle.nl_io.specs.Count.{Rose};
 ghost use Rattle.nl_io.specs.Content.{IsAtEnd};
 ghost use Rattle.trace_text.specs.Reading as parts;
-ghost use Rattle.trace_text.specs.Progress.{progress, Comes, Finishes, message_fault, call_fault};
+ghost use Rattle.trace_text.specs.Progress.{progress, Comes, ReadsToEnd, message_fault, call_fault};
 ghost use Rattle.trace_text.specs.TraceReading.{IsAnswer, IsOnlyAnswer};
 ghost use Rattle.trace_text.specs.Lines.{FitsLine};
-ghost use Rattle.trace_text.specs.Canonical.{HaveLines};
+ghost use Rattle.trace_text.specs.Canonical.{HaveMessageLines};
 
 use crate::call_line::{CallFault, read_call};
 use crate::cause::TraceCause;
@@ -72,7 +72,7 @@ fn read_front(
 ) -> Result<(Dictionary, Clock, Lines<'_>), TraceFault>
     ensures front { Comes (progress (parts.messages []) lines.entry)
         (λ front. progress (parts.clock front.0 front.1) front.2) result }
-    ensures messages { IfOk result (λ front. HaveLines front.0) }
+    ensures messages { IfOk result (λ front. HaveMessageLines front.0) }
     ensures fits { IfOk result (λ front. FitsLine front.1) }
     ensures rate { IfOk result (λ front. 1 ≤ front.1.rate) }
 {
@@ -99,7 +99,7 @@ fn read_run(
     clock: Clock,
     lines: Lines<'_>,
 ) -> Result<(Trace, Lines<'_>), TraceFault>
-    requires messages { HaveLines dictionary }
+    requires messages { HaveMessageLines dictionary }
     requires fits { FitsLine clock }
     requires rate { 1 ≤ clock.rate }
     ensures run { Comes (progress (parts.clock dictionary clock) lines.entry)
@@ -125,7 +125,7 @@ fn read_run(
 
 // The run, where nothing follows its last line.
 fn read_nothing(run: Trace, lines: Lines<'_>) -> Result<Trace, TraceFault>
-    ensures { Finishes (progress (parts.ended run) lines.entry) result }
+    ensures { ReadsToEnd (progress (parts.ended run) lines.entry) result }
 {
     if lines.is_empty() {
         Ok(run)
@@ -147,7 +147,7 @@ fn call_fault(lines: Lines<'_>, fault: CallFault) -> TraceFault
 // The run with the calls of the lines up to the last one.
 fn read_calls(alloc: Global, mut run: Trace, mut lines: Lines<'_>) -> Result<Trace, TraceFault>
     requires { sum_by length run.writers ≡ 0 }
-    ensures { Finishes (progress (parts.calls run) lines.entry) result }
+    ensures { ReadsToEnd (progress (parts.calls run) lines.entry) result }
 {
     let mut calls = 0;
     while let Some((line, rest)) = lines.split_first() {

@@ -39,8 +39,8 @@ impl Model for Trace {
 impl Trace {
     ghost use Rattle.trace_text.specs.Canonical.{HasText};
 
-    /// Adds a call at the end of the writer's.
-    pub(crate) fn push_call(&mut self, writer: u32, call: Call) -> Result<(), AllocError>
+    /// Adds a call at the end of a writer's. Where that is refused, for want of memory, the call is dropped.
+    pub fn push_call(&mut self, writer: u32, call: Call) -> Result<(), AllocError>
         requires writer { writer < length self.old.writers }
         requires has_text { HasText (with_call self.old (record { writer = writer; call = call })) }
         ensures ok { OnOk result (self.new ≡ with_call self.old (record { writer = writer; call = call })) }

@@ -3,19 +3,20 @@
 ghost use Rattle.std.specs.Prelude.{◌≡◌, ◌≤◌, ◌++◌, ◌∷◌, [], length, OnOk};
 ghost use Rattle.std.specs.Option.{option_map};
 ghost use Rattle.std.specs.List.{flat_map, filter_map};
-ghost use Rattle.printf_grammar.specs.Types.{value_of, values_of};
+ghost use Rattle.printf_grammar.specs.Types.{argument_value, values_of};
 ghost use Rattle.trace_text.specs.Lines.{clock_line};
 ghost use Rattle.trace_text.specs.Canonical.{argument_text, call_front, call_text, made_by, made_at, front_text, Canonical, HasText};
 ghost use Rattle.trace_text.specs.Traces.{TraceText};
 ghost use Rattle.trace_text.specs.declared.trace.TheConstants.{MAX_TRACE};
-ghost use Rattle.trace_text.specs.Writing.{Gathers, Writes};
+ghost use Rattle.trace_text.specs.Writing.{KeepsWriting, Writes};
+ghost use Rattle.trace_text.specs.declared.writing.WriteTraceFault.TheVariants as faults;
 
-use crate::order::{Place, places_in_order};
+use crate::order::{CallPlace, places_in_order};
 use crate::trace::Trace;
 use arg_records::Call;
 use itoa::Buffer;
 use log_dictionary::{Clock, push_text};
-use nl_io::{Sink, write_all};
+use nl_io::{Failed, Sink, TextWriter};
 use printf_grammar::Arg;
 use std::alloc::{AllocError, Global};
 
@@ -27,10 +28,26 @@ pub enum WriteTraceFault {
     NoMemory,
 }
 
+impl From<Failed> for WriteTraceFault {
+    ghost from_gives = { λ _ fault. fault ≡ faults.Failed };
+
+    fn from(_failed: Failed) -> WriteTraceFault {
+        WriteTraceFault::Failed
+    }
+}
+
+impl From<AllocError> for WriteTraceFault {
+    ghost from_gives = { λ _ fault. fault ≡ faults.NoMemory };
+
+    fn from(_error: AllocError) -> WriteTraceFault {
+        WriteTraceFault::NoMemory
+    }
+}
+
 // An argument behind its space. After an error a part of it may stand behind what was there, here
 // and below.
 fn push_argument(text: &mut Vec<u8>, arg: Arg<'_>) -> Result<(), AllocError>
-    ensures { OnOk result (text.new.items ≡ text.old.items ++ argument_text (value_of arg.entry)) }
+    ensures { OnOk result (text.new.items ≡ text.old.items ++ argument_text (argument_value arg.entry)) }
 {
     let mut buffer = Buffer::new();
     text.push(b' ')?;
@@ -103,46 +120,35 @@ fn push_front(text: &mut Vec<u8>, trace: &Trace) -> Result<(), AllocError>
     Ok(())
 }
 
-// Writes what is gathered and takes it out of the buffer, where it is long enough.
-fn write_long<K: Sink>(text: &mut Vec<u8>, sink: &mut K) -> Result<(), WriteTraceFault>
-    ensures written { Gathers text.old.items text.new.items (K.put sink.old) (K.put sink.new)
-        (K.faults sink.old) (K.faults sink.new) result }
-    ensures others { K.rest sink.old sink.new }
-{
-    match nl_io::write_long(sink, text) {
-        Ok(()) => Ok(()),
-        Err(_) => Err(WriteTraceFault::Failed),
-    }
-}
-
 // The call of a run that stands at a place, if one stands there.
-fn call_at(trace: &Trace, place: Place) -> Option<&Call>
+fn call_at(trace: &Trace, place: CallPlace) -> Option<&Call>
     ensures { option_map (λ call. made_by place.writer call.now) result ≡ made_at trace.now place }
 {
     let calls = trace.writers.get(place.writer as usize)?;
     calls.get(place.ordinal as usize)
 }
 
-// Writes the calls at the places behind the text that is gathered. The last of them stay gathered.
+// Writes the calls at the places behind the text.
 fn write_calls<K: Sink>(
+    alloc: Global,
     trace: &Trace,
-    places: &[Place],
-    text: &mut Vec<u8>,
+    places: &[CallPlace],
+    text: &mut TextWriter,
     sink: &mut K,
 ) -> Result<(), WriteTraceFault>
-    ensures written { Gathers (text.old.items ++ flat_map call_text (filter_map (made_at trace.now) places.now))
-        text.new.items (K.put sink.old) (K.put sink.new) (K.faults sink.old) (K.faults sink.new) result }
+    ensures written { KeepsWriting (text.old ++ flat_map call_text (filter_map (made_at trace.now) places.now))
+        (K.put sink.old) (K.put sink.new) (K.faults sink.old) (K.faults sink.new) text.new result }
     ensures others { K.rest sink.old sink.new }
 {
+    let mut line = Vec::new(alloc);
     for place in places {
         // At each place of the run a call stands.
         let Some(call) = call_at(trace, *place) else {
             continue;
         };
-        let Ok(()) = push_call(text, place.writer, call) else {
-            return Err(WriteTraceFault::NoMemory);
-        };
-        write_long(text, sink)?;
+        line.clear();
+        push_call(&mut line, place.writer, call)?;
+        text.put(sink, &line)?;
     }
     Ok(())
 }
@@ -167,19 +173,13 @@ pub fn write_trace<K: Sink>(
     ensures spelled { length (Canonical trace.now) ≤ MAX_TRACE → TraceText (Canonical trace.now) trace.now }
     ensures others { K.rest sink.old sink.new }
 {
-    let mut text = Vec::new(alloc);
-    let Ok(()) = push_front(&mut text, trace) else {
-        return Err(WriteTraceFault::NoMemory);
-    };
-    let Ok(places) = places_in_order(alloc, trace) else {
-        return Err(WriteTraceFault::NoMemory);
-    };
-    write_calls(trace, &places, &mut text, sink)?;
-    let Ok(()) = text.extend_from_slice(b"end\n") else {
-        return Err(WriteTraceFault::NoMemory);
-    };
-    let Ok(()) = write_all(sink, &text) else {
-        return Err(WriteTraceFault::Failed);
-    };
+    let mut front = Vec::new(alloc);
+    push_front(&mut front, trace)?;
+    let places = places_in_order(alloc, trace)?;
+    let mut text = TextWriter::make();
+    text.put(sink, &front)?;
+    write_calls(alloc, trace, &places, &mut text, sink)?;
+    text.put(sink, b"end\n")?;
+    text.flush(sink)?;
     Ok(())
 }

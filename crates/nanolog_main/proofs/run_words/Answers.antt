@@ -1,6 +1,6 @@
 use Rattle.std.proofs.Common.{None, refl, inl}
 use Rattle.cli_words.specs.Commands.{command_of, texts_of}
-use Rattle.nanolog_cli.specs.Endings.{NoMemory as WantsMemory}
+use Rattle.command_base.specs.Endings.{NoMemory as WantsMemory}
 use Rattle.nanolog_main.proofs.run_words.Goals as goal
 
 pub returns-in_default : goal.returns-in_default

@@ -1,13 +1,13 @@
 use Rattle.std.proofs.Common.{rules, IfErr}
-use Rattle.checkpoint_io.specs.Places.{place_of}
+use Rattle.checkpoint_io.specs.Places.{log_place}
 use Rattle.checkpoint_io.specs.Entries.{BreaksEntry}
 use Rattle.checkpoint_io.proofs.FragmentLaws.{entry_err, entries_ok, entries_err}
 use Rattle.checkpoint_io.proofs.fragment_reading.+read_entries.Goals as goal
 
 pub returns-in_err-take_entry-clause-err : goal.returns-in_err-take_entry-clause-err
 returns-in_err-take_entry-clause-err g t c before read first is =
-    let breaks : IfErr c.from_residual.result (BreaksEntry c.args.dictionary.now (place_of c.args.pending.now (g.S.Source.left c.args.source.now))) = search rules in
-    entry_err c.from_residual.result before read first c.args.count c.args.dictionary.now (place_of c.args.pending.now (g.S.Source.left c.args.source.now)) c.if-count-eq0.false breaks is
+    let breaks : IfErr c.from_residual.result (BreaksEntry c.args.dictionary.now (log_place c.args.pending.now (g.S.Source.left c.args.source.now))) = search rules in
+    entry_err c.from_residual.result before read first c.args.count c.args.dictionary.now (log_place c.args.pending.now (g.S.Source.left c.args.source.now)) c.if-count-eq0.false breaks is
 
 pub returns-clause-ok : goal.returns-clause-ok
 returns-clause-ok g t c before read first is =

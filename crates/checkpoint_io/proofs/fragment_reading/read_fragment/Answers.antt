@@ -2,7 +2,7 @@ use Rattle.std.proofs.Common.{rules, ◌≡◌, ℕ, [], length, IfErr, sym, sub
 use Rattle.std.proofs.lemmas.List.{append-nil}
 use Rattle.std.proofs.lemmas.Bool.{false≢true}
 use Rattle.checkpoint_io.specs.declared.block.Block.TheVariants as read
-use Rattle.checkpoint_io.specs.Places.{place_of, Refuses}
+use Rattle.checkpoint_io.specs.Places.{log_place, Refuses}
 use Rattle.checkpoint_io.specs.Reading.{ReadsEntries, IsBadCount}
 use Rattle.checkpoint_io.specs.Entries.{TakesFragment}
 use Rattle.checkpoint_io.proofs.FragmentLaws.{fragment_taken, fragment_err}
@@ -16,7 +16,7 @@ returns-in_err-read_entries-clause-err g c =
     let is : first ≡ length defined = c.if-first-from.false ∙ c.from.ensures ∙ c.len-defined.ensures.value in
     let good : ¬ (IsBadCount defined count) = λ bad. false≢true (sym c.if-is_bad_count.false ∙ c.is_bad_count.ensures.1 bad) in
     let broken = c.in_err-read_entries.ensures.err defined [] first (sym (append-nil defined)) in
-    let refused : IfErr c.from_residual-in_err-read_entries.result (Refuses (ReadsEntries defined first [] count) (place_of c.take_number-2.new.pending (g.S.Source.left c.take_number-2.new.source))) = search rules in
+    let refused : IfErr c.from_residual-in_err-read_entries.result (Refuses (ReadsEntries defined first [] count) (log_place c.take_number-2.new.pending (g.S.Source.left c.take_number-2.new.source))) = search rules in
     fragment_err c.from_residual-in_err-read_entries.result defined first count _ _ _ c.in_ok-first.ensures.fits c.in_ok-count.ensures.fits is good c.in_ok-first.ensures.ok c.in_ok-count.ensures.ok refused
 
 pub returns-clause-ok : goal.returns-clause-ok
@@ -27,8 +27,8 @@ returns-clause-ok g c =
     let is : first ≡ length defined = c.if-first-from.false ∙ c.from.ensures ∙ c.len-defined.ensures.value in
     let good : ¬ (IsBadCount defined count) = λ bad. false≢true (sym c.if-is_bad_count.false ∙ c.is_bad_count.ensures.1 bad) in
     let entries = c.in_ok-read_entries.ensures.ok defined [] first (sym (append-nil defined)) in
-    let from = place_of c.args.pending.now (g.S.Source.left c.args.source.now) in
-    let to = place_of c.read_entries.new.pending (g.S.Source.left c.read_entries.new.source) in
+    let from = log_place c.args.pending.now (g.S.Source.left c.args.source.now) in
+    let to = log_place c.read_entries.new.pending (g.S.Source.left c.read_entries.new.source) in
     let after = c.read_entries.new.dictionary in
     subst (λ (n : ℕ). TakesFragment defined (read.Fragment n count) after from to) (c.if-first-from.false ∙ c.from.ensures)
     (fragment_taken defined after first count from _ _ to c.in_ok-first.ensures.fits c.in_ok-count.ensures.fits is good c.in_ok-first.ensures.ok c.in_ok-count.ensures.ok entries)

@@ -4,15 +4,15 @@ use Rattle.log_dictionary.specs.declared.dictionary.Added.TheVariants.{Old, New}
 use Rattle.log_dictionary.specs.declared.dictionary.AddFault.{AddFault}
 use Rattle.log_dictionary.specs.Additions.{IsAdded}
 use Rattle.log_dictionary.proofs.Distinct.{id_is_there}
-use Rattle.checkpoint_io.specs.Places.{place_of}
+use Rattle.checkpoint_io.specs.Places.{log_place}
 use Rattle.checkpoint_io.specs.Entries.{BreaksNoEntry}
 use Rattle.checkpoint_io.proofs.EntryLaws.{none_breaks, old_entry, new_entry}
 use Rattle.checkpoint_io.proofs.fragment_reading.take_entry.Goals as goal
 
 pub returns-in_err-message-clause-err : goal.returns-in_err-message-clause-err
 returns-in_err-message-clause-err g c =
-    let none : IfErr c.from_residual.result (BreaksNoEntry (place_of c.args.pending.now (g.S.Source.left c.args.source.now))) = search rules in
-    none_breaks c.from_residual.result c.args.dictionary.now (place_of c.args.pending.now (g.S.Source.left c.args.source.now)) none
+    let none : IfErr c.from_residual.result (BreaksNoEntry (log_place c.args.pending.now (g.S.Source.left c.args.source.now))) = search rules in
+    none_breaks c.from_residual.result c.args.dictionary.now (log_place c.args.pending.now (g.S.Source.left c.args.source.now)) none
 
 pub returns-in-Ok-New-clause-ok : goal.returns-in-Ok-New-clause-ok
 returns-in-Ok-New-clause-ok g c =

@@ -1,47 +1,30 @@
-use Rattle.std.proofs.Common.{◌∙◌, map, ap}
-use Rattle.std.specs.Prelude.{option_and_then}
+use Rattle.std.proofs.Common.{◌∙◌, Some, None, ap, sym, codes, map}
+use Rattle.std.specs.Prelude.{option_map, option_and_then}
 use Rattle.std.proofs.lemmas.Result.{IfOk-weaker}
-use Rattle.cli_words.specs.Commands.{replay_of}
-use Rattle.cli_words.specs.declared.reading.Form.TheVariants as forms
-use Rattle.cli_words.proofs.Commands.{nameless_command, names_command, replay_command}
+use Rattle.cli_words.specs.Commands.{command_with, made}
+use Rattle.cli_words.specs.CommandViews.{value_is}
+use Rattle.cli_words.specs.TableViews.{row_is}
+use Rattle.cli_words.specs.Uses.{found_values}
+use Rattle.cli_words.proofs.Commands.{made_found}
 use Rattle.cli_words.proofs.command.found_command.Goals as goal
 
 pub returns-in_default : goal.returns-in_default
-returns-in_default c = nameless_command c.args.form c.args.found.now c.in_default.ensures
+returns-in_default c =
+    ap (option_and_then (command_with (row_is c.args.row.now) (found_values c.args.found.now (codes "names"))))
+    c.in_default.ensures
 
-pub returns-in-Preprocess : goal.returns-in-Preprocess
-returns-in-Preprocess c =
-    IfOk-weaker c.preprocess_of.result _ _ (λ command is. is
-    ∙ names_command c.args.form forms.Preprocess c.args.found.now _ c.in-Preprocess.is c.in-Some.ensures)
-    c.preprocess_of.ensures
+pub returns-in-Some-2 : goal.returns-in-Some-2
+returns-in-Some-2 c =
+    IfOk-weaker c.made.result _ _ (λ command is. is
+    ∙ ap (λ values. made c.args.row.now.form (map value_is values) c.in-Some.options) c.as_slice.ensures.value
+    ∙ made_found (row_is c.args.row.now) (found_values c.args.found.now)
+    (map (λ word. word.now) c.found_values.result.now) c.in-Some.options (Some (map value_is c.in-Some-2.values.items))
+    c.in-Some.ensures (ap (λ found. option_map (λ values. map value_is values.items) found) (sym c.in-Some-2.is)
+    ∙ c.in_ok-values.ensures) c.found_values.ensures) c.made.ensures
 
-pub returns-in-Direct : goal.returns-in-Direct
-returns-in-Direct c =
-    c.direct_of.ensures
-    ∙ names_command c.args.form forms.Direct c.args.found.now _ c.in-Direct.is c.in-Some.ensures
-
-pub returns-in-Some-found_options : goal.returns-in-Some-found_options
-returns-in-Some-found_options c =
-    c.replay_of.ensures
-    ∙ ap (option_and_then (replay_of (map (λ name. name.now) c.in-Some.names.now))) c.in-Some-found_options.ensures
-    ∙ replay_command c.args.form c.args.found.now _ c.in-Replay.is c.in-Some.ensures
-
-pub returns-in-Decompress : goal.returns-in-Decompress
-returns-in-Decompress c =
-    c.decompress_of.ensures
-    ∙ names_command c.args.form forms.Decompress c.args.found.now _ c.in-Decompress.is c.in-Some.ensures
-
-pub returns-in-Aggregate : goal.returns-in-Aggregate
-returns-in-Aggregate c =
-    c.aggregate_of.ensures
-    ∙ names_command c.args.form forms.Aggregate c.args.found.now _ c.in-Aggregate.is c.in-Some.ensures
-
-pub returns-in-Generate : goal.returns-in-Generate
-returns-in-Generate c =
-    c.generate_of.ensures
-    ∙ names_command c.args.form forms.Generate c.args.found.now _ c.in-Generate.is c.in-Some.ensures
-
-pub returns-in-Selftest : goal.returns-in-Selftest
-returns-in-Selftest c =
-    c.selftest_of.ensures
-    ∙ names_command c.args.form forms.Selftest c.args.found.now _ c.in-Selftest.is c.in-Some.ensures
+pub returns-in-None : goal.returns-in-None
+returns-in-None c =
+    made_found (row_is c.args.row.now) (found_values c.args.found.now)
+    (map (λ word. word.now) c.found_values.result.now) c.in-Some.options None c.in-Some.ensures
+    (ap (λ found. option_map (λ values. map value_is values.items) found) (sym c.in-None.is) ∙ c.in_ok-values.ensures)
+    c.found_values.ensures

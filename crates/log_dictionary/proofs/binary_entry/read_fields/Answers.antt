@@ -1,6 +1,6 @@
 use Rattle.std.proofs.Common.{◌∷◌, ◌++◌, List, ℕ, sym, ap, ◌∙◌}
 use Rattle.log_dictionary.specs.Severities.{severity_number}
-use Rattle.log_dictionary.specs.BinaryEntries.{head_bytes, text_bytes}
+use Rattle.log_dictionary.specs.BinaryEntries.{entry_head_bytes, text_bytes}
 use Rattle.log_dictionary.specs.BinaryEntries.IsCutEntry.{in_severity, in_line, in_file, in_format}
 use Rattle.log_dictionary.specs.BinaryEntries.IsOutOfRange.{at_severity, at_file, at_format}
 use Rattle.log_dictionary.proofs.BinaryLaws.{three_nested, nested}
@@ -23,7 +23,7 @@ returns-in_err-file-clause-err c =
 
 pub returns-in_err-format-clause-err : goal.returns-in_err-format-clause-err
 returns-in_err-format-clause-err c =
-    let head = head_bytes c.in_ok-severity.severity c.in_ok-line.line in
+    let head = entry_head_bytes c.in_ok-severity.severity c.in_ok-line.line in
     let file = c.in_ok-file.file.now in
     let rest = c.in_ok-file.rest.now in
     let e = c.in_ok-severity.ensures.ok ∙ ap (λ (r : List ℕ). severity_number c.in_ok-severity.severity ∷ r) c.in_ok-line.ensures.ok ∙ ap (λ (r : List ℕ). head ++ r) c.in_ok-file.ensures.ok.0 ∙ sym (three_nested head (text_bytes file) rest) in
@@ -32,7 +32,7 @@ returns-in_err-format-clause-err c =
 
 pub returns-clause-ok : goal.returns-clause-ok
 returns-clause-ok c =
-    let head = head_bytes c.in_ok-severity.severity c.in_ok-line.line in
+    let head = entry_head_bytes c.in_ok-severity.severity c.in_ok-line.line in
     let file = c.in_ok-file.file.now in
     let format = c.in_ok-format.format.now in
     let rest = c.in_ok-format.field-0-1.now in

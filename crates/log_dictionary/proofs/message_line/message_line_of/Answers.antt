@@ -3,7 +3,7 @@ use Rattle.std.specs.Option.{option_map}
 use Rattle.std.proofs.lemmas.Bool.{false≢true}
 use Rattle.log_dictionary.specs.Numbers.{natural_of, natural_read}
 use Rattle.log_dictionary.specs.Severities.{severity_name}
-use Rattle.log_dictionary.specs.MessageLines.{SpelledParts, spelled_parts, LineParts}
+use Rattle.log_dictionary.specs.MessageLines.{SpelledParts, spelled_parts, MessageLineFields}
 use Rattle.log_dictionary.proofs.NumberLaws.{mapped_is}
 use Rattle.log_dictionary.proofs.LineParts.{parts_at-spelled, same_spelling, spells_parts}
 use Rattle.log_dictionary.proofs.message_line.message_line_of.Goals as goal
@@ -42,7 +42,7 @@ pub returns-clause-some : goal.returns-clause-some
 returns-clause-some c =
     let fields = c.in_ok-fields.fields in
     let id = mapped_is natural_read (natural_of fields.id.now) c.in_ok-id.id (sym c.in_ok-id.ensures) in
-    let parts : LineParts = record { id = id.0; severity = c.in_ok-severity.severity; number = c.in_ok-line.line; file = fields.file; format = fields.format } in
+    let parts : MessageLineFields = record { id = id.0; severity = c.in_ok-severity.severity; number = c.in_ok-line.line; file = fields.file; format = fields.format } in
     let within = c.are_within_limits.ensures.0 c.if-not-are_within_limits.false in (
       id.0,
       id.2,

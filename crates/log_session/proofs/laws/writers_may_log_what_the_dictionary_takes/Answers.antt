@@ -1,4 +1,5 @@
-use Rattle.log_session.proofs.Logging.{knows_taken, taken_known}
+use Rattle.log_session.specs.Writers.{knows_taken}
+use Rattle.log_session.proofs.Logging.{taken_known}
 use Rattle.log_session.proofs.laws.writers_may_log_what_the_dictionary_takes.Goals as goal
 
 pub returns-clause-may : goal.returns-clause-may

@@ -4,7 +4,8 @@ use Rattle.std.proofs.lemmas.List.{append-nil}
 use Rattle.log_session.specs.Writers.{WriterView}
 use Rattle.log_session.specs.Starts.{ShareRings}
 use Rattle.log_session.specs.Settling.{IsRejoined, AllZip3}
-use Rattle.log_session.proofs.Rings.{AllZip3-snoc, zip_head, zip_ends, zip_goes_on, walked, walked_all, no_items, one_less, sum_more, sum_less}
+use Rattle.log_session.proofs.Rings.{AllZip3-snoc, zip_head, zip_ends, zip_goes_on, no_items, sum_more, sum_less}
+use Rattle.log_session.proofs.Walks.{walked, walked_all, one_less}
 use Rattle.log_session.proofs.settling.settle.Goals as goal
 use Rattle.log_session.proofs.settling.settle.Goals.{in-None, in-Some+in_default}
 

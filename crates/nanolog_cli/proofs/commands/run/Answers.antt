@@ -1,13 +1,13 @@
-use Rattle.std.proofs.Common.{refl, sym, subst}
+use Rattle.std.proofs.Common.{Option, subst, inr}
 use Rattle.cli_words.specs.declared.command.Command.{Command as Asked}
+use Rattle.cli_words.specs.Commands.{Command}
 use Rattle.cli_words.specs.Rows.{IsLawful}
 use Rattle.cli_words.specs.CommandViews.{command_is}
-use Rattle.nanolog_cli.specs.Endings.{Ending, answer_ending}
-use Rattle.nanolog_cli.specs.Scenes.{Scene, scene}
-use Rattle.nanolog_cli.specs.Outcomes.{Selftests, Ends}
-use Rattle.nanolog_cli.specs.Replays.{Replays}
-use Rattle.nanolog_cli.proofs.Endings.{quick_is_all}
+use Rattle.nanolog_cli.proofs.Dispatch.{done_as, quick_is_all}
 use Rattle.nanolog_cli.proofs.commands.run.Goals as goal
+
+abbrev whole : Option Command → Option Command
+whole asked = asked
 
 pub replay-requires-clause-bounds : goal.replay-requires-clause-bounds
 replay-requires-clause-bounds g c = λ κs within.
@@ -16,24 +16,28 @@ replay-requires-clause-bounds g c = λ κs within.
 
 pub returns-in-Replay-clause-ends : goal.returns-in-Replay-clause-ends
 returns-in-Replay-clause-ends g c =
-    let old : Scene = scene (g.F.Files.desk c.args.files.now) (g.O.Sink.put c.args.out.now) (g.O.Sink.faults c.args.out.now) in
-    let new : Scene = scene (g.F.Files.desk c.replay.new.files) (g.O.Sink.put c.replay.new.out) (g.O.Sink.faults c.replay.new.out) in
-    subst (λ (command : Asked). Ends (command_is command) old new (answer_ending c.without_note.result)) (sym c.in-Replay.is)
-    (subst (λ (ending : Ending). Replays c.in-Replay.trace.now c.in-Replay.log.now c.in-Replay.options old new ending) (sym c.without_note.ensures) c.replay.ensures.ends)
+    done_as whole _ _ _ _ _ _ c.in-Replay.is c.without_note.ensures (inr c.replay.ensures.ends)
 
-pub selftest-requires-clause-bounds : goal.selftest-requires-clause-bounds
-selftest-requires-clause-bounds g c = λ κs within. subst (λ (command : Asked). IsLawful (command_is command)) c.in-Selftest.is c.requires.lawful
+pub selftest-requires-clause-few_calls : goal.selftest-requires-clause-few_calls
+selftest-requires-clause-few_calls g c = λ κs within.
+    let (seed, calls, some, few) = subst (λ (command : Asked). IsLawful (command_is command)) c.in-Selftest.is c.requires.lawful in
+    calls
+
+pub selftest-requires-clause-some_writer : goal.selftest-requires-clause-some_writer
+selftest-requires-clause-some_writer g c = λ κs within.
+    let (seed, calls, some, few) = subst (λ (command : Asked). IsLawful (command_is command)) c.in-Selftest.is c.requires.lawful in
+    some
+
+pub selftest-requires-clause-few_writers : goal.selftest-requires-clause-few_writers
+selftest-requires-clause-few_writers g c = λ κs within.
+    let (seed, calls, some, few) = subst (λ (command : Asked). IsLawful (command_is command)) c.in-Selftest.is c.requires.lawful in
+    few
 
 pub returns-in-Selftest-clause-ends : goal.returns-in-Selftest-clause-ends
 returns-in-Selftest-clause-ends g c =
-    let desk = g.F.Files.desk c.args.files.now in
-    let old : Scene = scene desk (g.O.Sink.put c.args.out.now) (g.O.Sink.faults c.args.out.now) in
-    let new : Scene = scene desk (g.O.Sink.put c.selftest.new.out) (g.O.Sink.faults c.selftest.new.out) in
-    subst (λ (command : Asked). Ends (command_is command) old new (answer_ending c.without_note-in-Selftest.result)) (sym c.in-Selftest.is)
-    (subst (λ (ending : Ending). Selftests c.in-Selftest.seed c.in-Selftest.calls c.in-Selftest.writers old new ending) (sym c.without_note-in-Selftest.ensures) (refl, c.selftest.ensures.printed))
+    done_as whole _ _ _ _ _ _ c.in-Selftest.is c.without_note-in-Selftest.ensures
+    (inr (c.selftest.ensures.ends (g.F.Files.desk c.args.files.now)))
 
 pub returns-in_default-clause-ends : goal.returns-in_default-clause-ends
 returns-in_default-clause-ends g c =
-    let old : Scene = scene (g.F.Files.desk c.args.files.now) (g.O.Sink.put c.args.out.now) (g.O.Sink.faults c.args.out.now) in
-    let new : Scene = scene (g.F.Files.desk c.run_quick.new.files) (g.O.Sink.put c.run_quick.new.out) (g.O.Sink.faults c.run_quick.new.out) in
-    quick_is_all c.args.command old new (answer_ending c.run_quick.result) c.in_default.not-Replay c.in_default.not-Selftest c.run_quick.ensures.ends
+    quick_is_all _ _ _ _ c.in_default.not-Replay c.in_default.not-Selftest c.run_quick.ensures.ends

@@ -23,5 +23,5 @@ returns-clause-some c =
       omega (arith, c.in-Ok.ensures.ok.0, short),
       c.in-Ok.ensures.ok.1,
       IsPlanned-message c.args.dictionary.now c.message.result.now c.args.stamp c.args.id args c.message.ensures known_id c.ranges.stamp.fits
-          (subst (Fits args) c.types-types.ensures.types fit) (AreArguments-from_Fits args c.types-types.result.now fit few) c.hold_bytes.ensures short,
+          (subst (Fits args) c.types-types.ensures.types fit) (AreArguments-from_Fits args c.types-types.result.now fit few) c.in-Ok.ensures.bytes short,
     )

@@ -1,6 +1,6 @@
 use Rattle.std.proofs.Common.{◌≡◌, ◌+◌, ℕ, List, [], ◌∷◌, ◌++◌, take, refl, sym, ap, subst, ◌∙◌, arith}
 use Rattle.ring_core.specs.Plans.{Plan, plan_of, Lawful}
-use Rattle.roaming_consumer.specs.Gathering.{Gathers}
+use Rattle.roaming_consumer.specs.Gathering.{DraftsFrames}
 use Rattle.roaming_consumer.specs.Gathering.StopsTaking.{nothing_is_there}
 use Rattle.roaming_consumer.proofs.TakenFrames.{taken_call, gathers_more}
 use Rattle.roaming_consumer.proofs.gathering.gather.Goals as goal
@@ -24,7 +24,7 @@ loop-taken-preserved g c =
     subst (Lawful (plan_of c.args.dictionary.now c.args.tick)) taken.frame (subst (λ (p : Plan). Lawful p (g.S.StageOut.got c.take.new.self)) plan taken.lawful) in
     record {
       gathers =
-          subst (λ (got : List (List ℕ)). Gathers c.args.dictionary.now c.args.tick (g.S.StageOut.got c.args.end.now) got c.put_frame-draft.result c.put_frame-draft.new.body) (sym taken.frame)
+          subst (λ (got : List (List ℕ)). DraftsFrames c.args.dictionary.now c.args.tick (g.S.StageOut.got c.args.end.now) got c.put_frame-draft.result c.put_frame-draft.new.body) (sym taken.frame)
           (gathers_more c.args.dictionary.now c.args.tick (g.S.StageOut.got c.args.end.now) (g.S.StageOut.got c.loop-taken.end) c.loop-taken.draft c.put_frame-draft.result c.loop-taken.body c.put_frame-draft.new.body frame was.gathers lawful c.put_frame-draft.ensures.goes_on);
       records = c.put_frame-draft.ensures.records ∙ ap (λ (n : ℕ). n + 1) was.records;
       fresh = λ none. absurd (omega (arith, none));

@@ -1,10 +1,10 @@
 use Rattle.std.proofs.Common.{◌≡◌, ◌≤◌, true}
-use Rattle.roaming_consumer.specs.Gathering.{Gathers}
+use Rattle.roaming_consumer.specs.Gathering.{DraftsFrames}
 use Rattle.roaming_consumer.proofs.gathering.gather.Given as goal
 
 abbrev pub invariant-loop-taken : goal.invariant-loop-taken
 invariant-loop-taken g l = record {
-  gathers : Gathers l.dictionary l.tick (g.S.StageOut.got l.fn.end) (g.S.StageOut.got l.end) l.draft l.body;
+  gathers : DraftsFrames l.dictionary l.tick (g.S.StageOut.got l.fn.end) (g.S.StageOut.got l.end) l.draft l.body;
   records : l.draft.records ≡ l.taken;
   fresh : l.taken ≡ 0 → l.end ≡ l.fn.end;
   going : g.S.StageOut.ended l.fn.end ≡ true → l.taken ≡ 0;

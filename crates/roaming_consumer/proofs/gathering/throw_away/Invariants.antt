@@ -1,10 +1,10 @@
 use Rattle.std.proofs.Common.{◌≡◌, ◌≤◌, true}
-use Rattle.roaming_consumer.specs.Gathering.{Came}
+use Rattle.roaming_consumer.specs.Gathering.{FramesCame}
 use Rattle.roaming_consumer.proofs.gathering.throw_away.Given as goal
 
 abbrev pub invariant-loop-frames : goal.invariant-loop-frames
 invariant-loop-frames g l = record {
-  came : Came (g.S.StageOut.got l.fn.end) (g.S.StageOut.got l.end) l.frames;
+  came : FramesCame (g.S.StageOut.got l.fn.end) (g.S.StageOut.got l.end) l.frames;
   fresh : l.frames ≡ 0 → l.end ≡ l.fn.end;
   going : g.S.StageOut.ended l.fn.end ≡ true → l.frames ≡ 0;
   loads : g.S.StageOut.loads l.fn.end ≤ g.S.StageOut.loads l.end;

@@ -1,4 +1,4 @@
-use Rattle.source_scan.proofs.Extents.{are_all}
+use Rattle.source_scan.proofs.Spans.{are_all}
 use Rattle.source_scan.proofs.laws.all_statements.Goals as goal
 
 pub returns : goal.returns

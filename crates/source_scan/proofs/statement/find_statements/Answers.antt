@@ -1,7 +1,7 @@
 use Rattle.std.proofs.Common.{ℕ, ◌∙◌, sym, subst, ap, arith}
 use Rattle.source_scan.specs.declared.statement.TheConstants.{MAX_SOURCE}
 use Rattle.source_scan.specs.Rising.{RiseFrom}
-use Rattle.source_scan.specs.Statements.{text_of}
+use Rattle.source_scan.specs.Statements.{source_text}
 use Rattle.source_scan.proofs.Fronts.{behind}
 use Rattle.source_scan.proofs.CursorLemmas.{follows-front}
 use Rattle.source_scan.proofs.FoundLists.{finds-other, finds-next, finds-all}
@@ -18,7 +18,7 @@ loop-rest-init c = record {
 pub loop-rest-preserved-then-not-begins : goal.loop-rest-preserved-then-not-begins
 loop-rest-preserved-then-not-begins c =
     record {
-      finds = finds-other (text_of c.args.source) c.args.tokens.now c.loop-rest.rest.now c.loop-rest.found.items _ c.in-len1-up.len_at_least c.loop-rest.invariant.finds (sym c.begins.ensures ∙ c.if-not-begins.true);
+      finds = finds-other (source_text c.args.source) c.args.tokens.now c.loop-rest.rest.now c.loop-rest.found.items _ c.in-len1-up.len_at_least c.loop-rest.invariant.finds (sym c.begins.ensures ∙ c.if-not-begins.true);
       follows = c.loop-rest.invariant.follows;
       rise = rise-passed c.loop-rest.cursor.position.from MAX_SOURCE c.loop-rest.rest.now c.in-len1-up.len_at_least c.loop-rest.invariant.rise;
     }
@@ -37,7 +37,7 @@ loop-rest-preserved c =
     let here = c.cursor_at-cursor.result in
     record {
       finds = rw c.in_ok-push.ensures.items
-          (finds-next (text_of c.args.source) c.args.tokens.now c.loop-rest.rest.now c.loop-rest.found.items _ c.in_ok-found_at.field-0 here.position.name.now here.position.number c.split_at.result.1.now c.split_at-in-len1-up.result.1.now c.closing_place-closing.result c.own_tokens.result c.in-len1-up.len_at_least c.loop-rest.invariant.finds (sym c.begins.ensures ∙ c.if-not-begins.false)
+          (finds-next (source_text c.args.source) c.args.tokens.now c.loop-rest.rest.now c.loop-rest.found.items _ c.in_ok-found_at.field-0 here.position.name.now here.position.number c.split_at.result.1.now c.split_at-in-len1-up.result.1.now c.closing_place-closing.result c.own_tokens.result c.in-len1-up.len_at_least c.loop-rest.invariant.finds (sym c.begins.ensures ∙ c.if-not-begins.false)
           c.split_at.ensures.back c.closing_place-closing.ensures.place c.cursor_at-cursor.ensures.name c.cursor_at-cursor.ensures.line c.in_ok-found_at.ensures c.own_tokens.ensures.own c.split_at-in-len1-up.ensures.back);
       follows = c.cursor_at-cursor.ensures.follows;
       rise = rise-found c.loop-rest.cursor.position.from MAX_SOURCE here.position.from c.own_tokens.result c.loop-rest.rest.now c.split_at.result.1.now c.split_at-in-len1-up.result.1.now _ c.in-len1-up.len_at_least c.loop-rest.invariant.rise c.cursor_at-cursor.ensures.from
@@ -45,4 +45,4 @@ loop-rest-preserved c =
     }
 
 pub returns : goal.returns
-returns c = finds-all (text_of c.args.source) c.args.tokens.now c.loop-rest.rest.now c.loop-rest.found.items c.in_default.len_below c.loop-rest.invariant.finds
+returns c = finds-all (source_text c.args.source) c.args.tokens.now c.loop-rest.rest.now c.loop-rest.found.items c.in_default.len_below c.loop-rest.invariant.finds

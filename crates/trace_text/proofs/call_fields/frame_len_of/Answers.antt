@@ -1,12 +1,12 @@
 use Rattle.std.proofs.Common.{◌++◌, ◌∷◌, [], sym, ap, arith}
 use Rattle.printf_grammar.specs.declared.arg_type.ArgType.TheVariants.{Int}
 use Rattle.arg_records.specs.Frames.{FrameLen}
-use Rattle.trace_text.specs.CallFields.{field_value, read_as}
+use Rattle.trace_text.specs.CallFields.{field_value, result_as}
 use Rattle.trace_text.proofs.CallFieldLemmas.{one_read, one_refused, frame_more}
 use Rattle.trace_text.proofs.call_fields.frame_len_of.Goals as goal
 
 pub returns-in-Err : goal.returns-in-Err
-returns-in-Err c = sym (ap (read_as FrameLen) (one_refused c.args.types.now c.args.bytes.now c.loop-kind.kind-index c.loop-kind.rest.now c.loop-kind.invariant.args Int c.in-Err.cause c.loop-kind.invariant.read (omega arith) c.in-Err.ensures.value))
+returns-in-Err c = sym (ap (result_as FrameLen) (one_refused c.args.types.now c.args.bytes.now c.loop-kind.kind-index c.loop-kind.rest.now c.loop-kind.invariant.args Int c.in-Err.cause c.loop-kind.invariant.read (omega arith) c.in-Err.ensures.value))
 
 pub loop-kind-preserved : goal.loop-kind-preserved
 loop-kind-preserved c =

@@ -2,7 +2,7 @@ use Rattle.std.proofs.Common.{List, [], refl, sym, inl, inr, subst}
 use Rattle.trace_text.specs.declared.cause.TraceCause.TheVariants.{Clock, NoEnd}
 use Rattle.trace_text.specs.Reading.{messages, clock}
 use Rattle.trace_text.specs.Progress.{progress, IsRefusal, GivesFrom}
-use Rattle.trace_text.specs.Canonical.{HaveLines}
+use Rattle.trace_text.specs.Canonical.{HaveMessageLines}
 use Rattle.log_dictionary.specs.declared.message.Message.{Message}
 use Rattle.trace_text.proofs.SpelledRuns.{no_messages, lines_after}
 use Rattle.trace_text.proofs.Steps.{leads, leads_on, refused_here, refused_on, refused_as, ends_here}
@@ -39,7 +39,7 @@ returns-then-not-starts_with-clause-fits c = (clock_taken c.in-Some.line.now c.i
 pub loop-line-init : goal.loop-line-init
 loop-line-init c =
     let none = sym c.make-dictionary.ensures in
-    record { led = λ outcome gives. subst (λ (before : List Message). GivesFrom (progress (messages before) c.args.lines) outcome) (sym none) gives; lines = subst HaveLines none no_messages }
+    record { led = λ outcome gives. subst (λ (before : List Message). GivesFrom (progress (messages before) c.args.lines) outcome) (sym none) gives; lines = subst HaveMessageLines none no_messages }
 
 pub loop-line-preserved : goal.loop-line-preserved
 loop-line-preserved c =

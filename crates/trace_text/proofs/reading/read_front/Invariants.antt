@@ -1,13 +1,13 @@
 use Rattle.std.proofs.Common.{[], length}
 use Rattle.trace_text.specs.Reading.{messages}
 use Rattle.trace_text.specs.Progress.{progress, Leads}
-use Rattle.trace_text.specs.Canonical.{HaveLines}
+use Rattle.trace_text.specs.Canonical.{HaveMessageLines}
 use Rattle.trace_text.proofs.reading.read_front.Given as goal
 
 abbrev pub invariant-loop-line : goal.invariant-loop-line
 invariant-loop-line l = record {
   led : Leads (progress (messages []) l.fn.lines) (progress (messages l.dictionary) l.lines);
-  lines : HaveLines l.dictionary;
+  lines : HaveMessageLines l.dictionary;
 }
 
 abbrev pub decreases-loop-line : goal.decreases-loop-line

@@ -1,7 +1,7 @@
 use Rattle.std.proofs.Common.{[], subst}
 use Rattle.std.specs.Prelude.{List, ℕ}
 use Rattle.trace_text.specs.Reading.{opening, messages, clock, calls}
-use Rattle.trace_text.specs.Progress.{progress, Finishes}
+use Rattle.trace_text.specs.Progress.{progress, ReadsToEnd}
 use Rattle.trace_text.proofs.Steps.{leads_on, finished_on}
 use Rattle.trace_text.proofs.ReadTexts.{answered}
 use Rattle.trace_text.proofs.reading.run_of.Goals as goal
@@ -15,5 +15,5 @@ returns-clause-answer c =
     let led = leads_on start first third c.in_ok-lines.ensures (leads_on first second third c.in_ok-dictionary.ensures.front c.in_ok-run.ensures.run) in
     let whole = finished_on start third c.read_calls.result led c.read_calls.ensures in
     answered c.args.text.now c.read_calls.result c.requires
-    (subst (λ (n : ℕ). Finishes (record { part = opening; number = n; bytes = c.args.text.now }) c.read_calls.result) c.of.ensures.number
-    (subst (λ (bytes : List ℕ). Finishes (record { part = opening; number = c.of.result.number; bytes = bytes }) c.read_calls.result) c.of.ensures.bytes whole))
+    (subst (λ (n : ℕ). ReadsToEnd (record { part = opening; number = n; bytes = c.args.text.now }) c.read_calls.result) c.of.ensures.number
+    (subst (λ (bytes : List ℕ). ReadsToEnd (record { part = opening; number = c.of.result.number; bytes = bytes }) c.read_calls.result) c.of.ensures.bytes whole))

@@ -1,32 +1,46 @@
-use Rattle.std.proofs.Common.{◌++◌, ap, ◌∙◌, append_assoc}
-use Rattle.nl_io.specs.Content.{with_end}
-use Rattle.trace_text.proofs.Fronts.{with_end-both}
-use Rattle.trace_text.proofs.CallTexts.{calls_more, line_gathered, piece_written, cut_within, memory_wanted, gathers_fault}
+use Rattle.std.proofs.Common.{ℕ, ◌+◌, List, ◌++◌, drop, refl, sym, ap, ◌∙◌}
+use Rattle.nl_io.proofs.TextWriters.{carries_held, carries_more}
+use Rattle.trace_text.specs.declared.writing.WriteTraceFault.TheVariants.{Failed, NoMemory}
+use Rattle.trace_text.proofs.CallTexts.{calls_text, calls_more, calls_all, fresh_line, cut_on, memory_wanted, goes_on_fault}
 use Rattle.trace_text.proofs.writing.write_calls.Goals as goal
 
-pub returns-in_default-push_call-clause-written : goal.returns-in_default-push_call-clause-written
-returns-in_default-push_call-clause-written g c =
-    let was = c.loop-place.invariant in
-    memory_wanted _ was.front _ _ _ _ _ (was.joined ∙ append_assoc was.front _ _) was.put was.counted
+pub loop-place-init : goal.loop-place-init
+loop-place-init g c = record {
+  so_far = c.args.text.now;
+  carries = carries_held c.args.text.now c.args.text.now _ refl;
+  joined = refl;
+  counted = refl;
+  others = g.met.K.Sink.rest_same _;
+}
 
-pub returns-in_err-write_long-clause-written : goal.returns-in_err-write_long-clause-written
-returns-in_err-write_long-clause-written g c =
+pub returns-in_err-push_call-clause-written : goal.returns-in_err-push_call-clause-written
+returns-in_err-push_call-clause-written g c =
     let was = c.loop-place.invariant in
-    let next = calls_more c.args.trace.now c.args.places.now c.loop-place.place-index (record { stamp = 0; writer = 0; ordinal = 0 }) _ c.loop-place-test.true c.in-Some.ensures in
-    let lined = line_gathered _ was.front _ _ _ _ _ was.joined next c.in-Ok.ensures in
-    gathers_fault _ _ _ _ _ _ c.in_err-write_long.field-0.0 c.from_residual.result c.from_residual.ensures.1
-    (cut_within _ was.front _ _ _ _ _ _ _ _ _ lined was.put was.counted c.in_err-write_long.ensures.written)
+    goes_on_fault _ _ _ _ _ _ NoMemory c.from_residual.result c.from_residual.ensures.1 (memory_wanted _ was.so_far _ _ _ _ _ _ was.joined was.carries was.counted)
+
+pub returns-in_err-put-clause-written : goal.returns-in_err-put-clause-written
+returns-in_err-put-clause-written g c =
+    let was = c.loop-place.invariant in
+    let next = calls_more _ was.so_far c.args.trace.now c.args.places.now c.loop-place.place-index (record { stamp = 0; writer = 0; ordinal = 0 }) _ was.joined c.loop-place-test.true c.in-Some.ensures in
+    let line = fresh_line _ _ _ _ c.deref.ensures.value c.in_ok-push_call.ensures c.clear.ensures.items in
+    goes_on_fault _ _ _ _ _ _ Failed c.from_residual-in_err-put.result c.from_residual-in_err-put.ensures.1
+    (cut_on _ was.so_far _ _ _ _ _ _ _ _ _ Failed next was.carries was.counted (rw line at c.in_err-put.ensures.cut_off))
 
 pub loop-place-preserved : goal.loop-place-preserved
 loop-place-preserved g c =
     let was = c.loop-place.invariant in
-    let next = calls_more c.args.trace.now c.args.places.now c.loop-place.place-index (record { stamp = 0; writer = 0; ordinal = 0 }) _ c.loop-place-test.true c.in-Some.ensures in
-    let lined = line_gathered _ was.front _ _ _ _ _ was.joined next c.in-Ok.ensures in
-    let long = c.in_ok-write_long.ensures.written in
+    let run = c.args.trace.now in
+    let next = calls_more _ was.so_far run c.args.places.now c.loop-place.place-index (record { stamp = 0; writer = 0; ordinal = 0 }) _ was.joined c.loop-place-test.true c.in-Some.ensures in
+    let line = fresh_line _ _ _ _ c.deref.ensures.value c.in_ok-push_call.ensures c.clear.ensures.items in
     record {
-      front = was.front ++ long.0;
-      put = long.2 ∙ ap (with_end long.0) was.put ∙ with_end-both was.front long.0 _;
-      joined = piece_written _ was.front _ _ long.0 _ lined long.1;
-      counted = long.3 ∙ was.counted;
-      others = g.met.K.Sink.rest_then _ _ _ was.others c.write_long.ensures.others;
+      so_far = was.so_far ++ c.deref.result.now;
+      carries = carries_more _ was.so_far _ _ _ _ _ _ refl was.carries c.in_ok-put.ensures.ok;
+      joined = next ∙ ap (λ (b : List ℕ). was.so_far ++ b ++ calls_text run (drop (c.loop-place.place-index + 1) c.args.places.now)) (sym line);
+      counted = c.in_ok-put.ensures.counted ∙ was.counted;
+      others = g.met.K.Sink.rest_then _ _ _ was.others c.put.ensures.others;
     }
+
+pub returns-clause-written : goal.returns-clause-written
+returns-clause-written g c =
+    let was = c.loop-place.invariant in
+    (calls_all _ was.so_far _ _ _ c.args.trace.now c.args.places.now c.loop-place.place-index was.joined c.loop-place-test.false was.carries, was.counted)

@@ -1,5 +1,5 @@
 use Rattle.std.proofs.Common.{rules, IfErr, false}
-use Rattle.checkpoint_io.specs.Places.{place_of, Refuses}
+use Rattle.checkpoint_io.specs.Places.{log_place, Refuses}
 use Rattle.checkpoint_io.specs.Reading.{ReadsHeader}
 use Rattle.checkpoint_io.proofs.StartLaws.{started, not_started, told_fault}
 use Rattle.checkpoint_io.proofs.reader.Reader.start.Goals as goal
@@ -11,6 +11,6 @@ returns-clause-ok g c =
 
 pub returns-in_err-header-clause-damaged : goal.returns-in_err-header-clause-damaged
 returns-in_err-header-clause-damaged g c cause is =
-    let from = place_of c.none-pending.result (g.S.Source.left c.args.source.now) in
+    let from = log_place c.none-pending.result (g.S.Source.left c.args.source.now) in
     let refused : IfErr c.from_residual.result (Refuses ReadsHeader from) = search rules in
     not_started c.none-pending.result.bytes _ cause c.none-pending.ensures.bytes (told_fault c.from_residual.result (Refuses ReadsHeader from) cause is refused)

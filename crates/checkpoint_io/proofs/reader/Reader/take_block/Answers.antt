@@ -3,7 +3,7 @@ use Rattle.std.specs.Prelude.{IfSome}
 use Rattle.checkpoint_io.specs.declared.cause.Cause.{Cause}
 use Rattle.checkpoint_io.specs.declared.cause.Cause.TheVariants as causes
 use Rattle.checkpoint_io.specs.declared.fault.BlockFault.TheVariants.{Damaged}
-use Rattle.checkpoint_io.specs.Places.{with_front, place_of, Refuses}
+use Rattle.checkpoint_io.specs.Places.{with_front, log_place, Refuses}
 use Rattle.checkpoint_io.specs.Reading.{ReadsBlock}
 use Rattle.checkpoint_io.specs.Readers.{ReaderState, StandsFor}
 use Rattle.checkpoint_io.specs.NextBlocks.{TakesNext, EndsThere, StopsAt}
@@ -28,7 +28,7 @@ returns-in_err-block-clause-damaged g c =
     let old : ReaderState = record { header = inside.header; messages = inside.dictionary; writers = inside.writers; waiting = inside.pending; offset = inside.offset; failed = inside.failed } in
     let left = g.S.Source.left c.args.source.now in
     let between = g.S.Source.left c.fill.new.source in
-    let from = place_of c.fill.new.self between in
+    let from = log_place c.fill.new.self between in
     let some : 1 ≤ length c.fill.new.self.bytes = search rules in
     subst (λ (s : ReaderState). (taken : List ℕ) (cause : Cause) → StandsFor s taken → c.from_residual-in_err-block.result ≡ Err (Damaged cause) → IfSome (with_front (taken ++ s.waiting.bytes) left) (λ bytes. StopsAt bytes s.offset cause)) c.self.view_is
     (λ taken cause before is.
@@ -42,7 +42,7 @@ returns-then-end-gt-MAX_LOG-clause-damaged g c taken cause stands is =
     let old : ReaderState = record { header = inside.header; messages = inside.dictionary; writers = inside.writers; waiting = inside.pending; offset = inside.offset; failed = inside.failed } in
     let left = g.S.Source.left c.args.source.now in
     let between = g.S.Source.left c.fill.new.source in
-    let to = place_of c.read_block.new.pending (g.S.Source.left c.read_block.new.source) in
+    let to = log_place c.read_block.new.pending (g.S.Source.left c.read_block.new.source) in
     let large : 134217728 < c.read_block.new.pending.offset = search rules in
     subst (λ (s : ReaderState). StandsFor s taken → IfSome (with_front (taken ++ s.waiting.bytes) left) (λ bytes. StopsAt bytes s.offset cause)) c.self.view_is
     (λ before.

@@ -18,7 +18,7 @@ pub offer-requires-clause-lawful : goal.offer-requires-clause-lawful
 offer-requires-clause-lawful g c =
     let plan = g.S.StageIn.plan c.self.inside.end in
     let args = values_of c.args.args.now in
-    let may = may_log g.S.StageIn.plan _ _ c.args.stamp c.args.id args c.self.view_is c.self.invariant.planned c.requires.known c.requires.not_before c.hold_bytes.ensures c.ranges.stamp.fits c.in-Ok.ensures.too_long.1 in
+    let may = may_log g.S.StageIn.plan _ _ c.args.stamp c.args.id args c.self.view_is c.self.invariant.planned c.requires.known c.requires.not_before c.in-Ok.ensures.bytes c.ranges.stamp.fits c.in-Ok.ensures.too_long.1 in
     subst (λ (frame : List ℕ). Lawful plan (g.S.StageIn.sent c.self.inside.end ++ frame ∷ [])) (sym c.in-Ok.ensures.ok.1)
     (lawful_more plan (g.S.StageIn.sent c.self.inside.end) (g.S.StageIn.at c.self.inside.end) (g.S.StageIn.words c.self.inside.end) c.self.inside.last c.self.inside.accepted c.args.stamp c.args.id args c.self.invariant may)
 
@@ -31,7 +31,7 @@ pub invariant_of-self-2 : goal.invariant_of-self-2
 invariant_of-self-2 g c =
     let plan = g.S.StageIn.plan c.self.inside.end in
     let args = values_of c.args.args.now in
-    let may = may_log g.S.StageIn.plan _ _ c.args.stamp c.args.id args c.self.view_is c.self.invariant.planned c.requires.known c.requires.not_before c.hold_bytes.ensures c.ranges.stamp.fits c.in-Ok.ensures.too_long.1 in
+    let may = may_log g.S.StageIn.plan _ _ c.args.stamp c.args.id args c.self.view_is c.self.invariant.planned c.requires.known c.requires.not_before c.in-Ok.ensures.bytes c.ranges.stamp.fits c.in-Ok.ensures.too_long.1 in
     let more = logged_more plan (g.S.StageIn.sent c.self.inside.end) (g.S.StageIn.at c.self.inside.end) (g.S.StageIn.words c.self.inside.end) c.self.inside.last c.self.inside.accepted c.args.stamp c.args.id args c.self.invariant may in
     let offered = c.in_default-offer.ensures in
     let frame = c.in-Ok.ensures.ok.1 in
@@ -49,7 +49,7 @@ pub returns-clause-accepted : goal.returns-clause-accepted
 returns-clause-accepted g c =
     let plan = g.S.StageIn.plan c.self.inside.end in
     let args = values_of c.args.args.now in
-    let may = may_log g.S.StageIn.plan _ _ c.args.stamp c.args.id args c.self.view_is c.self.invariant.planned c.requires.known c.requires.not_before c.hold_bytes.ensures c.ranges.stamp.fits c.in-Ok.ensures.too_long.1 in
+    let may = may_log g.S.StageIn.plan _ _ c.args.stamp c.args.id args c.self.view_is c.self.invariant.planned c.requires.known c.requires.not_before c.in-Ok.ensures.bytes c.ranges.stamp.fits c.in-Ok.ensures.too_long.1 in
     let same : c.args.self.now.end ≡ c.self.inside.end = sym (ap (λ (w : WriterView g.row.S.Denot). w.end) c.self.view_is) in
     let offered = c.in_default-offer.ensures in
     λ calls frames. accepts_more plan (g.S.StageIn.plan c.offer.new.self) (g.S.StageIn.sent c.self.inside.end) (g.S.StageIn.sent c.offer.new.self)

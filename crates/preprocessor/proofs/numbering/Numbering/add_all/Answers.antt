@@ -2,7 +2,7 @@ use Rattle.std.proofs.Common.{◌≡◌, ◌∷◌, [], ◌++◌, List, length, 
 use Rattle.std.specs.List.{AllByRecursion}
 use Rattle.std.specs.Vec.Iter.{into_iter_items}
 use Rattle.preprocessor.specs.Findings.{Finding, IsNamed}
-use Rattle.preprocessor.specs.Numbering.{Holds}
+use Rattle.preprocessor.specs.Numbering.{HoldsFindings}
 use Rattle.preprocessor.proofs.Finding.{findings_split}
 use Rattle.preprocessor.proofs.numbering.Numbering.add_all.Goals as goal
 
@@ -16,7 +16,7 @@ loop-one-preserved c =
       named = (subst (AllByRecursion IsNamed) steps at.invariant.named).1;
       holds = λ before findings are held.
           let split = findings_split at.yielded one findings are in
-          subst (λ (list : List Finding). Holds list c.in_ok-numbering.numbering) (append_assoc before split.0 (split.1 ∷ []) ∙ ap (λ (list : List Finding). before ++ list) (sym split.2))
+          subst (λ (list : List Finding). HoldsFindings list c.in_ok-numbering.numbering) (append_assoc before split.0 (split.1 ∷ []) ∙ ap (λ (list : List Finding). before ++ list) (sym split.2))
           (c.in_ok-numbering.ensures (before ++ split.0) split.1 split.4 (at.invariant.holds before split.0 split.3 held));
       counted =
           let was = at.invariant.counted in

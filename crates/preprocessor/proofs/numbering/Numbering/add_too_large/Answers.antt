@@ -1,7 +1,7 @@
 use Rattle.std.proofs.Common.{List, ℕ, ◌++◌, ◌∷◌, [], subst}
 use Rattle.std.proofs.lemmas.Result.{IfOk-weaker}
 use Rattle.preprocessor.specs.Findings.{Finding, large_refusal}
-use Rattle.preprocessor.specs.Numbering.{Holds}
+use Rattle.preprocessor.specs.Numbering.{HoldsFindings}
 use Rattle.preprocessor.proofs.Counting.{stays_stopped, large_counted}
 use Rattle.preprocessor.proofs.numbering.Numbering.add_too_large.Goals as goal
 
@@ -11,5 +11,5 @@ returns-then-self c = λ files source large numbers. stays_stopped files _ c.arg
 pub returns : goal.returns
 returns c =
     IfOk-weaker c.add_refusal.result _ _
-    (λ next holds. large_counted c.args.file.now c.args.self next c.if-self.false (λ before held. subst (λ (name : List ℕ). Holds (before ++ Finding.refused (large_refusal name) ∷ []) next) c.in_ok-from_slice.ensures (holds before held)))
+    (λ next holds. large_counted c.args.file.now c.args.self next c.if-self.false (λ before held. subst (λ (name : List ℕ). HoldsFindings (before ++ Finding.refused (large_refusal name) ∷ []) next) c.in_ok-from_slice.ensures (holds before held)))
     c.add_refusal.ensures

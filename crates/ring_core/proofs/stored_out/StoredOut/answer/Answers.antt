@@ -2,7 +2,7 @@ use Rattle.std.proofs.Common.{◌≡◌, ◌+◌, ◌<◌, length, get_or, sym, 
 use Rattle.std.specs.Prelude.{Some, None}
 use Rattle.ring_core.specs.Plans.{plan_of}
 use Rattle.ring_core.specs.Stored.{StoredEnd, end_after}
-use Rattle.ring_core.specs.StoredInside.{words_of}
+use Rattle.ring_core.specs.StoredInside.{entry_words}
 use Rattle.ring_core.proofs.Storing.{next_short, taken_lawful, after_frame, after_pause}
 use Rattle.ring_core.proofs.stored_out.StoredOut.answer.Goals as goal
 
@@ -11,7 +11,7 @@ copy_words-requires c =
     let s = c.self.inside in
     let d = c.index-entry.result.now in
     let within : s.next < length s.entries.items = omega (arith, c.len.ensures, c.if-self-len.false) in
-    let is : words_of (get_or s.entries.items s.next d) ≡ Some c.in-Frame.words.items = ap words_of (sym c.index-entry.ensures ∙ c.in-Frame.is) in
+    let is : entry_words (get_or s.entries.items s.next d) ≡ Some c.in-Frame.words.items = ap entry_words (sym c.index-entry.ensures ∙ c.in-Frame.is) in
     rw c.as_slice.ensures.value (next_short (plan_of s.dictionary.now s.first) s.entries.items s.next d c.in-Frame.words.items (c.self.invariant.calls, c.self.invariant.lawful) within is)
 
 pub returns-in-Frame-clause-after : goal.returns-in-Frame-clause-after
@@ -19,7 +19,7 @@ returns-in-Frame-clause-after c =
     let s = c.self.inside in
     let d = c.index-entry.result.now in
     let within : s.next < length s.entries.items = omega (arith, c.len.ensures, c.if-self-len.false) in
-    let is : words_of (get_or s.entries.items s.next d) ≡ Some c.in-Frame.words.items = ap words_of (sym c.index-entry.ensures ∙ c.in-Frame.is) in
+    let is : entry_words (get_or s.entries.items s.next d) ≡ Some c.in-Frame.words.items = ap entry_words (sym c.index-entry.ensures ∙ c.in-Frame.is) in
     after_frame s d c.in-Frame.words.items within is ∙ ap (λ (end : StoredEnd). end_after end.ahead end) c.self.view_is
 
 pub returns-in-Frame-clause-lawful : goal.returns-in-Frame-clause-lawful
@@ -32,7 +32,7 @@ returns-in-Pause-clause-after c =
     let s = c.self.inside in
     let d = c.index-entry.result.now in
     let within : s.next < length s.entries.items = omega (arith, c.len.ensures, c.if-self-len.false) in
-    let is : words_of (get_or s.entries.items s.next d) ≡ None = ap words_of (sym c.index-entry.ensures ∙ c.in-Pause.is) in
+    let is : entry_words (get_or s.entries.items s.next d) ≡ None = ap entry_words (sym c.index-entry.ensures ∙ c.in-Pause.is) in
     after_pause s d c.saturating_add-self-inside-in-Pause.result within is c.saturating_add-self-inside-in-Pause.ensures
     ∙ ap (λ (end : StoredEnd). end_after end.ahead end) c.self.view_is
 

@@ -3,7 +3,7 @@ use Rattle.ring_core.specs.declared.stored_out.Entry.{Entry}
 use Rattle.ring_core.specs.declared.stored_out.Entry.TheVariants.{Pause}
 use Rattle.ring_core.specs.Plans.{plan_of, AreFramesOf}
 use Rattle.ring_core.specs.Stored.{stored_frames}
-use Rattle.ring_core.specs.StoredInside.{words_of}
+use Rattle.ring_core.specs.StoredInside.{entry_words}
 use Rattle.ring_core.proofs.Storing.{frames-push}
 use Rattle.ring_core.proofs.stored_out.StoredOut.pause.Goals as goal
 
@@ -12,8 +12,8 @@ invariant_of-self-2 c =
     let s = c.self.inside in
     let is = c.self.invariant in
     let items = c.in_ok-push.ensures.items in
-    let frames : stored_frames (map words_of c.push.new.self.items) ≡ stored_frames (map words_of s.entries.items) =
-    ap (λ (es : List Entry). stored_frames (map words_of es)) items ∙ frames-push s.entries.items Pause ∙ append-nil (stored_frames (map words_of s.entries.items)) in
+    let frames : stored_frames (map entry_words c.push.new.self.items) ≡ stored_frames (map entry_words s.entries.items) =
+    ap (λ (es : List Entry). stored_frames (map entry_words es)) items ∙ frames-push s.entries.items Pause ∙ append-nil (stored_frames (map entry_words s.entries.items)) in
     let open_end : s.ended ≡ true → ⊥ = λ e. absurd (cc (is.closed_end e, c.if-self.false)) in record {
       calls = is.calls;
       lawful = subst (λ (fs : List (List ℕ)). AreFramesOf (plan_of s.dictionary.now s.first) fs is.calls) (sym frames) is.lawful;

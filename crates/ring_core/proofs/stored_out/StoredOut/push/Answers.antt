@@ -6,7 +6,7 @@ use Rattle.ring_core.specs.declared.stored_out.Entry.{Entry}
 use Rattle.ring_core.specs.declared.stored_out.Entry.TheVariants.{Frame as FrameEntry}
 use Rattle.ring_core.specs.Plans.{Plan, plan_of, AreFramesOf, MayFollow, call_of, frame_of}
 use Rattle.ring_core.specs.Stored.{stored_frames}
-use Rattle.ring_core.specs.StoredInside.{words_of}
+use Rattle.ring_core.specs.StoredInside.{entry_words}
 use Rattle.ring_core.proofs.Frames.{AreFramesOf-push, last_stamp-push}
 use Rattle.ring_core.proofs.Storing.{frames-push}
 use Rattle.ring_core.proofs.stored_out.StoredOut.push.Goals as goal
@@ -18,10 +18,10 @@ invariant_of-self-2 c =
     let plan : Plan = plan_of s.dictionary.now s.first in
     let call : Call = call_of c.args.stamp c.args.id (values_of c.args.args.now) in
     let items = c.in_ok-push.ensures.items in
-    let old = stored_frames (map words_of s.entries.items) in
+    let old = stored_frames (map entry_words s.entries.items) in
     let words : c.in_ok-frame.frame.items ≡ frame_of call = c.in_ok-frame.ensures.items ∙ c.in-Some.ensures.some.1 in
-    let frames : stored_frames (map words_of c.push.new.self.items) ≡ old ++ frame_of call ∷ [] =
-    ap (λ (es : List Entry). stored_frames (map words_of es)) items ∙ frames-push s.entries.items (FrameEntry c.in_ok-frame.frame)
+    let frames : stored_frames (map entry_words c.push.new.self.items) ≡ old ++ frame_of call ∷ [] =
+    ap (λ (es : List Entry). stored_frames (map entry_words es)) items ∙ frames-push s.entries.items (FrameEntry c.in_ok-frame.frame)
     ∙ ap (λ (ws : List ℕ). old ++ ws ∷ []) words in
     let may : MayFollow plan (last_stamp plan.first is.calls) call =
     record { planned = c.in-Some.ensures.some.2; not_before = omega (arith, is.last_is, c.if-stamp-self.false) } in record {

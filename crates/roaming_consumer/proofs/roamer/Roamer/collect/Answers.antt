@@ -2,8 +2,8 @@ use Rattle.std.proofs.Common.{◌≡◌, ◌-◌, ℕ, List, length, drop, refl,
 use Rattle.std.proofs.lemmas.List.{take_at}
 use Rattle.std.proofs.lemmas.Option.{slice_get_read}
 use Rattle.checkpoint_io.specs.declared.heads.TheConstants.{MAX_BODY}
-use Rattle.roaming_consumer.specs.Gathering.{Gathers, StopsTaking}
-use Rattle.roaming_consumer.specs.Roamers.{messages_of, clock_of, batch_of}
+use Rattle.roaming_consumer.specs.Gathering.{DraftsFrames, StopsTaking}
+use Rattle.roaming_consumer.specs.Roamers.{roamer_messages, roamer_clock, roamer_batch}
 use Rattle.roaming_consumer.proofs.roamer.Roamer.collect.Goals as goal
 
 pub returns-clause-gathers : goal.returns-clause-gathers
@@ -20,8 +20,8 @@ returns-clause-gathers g c =
       was = slice_get_read _ _ _ _ refl c.requires.known c.index_mut-end.ensures.value;
       now = refl;
       step = (
-        subst (λ (b : List ℕ). Gathers (messages_of roamer) (clock_of roamer).tick (g.S.StageOut.got before) (g.S.StageOut.got after) draft b) (sym (take_at c.gather.new.body (drop (length c.gather.new.body) roamer.body.items) roamer.body.len (omega (arith, room, roamer.body_room)))) e.gathers,
+        subst (λ (b : List ℕ). DraftsFrames (roamer_messages roamer) (roamer_clock roamer).tick (g.S.StageOut.got before) (g.S.StageOut.got after) draft b) (sym (take_at c.gather.new.body (drop (length c.gather.new.body) roamer.body.items) roamer.body.len (omega (arith, room, roamer.body_room)))) e.gathers,
         search rules,
-        subst (λ (n : ℕ). StopsTaking g.S.StageOut.got g.S.StageOut.ended g.S.StageOut.loads (batch_of roamer) draft.records (n - draft.len) before after) room e.stops,
+        subst (λ (n : ℕ). StopsTaking g.S.StageOut.got g.S.StageOut.ended g.S.StageOut.loads (roamer_batch roamer) draft.records (n - draft.len) before after) room e.stops,
       );
     }

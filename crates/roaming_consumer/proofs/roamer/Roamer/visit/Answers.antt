@@ -1,5 +1,5 @@
 use Rattle.std.proofs.Common.{ap}
-use Rattle.roaming_consumer.specs.Growth.{Progress}
+use Rattle.roaming_consumer.specs.Growth.{LogProgress}
 use Rattle.roaming_consumer.specs.Roamers.{is_faulted}
 use Rattle.roaming_consumer.proofs.Marking.{marks_stay}
 use Rattle.roaming_consumer.proofs.Standing.{false_is_not_true, threw, planned_after, count_after}
@@ -26,7 +26,7 @@ returns-clause-same_count g c = count_after _ _ _ c.write_visit.ensures.visits
 
 pub returns-then-self-clause-marks : goal.returns-then-self-clause-marks
 returns-then-self-clause-marks g c =
-    marks_stay _ c.args.writer c.args.self.now c.throw_visit.new.self (ap (λ (p : Progress). p.closed) c.throw_visit.ensures.others.progress) (λ unfaulted is. false_is_not_true (is_faulted c.args.self.now) unfaulted c.if-self.true)
+    marks_stay _ c.args.writer c.args.self.now c.throw_visit.new.self (ap (λ (p : LogProgress). p.closed) c.throw_visit.ensures.others.progress) (λ unfaulted is. false_is_not_true (is_faulted c.args.self.now) unfaulted c.if-self.true)
 
 pub returns-then-self-clause-writes : goal.returns-then-self-clause-writes
 returns-then-self-clause-writes g c = c.throw_visit.ensures.writes _

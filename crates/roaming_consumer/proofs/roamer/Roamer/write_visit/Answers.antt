@@ -2,7 +2,7 @@ use Rattle.std.proofs.Common.{Bool, true, false, List, length, get_or, sym, ap, 
 use Rattle.std.specs.Prelude.{slice_set}
 use Rattle.roaming_consumer.proofs.Sending.{ok_of, extent_sent, sent_whole}
 use Rattle.roaming_consumer.proofs.Standing.{draft_some, draft_ids, writes_extent, wrote_extent, wrote_nothing, wrote_mark}
-use Rattle.roaming_consumer.specs.Growth.{Progress}
+use Rattle.roaming_consumer.specs.Growth.{LogProgress}
 use Rattle.roaming_consumer.proofs.Marking.{marks_stay, mark_written}
 use Rattle.roaming_consumer.proofs.Stopping.{stopped_in_extent}
 use Rattle.roaming_consumer.proofs.roamer.Roamer.write_visit.Goals as goal
@@ -44,20 +44,20 @@ returns-clause-wrote g c =
 pub returns-then-draft-gt0-clause-marks : goal.returns-then-draft-gt0-clause-marks
 returns-then-draft-gt0-clause-marks g c =
     let now = ok_of c.write_draft.result c.if-is_err.ensures.value c.write_draft.ensures.ok in
-    marks_stay _ c.args.writer c.args.self.now c.write_draft.new.self (ap (λ (p : Progress). p.closed) now ∙ ap (λ (p : Progress). p.closed) c.collect-ended.ensures.others.progress) (λ unfaulted is. absurd cc)
+    marks_stay _ c.args.writer c.args.self.now c.write_draft.new.self (ap (λ (p : LogProgress). p.closed) now ∙ ap (λ (p : LogProgress). p.closed) c.collect-ended.ensures.others.progress) (λ unfaulted is. absurd cc)
 
 pub returns-then-not-ended-clause-marks : goal.returns-then-not-ended-clause-marks
 returns-then-not-ended-clause-marks g c =
-    marks_stay _ c.args.writer c.args.self.now c.collect-ended.new.self (ap (λ (p : Progress). p.closed) c.collect-ended.ensures.others.progress) (λ unfaulted is. absurd cc)
+    marks_stay _ c.args.writer c.args.self.now c.collect-ended.new.self (ap (λ (p : LogProgress). p.closed) c.collect-ended.ensures.others.progress) (λ unfaulted is. absurd cc)
 
 pub returns-clause-marks : goal.returns-clause-marks
 returns-clause-marks g c =
     let mid = c.collect-ended.new.self in
-    let kept = ap (λ (p : Progress). p.closed) c.collect-ended.ensures.others.progress in
+    let kept = ap (λ (p : LogProgress). p.closed) c.collect-ended.ensures.others.progress in
     elim c.else-not-self-writer.branch [
       | else-not-self-writer-via-then-not-self-writer+else-is_err-2 w ↦
           let now = ok_of w.write_mark.result w.if-is_err-2.ensures.value w.write_mark.ensures.ok in
-          rw w.self-is (mark_written c.args.writer c.args.self.now w.write_mark.new.self (ap (λ (p : Progress). p.closed) now ∙ ap (λ (l : List Bool). slice_set l c.args.writer true) kept) (omega (arith, c.args.self.now.few_ends)) c.requires.unfaulted)
+          rw w.self-is (mark_written c.args.writer c.args.self.now w.write_mark.new.self (ap (λ (p : LogProgress). p.closed) now ∙ ap (λ (l : List Bool). slice_set l c.args.writer true) kept) (omega (arith, c.args.self.now.few_ends)) c.requires.unfaulted)
       | else-not-self-writer-via-else-not-self-writer w ↦
           rw w.self-is (marks_stay _ c.args.writer c.args.self.now mid kept (λ unfaulted is. ap (λ (l : List Bool). get_or l c.args.writer false) (sym kept) ∙ w.if-not-self-writer.false))
     ]

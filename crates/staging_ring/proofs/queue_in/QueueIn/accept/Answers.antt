@@ -8,7 +8,7 @@ use Rattle.ring_core.specs.Plans.{Lawful}
 use Rattle.ring_core.specs.Positions.{Need}
 use Rattle.ring_core.proofs.Needs.{Need-most}
 use Rattle.staging_ring.specs.declared.queue_in.QueueIn.TheInside.{Inside}
-use Rattle.staging_ring.specs.Ends.{WriterEnd, IsRefused, Accepts}
+use Rattle.staging_ring.specs.Ends.{WriterEnd, WordRefused, FrameAccepted}
 use Rattle.staging_ring.specs.Readings.{words_read, frames_with}
 use Rattle.staging_ring.specs.Rule.{plan_in, having_put}
 use Rattle.staging_ring.specs.WriterInside.{writer_knows, writer_end_of}
@@ -57,7 +57,7 @@ returns-then-count-eq0-clause-refused g c =
     omega (arith, full, ap ruled_capacity c.deref-2.ensures, count_same s.pass pass frame n put, length-drop n frame, c.if-count-eq0.true, is.words_before open_end)
     in
     let same : view pass ≡ writer_knows s = e.put ∙ ap (λ (k : ℕ). having_put (writer_knows s) (take k frame)) c.if-count-eq0.true in
-    λ _. subst (λ (w : WriterEnd). IsRefused w (writer_end_of (changed s pass s.waiting s.at s.ahead c.looked-self-inside.result))) c.self.view_is
+    λ _. subst (λ (w : WriterEnd). WordRefused w (writer_end_of (changed s pass s.waiting s.at s.ahead c.looked-self-inside.result))) c.self.view_is
     (record {
       full = room;
       same = same_end s pass c.looked-self-inside.result e.queue.1 same
@@ -115,7 +115,7 @@ returns-clause-put g c =
     let words : c.capacity-words.result ≡ (arc_value s.queue).cap = c.capacity-words.ensures ∙ ap ruled_capacity c.deref.ensures in
     let takes_places : places ≡ Need s.at (length frame) (arc_value s.queue).cap = c.need-places.ensures ∙ ap (Need s.at (length frame)) words in
     let frames = frame_begins s frame c.self.invariant open_end none long.0 in
-    λ _. subst (λ (w : WriterEnd). Accepts w frame (writer_end_of (changed s pass waiting (s.at + places) (s.ahead + places) looks))) c.self.view_is
+    λ _. subst (λ (w : WriterEnd). FrameAccepted w frame (writer_end_of (changed s pass waiting (s.at + places) (s.ahead + places) looks))) c.self.view_is
     (record {
       same = end_after_put s frame n pass waiting (s.at + places) (s.ahead + places) looks open_end put (rest_is frame waiting n c.set.ensures)
           ∙ (λ i. record (writer_end_of s) {

@@ -2,7 +2,7 @@ use Rattle.std.proofs.Common.{rules, ◌≡◌, ℕ, ◌≤◌, ◌<◌, false, 
 use Rattle.std.specs.Arc.{arc_value}
 use Rattle.std.proofs.lemmas.List.{length-drop}
 use Rattle.crossbeam_queue.specs.Passes.{view, ruled_capacity}
-use Rattle.staging_ring.specs.Ends.{WriterEnd, IsRefused}
+use Rattle.staging_ring.specs.Ends.{WriterEnd, WordRefused}
 use Rattle.staging_ring.specs.Readings.{words_read}
 use Rattle.staging_ring.specs.WriterInside.{writer_knows, writer_end_of}
 use Rattle.staging_ring.proofs.Writers.{changed, put_first, count_same, still_writer, end_after_put, none_left}
@@ -36,7 +36,7 @@ returns-then-not-is_empty-clause-refused g c =
     let room : (arc_value s.queue).cap ≤ s.at =
     omega (arith, full, ap ruled_capacity c.deref.ensures, count_same s.pass pass s.waiting n put, is.words_before unfinished)
     in
-    λ _. subst (λ (w : WriterEnd). IsRefused w (writer_end_of (changed s pass waiting s.at s.ahead looks))) c.self.view_is
+    λ _. subst (λ (w : WriterEnd). WordRefused w (writer_end_of (changed s pass waiting s.at s.ahead looks))) c.self.view_is
     (record {
       full = room;
       same = end_after_put s s.waiting n pass waiting s.at s.ahead looks unfinished put c.advance.ensures

@@ -2,7 +2,7 @@ use Rattle.std.proofs.Common.{true, ap, ◌∙◌}
 use Rattle.staging_ring.specs.Ends.{WriterEnd}
 use Rattle.staging_ring.specs.Rule.{plan_in}
 use Rattle.staging_ring.specs.WriterInside.{writer_knows}
-use Rattle.staging_ring.proofs.ReadingLaws.{GoesOn-frames}
+use Rattle.staging_ring.proofs.ReadingLaws.{CanBeCompleted-frames}
 use Rattle.staging_ring.proofs.Writers.{nothing_begun, closed_writer, closed_end}
 use Rattle.staging_ring.proofs.queue_in.QueueIn.mark.Goals as goal
 
@@ -13,7 +13,7 @@ push_mark-requires-clause-no_part g c =
 pub push_mark-requires-clause-lawful : goal.push_mark-requires-clause-lawful
 push_mark-requires-clause-lawful g c =
     let s = c.self.inside in
-    GoesOn-frames (plan_in (writer_knows s)) (writer_knows s).put (s.waiting, c.self.invariant.lawful)
+    CanBeCompleted-frames (plan_in (writer_knows s)) (writer_knows s).put (s.waiting, c.self.invariant.lawful)
 
 pub invariant_of-self : goal.invariant_of-self
 invariant_of-self g c =

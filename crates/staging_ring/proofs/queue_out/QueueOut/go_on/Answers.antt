@@ -2,7 +2,7 @@ use Rattle.std.proofs.Common.{◌≡◌, ℕ, ◌<◌, true, false, true≢false
 use Rattle.std.specs.Prelude.{Some, None}
 use Rattle.ring_core.specs.declared.answers.Taken.TheVariants as answers
 use Rattle.staging_ring.specs.Ends.{RoamerEnd, GoesOnTo}
-use Rattle.staging_ring.specs.Readings.{reading, is_mark, is_whole}
+use Rattle.staging_ring.specs.Readings.{reading, is_closing_mark, is_whole}
 use Rattle.staging_ring.specs.RoamerInside.{roamer_knows, roamer_end_of}
 use Rattle.staging_ring.proofs.Roamers.{changed, WordTaken, mark_comes, part_comes, frame_comes, still_roamer, short_part, ends_there, goes_on_there, frame_there, one_more}
 use Rattle.staging_ring.proofs.queue_out.QueueOut.go_on.Goals as goal
@@ -38,7 +38,7 @@ invariant_of-self-then-not-is_whole g c =
     let word = c.in-Some.word in
     let e = c.in-Some.ensures in
     let w : WordTaken s pass word = record { table = e.queue.1; home = e.queue.0.1; takes = e.word } in
-    let mark : is_mark (s.part ++ word ∷ []) ≡ false = sym c.is_closed_by.ensures ∙ c.if-is_closed_by.false in
+    let mark : is_closing_mark (s.part ++ word ∷ []) ≡ false = sym c.is_closed_by.ensures ∙ c.if-is_closed_by.false in
     let whole : is_whole (s.part ++ word ∷ []) ≡ false = ap is_whole (sym c.push.ensures) ∙ sym c.is_whole.ensures ∙ c.if-not-is_whole.true in
     still_roamer s pass word (reading (roamer_knows s).taken.frames (s.part ++ word ∷ []) false) c.push.new.self s.ended s.frames is w
     (part_comes s word is c.if-self.false mark whole) c.if-self.false (λ _. c.push.ensures)

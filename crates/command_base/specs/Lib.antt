@@ -1,0 +1,14 @@
+pub mod Statuses
+pub mod Endings
+pub mod Words
+pub mod Printing
+pub mod HeldFiles
+pub mod Scenes
+pub mod Tasks
+pub mod Readings
+pub mod Effects
+pub mod Soundness
+pub mod HeldLaws
+pub mod SoundTasks
+pub mod EffectLaws
+pub mod TaskLaws

@@ -1,0 +1,4 @@
+pub mod Told
+pub mod Totals
+pub mod Texts
+pub mod Soundness

@@ -1,0 +1,11 @@
+//! The commands over logs.
+#![tactic(auto)]
+
+mod aggregating;
+mod damage;
+mod decompressing;
+pub mod laws;
+mod totals_line;
+
+pub use aggregating::aggregate;
+pub use decompressing::decompress;

@@ -1,5 +1,0 @@
-use Rattle.log_session.specs.Workers.{IsSameWork}
-use Rattle.log_session.proofs.worker.Worker.work.Given as goal
-
-abbrev pub invariant-loop : goal.invariant-loop
-invariant-loop g l = IsSameWork g.S.StageIn.pair g.S.StageIn.words l.initial.self l.self

@@ -1,9 +1,0 @@
-use Rattle.std.proofs.Common.{◌≡◌, ℕ, List, ◌++◌}
-use Rattle.std.specs.String.{string_bytes}
-use Rattle.std.specs.Slice.Iter.{iter_rest}
-use Rattle.nanolog_cli.specs.Decompressing.{numbers_text}
-use Rattle.nanolog_cli.proofs.decompress.text_of_numbers.Given as goal
-
--- the text is the numbers that were seen
-abbrev pub invariant-loop-number : goal.invariant-loop-number
-invariant-loop-number l = (seen : List ℕ) × (seen ++ iter_rest l.number-iterator ≡ l.numbers) × (string_bytes l.text ≡ numbers_text seen)

@@ -1,0 +1,19 @@
+-- What is asked of a task is so of each command's.
+use Rattle.cli_words.specs.Commands.{Command, Preprocess, Direct, Replay, Decompress, Aggregate, Generate, Selftest}
+use Rattle.command_base.specs.Soundness.{IsSound}
+use Rattle.source_commands.specs.Preprocessing.{GiveDictionary}
+use Rattle.source_commands.specs.SourceLaws.{source_sound}
+use Rattle.trace_commands.proofs.Soundness.{direct_sound, generate_sound}
+use Rattle.log_commands.proofs.Soundness.{decompress_sound, aggregate_sound}
+use Rattle.session_commands.proofs.Soundness.{replay_sound, selftest_sound}
+use Rattle.std.proofs.Common.{Some}
+use Rattle.nanolog_cli.specs.Outcomes.{task_of}
+
+pub task_sound : (command : Command) → IsSound (task_of command)
+task_sound (Preprocess dictionary sources) = source_sound sources (Some dictionary) GiveDictionary
+task_sound (Direct trace) = direct_sound trace
+task_sound (Replay trace log options) = replay_sound trace log options
+task_sound (Decompress log) = decompress_sound log
+task_sound (Aggregate log id nth) = aggregate_sound log id nth
+task_sound (Generate seed calls writers) = generate_sound seed calls writers
+task_sound (Selftest seed calls writers) = selftest_sound seed calls writers

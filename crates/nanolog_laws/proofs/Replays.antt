@@ -1,0 +1,228 @@
+-- What `decompress` gives of a log that `replay` wrote.
+use Rattle.std.proofs.Common.{◌≡◌, ℕ, zero, suc, ◌+◌, ◌<◌, ◌≤◌, Bool, false, cond, List, [], ◌∷◌, length, Option, Some, None, Result, Ok, Err, refl, sym, ap, subst, ◌∙◌, inl, inr, arith}
+use Rattle.std.specs.Prelude.{◌⊎◌, not, filter, IfSome, is_some}
+use Rattle.std.specs.List.{list_any, range_with_len}
+use Rattle.std.specs.FinMap as map
+use Rattle.nl_io.specs.Count.{Rose}
+use Rattle.nl_io.specs.Content.{with_end}
+use Rattle.nl_io.specs.Desk.{Desk, Held}
+use Rattle.log_dictionary.specs.declared.severity.Severity.TheVariants as severities
+use Rattle.arg_records.specs.declared.call.Call.{Call}
+use Rattle.checkpoint_io.specs.declared.heads.TheConstants.{MAX_LOG}
+use Rattle.checkpoint_io.specs.Blocks.{Block}
+use Rattle.checkpoint_io.specs.Validity.{IsClosed, closes}
+use Rattle.checkpoint_io.proofs.FrontLaws.{one_front, whole_is_front}
+use Rattle.decompressor.specs.declared.report.Report.{Report}
+use Rattle.decompressor.specs.declared.fault.DecodeFault.{DecodeFault}
+use Rattle.decompressor.specs.declared.fault.DecodeFault.TheVariants as faults
+use Rattle.decompressor.specs.Decompressing.{open_writers, IsTextOfWhole}
+use Rattle.decompressor.proofs.DecompressionLaws.{one_text}
+use Rattle.decompressor.proofs.TextLaws.{log_is_text}
+use Rattle.trace_text.specs.Recordings.{Recording, IsRecording}
+use Rattle.trace_text.specs.Traces.{TraceText}
+use Rattle.trace_text.proofs.ToldApart.{one_run}
+use Rattle.session_options.specs.declared.options.Options.{Options}
+use Rattle.session_options.specs.declared.options.Policy.TheVariants as policies
+use Rattle.trace_session.specs.declared.drops.Dropped.{Dropped}
+use Rattle.trace_session.specs.Drops.{Taken}
+use Rattle.trace_session.specs.Sessions.{IsWholeLog}
+use Rattle.command_base.specs.Endings.{Ending, Done, StillOpen, Usage, WriteFault, NoMemory, status_of}
+use Rattle.command_base.specs.declared.status.Status.TheVariants as statuses
+use Rattle.command_base.specs.HeldFiles.{Holds}
+use Rattle.command_base.specs.HeldLaws.{such_is}
+use Rattle.command_base.specs.Scenes.{Scene}
+use Rattle.command_base.specs.Tasks.{Product}
+use Rattle.command_base.specs.Effects.{Completes, CommandEffect}
+use Rattle.command_base.specs.TaskLaws.{unfailed}
+use Rattle.trace_commands.specs.Texts.{direct_text}
+use Rattle.trace_commands.specs.Traces.{TraceRead}
+use Rattle.trace_commands.specs.Tasks.{direct_task}
+use Rattle.log_commands.specs.Logs.{IsLog}
+use Rattle.log_commands.specs.Decompressing.{whole_ending, log_ending, HaveText, GivesText, decompress_task}
+use Rattle.log_commands.proofs.Soundness.{not_damaged, decompress_sound}
+use Rattle.session_commands.specs.Headline.{taken_text, LogLawful, TextSame}
+use Rattle.session_commands.specs.Replays.{replay_task}
+use Rattle.session_commands.proofs.Headlines.{only_log}
+use Rattle.session_commands.proofs.WholeRuns.{whole_text}
+
+some_same : {A : Type 0} (a b : A) → Some a ≡ Some b → a ≡ b
+some_same a b e = cc
+
+-- what is told that a name holds
+held_by : (told : Option Held) (held : Held) (name bytes : List ℕ) → told ≡ Some held
+    → IfSome told (λ names. map.get names name ≡ Some bytes) → map.get held name ≡ Some bytes
+held_by None held name bytes is has = absurd cc
+held_by (Some names) held name bytes is has = ap (λ (h : Held). map.get h name) (sym (some_same names held is)) ∙ has
+
+-- the log of a run stands for its lines
+pub lawful_text : (new : Desk) (log : List ℕ) (run : Recording) (options : Options) (drops : List Dropped)
+    (bytes : List ℕ) → LogLawful new log run options drops bytes → TextSame run options drops bytes
+lawful_text new log run options drops bytes lawful =
+    log_is_text bytes (Taken run options.level drops) run.dictionary run.clock options.batch lawful.whole.lawful
+
+-- ---- a log that is read again
+
+-- of writers that are all closed none is open
+none_open : (blocks : List Block) (from n : ℕ) → ((writer : ℕ) → writer < from + n → IsClosed writer blocks)
+    → filter (λ writer. not (list_any (closes writer) blocks)) (range_with_len from n) ≡ []
+none_open blocks from zero closed = refl
+none_open blocks from (suc n) closed =
+    let others : List ℕ = filter (λ writer. not (list_any (closes writer) blocks)) (range_with_len (from + 1) n) in
+    ap (λ (b : Bool). cond (not b) (from ∷ others) others) (closed from (omega arith))
+    ∙ none_open blocks (from + 1) n (λ writer within. closed writer (omega (arith, within)))
+
+-- the log of a session is one that is read, where it isn't too long
+session_is_log : (run : Recording) (batch : ℕ) (taken : List (List Call)) (bytes : List ℕ)
+    → IsWholeLog run batch taken bytes → length bytes ≤ MAX_LOG → IsLog bytes
+session_is_log run batch taken bytes log within = record {
+  header = log.lawful.header;
+  blocks = log.lawful.blocks;
+  file = log.lawful.file;
+  valid = log.lawful.valid;
+  within = within;
+}
+
+-- none of its writers is open
+closed_all : (run : Recording) (batch : ℕ) (taken : List (List Call)) (bytes text : List ℕ) (report : Report)
+    → IsWholeLog run batch taken bytes → IsTextOfWhole bytes text report → report.unclosed ≡ []
+closed_all run batch taken bytes text report log is =
+    let lawful = log.lawful in
+    let front = whole_is_front lawful.header lawful.blocks bytes lawful.file lawful.valid in
+    let same = one_front bytes is.part.header lawful.header is.part.blocks lawful.blocks (length bytes) (length bytes) is.scanned.front front in
+    is.unclosed
+    ∙ (λ i. open_writers (same.0 i) (same.1 i))
+    ∙ none_open lawful.blocks 0 lawful.header.writers
+    (λ writer within. log.closed writer (omega (arith, within, lawful.writers_are)))
+
+module _ (log : List ℕ) (options : Options) (run : Recording) (drops : List Dropped) (bytes : List ℕ) (old new : Scene)
+    (held : Held) (lawful : LogLawful old.desk log run options drops bytes) (within : length bytes ≤ MAX_LOG)
+    (told : old.desk.held ≡ Some held) where
+  -- the log's name holds its bytes, which are right
+  abbrev right : Holds old.desk log IsLog
+  right = record {
+    held = held;
+    bytes = bytes;
+    told = told;
+    there = held_by old.desk.held held log bytes told lawful.held;
+    formed = session_is_log run options.batch (Taken run options.level drops) bytes lawful.whole within;
+  }
+
+  -- no other answer than the lines of the calls that were taken, and no writer that is open
+  whole_answer : (text : List ℕ) (answer : Result Report DecodeFault) → HaveText text answer bytes
+      → (log_ending log answer ≡ Done) × (text ≡ taken_text run options.level drops)
+  whole_answer text (Ok report) is = (
+    ap (whole_ending log) (closed_all run options.batch (Taken run options.level drops) bytes text report lawful.whole is),
+    one_text bytes text (taken_text run options.level drops) is.decompressed
+        (lawful_text old.desk log run options drops bytes lawful),
+  )
+  whole_answer text (Err (faults.Damaged offset cause)) is = absurd (not_damaged bytes text offset cause right.formed is)
+  whole_answer text (Err fault) is = absurd is
+
+  told_whole : (ending : Ending) (text : List ℕ) (answer : Result Report DecodeFault) → ending ≡ log_ending log answer
+      → HaveText text answer bytes → new.put ≡ with_end text old.put
+      → (ending ≡ Done) × (new.put ≡ with_end (taken_text run options.level drops) old.put)
+  told_whole ending text answer is have put =
+      let found = whole_answer text answer have in
+      (is ∙ found.0, put ∙ ap (λ (t : List ℕ). with_end t old.put) found.1)
+
+  -- where all was done
+  done_told : (ending : Ending) → CommandEffect (decompress_task log) old new ending → status_of ending ≡ statuses.Done
+      → (ending ≡ Done) × (new.put ≡ with_end (taken_text run options.level drops) old.put)
+  done_told Done effect done =
+      let given = effect.reading.2 in
+      told_whole Done effect.product.text given.0 given.1
+      (such_is old.desk log IsLog (HaveText effect.product.text given.0) right given.3) effect.printed
+  done_told (StillOpen name numbers) effect done =
+      let given = effect.reading.2 in
+      told_whole (StillOpen name numbers) effect.product.text given.0 given.1
+      (such_is old.desk log IsLog (HaveText effect.product.text given.0) right given.3) effect.printed
+  done_told ending effect done = absurd cc
+
+  -- a command that completes was done
+  completes_told : (ending : Ending) → CommandEffect (decompress_task log) old new ending
+      → (whole : Completes (decompress_task log) old new ending) → ¬ (Rose old.desk.read_faults new.desk.read_faults)
+      → ((ending ≡ Done) × (new.put ≡ with_end (taken_text run options.level drops) old.put)) ⊎ (ending ≡ NoMemory)
+  completes_told ending effect whole r =
+      elim ((decompress_sound log).done old.desk whole.read whole.product ending whole.reading right
+      (unfailed whole.product.made None old.desk whole.read new.desk whole.made r)) [
+        | inl done ↦ inl (done_told ending effect done)
+        | inr wants ↦ inr wants
+      ]
+
+  -- it prints the lines of the calls that were taken, and tells of no writer that is open
+  read_again : (ending : Ending) → CommandEffect (decompress_task log) old new ending
+      → ¬ (Rose old.desk.read_faults new.desk.read_faults) → ¬ (Rose old.faults new.faults)
+      → ((ending ≡ Done) × (new.put ≡ with_end (taken_text run options.level drops) old.put)) ⊎ (ending ≡ NoMemory)
+  read_again (WriteFault name) (inl cut) r o = absurd (o cut.1.rose)
+  read_again (WriteFault name) (inr lost) r o = let no : None ≡ Some name = lost.output in absurd cc
+  read_again NoMemory effect r o = inr refl
+  read_again (Usage lines) effect r o = absurd effect
+  read_again ending effect r o = completes_told ending effect effect r
+
+pub replayed : (log : List ℕ) (options : Options) (run : Recording) (drops : List Dropped) (bytes : List ℕ)
+    (old new : Scene) (ending : Ending) (held : Held) → LogLawful old.desk log run options drops bytes
+    → length bytes ≤ MAX_LOG → old.desk.held ≡ Some held → CommandEffect (decompress_task log) old new ending
+    → ¬ (Rose old.desk.read_faults new.desk.read_faults) → ¬ (Rose old.faults new.faults)
+    → ((ending ≡ Done) × (new.put ≡ with_end (taken_text run options.level drops) old.put)) ⊎ (ending ≡ NoMemory)
+replayed log options run drops bytes old new ending held lawful within told effect r o =
+    read_again log options run drops bytes old new held lawful within told ending effect r o
+
+-- ---- a replay in which all calls are taken
+
+-- what is told of a name
+such_told : (told : Option Held) (held : Held) (name : List ℕ) (such : List ℕ → Type 0) → told ≡ Some held
+    → IfSome told (λ names. (bytes : List ℕ) × (map.get names name ≡ Some bytes) × such bytes)
+    → (bytes : List ℕ) × (map.get held name ≡ Some bytes) × such bytes
+such_told None held name such is holds = absurd cc
+such_told (Some names) held name such is holds =
+    subst (λ (h : Held). (bytes : List ℕ) × (map.get h name ≡ Some bytes) × such bytes) (some_same names held is) holds
+
+told_too : (told : Option Held) (other : Option Held) (held : Held) → is_some other ≡ is_some told → other ≡ Some held
+    → (names : Held) × (told ≡ Some names)
+told_too None other held same is = absurd (let none : is_some (Some held) ≡ false = sym (ap is_some is) ∙ same in cc)
+told_too (Some names) other held same is = (names, refl)
+
+-- two runs that one name gave are one
+same_run : (old other : Desk) (trace : List ℕ) (held : Held) (a b : Recording) → old.held ≡ Some held → other ≡ old
+    → TraceRead old trace a → TraceRead other trace b → (a ≡ b) × IsRecording a
+same_run old other trace held a b told same read again =
+    let first = such_told old.held held trace (λ bytes. TraceText bytes a) told read in
+    let second = such_told other.held held trace (λ bytes. TraceText bytes b) (ap (λ (d : Desk). d.held) same ∙ told) again in
+    let bytes_are : second.0 ≡ first.0 = some_same second.0 first.0 (sym second.1 ∙ first.1) in
+    (one_run first.0 a b first.2 (subst (λ (bytes : List ℕ). TraceText bytes b) bytes_are second.2), first.2.recorded)
+
+-- decompressing the log prints what `direct` prints
+pub as_direct : (trace log : List ℕ) (options : Options) (before after : Scene)
+    → CommandEffect (replay_task trace log options) before after Done → options.policy ≡ policies.Wait
+    → options.level ≡ severities.Debug
+    → (held : Held) (bytes : List ℕ) → after.desk.held ≡ Some held → map.get held log ≡ Some bytes
+    → length bytes ≤ MAX_LOG
+    → (direct_old direct_new : Scene) → direct_old.desk ≡ before.desk
+    → CommandEffect (direct_task trace) direct_old direct_new Done
+    → (old new : Scene) (ending : Ending) → old.desk ≡ after.desk → CommandEffect (decompress_task log) old new ending
+    → ¬ (Rose old.desk.read_faults new.desk.read_faults) → ¬ (Rose old.faults new.faults)
+    → (text : List ℕ) × (direct_new.put ≡ with_end text direct_old.put)
+    × (((ending ≡ Done) × (new.put ≡ with_end text old.put)) ⊎ (ending ≡ NoMemory))
+as_direct trace log options before after whole waits all held bytes told there within direct_old direct_new direct_desk direct old new ending desk effect r o =
+    let given = whole.reading.2 in
+    let run = given.run in
+    let drops = given.drops in
+    let made = only_log trace log options before after whole in
+    let lines = direct.reading.2 in
+    let earlier = told_too before.desk.held after.desk.held held made.1.told told in
+    let same = same_run before.desk direct_old.desk trace earlier.0 run lines.0 earlier.1 direct_desk given.trace_read lines.1 in
+    let text = direct_text lines.0 in
+    let text_is : text ≡ taken_text run options.level drops =
+    ap direct_text (sym same.0) ∙ sym (whole_text run options.level drops same.1 all (given.session.waits waits)) in
+    let lawful : LogLawful old.desk log run options drops given.bytes =
+    subst (λ (d : Desk). LogLawful d log run options drops given.bytes) (sym desk)
+    (record { held = made.0; whole = given.session.whole }) in
+    let bytes_are : given.bytes ≡ bytes =
+    some_same given.bytes bytes (sym (held_by after.desk.held held log given.bytes told made.0) ∙ there) in
+    let short : length given.bytes ≤ MAX_LOG = omega (arith, ap length bytes_are, within) in
+    let told_old = ap (λ (d : Desk). d.held) desk ∙ told in (
+      text,
+      direct.printed ∙ ap (λ (p : Product). with_end p.text direct_old.put) lines.2,
+      subst (λ (t : List ℕ). ((ending ≡ Done) × (new.put ≡ with_end t old.put)) ⊎ (ending ≡ NoMemory)) (sym text_is)
+          (replayed log options run drops given.bytes old new ending held lawful short told_old effect r o),
+    )

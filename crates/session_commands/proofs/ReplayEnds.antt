@@ -1,0 +1,174 @@
+-- How `replay` ends, by what was read, written and told.
+use Rattle.std.proofs.Common.{◌≡◌, ◌≢◌, ℕ, ◌+◌, ◌-◌, ◌≤◌, List, [], Some, Result, Ok, Err, refl, sym, ap, subst, ◌∙◌, inl, inr, arith}
+use Rattle.std.specs.Prelude.{◌⊎◌, ◌^◌, min, OnErr, IsErrOf}
+use Rattle.nl_io.specs.Count.{Rose}
+use Rattle.nl_io.specs.Content.{Told, with_end}
+use Rattle.nl_io.specs.Desk.{Desk, OnlyName, OnlyWriteFaults, Creates, Finishes, SameButHeld, put_by, found_in}
+use Rattle.nl_io.specs.DeskLaws.{written, written-holds}
+use Rattle.trace_text.specs.Recordings.{Recording}
+use Rattle.trace_text.specs.Traces.{TraceText}
+use Rattle.trace_session.specs.declared.drops.Dropped.{Dropped}
+use Rattle.session_options.specs.declared.options.Options.{Options}
+use Rattle.trace_session.specs.declared.outcome.Outcome.{Outcome}
+use Rattle.trace_session.specs.declared.outcome.RunFault.{RunFault}
+use Rattle.trace_session.specs.declared.outcome.RunFault.TheVariants as run_faults
+use Rattle.trace_session.specs.Drops.{Taken}
+use Rattle.trace_session.specs.Sessions.{AreCounted, IsSession}
+use Rattle.decompressor.proofs.TextLaws.{log_is_text}
+use Rattle.command_base.specs.Endings.{Ending, Done, WriteFault, NoMemory}
+use Rattle.command_base.specs.Effects.{CommandEffect}
+use Rattle.command_base.specs.EffectLaws.{put_nothing, nothing_came, HasRead, printed_done, lost}
+use Rattle.command_base.specs.HeldFiles.{IsHeld}
+use Rattle.command_base.specs.HeldLaws.{such_there, holds_written}
+use Rattle.command_base.specs.Printing.{Prints}
+use Rattle.command_base.specs.Scenes.{Scene, scene}
+use Rattle.command_base.specs.Tasks.{Product}
+use Rattle.trace_commands.specs.Traces.{TraceRead, GivesNoTrace}
+use Rattle.trace_commands.proofs.Traces.{none_given}
+use Rattle.session_commands.specs.Headline.{outcome_text, accepted_count, filtered_count, told_text}
+use Rattle.session_commands.specs.Replays.{ReplayGives, GivesNoLog, run_fault_ending, replay_task}
+use Rattle.session_commands.proofs.Soundness.{replay_sound}
+
+-- ---- the log
+
+-- a name that was created, written to and finished holds what was written
+pub created_holds : (old : Desk) (name bytes : List ℕ) (id : ℕ) (created put new : Desk) → Creates old name id created
+    → SameButHeld id created put → created.write_faults ≤ put.write_faults
+    → put_by put id ≡ with_end bytes (put_by created id) → Finishes put id new → IsHeld new name bytes
+created_holds old name bytes id created put new creates same count grew finishes =
+    holds_written old.held new.held name bytes (written old name id created put new creates same count finishes).told
+    (written-holds old name bytes id created put new creates same grew finishes)
+
+-- a call that failed has done what a failed call does
+pub unless_ok : {T E P : Type 0} (r : Result T E) → OnErr r P → ((x : T) → r ≡ Ok x → ⊥) → P
+unless_ok (Ok x) holds none = absurd (none x refl)
+unless_ok (Err e) holds none = holds
+
+rose_from : (most before between after : ℕ) → before ≤ between → min (between + 1) most ≤ after
+    → min (before + 1) most ≤ after
+rose_from most before between after count rose = omega arith
+
+-- a name that couldn't be created
+pub not_created : (log : List ℕ) (old new : Desk) → OnlyWriteFaults old new → Rose old.write_faults new.write_faults
+    → GivesNoLog log old new (WriteFault log)
+not_created log old new only rose = (refl, inl (ap (λ (d : Desk). found_in d log) only.same), rose)
+
+-- what was written to a name that couldn't be finished
+pub not_finished : (log : List ℕ) (old : Desk) (id : ℕ) (created put new : Desk) → Creates old log id created
+    → SameButHeld id created put → created.write_faults ≤ put.write_faults
+    → (bytes : List ℕ) × (put_by put id ≡ with_end bytes (put_by created id)) → Finishes put id new
+    → Rose put.write_faults new.write_faults → GivesNoLog log old new (WriteFault log)
+not_finished log old id created put new creates same count (bytes, grew) finishes rose = (
+  refl,
+  inr (bytes, created_holds old log bytes id created put new creates same count grew finishes),
+  subst (λ (n : ℕ). Rose n new.write_faults) (ap (λ (d : Desk). d.write_faults) creates.created)
+      (rose_from (2 ^ 64 - 1) created.write_faults put.write_faults new.write_faults count rose),
+)
+
+-- a session that wasn't run to its end, whose file was finished
+pub not_run : {T : Type 0} (log : List ℕ) (old : Desk) (id : ℕ) (created put new : Desk) (fault : RunFault)
+    → Creates old log id created → SameButHeld id created put → created.write_faults ≤ put.write_faults
+    → (bytes : List ℕ) × (put_by put id ≡ with_end bytes (put_by created id)) → Finishes put id new
+    → new.write_faults ≡ put.write_faults → ¬ (IsErrOf {T = T} (Err fault) run_faults.BadSize)
+    → (IsErrOf {T = T} (Err fault) run_faults.NoMemory → put ≡ created)
+    → (IsErrOf {T = T} (Err fault) run_faults.SinkFault → Rose created.write_faults put.write_faults)
+    → GivesNoLog log old new (run_fault_ending log fault)
+not_run log old id created put new run_faults.BadSize creates same count grew finishes counted sized unbegun cause =
+    absurd (sized refl)
+not_run log old id created put new run_faults.NoMemory creates same count grew finishes counted sized unbegun cause =
+    let none : put ≡ created = unbegun refl in (
+      created_holds old log [] id created put new creates same count
+          (ap (λ (d : Desk). put_by d id) none ∙ put_nothing (put_by created id)) finishes,
+      counted ∙ ap (λ (d : Desk). d.write_faults) none ∙ ap (λ (d : Desk). d.write_faults) creates.created,
+    )
+not_run log old id created put new run_faults.SinkFault creates same count (bytes, grew) finishes counted sized unbegun cause = (
+  refl,
+  inr (bytes, created_holds old log bytes id created put new creates same count grew finishes),
+  subst (λ (n : ℕ). Rose n new.write_faults) (ap (λ (d : Desk). d.write_faults) creates.created)
+      (subst (Rose created.write_faults) (sym counted) (cause refl)),
+)
+
+-- ---- ends
+
+-- no trace was read, and nothing printed
+pub replay_unread : (trace log : List ℕ) (options : Options) (old : Scene) (desk : Desk) (ending : Ending)
+    → GivesNoTrace trace old.desk desk ending
+    → CommandEffect (replay_task trace log options) old (scene desk old.put old.faults) ending
+replay_unread trace log options old desk ending none =
+    nothing_came (replay_task trace log options) old desk ending (replay_sound trace log options)
+    (none_given trace (ReplayGives trace options) _ _ _ (λ name line cause refused. refused) none)
+
+-- memory was wanting behind the trace
+pub replay_lacked : (trace log : List ℕ) (options : Options) (old : Scene) (desk : Desk) (run : Recording)
+    → TraceRead old.desk trace run → desk ≡ old.desk
+    → CommandEffect (replay_task trace log options) old (scene desk old.put old.faults) NoMemory
+replay_lacked trace log options old desk run read same =
+    nothing_came (replay_task trace log options) old desk NoMemory (replay_sound trace log options)
+    ((same, such_there old.desk trace (λ bytes. TraceText bytes run) read), refl)
+
+-- the trace was read, and no log was given
+pub replay_lost : (trace log : List ℕ) (options : Options) (old : Scene) (desk : Desk) (run : Recording)
+    (ending : Ending) → TraceRead old.desk trace run → GivesNoLog log old.desk desk ending → OnlyName log old.desk desk
+    → CommandEffect (replay_task trace log options) old (scene desk old.put old.faults) ending
+replay_lost trace log options old desk run (WriteFault name) read (named, holds, rose) only =
+    subst (λ (n : List ℕ). CommandEffect (replay_task trace log options) old (scene desk old.put old.faults) (WriteFault n))
+    (sym named)
+    (elim holds [
+      | inl same ↦ lost (replay_task trace log options) old desk log [] refl (run, read) (inl same) only rose
+      | inr (bytes, held) ↦
+          lost (replay_task trace log options) old desk log bytes refl (run, read) (inr held) only rose
+    ])
+replay_lost trace log options old desk run NoMemory read (held, counted) only = inr (record {
+  name = log;
+  output = refl;
+  leaves = (run, read);
+  emptied = (held, only, counted);
+  unprinted = refl;
+  counted = refl;
+})
+replay_lost trace log options old desk run ending read gives only = absurd gives
+
+-- the counts that are told are those of the run
+counts_told : (run : Recording) (options : Options) (drops : List Dropped) (accepted filtered : ℕ)
+    → AreCounted run options drops accepted filtered
+    → outcome_text drops accepted filtered ≡ told_text run options.level drops
+counts_told run options drops accepted filtered counts =
+    let accepted_is : accepted ≡ accepted_count run options.level drops = omega (arith, counts.all_kept) in
+    let filtered_is : filtered ≡ filtered_count run options.level drops = omega (arith, counts.all_kept, counts.all_calls) in
+    λ i. outcome_text drops (accepted_is i) (filtered_is i)
+
+-- the log was written, and what the session came to was told without want of memory
+pub replay_told : {D : Type 0} (sent got : D → List (List ℕ)) (trace log : List ℕ) (options : Options) (old : Scene)
+    (desk : Desk) (run : Recording) (outcome : Outcome D) (bytes : List ℕ) (put : Told) (faults : ℕ) (ending : Ending)
+    → TraceRead old.desk trace run → IsHeld desk log bytes → IsSession sent got run options outcome bytes
+    → OnlyName log old.desk desk → desk.write_faults ≡ old.desk.write_faults
+    → Prints (outcome_text outcome.drops outcome.accepted outcome.filtered) old.put put old.faults faults ending
+    → ending ≢ NoMemory → CommandEffect (replay_task trace log options) old (scene desk put faults) ending
+replay_told sent got trace log options old desk run outcome bytes put faults ending read held session only written prints memory =
+    let text = outcome_text outcome.drops outcome.accepted outcome.filtered in
+    let product : Product = record { made = Some bytes; text = text } in
+    printed_done (replay_task trace log options) old desk product ending put faults
+    (record {
+      read = old.desk;
+      reading = (
+        refl,
+        such_there old.desk trace (λ bytes. TraceText bytes run) read,
+        record {
+          run = run;
+          drops = outcome.drops;
+          bytes = bytes;
+          trace_read = read;
+          made = refl;
+          session = record {
+            waits = session.waits;
+            told = counts_told run options outcome.drops outcome.accepted outcome.filtered session.counts;
+            whole = session.log;
+            text_same = log_is_text bytes (Taken run options.level outcome.drops) run.dictionary run.clock options.batch
+                session.log.lawful;
+            drops_lawful = session.dropped;
+          };
+        },
+      );
+      made = (held, only, written);
+    })
+    prints memory

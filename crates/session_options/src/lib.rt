@@ -1,0 +1,9 @@
+//! How a session runs, and the limits of runs: what a command line can ask for.
+#![tactic(auto)]
+
+pub mod laws;
+mod limits;
+mod options;
+
+pub use limits::{MAX_BATCH, MAX_GENERATED, MAX_RING, MAX_WRITERS, MIN_RING};
+pub use options::{DEFAULT_BATCH, DEFAULT_RING, Options, Policy};

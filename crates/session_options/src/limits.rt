@@ -1,0 +1,16 @@
+//! How great runs and what they are told may be.
+
+/// The most writers of a run, and of a log.
+pub const MAX_WRITERS: u32 = 64;
+
+/// The fewest words of a ring.
+pub const MIN_RING: u64 = 1_024;
+
+/// The most words of a ring.
+pub const MAX_RING: u64 = 1_048_576;
+
+/// The most frames of a visit of the consumer, and so the most records of an extent.
+pub const MAX_BATCH: u32 = 65_536;
+
+/// The most calls of a generated trace.
+pub const MAX_GENERATED: u32 = 1_000_000;

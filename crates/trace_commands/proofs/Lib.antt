@@ -1,0 +1,3 @@
+pub mod CallLines
+pub mod Traces
+pub mod Soundness

@@ -1,0 +1,5 @@
+use Rattle.trace_commands.proofs.Soundness.{direct_sound, generate_sound}
+use Rattle.trace_commands.proofs.laws.commands_over_traces_are_sound.Goals as goal
+
+pub returns : goal.returns
+returns c = record { direct = direct_sound; generate = generate_sound }

@@ -1,0 +1,100 @@
+//! The lines of calls.
+
+ghost use Rattle.std.specs.Prelude.{◌≡◌, ◌≤◌, ◌++◌, ℕ, Some, OnOk};
+ghost use Rattle.log_dictionary.specs.Calls.{LogCall};
+ghost use Rattle.direct_printf.specs.Lines.{Line};
+ghost use Rattle.arg_records.specs.Calls.{IsCall, log_call};
+ghost use Rattle.trace_text.specs.Order.{call_place, places_in_order as ordered_places};
+ghost use Rattle.command_base.specs.Endings.{ending_of};
+ghost use Rattle.command_base.specs.Printing.{Prints};
+ghost use Rattle.trace_commands.specs.Texts.{direct_text, HasCall};
+
+use command_base::Refusal;
+use direct_printf::line;
+use log_dictionary::{Clock, Dictionary};
+use nl_io::{Sink, TextWriter};
+use std::alloc::{AllocError, Global};
+use trace_text::{Call, CallPlace, Trace, places_in_order};
+
+/// Appends the line of a call of a writer.
+fn append_line(
+    dictionary: &Dictionary,
+    clock: &Clock,
+    writer: u32,
+    call: &Call,
+    text: &mut Vec<u8>,
+) -> Result<(), AllocError>
+    requires rate { 1 ≤ clock.now.rate }
+    requires named { IsCall dictionary.now call.now }
+    requires later { clock.now.tick ≤ call.now.stamp }
+    ensures { OnOk result ((ordinal : ℕ) (made : LogCall)
+        → log_call dictionary.now writer (ordinal, call.now) ≡ Some made →
+        text.new.items ≡ text.old.items ++ Line clock.now made) }
+{
+    let message = dictionary.message(call.id);
+    line(clock, writer, message, call.stamp, &call.args.args(), text)
+}
+
+/// The call of a run that stands at a place.
+fn call_at<'a>(run: &'a Trace, place: CallPlace) -> &'a Call
+    requires { (call : LogCall) × HasCall run.now call × (place ≡ call_place call) }
+    ensures named { IsCall run.now.dictionary result.now }
+    ensures later { run.now.clock.tick ≤ result.now.stamp }
+    ensures made { (call : LogCall) → HasCall run.now call → place ≡ call_place call →
+        log_call run.now.dictionary call.writer (call.ordinal, result.now) ≡ Some call }
+{
+    let calls = run.writers.calls(place.writer as usize);
+    calls.call(place.ordinal as usize)
+}
+
+/// Appends the line of the call at a place of a run.
+fn append_call(run: &Trace, place: CallPlace, text: &mut Vec<u8>) -> Result<(), AllocError>
+    requires { (call : LogCall) × HasCall run.now call × (place ≡ call_place call) }
+    ensures { OnOk result ((call : LogCall) → HasCall run.now call → place ≡ call_place call →
+        text.new.items ≡ text.old.items ++ Line run.now.clock call) }
+{
+    let call = call_at(run, place);
+    append_line(&run.dictionary, &run.clock, place.writer, call, text)
+}
+
+/// Prints the lines of the calls at the places.
+fn print_places<O: Sink>(
+    alloc: Global,
+    run: &Trace,
+    places: &[CallPlace],
+    out: &mut O,
+) -> Result<(), Refusal<'static>>
+    requires { places.now ≡ ordered_places run.now }
+    ensures printed { Prints (direct_text run.now) (O.put out.old) (O.put out.new)
+        (O.faults out.old) (O.faults out.new) (ending_of result) }
+    ensures others { O.rest out.old out.new }
+{
+    let mut writer = TextWriter::make();
+    let mut line = Vec::new(alloc);
+    for place in places {
+        line.clear();
+        append_call(run, *place, &mut line)?;
+        match writer.put(out, &line) {
+            Ok(()) => {}
+            Err(_) => return Err(Refusal::WriteFault("standard output")),
+        }
+    }
+    match writer.flush(out) {
+        Ok(()) => Ok(()),
+        Err(_) => Err(Refusal::WriteFault("standard output")),
+    }
+}
+
+/// Prints the lines of all calls of a run. They are never in memory all at once.
+pub(crate) fn print_run<O: Sink>(
+    alloc: Global,
+    run: &Trace,
+    out: &mut O,
+) -> Result<(), Refusal<'static>>
+    ensures printed { Prints (direct_text run.now) (O.put out.old) (O.put out.new)
+        (O.faults out.old) (O.faults out.new) (ending_of result) }
+    ensures others { O.rest out.old out.new }
+{
+    let places = places_in_order(alloc, run)?;
+    print_places(alloc, run, &places, out)
+}

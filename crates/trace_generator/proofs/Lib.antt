@@ -1,0 +1,3 @@
+pub mod GeneratedFormats
+pub mod GeneratedCalls
+pub mod GeneratedTexts

@@ -1,0 +1,7 @@
+pub mod Taking
+pub mod Working
+pub mod Sessions
+pub mod Rounds
+pub mod Seats
+pub mod Leaving
+pub mod NewWorkers

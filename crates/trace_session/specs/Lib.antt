@@ -1,0 +1,12 @@
+pub mod Levels
+pub mod Drops
+pub mod Sessions
+pub mod Workers
+pub mod Turns
+pub mod WorkerInside
+pub mod Seats
+pub mod Rounds
+pub mod Finishing
+pub mod FinishedInside
+pub mod Running
+pub mod Rooms

@@ -1,0 +1,143 @@
+//! The consumer's rounds.
+
+ghost use Rattle.std.specs.Prelude.{◌≡◌, ◌↔◌, ◌<◌, ◌+◌, Bool, true, length};
+ghost use Rattle.std.specs.List.{AllZip};
+ghost use Rattle.roaming_consumer.specs.Roamers.{ends_of, is_begun, ArePlanned};
+ghost use Rattle.trace_session.specs.Rounds.{Roams, IsOverUpTo};
+ghost use Rattle.trace_session.specs.Seats.{works_at, TakesOneTurn};
+
+use crate::gate::Gate;
+use crate::seat::Seat;
+use crossbeam_utils::Backoff;
+use nl_io::Sink;
+use ring_core::{StageIn, StageOut};
+use roaming_consumer::{Roamer, Visit};
+use std::alloc::Global;
+use std::sync::{Arc, Wait};
+
+/// What came of a round, or of a part of one.
+#[derive(Clone, Copy, Debug, PartialEq, Eq)]
+enum Round {
+    /// A call was taken, logged or dropped.
+    Moved,
+    /// Nothing moved.
+    Idle,
+    /// All writers have ended.
+    Over,
+}
+
+impl Round {
+    /// What came of two parts of a round.
+    fn with(self, other: Round) -> Round
+        ensures { (result ≡ Round.Over) ↔ ((self ≡ Round.Over) × (other ≡ Round.Over)) }
+    {
+        match (self, other) {
+            (Round::Moved, _) | (_, Round::Moved) => Round::Moved,
+            (Round::Over, Round::Over) => Round::Over,
+            _ => Round::Idle,
+        }
+    }
+}
+
+/// Visits a writer.
+fn visit_one<O: StageOut, K: Sink, R: Wait + Copy>(
+    rt: R,
+    roamer: &mut Roamer<'_, O>,
+    writer: u32,
+    sink: &mut K,
+) -> Round
+    requires known { writer < length (ends_of roamer.old) }
+    requires planned { ArePlanned O.plan roamer.old }
+    requires begun { is_begun roamer.old ≡ true }
+    ensures roams { Roams O.got O.ended O.pair O.plan roamer.old roamer.new
+        (K.put sink.old) (K.put sink.new) (K.faults sink.old) (K.faults sink.new) }
+    ensures over { result ≡ Round.Over → IsOverUpTo O.ended writer roamer.old
+        → IsOverUpTo O.ended (writer + 1) roamer.new }
+    ensures others { K.rest sink.old sink.new }
+{
+    match roamer.visit(rt, writer, sink) {
+        Ok(Visit::Ended) => Round::Over,
+        Ok(Visit::Idle) => Round::Idle,
+        Ok(Visit::Wrote(_) | Visit::Discarded(_)) | Err(_) => Round::Moved,
+    }
+}
+
+/// Visits each of so many writers once, one after the other.
+fn visit_all<O: StageOut, K: Sink, R: Wait + Copy>(
+    rt: R,
+    roamer: &mut Roamer<'_, O>,
+    writers: u32,
+    sink: &mut K,
+) -> Round
+    requires known { writers ≡ length (ends_of roamer.old) }
+    requires planned { ArePlanned O.plan roamer.old }
+    requires begun { is_begun roamer.old ≡ true }
+    ensures roams { Roams O.got O.ended O.pair O.plan roamer.old roamer.new
+        (K.put sink.old) (K.put sink.new) (K.faults sink.old) (K.faults sink.new) }
+    ensures over { result ≡ Round.Over → IsOverUpTo O.ended writers roamer.new }
+    ensures others { K.rest sink.old sink.new }
+{
+    let mut round = Round::Over;
+    for writer in 0..writers {
+        round = round.with(visit_one(rt, roamer, writer, sink));
+    }
+    round
+}
+
+/// Takes a turn of each worker that is here.
+fn take_turns<I, G, R>(rt: R, seats: &mut [Seat<I, G>]) -> Round
+where
+    I: StageIn + Send + Drop + 'static,
+    G: Gate + 'static,
+    R: Wait + Copy,
+    ensures same { works_at I.pair I.words seats.new ≡ works_at I.pair I.words seats.old }
+    ensures turns { AllZip (λ old new. (moved : Bool) × TakesOneTurn I.at I.words I.seen I.looks old new moved)
+        seats.old seats.new }
+{
+    let mut round = Round::Over;
+    for place in 0..seats.len() {
+        if seats[place].take_turn(rt) {
+            round = Round::Moved;
+        }
+    }
+    round
+}
+
+/// Goes round the writers until all of them have ended, and takes the turns of those workers that are here.
+pub(crate) fn consume<I, O, K, G, R>(
+    rt: R,
+    roamer: &mut Roamer<'_, O>,
+    seats: &mut [Seat<I, G>],
+    sink: &mut K,
+    gate: &Arc<G, Global>,
+)
+where
+    I: StageIn + Send + Drop + 'static,
+    O: StageOut,
+    K: Sink,
+    G: Gate + 'static,
+    R: Wait + Copy,
+    requires known { length seats.old ≡ length (ends_of roamer.old) }
+    requires planned { ArePlanned O.plan roamer.old }
+    requires begun { is_begun roamer.old ≡ true }
+    ensures roams { Roams O.got O.ended O.pair O.plan roamer.old roamer.new
+        (K.put sink.old) (K.put sink.new) (K.faults sink.old) (K.faults sink.new) }
+    ensures over { IsOverUpTo O.ended (length (ends_of roamer.new)) roamer.new }
+    ensures same { works_at I.pair I.words seats.new ≡ works_at I.pair I.words seats.old }
+    ensures others { K.rest sink.old sink.new }
+{
+    let backoff = Backoff::new();
+    let mut number = 0u64;
+    for _ in rt.forever() {
+        gate.round(number);
+        number = number.saturating_add(1);
+        let visits = visit_all(rt, roamer, seats.len() as u32, sink);
+        let turns = take_turns(rt, seats);
+        match visits.with(turns) {
+            Round::Moved => backoff.reset(),
+            Round::Idle => backoff.snooze(),
+            Round::Over => return,
+        }
+    }
+    unreachable!()
+}
