@@ -6,6 +6,8 @@ mod gates;
 #[cfg(test)]
 mod late;
 #[cfg(test)]
+mod machine;
+#[cfg(test)]
 mod rings;
 #[cfg(test)]
 mod stored;

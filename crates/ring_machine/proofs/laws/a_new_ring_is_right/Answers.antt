@@ -1,0 +1,5 @@
+use Rattle.ring_machine.proofs.StepLaws.{RingOk-new}
+use Rattle.ring_machine.proofs.laws.a_new_ring_is_right.Goals as goal
+
+pub returns : goal.returns
+returns c = RingOk-new

@@ -1,0 +1,9 @@
+pub mod Streams
+pub mod RingStates
+pub mod Steps
+pub mod Rings
+pub mod Reaches
+pub mod Tracks
+pub mod TracksInside
+pub mod RingInside
+pub mod Rows
