@@ -1,14 +1,12 @@
 -- Whether an argument is there, by some of the messages.
-use Rattle.std.proofs.Common.{◌≡◌, ℕ, zero, suc, ◌<◌, ◌≤◌, Bool, true, false, List, [], ◌∷◌, ◌++◌, length, Option, Some, None, Result, Ok, Err, refl, ap, sym, ◌∙◌, arith}
+use Rattle.std.proofs.Common.{◌≡◌, ℕ, zero, suc, ◌<◌, ◌≤◌, Bool, true, false, List, [], ◌∷◌, ◌++◌, length, Option, Some, None, Ok, Err, refl, ap, sym, ◌∙◌, arith}
 use Rattle.std.specs.Prelude.{slice_get, option_and_then, nat_lt, if◌then◌else◌}
 use Rattle.std.specs.Option.{option_map_or}
 use Rattle.std.proofs.lemmas.Bool.{lt-ltb, le-ltb}
 use Rattle.std.proofs.lemmas.Option.{slice_get_past, same_Some, none-some}
-use Rattle.printf_grammar.specs.declared.arg_type.ArgType.{ArgType}
 use Rattle.printf_grammar.specs.Types.{Types}
 use Rattle.log_dictionary.specs.declared.message.Message.{Message}
 use Rattle.aggregation.specs.declared.totals.Totals.{Totals}
-use Rattle.aggregation.specs.declared.fault.AggregateFault.{AggregateFault}
 use Rattle.aggregation.specs.declared.fault.AggregateFault.TheVariants.{NoSuchMessage, NoSuchArgument}
 use Rattle.aggregation.specs.Totals.{is_numeric, has_number, totals_where}
 use Rattle.aggregation.specs.Aggregating.{answer_for}
@@ -36,15 +34,6 @@ pub not_there : (messages : List Message) (id nth : ℕ) (totals : Totals) → h
 not_there messages id nth totals is = ap (λ (b : Bool). if b then Some totals else None) (sym is)
 
 -- ---- what the dictionary tells
-
-pub found_number : (messages : List Message) (id nth : ℕ) (message : Message) (kind : ArgType) → Some message ≡ slice_get messages id → Some kind ≡ slice_get (Types message.format.pieces) nth → is_numeric kind ≡ has_number messages id nth
-found_number messages id nth message kind known taken = ap (λ (found : Option ArgType). option_map_or is_numeric found false) taken ∙ ap (in_message nth) known
-
-pub no_argument_there : (messages : List Message) (id nth : ℕ) (message : Message) → Some message ≡ slice_get messages id → None ≡ slice_get (Types message.format.pieces) nth → false ≡ has_number messages id nth
-no_argument_there messages id nth message known none = ap (λ (found : Option ArgType). option_map_or is_numeric found false) none ∙ ap (in_message nth) known
-
-pub no_message_there : (messages : List Message) (id nth : ℕ) → None ≡ slice_get messages id → false ≡ has_number messages id nth
-no_message_there messages id nth none = ap (in_message nth) none
 
 -- ---- the answer of a whole log
 

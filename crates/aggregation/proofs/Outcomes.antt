@@ -1,9 +1,9 @@
 -- What the answer says of a log that was scanned.
-use Rattle.std.proofs.Common.{◌≡◌, ℕ, ◌<◌, ◌≤◌, Bool, true, false, List, length, Option, Some, None, Result, Ok, Err, refl, ap, sym, ◌∙◌, subst}
+use Rattle.std.proofs.Common.{◌≡◌, ℕ, Bool, true, false, List, length, Option, Some, None, Result, Ok, Err, refl, sym}
 use Rattle.std.specs.Prelude.{IfSome, nat_lt, if◌then◌else◌}
 use Rattle.std.proofs.lemmas.Bool.{ltb-true, ltb-false}
 use Rattle.nl_io.specs.Content.{Told}
-use Rattle.checkpoint_io.specs.Blocks.{Block, messages_of}
+use Rattle.checkpoint_io.specs.Blocks.{messages_of}
 use Rattle.log_scan.specs.declared.scan.ScanEnd.{ScanEnd}
 use Rattle.log_scan.specs.declared.scan.ScanEnd.TheVariants as ends
 use Rattle.log_scan.specs.Parts.{LogPart, blocks_read}

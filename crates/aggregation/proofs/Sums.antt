@@ -1,6 +1,6 @@
 -- The totals of numbers and one more, and how large a sum can be.
-use Rattle.std.proofs.Common.{◌≡◌, ℕ, ◌+◌, ◌*◌, ◌^◌, ◌≤◌, List, [], ◌∷◌, ◌++◌, length, Option, Some, None, ℤ, pos, FitsSigned, refl, ap, sym, ◌∙◌, subst, arith}
-use Rattle.std.specs.Prelude.{neg_ℤ, ◌+ℤ◌, ◌≤ℤ◌, fold}
+use Rattle.std.proofs.Common.{◌≡◌, ℕ, ◌+◌, ◌≤◌, List, [], ◌∷◌, ◌++◌, length, Option, Some, None, ℤ, pos, FitsSigned, refl, ap, sym, ◌∙◌, subst, arith}
+use Rattle.std.specs.Prelude.{◌+ℤ◌, fold}
 use Rattle.std.specs.Int.{int_min, int_max}
 use Rattle.std.proofs.lemmas.Int.{ints}
 use Rattle.std.proofs.lemmas.List.{append-nil, length-append}
@@ -60,6 +60,3 @@ adds_none totals numbers most within none = record {
 -- the sum of 2^27 numbers of 64 bits and one more is one of 128 bits
 pub sum_fits : (count : ℕ) (sum number : ℤ) → IsWithin count sum → count ≤ 134217728 → IsNumber number → FitsSigned w128 (sum +ℤ number)
 sum_fits count sum number within few is = omega (arith, ints, within.low, within.high, is.low, is.high)
-
-pub within_none : IsWithin 0 (pos 0)
-within_none = record { low = omega (arith, ints); high = omega (arith, ints) }

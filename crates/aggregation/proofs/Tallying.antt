@@ -1,11 +1,11 @@
 -- Blocks that are read one after the other, and their tally.
-use Rattle.std.proofs.Common.{◌≡◌, ℕ, ◌+◌, ◌≤◌, List, [], ◌∷◌, ◌++◌, length, refl, ap, sym, ◌∙◌, subst, arith}
+use Rattle.std.proofs.Common.{◌≡◌, ℕ, ◌+◌, ◌≤◌, List, [], ◌∷◌, ◌++◌, length, ap, sym, ◌∙◌, subst, arith}
 use Rattle.std.proofs.lemmas.List.{append-nil, length-append}
 use Rattle.log_dictionary.specs.declared.message.Message.{Message}
 use Rattle.arg_records.specs.declared.call.Call.{Call}
 use Rattle.checkpoint_io.specs.declared.block.Block.{Block as ReadBlock}
 use Rattle.checkpoint_io.specs.declared.block.Block.TheVariants as read
-use Rattle.checkpoint_io.specs.Blocks.{Block, Fragment, Extent, Close, block_messages, messages_of, FileOf}
+use Rattle.checkpoint_io.specs.Blocks.{Block, Extent, messages_of, FileOf}
 use Rattle.checkpoint_io.specs.NextBlocks.{Describes}
 use Rattle.checkpoint_io.proofs.FileLaws.{is_extent}
 use Rattle.checkpoint_io.proofs.ValidityLaws.{messages-push}
@@ -14,16 +14,7 @@ use Rattle.aggregation.specs.declared.totals.Totals.{Totals}
 use Rattle.aggregation.specs.declared.tally.Tally.{Tally}
 use Rattle.aggregation.specs.Totals.{totals_of, argument_totals, numbers_in, block_entries, entries_of, IsWithin, Adds}
 use Rattle.aggregation.specs.Tallying.{IsTally}
-use Rattle.aggregation.proofs.Sums.{within_none}
 use Rattle.aggregation.proofs.Entries.{file_short, numbers_few, entries-push, numbers-push}
-
--- of no blocks
-pub no_tally : (tally : Tally) → tally.defined ≡ 0 → tally.totals ≡ totals_of [] → IsTally [] tally
-no_tally tally defined totals = record {
-  defined = defined;
-  totals = totals;
-  within = subst (λ (t : Totals). IsWithin t.count t.sum) (sym totals) within_none;
-}
 
 -- ---- what a block adds
 
@@ -87,24 +78,3 @@ module _ (part : LogPart) (messages : List Message) (told : ReadBlock) (block : 
         ∙ same_argument changed same;
     within = subst (λ (t : Totals). IsWithin t.count t.sum) (sym totals) is.within;
   }
-
-  pub fragment_tallied : (first count : ℕ) → told ≡ read.Fragment first count → (changed : Tally) → IsSame changed → changed.totals ≡ tally.totals → changed.defined ≡ length messages → IsTally behind changed
-  fragment_tallied first count named changed same totals defined =
-      without_records changed (by_block block (subst (λ (t : ReadBlock). Describes t block) named next.tells)) same totals (defined ∙ ap length next.known)
-    where
-      by_block : (b : Block) → Describes (read.Fragment first count) b → block_entries b ≡ []
-      by_block (Fragment id defined) tells = refl
-      by_block (Extent w entries) tells = cc
-      by_block (Close w) tells = refl
-
-  pub close_tallied : (closed : ℕ) → told ≡ read.Closed closed → IsTally behind tally
-  close_tallied closed named =
-      let none = by_block block (subst (λ (t : ReadBlock). Describes t block) named next.tells) in
-      let defined : messages_of behind ≡ messages_of part.blocks =
-      messages-push part.blocks block ∙ ap (λ (ms : List Message). messages_of part.blocks ++ ms) none.1 ∙ append-nil (messages_of part.blocks) in
-      without_records tally none.0 (refl, refl) refl (is.defined ∙ ap length (sym defined))
-    where
-      by_block : (b : Block) → Describes (read.Closed closed) b → (block_entries b ≡ []) × (block_messages b ≡ [])
-      by_block (Fragment id defined) tells = cc
-      by_block (Extent w entries) tells = cc
-      by_block (Close w) tells = (refl, refl)

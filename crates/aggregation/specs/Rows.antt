@@ -1,11 +1,11 @@
 -- Worked blocks and their totals.
-use Rattle.std.specs.Prelude.{ℕ, ℤ, pos, negsuc, List, [], ◌∷◌, ◌++◌, Some, None, codes}
+use Rattle.std.specs.Prelude.{ℕ, ℤ, pos, negsuc, List, [], ◌∷◌, Some, None, codes}
 use Rattle.printf_grammar.specs.declared.piece.Piece.TheVariants.{Field}
 use Rattle.printf_grammar.specs.declared.piece.Length.TheVariants.{HH}
 use Rattle.printf_grammar.specs.declared.piece.Size.TheVariants.{Star}
 use Rattle.printf_grammar.specs.declared.piece.Conversion.TheVariants.{S}
 use Rattle.printf_grammar.specs.declared.argument.Value.{Value}
-use Rattle.printf_grammar.specs.declared.argument.Value.TheVariants.{Signed, Unsigned, Text}
+use Rattle.printf_grammar.specs.declared.argument.Value.TheVariants.{Signed, Text}
 use Rattle.printf_grammar.specs.Narrow.{plain_d}
 use Rattle.log_dictionary.specs.declared.message.Message.{Message}
 use Rattle.log_dictionary.specs.Rows.{row_message}

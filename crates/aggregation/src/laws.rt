@@ -1,6 +1,6 @@
 //! Laws over totals. The functions do nothing: what they ensure is proved of the definitions.
 
-ghost use Rattle.std.specs.Prelude.{◌≡◌, ◌⊎◌, ℕ, ◌<◌, ◌≤◌, ℤ, ◌≤ℤ◌, List, [], ◌∷◌, length, All, Contains, Option, Some, None, Result, Ok, Err, IsErrOf};
+ghost use Rattle.std.specs.Prelude.{◌≡◌, ℕ, ◌≤◌, ℤ, ◌≤ℤ◌, List, [], length, All, Contains, Option, Some, None, Result, Ok, Err, IsErrOf};
 ghost use Rattle.checkpoint_io.specs.declared.cause.Cause.{Cause as LogCause};
 ghost use Rattle.checkpoint_io.specs.declared.header.Header.{Header};
 ghost use Rattle.checkpoint_io.specs.declared.heads.TheConstants.{MAX_LOG};
@@ -8,7 +8,7 @@ ghost use Rattle.checkpoint_io.specs.Blocks.{Block, FileOf, messages_of};
 ghost use Rattle.checkpoint_io.specs.Validity.{Valid};
 ghost use Rattle.aggregation.specs.declared.totals.Totals.{Totals as LogTotals};
 ghost use Rattle.aggregation.specs.declared.fault.AggregateFault.{AggregateFault as LogFault};
-ghost use Rattle.aggregation.specs.Totals.{range_of, totals_of, argument_totals, totals_in, has_number, TotalsOf};
+ghost use Rattle.aggregation.specs.Totals.{range_of, totals_of, argument_totals, totals_in, TotalsOf};
 ghost use Rattle.aggregation.specs.Aggregating.{AnswersTotals, answer_for};
 ghost use Rattle.aggregation.specs.Rows.{total_blocks, plain_totals, width_totals, long_totals, no_totals, long_numbers, long_number_totals};
 

@@ -1,5 +1,5 @@
 -- Which calls fit their messages, and which stamps fall.
-use Rattle.std.proofs.Common.{◌≡◌, ℕ, zero, suc, ◌<◌, ◌≤◌, ◌≢◌, lit≤, List, [], ◌∷◌, ◌++◌, replicate, refl, subst, arith}
+use Rattle.std.proofs.Common.{◌≡◌, ℕ, ◌<◌, ◌≤◌, ◌≢◌, lit≤, List, [], ◌∷◌, ◌++◌, replicate, refl, subst, arith}
 use Rattle.std.specs.Prelude.{Some, slice_get}
 use Rattle.std.proofs.lemmas.List.{length-replicate}
 use Rattle.printf_grammar.specs.Types.{Types, Fits, IsText}

@@ -9,9 +9,9 @@ use Rattle.printf_grammar.specs.declared.arg_type.ArgType.{ArgType}
 use Rattle.printf_grammar.specs.declared.arg_type.ArgType.TheVariants as types
 use Rattle.printf_grammar.specs.declared.argument.Value.{Value}
 use Rattle.printf_grammar.specs.declared.argument.Value.TheVariants as values
-use Rattle.printf_grammar.specs.Types.{IsText, FitsType}
+use Rattle.printf_grammar.specs.Types.{IsText}
 use Rattle.arg_records.specs.Frames.{words_of_bytes, words_of_argument, FrameLen}
-use Rattle.arg_records.specs.Kinds.{arg_kind, type_kind, IsArgument, HoldsBytes}
+use Rattle.arg_records.specs.Kinds.{HoldsBytes}
 use Rattle.arg_records.specs.Reading.{IsFrameOf, SpellsArguments, BeginsWithWordsOf, bytes_of_words, IsPadded}
 use Rattle.arg_records.proofs.Lengths.{length-words_of_bytes, length-arguments, length-Frame}
 use Rattle.arg_records.proofs.Unique.{argument_same}
@@ -78,23 +78,6 @@ text_made words rest text back first count below is short count_is room text_is 
 pub BeginsWithWordsOf-unique : (type : ArgType) (words : List ℕ) (v w : Value) (vs ws : List ℕ) → BeginsWithWordsOf type words v vs → BeginsWithWordsOf type words w ws → (v ≡ w) × (vs ≡ ws)
 BeginsWithWordsOf-unique type words v w vs ws left right =
     argument_same v w vs ws (kind_fits v type left.fits ∙ sym (kind_fits w type right.fits)) (argument_fits v type left.fits left.bytes) (argument_fits w type right.fits right.bytes) (sym left.parts ∙ right.parts)
-
-bytes_held : (value : Value) → IsArgument value → HoldsBytes value
-bytes_held (values.Signed z) is = tt
-bytes_held (values.Unsigned n) is = tt
-bytes_held (values.Text bytes) is = is
-
--- a word that is an integer of the type
-pub integer_begins : (type : ArgType) (words back : List ℕ) (word : ℕ) (value : Value) → words ≡ word ∷ back → words_of_argument value ≡ word ∷ [] → IsArgument value → FitsType value type → BeginsWithWordsOf type words value back
-integer_begins type words back word value is spelled argument fits = record { fits = fits; bytes = bytes_held value argument; parts = is ∙ ap (λ (ws : List ℕ). ws ++ back) (sym spelled) }
-
--- if the word isn't one, no argument of the type begins there
-pub integer_fits : (type : ArgType) (words rest : List ℕ) (word : ℕ) (value : Value) → words ≡ word ∷ rest → words_of_argument value ≡ word ∷ [] → arg_kind value ≡ type_kind type → IsArgument value → (other : Value) (back : List ℕ) → BeginsWithWordsOf type words other back
-    → FitsType value type × (rest ≡ back)
-integer_fits type words rest word value is spelled kind argument other back begins =
-    let whole : words_of_argument value ++ rest ≡ words_of_argument other ++ back = ap (λ (ws : List ℕ). ws ++ rest) spelled ∙ sym is ∙ begins.parts in
-    let both = argument_same value other rest back (kind ∙ sym (kind_fits other type begins.fits)) argument (argument_fits other type begins.fits begins.bytes) whole in
-    (subst (λ (v : Value). FitsType v type) (sym both.0) begins.fits, both.1)
 
 some_words : (value : Value) → 0 < length (words_of_argument value)
 some_words (values.Signed z) = omega arith

@@ -1,6 +1,7 @@
 -- What a frame leaves to the types of its arguments: their kinds.
-use Rattle.std.specs.Prelude.{◌<◌, ◌^◌, ⊤, All, FitsSigned}
+use Rattle.std.specs.Prelude.{◌<◌, ◌^◌, ⊤, FitsSigned}
 use Rattle.std.specs.Int.{w64}
+use Rattle.nibble_pack.specs.Bytes.{AreBytes}
 use Rattle.printf_grammar.specs.declared.arg_type.ArgType.{ArgType}
 use Rattle.printf_grammar.specs.declared.arg_type.ArgType.TheVariants as types
 use Rattle.printf_grammar.specs.declared.argument.Value.{Value}
@@ -29,9 +30,9 @@ type_kind types.Text = text
 abbrev pub IsArgument : Value → Type 0
 IsArgument (values.Signed z) = FitsSigned w64 z
 IsArgument (values.Unsigned n) = n < 2 ^ 64
-IsArgument (values.Text bytes) = All (λ byte. byte < 256) bytes
+IsArgument (values.Text bytes) = AreBytes bytes
 
 -- a text is bytes
 abbrev pub HoldsBytes : Value → Type 0
-HoldsBytes (values.Text bytes) = All (λ byte. byte < 256) bytes
+HoldsBytes (values.Text bytes) = AreBytes bytes
 HoldsBytes _ = ⊤

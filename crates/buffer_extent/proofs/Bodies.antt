@@ -1,6 +1,6 @@
 -- Bodies, record by record.
-use Rattle.std.proofs.Common.{◌≡◌, ◌⊎◌, inl, inr, ℕ, List, [], ◌∷◌, ◌++◌, length, refl, sym, ap, subst, ◌∙◌, append_assoc, arith}
-use Rattle.std.proofs.lemmas.List.{append-nil, length-append}
+use Rattle.std.proofs.Common.{◌≡◌, ◌⊎◌, inl, inr, ℕ, List, [], ◌∷◌, ◌++◌, refl, sym, ap, subst, ◌∙◌, append_assoc}
+use Rattle.std.proofs.lemmas.List.{append-nil}
 use Rattle.printf_grammar.specs.Types.{Types}
 use Rattle.log_dictionary.specs.declared.message.Message.{Message}
 use Rattle.arg_records.specs.declared.call.Call.{Call}
@@ -71,22 +71,6 @@ pub body_starts : (messages : List Message) (tick last : ℕ) (body : List ℕ) 
     → StartsRecord messages tick last body
 body_starts messages tick last body entries before least rest so_far starts =
     elim so_far.start [ inl untouched ↦ left_starts messages tick last body before least rest untouched starts | inr started ↦ started ]
-
--- where nothing is left of a body, it is empty or starts as a record does
-pub read_starts : (messages : List Message) (tick last : ℕ) (body : List ℕ) (entries : List Call) (before least : ℕ) (rest : List ℕ) → AreReadSoFar messages tick last body entries before least rest → rest ≡ [] → (body ≡ [] → ⊥)
-    → StartsRecord messages tick last body
-read_starts messages tick last body entries before least rest so_far none some =
-    elim so_far.start [ inl untouched ↦ absurd (some (sym untouched.body_is ∙ none)) | inr started ↦ started ]
-
-nothing_left : (messages : List Message) (before least : ℕ) (rest : List ℕ) (more : List Call) → length more ≡ 0 → IsBody messages before least more rest → rest ≡ []
-nothing_left messages before least rest [] none is = is.spelled
-nothing_left messages before least rest (entry ∷ more) none is = absurd (omega arith)
-
--- of an empty body nothing is left
-pub empty_left : (messages : List Message) (tick last : ℕ) (body : List ℕ) (entries : List Call) (before least : ℕ) (rest : List ℕ) → AreReadSoFar messages tick last body entries before least rest → body ≡ [] → rest ≡ []
-empty_left messages tick last body entries before least rest so_far empty =
-    let left = so_far.only [] (no_records messages tick last body empty) in
-    nothing_left messages before least rest left.0 (omega (arith, ap length left.1, length-append entries left.0)) left.2
 
 -- one record more was read
 pub one_read : (messages : List Message) (tick last : ℕ) (body : List ℕ) (entries : List Call) (before least : ℕ) (rest : List ℕ) (entry : Call) (back : List ℕ) → AreReadSoFar messages tick last body entries before least rest

@@ -1,5 +1,5 @@
 -- Whether bytes begin with a thing: where each part is decided, so is the whole.
-use Rattle.std.proofs.Common.{◌≡◌, ◌⊎◌, inl, inr, ℕ, List, [], ◌∷◌, ◌++◌, refl, subst}
+use Rattle.std.proofs.Common.{◌⊎◌, inl, inr, ℕ, List, [], ◌∷◌, refl, subst}
 use Rattle.printf_grammar.specs.declared.arg_type.ArgType.{ArgType}
 use Rattle.buffer_extent.specs.Steps.{OneBehindAnother}
 use Rattle.buffer_extent.proofs.OneByOne.{Step, IsFunctional, first_and_more}

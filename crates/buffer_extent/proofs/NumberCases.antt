@@ -24,10 +24,6 @@ least_or_not (suc count) n below = elim (cases_lt n (256 ^ count)) [
   | inr more ↦ inl (IsLeastCount-suc count n more below)
 ]
 
--- no number of the code is at the front
-abbrev NoUnsigned : ℕ → List ℕ → Type 0
-NoUnsigned code bytes = (n : ℕ) (back : List ℕ) → ¬ (BeginsWithNumber unsigned code bytes (pos n) back)
-
 -- all bytes of the code are there
 unsigned_there : (code : ℕ) (bytes : List ℕ) → AreBytes bytes → code ≤ 8 → code ≤ length bytes → IsDecided (λ (n : ℕ) (back : List ℕ). BeginsWithNumber unsigned code bytes (pos n) back)
 unsigned_there code bytes small most stand =

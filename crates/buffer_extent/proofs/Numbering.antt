@@ -1,6 +1,6 @@
 -- Numbers that fit types, and the arguments that they stand for.
-use Rattle.std.proofs.Common.{◌≡◌, ℕ, zero, suc, ◌+◌, ◌<◌, ◌≤◌, List, [], ◌∷◌, ◌++◌, length, map, get_or, drop, refl, sym, ap, ◌∙◌, append_assoc, arith, rules}
-use Rattle.std.proofs.lemmas.List.{drop_more, drop_all}
+use Rattle.std.proofs.Common.{◌≡◌, ℕ, zero, suc, ◌+◌, ◌<◌, List, [], ◌∷◌, ◌++◌, length, map, get_or, drop, refl, sym, ap, ◌∙◌, append_assoc, arith, rules}
+use Rattle.std.proofs.lemmas.List.{drop_more}
 use Rattle.std.proofs.lemmas.List.Sums.{sum_by-cons}
 use Rattle.std.specs.Prelude.{sum_by}
 use Rattle.std.specs.List.{flat_map}
@@ -33,9 +33,6 @@ fits_at (type ∷ types) [] place default fit within = absurd fit
 pub words_left : (types : List ArgType) (numbers : List Number) (place : ℕ) (default : Number) → place < length types → place < length numbers
     → words_taken (drop place types) (drop place numbers) ≡ number_words (get_or types place argument_types.Int) (get_or numbers place default) + words_taken (drop (place + 1) types) (drop (place + 1) numbers)
 words_left types numbers place default within numbered = λ t. words_taken (drop_more types place argument_types.Int within t) (drop_more numbers place default numbered t)
-
-pub no_words_left : (types : List ArgType) (numbers : List Number) (place : ℕ) → length types ≤ place → words_taken (drop place types) (drop place numbers) ≡ 0
-no_words_left types numbers place past = ap (λ (ts : List ArgType). words_taken ts (drop place numbers)) (drop_all place types past)
 
 -- ---- the numbers of arguments
 

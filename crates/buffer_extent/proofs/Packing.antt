@@ -20,7 +20,7 @@ use Rattle.nibble_pack.specs.Packing.{Kind, unsigned, signed, byte_count, Packed
 use Rattle.nibble_pack.specs.PackingLaws.{Packed-length}
 use Rattle.buffer_extent.specs.Records.{PackedNumber, kind_of, packed_value, PacksArguments, code_bytes}
 use Rattle.buffer_extent.specs.RecordLaws.{codes_of}
-use Rattle.buffer_extent.specs.Writing.{AreWordsOf, BeginsWithWords, packed_number, packed_numbers, HasItsBytes, PacksWord}
+use Rattle.buffer_extent.specs.Writing.{BeginsWithWords, packed_number, packed_numbers, HasItsBytes, PacksWord}
 use Rattle.buffer_extent.proofs.Codes.{length-code_bytes}
 
 -- ---- one word
@@ -109,9 +109,6 @@ some_words (values.Text bytes) = omega arith
 pub record ArePackedSoFar (types : List ArgType) (args : List Value) (numbers : List PackedBytes) (place : ℕ) (rest : List ℕ) : Type 0 where
   pub rest_is : rest ≡ flat_map words_of_argument (drop place args)
   pub packs : PacksArguments (take place types) (take place args) (packed_numbers (take place numbers))
-
-pub none_packed : (types : List ArgType) (args : List Value) (words : List ℕ) (numbers : List PackedBytes) → AreWordsOf types args words → ArePackedSoFar types args numbers 0 words
-none_packed types args words numbers are = record { rest_is = are.is; packs = tt }
 
 PacksArguments-push : (types : List ArgType) (args : List Value) (numbers : List PackedNumber) (type : ArgType) (arg : Value) (number : PackedNumber) → PacksArguments types args numbers → Packed (kind_of type) (packed_value arg) number.code number.bytes
     → PacksArguments (types ++ type ∷ []) (args ++ arg ∷ []) (numbers ++ number ∷ [])

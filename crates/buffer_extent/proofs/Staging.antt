@@ -19,7 +19,7 @@ use Rattle.arg_records.proofs.Lengths.{length-words_of_argument}
 use Rattle.nibble_pack.specs.Bytes.{AreBytes, number_of_bytes, length-bytes_low_first, number_of_bytes-lt, low_first-number_of_bytes, bytes_low_first-zeros}
 use Rattle.arg_records.specs.Reading.{bytes_of_words}
 use Rattle.arg_records.proofs.TextWords.{take_both}
-use Rattle.buffer_extent.specs.Writing.{AreWordsOf, BeginsWithWords}
+use Rattle.buffer_extent.specs.Writing.{BeginsWithWords}
 use Rattle.buffer_extent.proofs.Packing.{no_value}
 
 -- the bytes of a word that at most eight bytes are, and zeros
@@ -118,9 +118,6 @@ pub record ArePutSoFar (args : List Value) (old body : List ℕ) (at end place :
   pub rest_is : rest ≡ flat_map words_of_argument (drop place args)
   pub places : end + length (flat_map text_of (drop place args)) ≡ at + length (flat_map text_of args)
   pub written : with_words body end (flat_map text_of (drop place args)) ≡ with_words old at (flat_map text_of args)
-
-pub none_put : (types : List ArgType) (args : List Value) (words old : List ℕ) (at : ℕ) → AreWordsOf types args words → ArePutSoFar args old old at at 0 words
-none_put types args words old at are = record { rest_is = are.is; places = refl; written = refl }
 
 -- the texts from a place on
 texts_from : (args : List Value) (place : ℕ) → place < length args → flat_map text_of (drop place args) ≡ text_of (get_or args place no_value) ++ flat_map text_of (drop (place + 1) args)

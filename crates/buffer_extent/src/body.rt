@@ -1,6 +1,6 @@
 //! Reading the records of a body.
 
-ghost use Rattle.std.specs.Prelude.{◌≡◌, ◌≢◌, ◌⊎◌, ℕ, ◌≤◌, List, [], length, take, slice_get, IfOk, MatchResult, Ok, Err};
+ghost use Rattle.std.specs.Prelude.{◌≡◌, ◌≢◌, ◌⊎◌, List, [], IfOk, MatchResult, Ok, Err};
 ghost use Rattle.arg_records.specs.declared.call.Call.{Call};
 ghost use Rattle.buffer_extent.specs.declared.fault.Cause.{Cause as BodyCause};
 ghost use Rattle.buffer_extent.specs.Parts.{Lacks, IsDamage, BeginsWithRightRecord};

@@ -1,6 +1,6 @@
 //! What a record has in front of its texts, at the front of bytes. Each call gives the bytes behind what it read.
 
-ghost use Rattle.std.specs.Prelude.{◌≡◌, ℕ, ◌<◌, ◌≤◌, List, ◌++◌, length, take, MatchResult};
+ghost use Rattle.std.specs.Prelude.{◌≡◌, ◌<◌, ◌≤◌, ◌++◌, length, take, MatchResult};
 ghost use Rattle.printf_grammar.specs.declared.limits.TheConstants.{MAX_ARGUMENTS};
 ghost use Rattle.buffer_extent.specs.Parts.{Lacks, HoldCodes, BeginsWithCodes};
 ghost use Rattle.buffer_extent.specs.Steps.{BeginsWithHeadCodes, BeginsWithId, BeginsWithStep, BeginsWithRightHead, BeginsWithCodedNumbers};

@@ -1,6 +1,6 @@
 //! The arguments of a record, whose numbers were read: their texts at the front of bytes.
 
-ghost use Rattle.std.specs.Prelude.{◌≡◌, ℕ, ◌≤◌, length, List, MatchResult};
+ghost use Rattle.std.specs.Prelude.{◌≤◌, length, MatchResult};
 ghost use Rattle.printf_grammar.specs.declared.limits.TheConstants.{MAX_ARGUMENTS};
 ghost use Rattle.buffer_extent.specs.Parts.{Lacks, IsDamage};
 ghost use Rattle.buffer_extent.specs.Steps.{FitsNumber, FitNumbers, BeginsWithText, BeginsWithValue, BeginsWithTexts};

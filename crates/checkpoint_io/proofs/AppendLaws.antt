@@ -1,7 +1,6 @@
 -- Entries that are put one behind the other.
 use Rattle.std.proofs.Common.{◌≡◌, ℕ, ◌+◌, ◌<◌, List, [], ◌∷◌, ◌++◌, length, get_or, take, refl, sym, ap, subst, ◌∙◌, append_assoc}
 use Rattle.std.proofs.lemmas.List.{append-nil, take_more}
-use Rattle.std.proofs.Math.Seq.{take-append_seam}
 use Rattle.log_dictionary.specs.declared.message.Message.{Message}
 use Rattle.log_dictionary.specs.BinaryEntries.{SpellsEntry}
 use Rattle.checkpoint_io.specs.Blocks.{SpellsEntries}
@@ -26,7 +25,3 @@ entry_put messages place message old before now entry within here was is put =
       spelled = subst (λ (ms : List Message). SpellsEntries ms (was.bytes ++ entry)) (sym more) (entries_push (take place messages) message was.bytes entry was.spelled is);
       joined = put ∙ ap (λ (b : List ℕ). b ++ entry) was.joined ∙ append_assoc old was.bytes entry;
     }
-
--- what stood there before still stands in front
-pub stays_in_front : (spells : List ℕ → Type 0) (old new : List ℕ) → Appends spells old new → take (length old) new ≡ old
-stays_in_front spells old new puts = ap (take (length old)) puts.joined ∙ take-append_seam old puts.bytes

@@ -15,21 +15,12 @@ use Rattle.checkpoint_io.specs.Blocks.{Fragment}
 use Rattle.checkpoint_io.specs.Reading.{broken, ReadsEntries, IsBadCount, ReadsCount, ReadsFragment}
 use Rattle.checkpoint_io.specs.Places.{LogPlace, BytesBetween, StandsBetween, Refuses}
 use Rattle.checkpoint_io.specs.Entries.{BeginsWithNone, BeginsWithOld, BreaksEntry, TakesEntry, TakesEntries, TakesFragment}
-use Rattle.checkpoint_io.proofs.StepLaws.{GoesOnBehind, refused_behind, taken_behind, gives_taken, err_behind}
+use Rattle.checkpoint_io.proofs.StepLaws.{GoesOnBehind, refused_behind, taken_behind, err_behind}
 
 -- ---- entries
 
 entries_on : (before : List Message) (first : ℕ) (read : List Message) (less : ℕ) (message : Message) (front : List ℕ) → SpellsEntry front message → ¬ (HasMessage (before ++ read) message) → GoesOnBehind (ReadsEntries before first read (suc less)) front (ReadsEntries before first (read ++ message ∷ []) less)
 entries_on before first read less message front spelled new rest outcome goes = inr (inr (message, front, rest, spelled, refl, inr (new, goes)))
-
--- no more entries
-pub no_entries : (before : List Message) (first : ℕ) (read defined : List Message) (at : LogPlace) → defined ≡ before ++ read → at.offset < 2 ^ 64 → TakesEntries before first read 0 defined at at
-no_entries before first read defined at is fits = record {
-  messages = [];
-  many = refl;
-  added = is ∙ sym (append-nil (before ++ read));
-  takes = subst (λ (r : List Message). StandsBetween (ReadsEntries before first read 0) (Fragment first r) at at) (sym (append-nil read)) (gives_taken (Fragment first read) at fits);
-}
 
 one_entry_more : (before : List Message) (first : ℕ) (read : List Message) (less : ℕ) (after : List Message) (from mid to : LogPlace) (message : Message) (front : List ℕ) → BytesBetween front from mid → SpellsEntry front message → ¬ (HasMessage (before ++ read) message) → TakesEntries before first (read ++ message ∷ []) less after mid to → TakesEntries before first read (suc less) after from to
 one_entry_more before first read less after from mid to message front passes spelled new takes =

@@ -15,8 +15,8 @@ use Rattle.checkpoint_io.specs.declared.cause.Cause.TheVariants as causes
 use Rattle.checkpoint_io.specs.declared.fault.BlockFault.{BlockFault}
 use Rattle.checkpoint_io.specs.declared.fault.BlockFault.TheVariants.{Damaged, ReadFault, NoMemory}
 use Rattle.checkpoint_io.specs.declared.header.Header.{Header}
-use Rattle.checkpoint_io.specs.Reading.{ReadOutcome, found, broken, Reads, ReadsNoMore, Unless, ByteThen, NumberThen, MagicThen, header_of, ReadsRate, ReadsNanos, ReadsClock, ReadsWriters, ReadsVersion}
-use Rattle.checkpoint_io.specs.Places.{UnreadBytes, LogPlace, with_front, log_place, further, BytesBetween, StandsBetween, Refuses, EndsBefore}
+use Rattle.checkpoint_io.specs.Reading.{ReadOutcome, found, broken, Reads, ReadsNoMore, Unless, NumberThen, MagicThen, header_of, ReadsRate, ReadsNanos, ReadsClock, ReadsWriters, ReadsVersion}
+use Rattle.checkpoint_io.specs.Places.{UnreadBytes, LogPlace, with_front, log_place, further, BytesBetween, StandsBetween, Refuses}
 use Rattle.checkpoint_io.proofs.BlockLaws.{le_length}
 
 -- ---- numbers at the front of bytes
@@ -94,32 +94,8 @@ taken_behind reads tail thing front from mid to on passes takes = record {
 
 -- ---- bytes and numbers
 
-pub byte_on : {A : Type 0} (next : ℕ → Reads A) (byte : ℕ) → GoesOnBehind (ByteThen next) (byte ∷ []) (next byte)
-byte_on next byte rest outcome goes = inr (byte, rest, refl, goes)
-
 pub number_on : {A : Type 0} (size : ℕ) (next : ℕ → Reads A) (n : ℕ) → n < 256 ^ size → GoesOnBehind (NumberThen size next) (le_bytes size n) (next n)
 number_on size next n fits rest outcome goes = inr (n, rest, fits, refl, goes)
-
-pub unless_on : {A : Type 0} (wrong : Type 0) (cause : Cause) (next : ReadOutcome A → Type 0) (outcome : ReadOutcome A) → ¬ wrong → next outcome → Unless wrong cause next outcome
-unless_on wrong cause next outcome right goes = inr (right, goes)
-
-ends_told : (told : Told) (count : ℕ) (P : List ℕ → Type 0) → ((bytes : List ℕ) → length bytes < count → P bytes) → IfSome told (λ bytes. length bytes < count) → IfSome told P
-ends_told None count P there short = tt
-ends_told (Some bytes) count P there short = there bytes short
-
-no_byte : (bytes : List ℕ) → length bytes < 1 → bytes ≡ []
-no_byte [] short = refl
-no_byte (byte ∷ bytes) short = absurd (omega (arith, short))
-
-pub byte_ends : {A : Type 0} (next : ℕ → Reads A) (from : LogPlace) (fault : BlockFault) → EndsBefore 1 from fault → Refuses (ByteThen next) from fault
-byte_ends next from (Damaged cause) ends = ends_told from.ahead 1 (λ bytes. ByteThen next bytes (broken cause)) (λ bytes short. inl (no_byte bytes short, ap broken ends.0)) ends.1
-byte_ends next from ReadFault ends = tt
-byte_ends next from NoMemory ends = tt
-
-pub number_ends : {A : Type 0} (size : ℕ) (next : ℕ → Reads A) (from : LogPlace) (fault : BlockFault) → EndsBefore size from fault → Refuses (NumberThen size next) from fault
-number_ends size next from (Damaged cause) ends = ends_told from.ahead size (λ bytes. NumberThen size next bytes (broken cause)) (λ bytes short. inl (short, ap broken ends.0)) ends.1
-number_ends size next from ReadFault ends = tt
-number_ends size next from NoMemory ends = tt
 
 wrong_told : (told : Told) (P : List ℕ → Type 0) → ((bytes : List ℕ) → P bytes) → IfSome told P
 wrong_told None P always = tt

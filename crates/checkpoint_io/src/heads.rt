@@ -1,7 +1,7 @@
 //! The parts of a log that have one length, in bytes: its header, the heads of fragments and
 //! extents, and close marks. Numbers stand with the low byte first.
 
-ghost use Rattle.std.specs.Prelude.{◌≡◌, ◌+◌, ◌<◌, ◌≤◌, ◌++◌, length, take, drop};
+ghost use Rattle.std.specs.Prelude.{◌≡◌, ◌+◌, ◌<◌, ◌≤◌, ◌++◌, length, drop};
 ghost use Rattle.session_options.specs.declared.limits.TheConstants.{MAX_WRITERS};
 ghost use Rattle.checkpoint_io.specs.Blocks.{header_bytes, fragment_head_bytes, extent_head_bytes, close_bytes};
 

@@ -1,39 +1,34 @@
 -- The laws of lines.
-use Rattle.std.proofs.Common.{◌≡◌, ◌∙◌, ◌≢◌, ◌<◌, ◌≤◌, ◌++◌, Bool, true, false, List, [], ◌∷◌, length, drop}
-use Rattle.std.proofs.Common.{ℕ, get_or, map, Option, Some, None, refl, sym, ap, ap₂, ◌&&◌, not, codes, arith}
-use Rattle.std.specs.Prelude.{◌==◌, if◌then◌else◌, is_some, nat_le, nat_lt, option_map, option_and_then, find}
+use Rattle.std.proofs.Common.{◌≡◌, ◌∙◌, ◌≢◌, ◌<◌, ◌≤◌, ◌++◌, Bool, true, false, List, [], ◌∷◌, length}
+use Rattle.std.proofs.Common.{ℕ, get_or, map, Option, Some, None, refl, sym, ap, ap₂, ◌&&◌, codes, arith}
+use Rattle.std.specs.Prelude.{◌==◌, if◌then◌else◌}
 use Rattle.std.specs.List.{All, list_all, list_any, before_first, after_first}
 use Rattle.std.proofs.Math.Numerals.{add-one, one-add}
 use Rattle.std.proofs.Math.Bool.{or-true}
-use Rattle.std.proofs.lemmas.Bool.{true≢false, leb-true, le-leb, ltb-true, lt-ltb}
-use Rattle.std.proofs.lemmas.List.Sums.{AllPass-from_list_all, list_all-from_AllPass}
+use Rattle.std.proofs.lemmas.Bool.{true≢false, le-leb, lt-ltb}
+use Rattle.std.proofs.lemmas.List.Sums.{list_all-from_AllPass}
 use Rattle.std.specs.Str.{bytes_eq}
 use Rattle.std.specs.Fmt.{decimal}
 use Rattle.std.proofs.lemmas.Slice.Eq.{bytes_eq-Decides}
-use Rattle.std.proofs.lemmas.Bool.Decides.{nat_tests, not_from_Decides}
+use Rattle.std.proofs.lemmas.Bool.Decides.{nat_tests}
 use Rattle.std.proofs.lemmas.List.{length-map}
 use Rattle.std.proofs.lemmas.List.Folds.{list_all-map}
-use Rattle.log_dictionary.specs.declared.severity.Severity.{Severity}
 use Rattle.session_options.specs.Defaults.{default_options}
 use Rattle.session_options.specs.declared.limits.TheConstants.{MAX_WRITERS, MIN_RING, MAX_RING, MAX_BATCH, MAX_GENERATED}
 use Rattle.session_options.specs.declared.options.Options.{Options}
-use Rattle.session_options.specs.declared.options.Policy.{Policy}
 use Rattle.cli_words.specs.Commands.{WordBytes, Given, Name, Awaits, Sets, Unknown, word_of, after_dashes, is_equals, is_among}
-use Rattle.cli_words.specs.Commands.{with_name, with_option, given_of, given_from, options_of, options_with, said_by}
-use Rattle.cli_words.specs.Commands.{values_given, options_by, policy_named, severity_named, ring_by, batch_by, policy_by, level_by}
-use Rattle.cli_words.specs.Commands.{OperandValue, File, Sources, Number, Seed, is_name, is_other, are_sources, value_at}
-use Rattle.cli_words.specs.Commands.{words_behind, and_values, values_from, first_word, operand_values, number_within}
+use Rattle.cli_words.specs.Commands.{with_name, with_option, given_of, given_from, options_of, said_by}
+use Rattle.cli_words.specs.Commands.{values_given, policy_named, severity_named}
+use Rattle.cli_words.specs.Commands.{is_name, is_other, are_sources}
+use Rattle.cli_words.specs.Commands.{number_within}
 use Rattle.cli_words.specs.Commands.{Command, Preprocess, Direct, Replay, Decompress, Aggregate, Generate, Selftest}
-use Rattle.cli_words.specs.Commands.{made, command_with, asked, command_of}
-use Rattle.cli_words.specs.Rows.{AreGenerated, AreInBounds, IsLawful, words_for}
+use Rattle.cli_words.specs.Commands.{command_of}
+use Rattle.cli_words.specs.Rows.{AreGenerated, IsLawful, words_for}
 use Rattle.cli_words.specs.declared.numbers.TheConstants.{MAX_ID, MAX_SEED}
 use Rattle.cli_words.specs.declared.operands.TheConstants.{MAX_SOURCES}
-use Rattle.cli_words.specs.declared.table.CommandForm.{CommandForm}
 use Rattle.cli_words.specs.declared.table.CommandForm.TheVariants as forms
-use Rattle.cli_words.specs.Table.{Operand, CommandRow, called, generated_operands, rows, row_named, options_taken}
-use Rattle.cli_words.specs.declared.table.OperandKind.{OperandKind}
 use Rattle.cli_words.specs.declared.table.OperandKind.TheVariants as kind
-use Rattle.cli_words.proofs.Spelled.{LiesIn, number_lies, number_spelled, policy_is, named_severity}
+use Rattle.cli_words.proofs.Spelled.{number_spelled, policy_is, named_severity}
 
 moved_name : (name option value : WordBytes) (given : Option Given)
     → with_name name (with_option option value given) ≡ with_option option value (with_name name given)

@@ -1,5 +1,5 @@
 -- The table as the program has it.
-use Rattle.std.proofs.Common.{◌≡◌, ◌∙◌, ◌++◌, ℕ, Bool, true, false, List, [], ◌∷◌, map, Option, Some, None, Bor, refl, ap, ap₂, sym, codes, append_assoc}
+use Rattle.std.proofs.Common.{◌≡◌, ◌∙◌, ◌++◌, ℕ, Bool, true, false, List, [], ◌∷◌, map, Option, Some, None, Bor, refl, ap, ap₂, codes, append_assoc}
 use Rattle.std.specs.Prelude.{find, flat_map, option_map, if◌then◌else◌}
 use Rattle.std.specs.Str.{bytes_eq}
 use Rattle.cli_words.specs.Table.{CommandRow, SessionOption, rows, row_named, row_options}

@@ -8,7 +8,7 @@ use Rattle.std.proofs.lemmas.Slice.Eq.{bytes_eq-Decides}
 use Rattle.clap.specs.Lexer.{long_of}
 use Rattle.clap.specs.Walk.{Row, Text, Waiting, Walk, idle, option as waiting_for, positional, used, with_values, walked}
 use Rattle.clap.specs.Kinds.{Kinds, or_else}
-use Rattle.clap.specs.Faults.{settle_fault, turn_fault, walk_fault}
+use Rattle.clap.specs.Faults.{turn_fault, walk_fault}
 use Rattle.clap.specs.declared.builder.value_parser.Reading.{Reading}
 use Rattle.clap.specs.declared.builder.value_parser.Reading.TheVariants.{AsWritten}
 use Rattle.clap.specs.declared.parser.matches.ValueSource.{ValueSource}
@@ -18,7 +18,7 @@ use Rattle.cli_words.specs.Commands.{Given, Word, Name, End, Awaits, Sets, Unkno
 use Rattle.cli_words.proofs.Words.{Tells, dashes, tells as told}
 use Rattle.cli_words.proofs.Shapes.{IsPlain, rules, shape, apart, names_rule, option_rule}
 use Rattle.cli_words.proofs.Walks as walks
-use Rattle.cli_words.proofs.Walks.{CanSettle, is_right, held, at, no_option, rows_at, named, settled_at, ended, ended_step, awaiting}
+use Rattle.cli_words.proofs.Walks.{CanSettle, is_right, held, at, no_option, rows_at, settled_at, ended, ended_step, awaiting}
 
 -- ---- one value more
 
@@ -62,10 +62,10 @@ more_values id other how s value (row ∷ rows) =
 -- ---- what follows
 
 -- the rows at the end have the values of these rows, and behind them those that are given
-data Follows (rows : List Row) : Option (List Row) → Option Given → Type 0 where
-  nothing : Follows rows None None
+data WalkGives (rows : List Row) : Option (List Row) → Option Given → Type 0 where
+  nothing : WalkGives rows None None
   more : (final : List Row) (given : Given) → ((id : Text) → values_in final id ≡ values_in rows id ++ given_at given id)
-      → Follows rows (Some final) (Some given)
+      → WalkGives rows (Some final) (Some given)
 
 name_more : (name : Text) (rows : List Row) (given : Given) (id : Text)
     → values_in (used names_rule (name ∷ []) rows) id ++ given_at given id
@@ -83,7 +83,7 @@ name_more name rows given id =
     go false e = rw e refl
 
 follows_name : (name : Text) (rows : List Row) (end : Option (List Row)) (read : Option Given)
-    → Follows (used names_rule (name ∷ []) rows) end read → Follows rows end (with_name name read)
+    → WalkGives (used names_rule (name ∷ []) rows) end read → WalkGives rows end (with_name name read)
 follows_name name rows _ _ nothing = nothing
 follows_name name rows _ _ (more final given follows) =
     more final (record given { names = name ∷ given.names }) (λ id. follows id ∙ name_more name rows given id)
@@ -112,7 +112,7 @@ option_more taken option value rows given plain known id =
 
 follows_option : (taken : List Text) (option value : Text) (rows : List Row) (end : Option (List Row))
     (read : Option Given) → IsPlain taken → is_among taken option ≡ true
-    → Follows (used (option_rule option) (value ∷ []) rows) end read → Follows rows end (with_option option value read)
+    → WalkGives (used (option_rule option) (value ∷ []) rows) end read → WalkGives rows end (with_option option value read)
 follows_option taken option value rows _ _ plain known nothing = nothing
 follows_option taken option value rows _ _ plain known (more final given follows) =
     more final (record given { options = (option, value) ∷ given.options })
@@ -132,23 +132,23 @@ ended_faulty taken w word words wrong =
     ∙ ap (λ (b : Bool). if b then ended taken (walked (rules taken) [] w word) words else None) wrong
 
 -- nothing is read, and nothing is found
-none_follows : (end : Option (List Row)) (rows : List Row) → end ≡ None → Follows rows end None
-none_follows end rows e = subst (λ (o : Option (List Row)). Follows rows o None) (sym e) nothing
+none_follows : (end : Option (List Row)) (rows : List Row) → end ≡ None → WalkGives rows end None
+none_follows end rows e = subst (λ (o : Option (List Row)). WalkGives rows o None) (sym e) nothing
 
 -- the walk goes on from here
 goes_on : (taken : List Text) (w after : Walk) (word : Text) (words : List Text) (read : Option Given) (rows : List Row)
     → turn_fault (shape taken) [] w word ≡ [] → walked (rules taken) [] w word ≡ after
-    → Follows rows (ended taken after words) read → Follows rows (ended taken w (word ∷ words)) read
+    → WalkGives rows (ended taken after words) read → WalkGives rows (ended taken w (word ∷ words)) read
 goes_on taken w after word words read rows turn walk follows =
-    subst (λ (o : Option (List Row)). Follows rows o read) (sym (ended_step taken w word words [] after turn walk)) follows
+    subst (λ (o : Option (List Row)). WalkGives rows o read) (sym (ended_step taken w word words [] after turn walk)) follows
 
 -- at the end of the words
 at_end : (taken : List Text) (rows : List Row) (pending : Option (Text × List Text)) (waiting : Waiting) (trails : Bool)
     → CanSettle taken pending
-    → Follows (rows_at taken (held rows pending)) (ended taken (at (held rows pending) waiting trails) [])
+    → WalkGives (rows_at taken (held rows pending)) (ended taken (at (held rows pending) waiting trails) [])
     (Some (record { options = []; names = [] }))
 at_end taken rows pending waiting trails settles =
-    subst (λ (o : Option (List Row)). Follows (rows_at taken (held rows pending)) o
+    subst (λ (o : Option (List Row)). WalkGives (rows_at taken (held rows pending)) o
     (Some (record { options = []; names = [] })))
     (sym (ended_nil taken (at (held rows pending) waiting trails)
     ∙ ap (λ (fault : Kinds). if is_right fault then Some (rows_at taken (held rows pending)) else None) (settles rows)))
@@ -164,7 +164,7 @@ at_end taken rows pending waiting trails settles =
 -- after the options each word is a name
 trailing : (taken : List Text) (rows : List Row) (pending : Option (Text × List Text)) (waiting : Waiting)
     (words : List Text) → CanSettle taken pending
-    → Follows (rows_at taken (held rows pending)) (ended taken (at (held rows pending) waiting true) words)
+    → WalkGives (rows_at taken (held rows pending)) (ended taken (at (held rows pending) waiting true) words)
     (Some (record { options = []; names = words }))
 trailing taken rows pending waiting [] settles = at_end taken rows pending waiting true settles
 trailing taken rows pending waiting (word ∷ words) settles =
@@ -193,13 +193,13 @@ lacking taken rows option (word ∷ words) plain known =
 abbrev Idle : List Text → Type 0
 Idle words = (taken : List Text) (b : Bool) (rows : List Row) (pending : Option (Text × List Text)) → IsPlain taken
     → CanSettle taken pending
-    → Follows (rows_at taken (held rows pending)) (ended taken (at (held rows pending) (no_option b) false) words)
+    → WalkGives (rows_at taken (held rows pending)) (ended taken (at (held rows pending) (no_option b) false) words)
     (read_from taken None words)
 
 -- what follows where an option waits for its value
 abbrev Waits : List Text → Type 0
 Waits words = (taken : List Text) (rows : List Row) (option : Text) → IsPlain taken → is_among taken option ≡ true
-    → Follows rows (ended taken (awaiting option rows) words) (read_from taken (Some option) words)
+    → WalkGives rows (ended taken (awaiting option rows) words) (read_from taken (Some option) words)
 
 idle_name : (word : Text) (words : List Text) → Tells word Name → word_of word ≡ Name → Idle words → Idle (word ∷ words)
 idle_name word words tells e rest taken b rows pending plain settles =
@@ -237,14 +237,14 @@ where_taken : (taken : List Text) (b : Bool) (rows : List Row) (pending : Option
     (word option : Text) (value : Option Text) (words : List Text) (read : Option Given) → bytes_eq word dashes ≡ false
     → long_of word ≡ Some (option, value)
     → (is_among taken option ≡ true
-    → Follows (rows_at taken (held rows pending)) (ended taken (at (held rows pending) (no_option b) false) (word ∷ words))
+    → WalkGives (rows_at taken (held rows pending)) (ended taken (at (held rows pending) (no_option b) false) (word ∷ words))
     read)
-    → Follows (rows_at taken (held rows pending)) (ended taken (at (held rows pending) (no_option b) false) (word ∷ words))
+    → WalkGives (rows_at taken (held rows pending)) (ended taken (at (held rows pending) (no_option b) false) (word ∷ words))
     (if is_among taken option then read else None)
 where_taken taken b rows pending word option value words read no_end long follows = go (is_among taken option) refl
   where
     go : (known : Bool) → is_among taken option ≡ known
-        → Follows (rows_at taken (held rows pending))
+        → WalkGives (rows_at taken (held rows pending))
         (ended taken (at (held rows pending) (no_option b) false) (word ∷ words)) (if known then read else None)
     go false known =
         none_follows _ (rows_at taken (held rows pending))
@@ -287,7 +287,7 @@ waits_name word words tells e rest taken rows option plain known =
     (walks.value_turn taken option rows word tells)
     (walks.value_walked taken option rows word plain known tells)
     (follows_option taken option word rows _ (read_from taken None words) plain known
-    (subst (λ (now : List Row). Follows now
+    (subst (λ (now : List Row). WalkGives now
     (ended taken (at (held rows (Some (option, word ∷ []))) idle false) words) (read_from taken None words))
     (walks.value_row taken option rows word plain known)
     (rest taken false rows (Some (option, word ∷ [])) plain
@@ -303,14 +303,14 @@ waits_end word words tells e taken rows option plain known =
 -- a word that can't be the value
 waits_other : (word other : Text) (value : Option Text) (words : List Text) → bytes_eq word dashes ≡ false
     → long_of word ≡ Some (other, value) → (taken : List Text) (rows : List Row) (option : Text) → IsPlain taken
-    → is_among taken option ≡ true → Follows rows (ended taken (awaiting option rows) (word ∷ words)) None
+    → is_among taken option ≡ true → WalkGives rows (ended taken (awaiting option rows) (word ∷ words)) None
 waits_other word other value words no_end long taken rows option plain known =
     none_follows _ rows (ended_faulty taken (awaiting option rows) word words
     (walks.no_value_turn taken option rows word other value plain known no_end long))
 
 waits_unknown : (word : Text) (words : List Text) → IsUtf8 word → Tells word Unknown
     → (taken : List Text) (rows : List Row) (option : Text)
-    → Follows rows (ended taken (awaiting option rows) (word ∷ words)) None
+    → WalkGives rows (ended taken (awaiting option rows) (word ∷ words)) None
 waits_unknown word words utf8 tells taken rows option =
     none_follows _ rows (ended_faulty taken (awaiting option rows) word words
     (walks.letters_turn taken rows (Some (option, [])) (waiting_for option) word refl utf8 tells))
@@ -354,6 +354,6 @@ all_read taken words plain texts =
     go (ended taken (at (held [] None) idle false) words) (read_from taken None words)
     ((both words texts).0 taken false [] None plain (λ rows. refl))
   where
-    go : (end : Option (List Row)) (read : Option Given) → Follows [] end read → AreParsed end read
+    go : (end : Option (List Row)) (read : Option Given) → WalkGives [] end read → AreParsed end read
     go _ _ nothing = tt
     go _ _ (more final given follows) = follows

@@ -9,8 +9,8 @@ use Rattle.cli_words.specs.declared.operands.TheConstants.{MAX_SOURCES}
 use Rattle.cli_words.specs.declared.numbers.TheConstants.{MAX_ID, MAX_SEED}
 use Rattle.log_dictionary.specs.Severities.{severity_name}
 use Rattle.log_dictionary.specs.declared.severity.Severity.{Severity}
-use Rattle.session_options.specs.declared.limits.TheConstants.{MAX_WRITERS, MAX_GENERATED, MIN_RING, MAX_RING, MAX_BATCH}
-use Rattle.session_options.specs.declared.options.Options.{Options}
+use Rattle.session_options.specs.Bounds.{AreInBounds}
+use Rattle.session_options.specs.declared.limits.TheConstants.{MAX_WRITERS, MAX_GENERATED}
 use Rattle.session_options.specs.declared.options.Policy.{Policy}
 use Rattle.session_options.specs.declared.options.Policy.TheVariants.{Wait, Shed}
 
@@ -26,11 +26,6 @@ meaning line = command_of (split_words line)
 abbrev pub replays : ℕ → ℕ → Policy → Severity → Option Command
 replays ring batch policy level =
     Some (Replay (codes "t") (codes "l") (record { ring = ring; batch = batch; policy = policy; level = level }))
-
--- the numbers of the options lie in their bounds
-abbrev pub AreInBounds : Options → Type 0
-AreInBounds options = (MIN_RING ≤ options.ring) × (options.ring ≤ MAX_RING)
-    × (1 ≤ options.batch) × (options.batch ≤ MAX_BATCH)
 
 -- the numbers of a generated trace lie in their bounds
 abbrev pub AreGenerated : ℕ → ℕ → ℕ → Type 0

@@ -1,8 +1,7 @@
 -- What follows from what the files of a command hold, and from a file that was opened, read and given up.
-use Rattle.std.proofs.Common.{◌≡◌, ◌≢◌, ℕ, ◌<◌, ◌≤◌, Bool, true, false, not, T, ltb, ltb→lt, nltb→le, List, take, Option, Some, None, refl, sym, ap, subst, ◌∙◌, inl, inr, arith}
+use Rattle.std.proofs.Common.{◌≡◌, ◌≢◌, ℕ, ◌<◌, ◌≤◌, Bool, true, false, not, T, ltb, ltb→lt, nltb→le, List, take, Option, Some, None, refl, sym, ap, subst, ◌∙◌, inl, inr}
 use Rattle.std.specs.Prelude.{◌⊎◌, IfSome, is_some, option_map}
 use Rattle.std.specs.FinMap as map
-use Rattle.nl_io.specs.Count.{Rose}
 use Rattle.nl_io.specs.Content.{Told, PutsFront}
 use Rattle.nl_io.specs.Desk.{Desk, Held, OnlyReadFaults, IsAbsent, IsReading, Opens, Leaves, SameButLeft, Creates, Finishes, SameButHeld, put_by}
 use Rattle.nl_io.specs.DeskLaws.{Opens-content, visited, written, written-holds}
@@ -21,29 +20,6 @@ some_there (Some h) name bytes is = λ none. absurd cc
 -- a name that holds bytes is there
 pub held_there : (desk : Desk) (name bytes : List ℕ) → IsHeld desk name bytes → IsThere desk name
 held_there desk name bytes is = some_there desk.held name bytes is
-
-such_of : (held : Option Held) (name bytes : List ℕ) (such : List ℕ → Type 0)
-    → IfSome held (λ h. map.get h name ≡ Some bytes) → such bytes
-    → IfSome held (λ h. (found : List ℕ) × (map.get h name ≡ Some found) × such found)
-such_of None name bytes such is so = tt
-such_of (Some h) name bytes such is so = (bytes, is, so)
-
--- what is so of the bytes that a name holds
-pub held_such : (desk : Desk) (name bytes : List ℕ) (such : List ℕ → Type 0) → IsHeld desk name bytes → such bytes
-    → HoldsSuch desk name such
-held_such desk name bytes such is so = such_of desk.held name bytes such is so
-
-then_such : (held : Option Held) (name : List ℕ) (this that : List ℕ → Type 0)
-    → ((bytes : List ℕ) → this bytes → that bytes)
-    → IfSome held (λ h. (bytes : List ℕ) × (map.get h name ≡ Some bytes) × this bytes)
-    → IfSome held (λ h. (bytes : List ℕ) × (map.get h name ≡ Some bytes) × that bytes)
-then_such None name this that then found = tt
-then_such (Some h) name this that then (bytes, is, so) = (bytes, is, then bytes so)
-
--- and what follows from it
-pub such_then : (desk : Desk) (name : List ℕ) (this that : List ℕ → Type 0)
-    → ((bytes : List ℕ) → this bytes → that bytes) → HoldsSuch desk name this → HoldsSuch desk name that
-such_then desk name this that then such = then_such desk.held name this that then such
 
 there_of : (held : Option Held) (name : List ℕ) (such : List ℕ → Type 0)
     → IfSome held (λ h. (bytes : List ℕ) × (map.get h name ≡ Some bytes) × such bytes)
@@ -155,13 +131,6 @@ below_or_not m n = by_test (ltb m n) refl
     by_test : (y : Bool) → ltb m n ≡ y → (m < n) ⊎ (n ≤ m)
     by_test true e = inl (ltb→lt m n (subst T (sym e) tt))
     by_test false e = inr (nltb→le m n (subst (λ (z : Bool). T (not z)) (sym e) tt))
-
--- else the count rose
-pub same_or_rose : (old new : Desk) → OnlyReadFaults old new → (new ≡ old) ⊎ Rose old.read_faults new.read_faults
-same_or_rose old new only = elim (below_or_not old.read_faults new.read_faults) [
-  | inl more ↦ inr (omega (arith, more))
-  | inr less ↦ inl (same_desk old new only (omega (arith, less, only.count)))
-]
 
 -- ---- a file that was written
 

@@ -80,7 +80,7 @@ ReadsCounted task old new ending = ((name : List ℕ) × Contains task.inputs na
 abbrev WritesCounted : Scene → Scene → Ending → Type 0
 WritesCounted old new ending = ((name : List ℕ) × (ending ≡ WriteFault name)) ⊎ ((new.desk.write_faults ≡ old.desk.write_faults) × (new.faults ≡ old.faults))
 
-record Follows (task : Task) (old new : Scene) (ending : Ending) : Type 0 where
+record Consequences (task : Task) (old new : Scene) (ending : Ending) : Type 0 where
   stays : Stays task.output old.desk new.desk
   reads : ReadsCounted task old.desk new.desk ending
   writes : WritesCounted old new ending
@@ -105,7 +105,7 @@ files_told task old new product verdict ending parts told = elim parts [
   }
 ]
 
-completes_follows : (task : Task) (old new : Scene) (ending : Ending) → IsSound task → Completes task old new ending → Follows task old new ending
+completes_follows : (task : Task) (old new : Scene) (ending : Ending) → IsSound task → Completes task old new ending → Consequences task old new ending
 completes_follows task old new ending sound whole =
     let files = files_told task old new whole.product ending ending (changed task old.desk whole.read new.desk whole.product ending sound whole.reading whole.made) (λ fails. fails.told) in
     record {
@@ -116,7 +116,7 @@ completes_follows task old new ending sound whole =
       absent = λ name lacks r. (sound.absent old.desk whole.read whole.product ending name whole.reading lacks (unfailed whole.product.made task.output old.desk whole.read new.desk whole.made r)).0;
     }
 
-print_follows : (task : Task) (old new : Scene) (name : List ℕ) → IsSound task → FailsToPrint task old new → Follows task old new (WriteFault name)
+print_follows : (task : Task) (old new : Scene) (name : List ℕ) → IsSound task → FailsToPrint task old new → Consequences task old new (WriteFault name)
 print_follows task old new name sound cut =
     let files = files_told task old new cut.product cut.verdict (WriteFault name) (changed task old.desk cut.read new.desk cut.product cut.verdict sound cut.reading cut.made) (λ fails. inr (fails.cut_off cut.some name)) in
     record {
@@ -129,7 +129,7 @@ print_follows task old new name sound cut =
           absurd (cut.some (ap (λ (p : Product). p.text) nothing.1));
     }
 
-make_follows : (task : Task) (old new : Scene) (name : List ℕ) → IsSound task → FailsToMake task name old new → Follows task old new (WriteFault name)
+make_follows : (task : Task) (old new : Scene) (name : List ℕ) → IsSound task → FailsToMake task name old new → Consequences task old new (WriteFault name)
 make_follows task old new name sound lost = record {
   stays = name_stays task.output name old.desk new.desk lost.output lost.only;
   reads = inr (inl lost.only.read_faults);
@@ -138,7 +138,7 @@ make_follows task old new name sound lost = record {
   absent = λ first lacks r. absurd (sound.there old.desk lost.bytes first lost.leaves lacks);
 }
 
-reading_follows : (task : Task) (old new : Scene) → IsSound task → StopsReading task old new → Follows task old new NoMemory
+reading_follows : (task : Task) (old new : Scene) → IsSound task → StopsReading task old new → Consequences task old new NoMemory
 reading_follows task old new sound stops =
     let read : OnlyMade task.output old.desk new.desk ⊎ FailsToRead task old.desk new.desk stops.product NoMemory = elim (sound.changes old.desk new.desk stops.product NoMemory stops.reading) [
       | inl same ↦ inl (subst (OnlyMade task.output old.desk) (sym same) (all_same task.output old.desk))
@@ -153,7 +153,7 @@ reading_follows task old new sound stops =
       absent = λ name lacks r. (sound.absent old.desk new.desk stops.product NoMemory name stops.reading lacks r).0;
     }
 
-begun_follows : (task : Task) (old new : Scene) → IsSound task → StopsBegun task old new → Follows task old new NoMemory
+begun_follows : (task : Task) (old new : Scene) → IsSound task → StopsBegun task old new → Consequences task old new NoMemory
 begun_follows task old new sound stops =
     let made = only_made (Some []) task.output old.desk new.desk stops.emptied in
     record {
@@ -168,7 +168,7 @@ begun_follows task old new sound stops =
 first_within : (names others : List (List ℕ)) (name : List ℕ) → names ≡ name ∷ others → Contains names name
 first_within names others name is = subst (λ (l : List (List ℕ)). Contains l name) (sym is) (0, omega arith, refl)
 
-printing_follows : (task : Task) (old new : Scene) → IsSound task → StopsPrinting task old new → Follows task old new NoMemory
+printing_follows : (task : Task) (old new : Scene) → IsSound task → StopsPrinting task old new → Consequences task old new NoMemory
 printing_follows task old new sound stops =
     let files = files_told task old new stops.product stops.verdict NoMemory (changed task old.desk stops.read new.desk stops.product stops.verdict sound stops.reading stops.made) (λ fails. inr (fails.stopped stops.is_printed)) in
     record {
@@ -180,13 +180,13 @@ printing_follows task old new sound stops =
           absurd (none_there old.desk.held lacks.held name lacks.told lacks.none (stops.there name (first_within task.inputs lacks.others name lacks.first)));
     }
 
-memory_follows : (task : Task) (course : Course) (old new : Scene) → IsSound task → WantsMemory course task old new → Follows task old new NoMemory
+memory_follows : (task : Task) (course : Course) (old new : Scene) → IsSound task → WantsMemory course task old new → Consequences task old new NoMemory
 memory_follows task WhileReading old new sound wants = reading_follows task old new sound wants
 memory_follows task UntilBegun old new sound wants = elim wants [ inl stops ↦ reading_follows task old new sound stops | inr stops ↦ begun_follows task old new sound stops ]
 memory_follows task WhilePrinting old new sound wants = elim wants [ inl stops ↦ reading_follows task old new sound stops | inr stops ↦ printing_follows task old new sound stops ]
 memory_follows task Streaming old new sound wants = elim wants [ inl stops ↦ reading_follows task old new sound stops | inr stops ↦ printing_follows task old new sound stops ]
 
-follows : (task : Task) (old new : Scene) (ending : Ending) → IsSound task → CommandEffect task old new ending → Follows task old new ending
+follows : (task : Task) (old new : Scene) (ending : Ending) → IsSound task → CommandEffect task old new ending → Consequences task old new ending
 follows task old new Done sound effect = completes_follows task old new Done sound effect
 follows task old new (StillOpen name numbers) sound effect = completes_follows task old new (StillOpen name numbers) sound effect
 follows task old new (Usage lines) sound effect = absurd effect

@@ -8,7 +8,7 @@ use Rattle.arg_records.specs.declared.call.Call.{Call}
 use Rattle.checkpoint_io.specs.declared.header.Header.{Header}
 use Rattle.checkpoint_io.specs.declared.block.Block.{Block as ReadBlock}
 use Rattle.checkpoint_io.specs.declared.block.Block.TheVariants as read
-use Rattle.checkpoint_io.specs.Blocks.{Block, Fragment, Extent, Close}
+use Rattle.checkpoint_io.specs.Blocks.{Block, Extent}
 use Rattle.checkpoint_io.specs.Validity.{block_records, records_of, Valid}
 use Rattle.checkpoint_io.specs.NextBlocks.{Describes}
 use Rattle.checkpoint_io.proofs.FileLaws.{is_extent}
@@ -101,19 +101,3 @@ module _ (part : LogPart) (messages : List Message) (told : ReadBlock) (block : 
 
   other_held : ((writer : ℕ) → block_records writer block ≡ []) → HoldRecords writers (Some (with_block part block))
   other_held none = held ∙ sym (others_kept part.header part.blocks block none)
-
-  pub fragment_held : (first count : ℕ) → told ≡ read.Fragment first count → HoldRecords writers (Some (with_block part block))
-  fragment_held first count named = other_held (by_block block (subst (λ (t : ReadBlock). Describes t block) named next.tells))
-    where
-      by_block : (b : Block) → Describes (read.Fragment first count) b → (writer : ℕ) → block_records writer b ≡ []
-      by_block (Fragment id messages) tells writer = refl
-      by_block (Extent w entries) tells writer = cc
-      by_block (Close w) tells writer = refl
-
-  pub close_held : (closed : ℕ) → told ≡ read.Closed closed → HoldRecords writers (Some (with_block part block))
-  close_held closed named = other_held (by_block block (subst (λ (t : ReadBlock). Describes t block) named next.tells))
-    where
-      by_block : (b : Block) → Describes (read.Closed closed) b → (writer : ℕ) → block_records writer b ≡ []
-      by_block (Fragment id messages) tells writer = refl
-      by_block (Extent w entries) tells writer = cc
-      by_block (Close w) tells writer = refl

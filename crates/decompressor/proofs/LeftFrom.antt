@@ -1,8 +1,7 @@
 -- What stands in lists from a place of the first one on.
-use Rattle.std.proofs.Common.{◌≡◌, ℕ, zero, suc, ◌+◌, ◌≤◌, List, [], ◌∷◌, ◌++◌, length, drop, Some, refl, ap, sym, ◌∙◌, arith}
+use Rattle.std.proofs.Common.{◌≡◌, ℕ, zero, suc, ◌+◌, List, [], ◌∷◌, ◌++◌, drop, Some, ap, sym, ◌∙◌, arith}
 use Rattle.std.specs.Prelude.{slice_get}
 use Rattle.std.specs.List.{flat_map}
-use Rattle.std.proofs.lemmas.List.{drop_all}
 use Rattle.std.proofs.lemmas.Option.{same_Some}
 use Rattle.decompressor.specs.Taking.{left_from}
 
@@ -16,11 +15,3 @@ drop_some (y ∷ xs) (suc place) x there =
 -- one is taken
 pub left_from-more : {A : Type 0} (place : ℕ) (first : List A) (others : List (List A)) (x : A) → slice_get first place ≡ Some x → left_from place (first ∷ others) ≡ x ∷ left_from (place + 1) (first ∷ others)
 left_from-more place first others x there = ap (λ xs. xs ++ flat_map (λ entries. entries) others) (drop_some first place x there)
-
-left_from-all : {A : Type 0} (lists : List (List A)) → flat_map (λ entries. entries) lists ≡ left_from 0 lists
-left_from-all [] = refl
-left_from-all (first ∷ others) = refl
-
--- the first list is passed over
-pub left_from-next : {A : Type 0} (place : ℕ) (first : List A) (others : List (List A)) → length first ≤ place → left_from place (first ∷ others) ≡ left_from 0 others
-left_from-next place first others passed = ap (λ xs. xs ++ flat_map (λ entries. entries) others) (drop_all place first passed) ∙ left_from-all others

@@ -1,5 +1,5 @@
 -- What the answer says of a log that was scanned and printed.
-use Rattle.std.proofs.Common.{◌≡◌, ℕ, ◌≤◌, List, [], length, Option, Some, None, Result, Ok, Err, refl, ap, sym, ◌∙◌, subst, inl, inr, arith}
+use Rattle.std.proofs.Common.{◌≡◌, ℕ, length, Option, Result, Ok, Err, refl, sym, ◌∙◌, subst, inl, inr}
 use Rattle.std.specs.Prelude.{IfSome}
 use Rattle.std.specs.Result.{IsErrAnd}
 use Rattle.nl_io.specs.Count.{Rose}

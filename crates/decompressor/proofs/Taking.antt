@@ -1,5 +1,5 @@
 -- What is left of the writers' records is what is left of the calls in order.
-use Rattle.std.proofs.Common.{◌≡◌, ◌≢◌, ℕ, zero, suc, ◌+◌, ◌<◌, ◌≤◌, Bool, true, false, cond, eqb, List, [], ◌∷◌, ◌++◌, length, get_or, Option, Some, None, refl, ap, sym, ◌∙◌, subst, inl, inr, arith}
+use Rattle.std.proofs.Common.{◌≡◌, ℕ, zero, suc, ◌+◌, ◌<◌, ◌≤◌, Bool, cond, List, [], ◌∷◌, ◌++◌, length, get_or, Some, refl, ap, sym, subst, inl, inr, arith}
 use Rattle.std.specs.Prelude.{filter, slice_get, slice_set}
 use Rattle.std.specs.List.{AllByRecursion, flat_map, filter_map, enumerate_from}
 use Rattle.std.proofs.lemmas.Bool.{eq-eqb}
@@ -8,7 +8,6 @@ use Rattle.std.proofs.lemmas.List.{get_or-set_same, get_or-set_other}
 use Rattle.std.proofs.Math.ListN.{length-set}
 use Rattle.std.proofs.lemmas.List.Elements.{All-from_recursion, recursion_from_All}
 use Rattle.std.proofs.lemmas.List.Sorted.{All-permutation, IsPermutation-sym}
-use Rattle.printf_grammar.specs.Types.{Types, Fits}
 use Rattle.log_dictionary.specs.declared.message.Message.{Message}
 use Rattle.log_dictionary.specs.Calls.{LogCall}
 use Rattle.arg_records.specs.declared.call.Call.{Call}

@@ -1,6 +1,6 @@
 //! The order in which the records of a log are printed.
 
-ghost use Rattle.std.specs.Prelude.{◌≡◌, ◌≤◌, ◌++◌, length, map, IfOk};
+ghost use Rattle.std.specs.Prelude.{◌≡◌, ◌≤◌, length, map, IfOk};
 ghost use Rattle.session_options.specs.declared.limits.TheConstants.{MAX_WRITERS};
 ghost use Rattle.stamp_merge.specs.Merging.{merge_order as merged_order};
 ghost use Rattle.decompressor.specs.Taking.{stamps_of};

@@ -1,5 +1,5 @@
 -- The order of calls.
-use Rattle.std.proofs.Common.{◌≡◌, ◌≤◌, Bool, false, List}
+use Rattle.std.proofs.Common.{◌≡◌, ◌≤◌, false, List}
 use Rattle.std.specs.Cmp.{IsStrictWeakOrder, IsTotalOrder}
 use Rattle.std.specs.Ordering.{nat_cmp, ordering_then}
 use Rattle.std.specs.List.Sorted.{IsPermutation, IsSortedBy}

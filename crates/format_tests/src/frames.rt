@@ -71,7 +71,7 @@ fn is_frame_of(
 }
 
 /// Writes the frame of a call, and answers its length.
-pub fn framed(
+pub(crate) fn framed(
     id: u32,
     stamp: u64,
     types: &[ArgType],

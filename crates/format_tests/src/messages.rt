@@ -15,7 +15,7 @@ message 0 ERROR 1 "a\"b\\" "\x41\n\t%d"|message 0 ERROR 1 "a\"b\\" "A\n\t%d"
 message 0 WARNING 1 "\x00\xfFé" "\x25%"|message 0 WARNING 1 "\x00\xff\xc3\xa9" "%%""#;
 
 /// The dictionary of one line.
-pub fn one_message(alloc: Global, line: &str) -> Result<Dictionary, LineFault> {
+pub(crate) fn one_message(alloc: Global, line: &str) -> Result<Dictionary, LineFault> {
     let mut dictionary = Dictionary::make(alloc);
     dictionary.read_line(line.as_bytes())?;
     Ok(dictionary)

@@ -20,7 +20,7 @@ fn check_row<R: Abort + AllocGlobal, F: Fn(Global, &str) -> Result<String, Fail>
 }
 
 /// Asserts so of each row. Rows stand in lines, and between `;;`.
-pub fn check_rows<R: Abort + AllocGlobal, F: Fn(Global, &str) -> Result<String, Fail>>(
+pub(crate) fn check_rows<R: Abort + AllocGlobal, F: Fn(Global, &str) -> Result<String, Fail>>(
     rt: &R,
     rows: &str,
     told: F,
@@ -36,12 +36,12 @@ pub fn check_rows<R: Abort + AllocGlobal, F: Fn(Global, &str) -> Result<String, 
 }
 
 /// The first column of a row, and the others.
-pub fn cut(row: &str) -> Result<(&str, &str), Fail> {
+pub(crate) fn cut(row: &str) -> Result<(&str, &str), Fail> {
     Ok(row.split_once('|').ok_or("a row of fewer columns")?)
 }
 
 /// How often a word stands there, and the word: `64*ff` is 64 times `ff`.
-pub fn times(word: &str) -> (usize, &str) {
+pub(crate) fn times(word: &str) -> (usize, &str) {
     if let Some((count, unit)) = word.split_once('*')
         && let Ok(count) = count.parse::<usize>()
     {
@@ -51,7 +51,7 @@ pub fn times(word: &str) -> (usize, &str) {
 }
 
 /// The text of a word, as often as it stands there. A line feed stands for each `␊`.
-pub fn text_of(alloc: Global, word: &str) -> Result<String, AllocError> {
+pub(crate) fn text_of(alloc: Global, word: &str) -> Result<String, AllocError> {
     let (count, unit) = times(word);
     let mut text = String::new(alloc);
     for _ in 0..count {
@@ -66,7 +66,7 @@ pub fn text_of(alloc: Global, word: &str) -> Result<String, AllocError> {
 }
 
 /// The texts of words, which `§` parts.
-pub fn joined(alloc: Global, words: &str) -> Result<String, AllocError> {
+pub(crate) fn joined(alloc: Global, words: &str) -> Result<String, AllocError> {
     let mut text = String::new(alloc);
     for word in words.split('§') {
         text.push_str(text_of(alloc, word)?.as_str())?;
@@ -75,7 +75,7 @@ pub fn joined(alloc: Global, words: &str) -> Result<String, AllocError> {
 }
 
 /// The bytes that words spell in hexadecimal.
-pub fn bytes_of(alloc: Global, words: &str) -> Result<Vec<u8>, Fail> {
+pub(crate) fn bytes_of(alloc: Global, words: &str) -> Result<Vec<u8>, Fail> {
     let mut bytes = Vec::new(alloc);
     for word in words.split_ascii_whitespace() {
         let (count, word) = times(word);
@@ -88,7 +88,7 @@ pub fn bytes_of(alloc: Global, words: &str) -> Result<Vec<u8>, Fail> {
 }
 
 /// Bytes in hexadecimal, with a space before each. Of many, only how many they are.
-pub fn hexadecimal(alloc: Global, bytes: &[u8]) -> Result<String, AllocError> {
+pub(crate) fn hexadecimal(alloc: Global, bytes: &[u8]) -> Result<String, AllocError> {
     if bytes.len() > 60 {
         return format!(in alloc; " {} bytes", bytes.len());
     }
@@ -110,7 +110,7 @@ fn value_of(alloc: Global, word: &str) -> Result<Value, Fail> {
 }
 
 /// The arguments that words spell, with a comma between each two.
-pub fn values_of(alloc: Global, words: &str) -> Result<Values, Fail> {
+pub(crate) fn values_of(alloc: Global, words: &str) -> Result<Values, Fail> {
     let mut values = Values::make(alloc);
     for word in words.split_terminator(',') {
         let (count, word) = times(word);

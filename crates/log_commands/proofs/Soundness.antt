@@ -1,7 +1,6 @@
 -- The commands over logs are sound.
 use Rattle.std.proofs.Common.{◌≡◌, ℕ, Bool, List, [], ◌∷◌, length, Some, None, Result, Ok, Err, refl, sym, ap, ◌∙◌, subst}
 use Rattle.std.specs.Prelude.{IsErrOf, nat_lt, if◌then◌else◌}
-use Rattle.nl_io.specs.Desk.{Desk}
 use Rattle.checkpoint_io.specs.declared.cause.Cause.{Cause}
 use Rattle.checkpoint_io.specs.Blocks.{messages_of}
 use Rattle.checkpoint_io.proofs.BreakLaws.{whole_or_break}
@@ -15,10 +14,9 @@ use Rattle.aggregation.specs.declared.fault.AggregateFault.TheVariants as faults
 use Rattle.aggregation.specs.Totals.{argument_totals}
 use Rattle.aggregation.specs.Aggregating.{AnswersTotals, answer_for}
 use Rattle.aggregation.proofs.TotalsLaws.{one_answer}
-use Rattle.command_base.specs.Endings.{Ending, IsDone}
-use Rattle.command_base.specs.HeldFiles.{Holds}
+use Rattle.command_base.specs.Endings.{IsDone}
 use Rattle.command_base.specs.HeldLaws.{such_is}
-use Rattle.command_base.specs.Tasks.{Product, WhileReading, Streaming}
+use Rattle.command_base.specs.Tasks.{WhileReading, Streaming}
 use Rattle.command_base.specs.Readings.{never}
 use Rattle.command_base.specs.Soundness.{IsSound}
 use Rattle.command_base.specs.SoundTasks.{file_sound}

@@ -1,5 +1,5 @@
 -- How `decompress` ends, by what the decompression of the opened log answered.
-use Rattle.std.proofs.Common.{◌≡◌, ℕ, List, [], ◌∷◌, ◌++◌, Result, Ok, Err, codes, refl, sym, ap, subst, ◌∙◌, inl, inr, append_assoc}
+use Rattle.std.proofs.Common.{◌≡◌, ℕ, List, [], ◌∷◌, ◌++◌, Result, Ok, Err, codes, refl, sym, ap, ◌∙◌, inl, inr, append_assoc}
 use Rattle.std.specs.Prelude.{IsErrOf}
 use Rattle.std.specs.Fmt.{decimal}
 use Rattle.std.proofs.lemmas.List.{append-nil}
@@ -8,12 +8,11 @@ use Rattle.std.proofs.lemmas.Grind.{flat_map-append}
 use Rattle.nl_io.specs.Count.{Rose}
 use Rattle.nl_io.specs.Content.{Told, with_end, PutsFront}
 use Rattle.nl_io.specs.Desk.{Desk}
-use Rattle.nl_io.proofs.Contents.{front-whole}
 use Rattle.decompressor.specs.declared.report.Report.{Report}
 use Rattle.decompressor.specs.declared.fault.DecodeFault.{DecodeFault}
 use Rattle.decompressor.specs.declared.fault.DecodeFault.TheVariants as faults
 use Rattle.decompressor.specs.Decompressing.{LinesTo, IsTextOfWhole, IsTextOfDamaged, ReadsText, Decompresses}
-use Rattle.command_base.specs.Endings.{Ending, Done, NoMemory}
+use Rattle.command_base.specs.Endings.{NoMemory}
 use Rattle.command_base.specs.HeldFiles.{IsThere}
 use Rattle.command_base.specs.HeldLaws.{WasRead, such_read, there_read, same_desk}
 use Rattle.command_base.specs.Effects.{IsPrinted, CommandEffect}
@@ -22,7 +21,7 @@ use Rattle.command_base.specs.Readings.{ReadsFile}
 use Rattle.command_base.specs.Scenes.{Scene, scene}
 use Rattle.command_base.specs.Tasks.{Streaming, text_alone}
 use Rattle.log_commands.specs.Logs.{IsLog}
-use Rattle.log_commands.specs.Decompressing.{writers_text, whole_ending, log_ending, HaveText, GivesText, BeginsText, decompress_task}
+use Rattle.log_commands.specs.Decompressing.{writers_text, whole_ending, log_ending, GivesText, BeginsText, decompress_task}
 use Rattle.log_commands.proofs.Told.{text_told}
 use Rattle.log_commands.proofs.Soundness.{decompress_sound}
 

@@ -1,5 +1,5 @@
 -- A log was read, the text that it gives was printed, and then the command ends as the reading did.
-use Rattle.std.proofs.Common.{◌≡◌, ℕ, List, [], None, refl, sym, ap, subst, ◌∙◌}
+use Rattle.std.proofs.Common.{◌≡◌, ℕ, List, [], refl, sym, ap, subst, ◌∙◌}
 use Rattle.nl_io.specs.Content.{Told, with_end}
 use Rattle.nl_io.specs.Desk.{Desk}
 use Rattle.command_base.specs.Endings.{Ending, Usage, WriteFault, NoMemory}

@@ -1,6 +1,6 @@
 //! The line on totals.
 
-ghost use Rattle.std.specs.Prelude.{◌≡◌, ◌≢◌, Some};
+ghost use Rattle.std.specs.Prelude.{◌≢◌, Some};
 ghost use Rattle.command_base.specs.Endings.{ending_of, NoMemory as WantsMemory};
 ghost use Rattle.command_base.specs.Printing.{Prints};
 ghost use Rattle.log_commands.specs.Aggregating.{totals_line, totals_text};

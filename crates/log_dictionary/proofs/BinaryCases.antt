@@ -1,9 +1,10 @@
 -- Bytes begin with an entry, end inside one, or are wrong: one of the three always holds.
-use Rattle.std.proofs.Common.{◌≡◌, ◌≢◌, ◌⊎◌, ℕ, ◌+◌, ◌-◌, ◌*◌, ◌<◌, ◌≤◌, ◌^◌, Bool, true, false, eqb, List, [], ◌∷◌, ◌++◌, length, get_or, take, drop, All, refl, sym, ap, subst, ◌∙◌, inl, inr, arith, append_assoc}
+use Rattle.std.proofs.Common.{◌≡◌, ◌≢◌, ◌⊎◌, ℕ, ◌+◌, ◌-◌, ◌*◌, ◌<◌, ◌≤◌, ◌^◌, Bool, true, false, eqb, List, [], ◌∷◌, ◌++◌, length, get_or, take, drop, refl, sym, ap, ◌∙◌, inl, inr, arith, append_assoc}
 use Rattle.std.specs.Hash.{le_bytes}
 use Rattle.std.proofs.lemmas.Bool.{cases_lt, eqb-true, eqb-false}
-use Rattle.std.proofs.lemmas.List.{drop_at, length-append, length-take-le, take-append-drop, append-nil}
-use Rattle.std.proofs.lemmas.List.Elements.{All-drop, All-get_or, All-tail}
+use Rattle.std.proofs.lemmas.List.{length-append, length-take-le, take-append-drop, append-nil}
+use Rattle.std.proofs.lemmas.List.Elements.{All-get_or, All-tail}
+use Rattle.nibble_pack.specs.Bytes.{AreBytes, back_bytes}
 use Rattle.printf_grammar.proofs.Total.{one_holds}
 use Rattle.printf_grammar.proofs.Unique.{never_both}
 use Rattle.log_dictionary.specs.declared.severity.Severity.{Severity}
@@ -20,14 +21,8 @@ use Rattle.log_dictionary.proofs.BinaryNumbers.{two_read, four_read}
 use Rattle.log_dictionary.proofs.BinaryLaws.{three_nested, nested, one_entry, bad_not_whole}
 use Rattle.log_dictionary.proofs.BinaryReading.{read_bad}
 
-abbrev AreBytes : List ℕ → Type 0
-AreBytes bytes = All (λ byte. byte < 256) bytes
-
 byte_at : (bytes : List ℕ) (i : ℕ) → i < length bytes → AreBytes bytes → get_or bytes i 0 < 256
 byte_at bytes i within small = All-get_or (λ byte. byte < 256) bytes i 0 within small
-
-back_bytes : (bytes front rest : List ℕ) → bytes ≡ front ++ rest → AreBytes bytes → AreBytes rest
-back_bytes bytes front rest is small = subst AreBytes (ap (drop (length front)) is ∙ drop_at front rest (length front) refl) (All-drop (λ byte. byte < 256) (length front) bytes small)
 
 -- ---- parts
 

@@ -1,7 +1,9 @@
 -- Worked message lines.
-use Rattle.std.proofs.Common.{◌≡◌, ℕ, lit<, lit≤, List, [], ◌∷◌, Ok, Err, refl, subst, arith}
+use Rattle.std.proofs.Common.{◌≡◌, ℕ, ◌<◌, lit<, lit≤, List, [], ◌∷◌, Ok, Err, refl, subst, arith}
 use Rattle.std.specs.Prelude.{codes}
 use Rattle.std.specs.Fmt.{digits}
+use Rattle.std.proofs.lemmas.List.Elements.{All-from_recursion}
+use Rattle.nibble_pack.specs.Bytes.{AreBytes}
 use Rattle.printf_grammar.specs.declared.piece.Piece.TheVariants.{Literal}
 use Rattle.printf_grammar.specs.Spelling.{Spells}
 use Rattle.log_dictionary.specs.declared.message.Message.{Message}
@@ -10,7 +12,7 @@ use Rattle.log_dictionary.specs.declared.severity.Severity.TheVariants.{Notice}
 use Rattle.log_dictionary.specs.Numbers.{number_from}
 use Rattle.log_dictionary.specs.Messages.{HasMessage, SpellsMessage}
 use Rattle.log_dictionary.specs.Additions.{ReadsLine}
-use Rattle.log_dictionary.specs.Canonical.{AreBytes, message_line, dictionary_text}
+use Rattle.log_dictionary.specs.Canonical.{message_line, dictionary_text}
 use Rattle.log_dictionary.specs.Rows.{row_message, row_message_line, great_line}
 use Rattle.log_dictionary.proofs.BinaryWorked.{formed}
 use Rattle.log_dictionary.proofs.Written.{written_text, written_message}
@@ -21,7 +23,10 @@ none_there message (k, other, within, is, same) = omega (arith, within)
 -- ---- the row's line
 
 file_bytes : AreBytes (codes "srv.cc")
-file_bytes = (lit< tt, (lit< tt, (lit< tt, (lit< tt, (lit< tt, (lit< tt, tt))))))
+file_bytes = All-from_recursion (λ (b : ℕ). b < 256) (codes "srv.cc") (lit< tt, (lit< tt, (lit< tt, (lit< tt, (lit< tt, (lit< tt, tt))))))
+
+format_bytes : AreBytes (codes "x=%d")
+format_bytes = All-from_recursion (λ (b : ℕ). b < 256) (codes "x=%d") (lit< tt, (lit< tt, (lit< tt, (lit< tt, tt))))
 
 pub row_written : message_line 0 row_message ≡ row_message_line
 unfolding digits
@@ -32,7 +37,7 @@ unfolding digits
 dictionary_written = refl
 
 pub row_spelled : SpellsMessage row_message_line 0 row_message
-row_spelled = subst (λ (line : List ℕ). SpellsMessage line 0 row_message) row_written (written_message 0 row_message (lit< tt) (record { file = file_bytes; bytes = (lit< tt, (lit< tt, (lit< tt, (lit< tt, tt)))); formed = formed; line_fits = lit< tt }))
+row_spelled = subst (λ (line : List ℕ). SpellsMessage line 0 row_message) row_written (written_message 0 row_message (lit< tt) (record { file = file_bytes; bytes = format_bytes; formed = formed; line_fits = lit< tt }))
 
 pub row_read : ReadsLine [] row_message_line (row_message ∷ []) (Ok tt)
 row_read = (row_message, record { spelled = row_spelled; new = none_there row_message }, lit< tt, refl)
@@ -54,7 +59,7 @@ great_spelled = record {
   spelled = refl;
   numeral = refl;
   file = written_text (codes "srv.cc") file_bytes;
-  bytes = written_text (codes "x") (lit< tt, tt);
+  bytes = written_text (codes "x") (All-from_recursion (λ (b : ℕ). b < 256) (codes "x") (lit< tt, tt));
   formed = great_formed;
   line_fits = lit< tt;
 }

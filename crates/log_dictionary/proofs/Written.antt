@@ -5,13 +5,15 @@ use Rattle.std.specs.Char.{digit_char, digit_value, IsAsciiHexdigit}
 use Rattle.std.proofs.lemmas.Bool.{eqb-true}
 use Rattle.std.proofs.lemmas.Bool.Decides.{nat_tests}
 use Rattle.std.proofs.lemmas.Str.{digit_value-digit_char}
+use Rattle.std.proofs.lemmas.List.Elements.{All-head, All-tail}
+use Rattle.nibble_pack.specs.Bytes.{AreBytes}
 use Rattle.log_dictionary.specs.declared.message.Message.{Message}
 use Rattle.log_dictionary.specs.Severities.{severity_name}
 use Rattle.log_dictionary.specs.Texts.{IsPlain, SpellsByte, SpellsText}
 use Rattle.log_dictionary.specs.Texts.SpellsByte.{itself, quotation_mark, backslash, line_feed, tab, hexadecimal}
 use Rattle.log_dictionary.specs.Messages.{SpellsMessage}
 use Rattle.log_dictionary.proofs.NumberLaws.{decimal_natural}
-use Rattle.log_dictionary.specs.Canonical.{canonical_byte, canonical_text, message_line, AreBytes, HasLine}
+use Rattle.log_dictionary.specs.Canonical.{canonical_byte, canonical_text, message_line, HasLine}
 
 digit_at : (n : ℕ) (few : Bool) → n < 16 → (few ≡ true → n < 10) → (few ≡ false → 10 ≤ n) → IsAsciiHexdigit (cond few (48 + n) (87 + n))
 digit_at n true small few many = let f = few refl in inl (inl (omega arith, omega arith))
@@ -47,7 +49,10 @@ written_byte b byte = spelled_at b (eqb b 34) (eqb b 92) (eqb b 10) (eqb b 9) (l
 -- what is written of a text spells it
 pub written_text : (bytes : List ℕ) → AreBytes bytes → SpellsText (canonical_text bytes) bytes
 written_text [] all = refl
-written_text (b ∷ bytes) all = (canonical_byte b, canonical_text bytes, refl, written_byte b all.0, written_text bytes all.1)
+written_text (b ∷ bytes) all =
+    let byte = All-head (λ (b : ℕ). b < 256) b bytes all in
+    let others = All-tail (λ (b : ℕ). b < 256) b bytes all in
+    (canonical_byte b, canonical_text bytes, refl, written_byte b byte, written_text bytes others)
 
 regroup : (w d s n name format : List ℕ) → (w ++ d ++ s ++ n ++ 32 ∷ []) ++ (34 ∷ name ++ 34 ∷ []) ++ (32 ∷ (34 ∷ format ++ 34 ∷ [])) ≡ w ++ d ++ s ++ n ++ (32 ∷ 34 ∷ []) ++ name ++ (34 ∷ 32 ∷ 34 ∷ []) ++ format ++ 34 ∷ []
 regroup w d s n name format = simp append_assoc

@@ -1,7 +1,8 @@
 -- How messages and texts are written: each in one spelling, the canonical one.
 use Rattle.std.specs.Prelude.{ℕ, ◌<◌, ◌/◌, ◌%◌, ◌^◌, List, [], ◌∷◌, ◌++◌, codes, decimal, ◌==◌, nat_le, ◌&&◌, if◌then◌else◌}
 use Rattle.std.specs.Char.{digit_char}
-use Rattle.std.specs.List.{flat_map, enumerate_from, AllByRecursion}
+use Rattle.std.specs.List.{flat_map, enumerate_from}
+use Rattle.nibble_pack.specs.Bytes.{AreBytes}
 use Rattle.printf_grammar.specs.Spelling.{Spells}
 use Rattle.log_dictionary.specs.declared.message.Message.{Message}
 use Rattle.log_dictionary.specs.Severities.{severity_name}
@@ -41,10 +42,6 @@ message_text (id, message) = message_line id message ++ 10 ∷ []
 -- the text of a dictionary: the first line of a trace, and the lines of the messages
 abbrev pub dictionary_text : List Message → List ℕ
 dictionary_text messages = codes "nanolog-trace 1\n" ++ flat_map message_text (enumerate_from 0 messages)
-
--- all of these are bytes
-abbrev pub AreBytes : List ℕ → Type 0
-AreBytes bytes = AllByRecursion (λ b. b < 256) bytes
 
 -- a message that a line can spell: its texts are bytes, its format is formed, and its line is a u32
 pub record HasLine (message : Message) : Type 0 where

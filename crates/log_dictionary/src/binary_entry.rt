@@ -5,7 +5,7 @@ ghost use Rattle.std.specs.Hash.{le_bytes};
 ghost use Rattle.log_dictionary.specs.declared.message.Message.{Message};
 ghost use Rattle.log_dictionary.specs.declared.severity.Severity.{Severity};
 ghost use Rattle.log_dictionary.specs.Severities.{severity_number};
-ghost use Rattle.log_dictionary.specs.BinaryEntries.{RawEntry, raw_entry_bytes, IsInRange, entry_bytes, SpellsEntry, IsCutText, IsCutEntry, IsBadLength, IsOutOfRange, IsBadEntry, text_bytes};
+ghost use Rattle.log_dictionary.specs.BinaryEntries.{entry_bytes, SpellsEntry, IsCutText, IsCutEntry, IsBadLength, IsOutOfRange, IsBadEntry, text_bytes};
 ghost use Rattle.log_dictionary.specs.EntryReading.{EntryStops, raw_fields, BeginsWithRawEntry};
 
 use crate::formats::{FormatFault, format_of};

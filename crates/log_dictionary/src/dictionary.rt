@@ -1,6 +1,6 @@
 //! The messages that calls name by number.
 
-ghost use Rattle.std.specs.Prelude.{List, ◌≡◌, ◌≤◌, ◌↔◌, [], length, slice_get, IsNone, IfSome, Ok, Err, ℕ, ◌⊎◌, IfOk, IfErr, MatchResult, IsTrue, OnOk, OnErr, ◌≢◌, ◌<◌, ◌∷◌, ◌++◌};
+ghost use Rattle.std.specs.Prelude.{List, ◌≡◌, ◌≤◌, ◌↔◌, [], length, slice_get, IsNone, Ok, Err, ℕ, IfOk, IfErr, IsTrue, OnErr, ◌<◌};
 ghost use Rattle.std.specs.Option.{option_copied};
 ghost use Rattle.std.specs.Slice.Iter.{iter_rest};
 ghost use Rattle.printf_grammar.specs.declared.piece.Piece.{Piece};

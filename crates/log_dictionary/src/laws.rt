@@ -1,16 +1,17 @@
 //! What holds of the definitions. The functions do nothing: what they ensure is proved of the definitions.
 
-ghost use Rattle.std.specs.Prelude.{◌≡◌, ◌⊎◌, ◌↔◌, ℕ, ◌<◌, ◌≤◌, ◌^◌, List, [], ◌∷◌, ◌++◌, length, map, codes, All, Ok, Err, IsTrue, ℤ, pos, negsuc, FitsSigned};
+ghost use Rattle.std.specs.Prelude.{◌≡◌, ◌⊎◌, ◌↔◌, ℕ, ◌<◌, ◌≤◌, ◌^◌, List, [], ◌∷◌, ◌++◌, length, map, codes, Ok, Err, IsTrue, ℤ, pos, negsuc, FitsSigned};
 ghost use Rattle.std.specs.Int.{w64};
 ghost use Rattle.std.specs.Option.{option_map};
 ghost use Rattle.std.specs.Fmt.{decimal, signed_decimal};
+ghost use Rattle.nibble_pack.specs.Bytes.{AreBytes};
 ghost use Rattle.log_dictionary.specs.declared.message.Message.{Message};
 ghost use Rattle.log_dictionary.specs.Additions.{ReadsLine};
 ghost use Rattle.log_dictionary.specs.Severities.{severity_name, severity_number};
 ghost use Rattle.log_dictionary.specs.BinaryEntries.{SpellsEntry, BeginsWithEntry, IsCutEntry, IsOutOfRange, IsBadEntry};
 ghost use Rattle.log_dictionary.specs.Texts.{OpensText, SpellsText, text_at};
 ghost use Rattle.log_dictionary.specs.Messages.{SameMessage, is_same, SpellsMessage};
-ghost use Rattle.log_dictionary.specs.Canonical.{canonical_text, message_line, dictionary_text, AreBytes, HasLine};
+ghost use Rattle.log_dictionary.specs.Canonical.{canonical_text, message_line, dictionary_text, HasLine};
 ghost use Rattle.log_dictionary.specs.Rows.{row_message, row_head, row_entry, row_message_line, great_line, all_severities};
 ghost use Rattle.log_dictionary.specs.Numbers.{natural_of, integer_of, integer_read};
 
@@ -36,7 +37,7 @@ pub fn worked_entries()
 /// Bytes end inside an entry, are wrong, or begin with an entry: one of the three holds, and only
 /// one.
 pub fn entries_are_told_apart()
-    ensures one_holds { (bytes : List ℕ) → All (λ byte. byte < 256) bytes
+    ensures one_holds { (bytes : List ℕ) → AreBytes bytes
         → IsCutEntry bytes ⊎ IsBadEntry bytes ⊎ BeginsWithEntry bytes }
     ensures not_cut { (bytes : List ℕ) → BeginsWithEntry bytes → ¬ (IsCutEntry bytes) }
     ensures not_bad { (bytes : List ℕ) → BeginsWithEntry bytes → ¬ (IsBadEntry bytes) }
@@ -52,7 +53,7 @@ pub fn entries_are_one()
     ensures one_message { (front other rest other_rest : List ℕ) (a b : Message)
         → SpellsEntry front a → SpellsEntry other b → front ++ rest ≡ other ++ other_rest
         → (a ≡ b) × (front ≡ other) }
-    ensures cut { (front rest : List ℕ) (message : Message) → All (λ byte. byte < 256) front
+    ensures cut { (front rest : List ℕ) (message : Message) → AreBytes front
         → SpellsEntry (front ++ rest) message → 1 ≤ length rest → IsCutEntry front }
     ensures stays_bad { (bytes rest : List ℕ) → IsBadEntry bytes → IsBadEntry (bytes ++ rest) }
 {}

@@ -22,10 +22,9 @@ pub struct Message {
 }
 
 impl PartialEq for Message {
-    ghost use Rattle.std.specs.Prelude.{◌↔◌, IsTrue};
     ghost use Rattle.std.proofs.Common.{rules};
     ghost use Rattle.std.specs.Cmp.Rules.{comparing};
-    ghost use Rattle.log_dictionary.specs.Messages.{SameMessage, is_same};
+    ghost use Rattle.log_dictionary.specs.Messages.{is_same};
 
     ghost eq = { is_same };
 

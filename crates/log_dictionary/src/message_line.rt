@@ -1,6 +1,6 @@
 //! Message lines, part by part.
 
-ghost use Rattle.std.specs.Prelude.{◌≡◌, ◌<◌, ◌≤◌, ◌^◌, ℕ, IsTrue, IfSome, IfNone, length, ◌↔◌, decimal};
+ghost use Rattle.std.specs.Prelude.{◌≡◌, ◌<◌, ◌≤◌, ◌^◌, ℕ, IsTrue, IfSome, IfNone, ◌↔◌, decimal};
 ghost use Rattle.std.specs.Option.{option_copied, option_map};
 ghost use Rattle.printf_grammar.specs.declared.limits.TheConstants.{MAX_FORMAT};
 ghost use Rattle.log_dictionary.specs.declared.message.TheConstants.{MAX_FILE_NAME};

@@ -1,5 +1,5 @@
 -- Writers that log one call more.
-use Rattle.std.proofs.Common.{◌≡◌, true, false, ℕ, suc, ◌+◌, ◌%◌, ◌<◌, ◌≤◌, ◌^◌, List, [], ◌∷◌, ◌++◌, length, refl, sym, ap, subst, ◌∙◌, arith, inl, inr, ⊎_elim}
+use Rattle.std.proofs.Common.{◌≡◌, true, false, ℕ, ◌+◌, ◌%◌, ◌<◌, ◌≤◌, ◌^◌, List, [], ◌∷◌, ◌++◌, length, refl, sym, ap, subst, ◌∙◌, arith, inl, inr, ⊎_elim}
 use Rattle.std.specs.Prelude.{All, Option, None, Some, option_map, slice_get}
 use Rattle.std.proofs.lemmas.Bool.{cases_lt}
 use Rattle.std.proofs.lemmas.List.{length-append, length-map}
@@ -19,7 +19,7 @@ use Rattle.arg_records.specs.Calls.{last_stamp}
 use Rattle.arg_records.specs.Frames.{AreArguments, Frame, FrameLen}
 use Rattle.arg_records.specs.Kinds.{HoldsBytes}
 use Rattle.arg_records.proofs.Fitted.{AreArguments-from_Fits}
-use Rattle.ring_core.specs.Plans.{Plan, plan_of, types_by_id, call_of, AreFramesOf, MayFollow, Lawful}
+use Rattle.ring_core.specs.Plans.{Plan, plan_of, call_of, AreFramesOf, MayFollow, Lawful}
 use Rattle.ring_core.specs.Positions.{Need, Position, position_from}
 use Rattle.ring_core.proofs.Frames.{AreFramesOf-push, last_stamp-push}
 use Rattle.ring_core.proofs.Needs.{Need-within, Need-beyond, position_from-push}

@@ -1,6 +1,6 @@
 //! Writers.
 
-ghost use Rattle.std.specs.Prelude.{◌≡◌, ◌+◌, ◌<◌, ◌≤◌, ◌↔◌, ◌∷◌, ◌++◌, [], ℕ, List, length, false, true, Err, OnOk, OnErr, IfErr};
+ghost use Rattle.std.specs.Prelude.{◌≡◌, ◌+◌, ◌<◌, ◌≤◌, ◌↔◌, ◌∷◌, ◌++◌, [], length, false, true, Err, OnOk, OnErr, IfErr};
 ghost use Rattle.nl_io.specs.Count.{Rose};
 ghost use Rattle.printf_grammar.specs.Types.{values_of};
 ghost use Rattle.session_options.specs.declared.limits.TheConstants.{MIN_RING, MAX_RING};

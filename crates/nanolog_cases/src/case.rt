@@ -5,14 +5,14 @@ use std::alloc::Global;
 
 /// A line that isn't indented, and the indented lines behind it.
 #[derive(Drop)]
-pub struct CaseStep<'a> {
+pub(crate) struct CaseStep<'a> {
     /// The line's number in the file.
-    pub number: usize,
+    pub(crate) number: usize,
     /// Its first word.
-    pub verb: &'a str,
+    pub(crate) verb: &'a str,
     /// What stands behind that word and a space.
-    pub rest: &'a str,
-    pub block: Vec<String>,
+    pub(crate) rest: &'a str,
+    pub(crate) block: Vec<String>,
 }
 
 impl<'a> CaseStep<'a> {
@@ -31,7 +31,7 @@ impl<'a> CaseStep<'a> {
     }
 
     /// Whether the lines of the block are what the case is played for.
-    pub fn is_values(&self) -> bool {
+    pub(crate) fn is_values(&self) -> bool {
         self.verb == "each" || self.verb == "rows"
     }
 }
@@ -49,9 +49,9 @@ fn numbers_between(alloc: Global, from: &str, to: &str) -> Result<Vec<String>> {
 
 /// What is to be done and shown under a title.
 #[derive(Drop)]
-pub struct Case<'a> {
-    pub title: &'a str,
-    pub steps: Vec<CaseStep<'a>>,
+pub(crate) struct Case<'a> {
+    pub(crate) title: &'a str,
+    pub(crate) steps: Vec<CaseStep<'a>>,
 }
 
 impl<'a> Case<'a> {
@@ -72,7 +72,7 @@ impl<'a> Case<'a> {
 }
 
 /// The cases of a file. The first has no title: its steps stand in front of all titles.
-pub fn cases_of(alloc: Global, text: &str) -> Result<Vec<Case<'_>>> {
+pub(crate) fn cases_of(alloc: Global, text: &str) -> Result<Vec<Case<'_>>> {
     let mut cases = Vec::new(alloc);
     let mut case = Case::make(alloc, "");
     for (place, line) in text.lines().enumerate() {

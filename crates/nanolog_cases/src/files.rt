@@ -6,16 +6,16 @@ use std::alloc::Global;
 use std::collections::BTreeMap;
 
 /// What each name holds.
-pub type Held = BTreeMap<String, Vec<u8>>;
+pub(crate) type Held = BTreeMap<String, Vec<u8>>;
 
 /// What the name holds.
-pub fn held_by<'h>(held: &'h Held, name: &str) -> Result<&'h [u8]> {
+pub(crate) fn held_by<'h>(held: &'h Held, name: &str) -> Result<&'h [u8]> {
     let bytes = held.get(name).context("the file isn't there")?;
     Ok(bytes.as_slice())
 }
 
 /// Makes the name hold these bytes.
-pub fn hold(alloc: Global, held: &mut Held, name: &str, bytes: &[u8]) -> Result<()> {
+pub(crate) fn hold(alloc: Global, held: &mut Held, name: &str, bytes: &[u8]) -> Result<()> {
     let bytes = bytes.to_vec(alloc)?;
     held.insert(String::from_str(alloc, name)?, bytes)?;
     Ok(())
@@ -47,7 +47,7 @@ fn first_of(alloc: Global, bytes: &[u8], count: &str) -> Result<Vec<u8>> {
 }
 
 /// Does the step of this verb, which changes the file that is named first.
-pub fn change(alloc: Global, held: &mut Held, verb: &str, words: &str) -> Result<()> {
+pub(crate) fn change(alloc: Global, held: &mut Held, verb: &str, words: &str) -> Result<()> {
     let (name, change) = two_of(words)?;
     let bytes = held_by(held, name)?;
     let changed = match verb {

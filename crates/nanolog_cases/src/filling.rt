@@ -4,7 +4,7 @@ use anyhow::{Context, Result};
 use std::alloc::Global;
 
 /// What stands on the two sides of the first ` =>`.
-pub fn sides_of(text: &str) -> Option<(&str, &str)> {
+pub(crate) fn sides_of(text: &str) -> Option<(&str, &str)> {
     let (left, right) = text.split_once(" =>")?;
     Some((left, right.strip_prefix(' ').unwrap_or(right)))
 }
@@ -34,7 +34,7 @@ fn written_out(alloc: Global, text: &str) -> Result<String> {
 }
 
 /// What the text stands for in a case that is played for this value, if it has values.
-pub fn filled(alloc: Global, text: &str, value: Option<&str>) -> Result<String> {
+pub(crate) fn filled(alloc: Global, text: &str, value: Option<&str>) -> Result<String> {
     let mut whole = String::from_str(alloc, text)?;
     if let Some(value) = value {
         let (left, right) = sides_of(value).unwrap_or((value, ""));
@@ -47,7 +47,7 @@ pub fn filled(alloc: Global, text: &str, value: Option<&str>) -> Result<String> 
 }
 
 /// The bytes that the words spell in hexadecimal digits.
-pub fn bytes_of(alloc: Global, text: &str) -> Result<Vec<u8>> {
+pub(crate) fn bytes_of(alloc: Global, text: &str) -> Result<Vec<u8>> {
     let mut bytes = Vec::new(alloc);
     for word in text.split_ascii_whitespace() {
         bytes.push(u8::from_str_radix(word, 16)?)?;
@@ -56,7 +56,7 @@ pub fn bytes_of(alloc: Global, text: &str) -> Result<Vec<u8>> {
 }
 
 /// The numbers that stand there.
-pub fn numbers_of(alloc: Global, text: &str) -> Result<Vec<u64>> {
+pub(crate) fn numbers_of(alloc: Global, text: &str) -> Result<Vec<u64>> {
     let mut numbers = Vec::new(alloc);
     for word in text.split_ascii_whitespace() {
         numbers.push(word.parse::<u64>()?)?;
@@ -65,12 +65,12 @@ pub fn numbers_of(alloc: Global, text: &str) -> Result<Vec<u64>> {
 }
 
 /// The first word, and what stands behind it and a space.
-pub fn two_of(text: &str) -> Result<(&str, &str)> {
+pub(crate) fn two_of(text: &str) -> Result<(&str, &str)> {
     text.split_once(' ').context("a word is missing")
 }
 
 /// The words of a command line, between which one space stands.
-pub fn words_of(alloc: Global, text: &str) -> Result<Vec<String>> {
+pub(crate) fn words_of(alloc: Global, text: &str) -> Result<Vec<String>> {
     let mut words = Vec::new(alloc);
     if text.is_empty() {
         return Ok(words);

@@ -143,7 +143,7 @@ fn push_values(shown: &mut String, verb: &str, all: &[Played]) -> Result<()> {
 }
 
 /// Plays the cases of a file, the first of which gives the texts for the others. Answers what is shown.
-pub fn play_cases(
+pub(crate) fn play_cases(
     rt: impl Machine + Drop,
     alloc: Global,
     name: &str,

@@ -14,24 +14,24 @@ use std::thread::Threads;
 use trace_session::FreeGate;
 
 /// What a run needs of the machine.
-pub trait Machine: Threads + Wait + Copy + Send + 'static {}
+pub(crate) trait Machine: Threads + Wait + Copy + Send + 'static {}
 
 impl<R: Threads + Wait + Copy + Send + 'static> Machine for R {}
 
 /// What the next run begins with, and what is shown so far.
 #[derive(Drop)]
-pub struct CaseScene {
+pub(crate) struct CaseScene {
     alloc: Global,
-    pub held: Held,
-    pub shown: String,
-    pub piece: usize,
+    pub(crate) held: Held,
+    pub(crate) shown: String,
+    pub(crate) piece: usize,
     failing_files: Vec<u64>,
     failing_output: Vec<u64>,
     failing_errors: Vec<u64>,
 }
 
 impl CaseScene {
-    pub fn make(alloc: Global) -> CaseScene {
+    pub(crate) fn make(alloc: Global) -> CaseScene {
         CaseScene {
             alloc,
             held: BTreeMap::new(alloc),
@@ -64,7 +64,7 @@ impl CaseScene {
 
     /// Runs the program on the words, and shows what it printed and said. Where ` > FILE` stands behind them, what it
     /// prints becomes that file.
-    pub fn run(&mut self, rt: impl Machine, line: &str) -> Result<()> {
+    pub(crate) fn run(&mut self, rt: impl Machine, line: &str) -> Result<()> {
         let alloc = self.alloc;
         let (words, target) = line.split_once(" > ").unwrap_or((line, ""));
         let words = words_of(alloc, words)?;
@@ -85,7 +85,7 @@ impl CaseScene {
     }
 
     /// `files NUMBER..`, `output NUMBER..` or `errors NUMBER..`: these calls fail.
-    pub fn fail(&mut self, words: &str) -> Result<()> {
+    pub(crate) fn fail(&mut self, words: &str) -> Result<()> {
         let (kind, numbers) = words.split_once(' ').unwrap_or((words, ""));
         let numbers = numbers_of(self.alloc, numbers)?;
         match kind {
@@ -98,7 +98,7 @@ impl CaseScene {
     }
 
     /// Shows what a file holds, in the way of the verb.
-    pub fn show(&mut self, verb: &str, name: &str) -> Result<()> {
+    pub(crate) fn show(&mut self, verb: &str, name: &str) -> Result<()> {
         let Some(bytes) = self.held.get(name) else {
             writeln!(self.shown, "{name} isn't there")?;
             return Ok(());
@@ -112,7 +112,7 @@ impl CaseScene {
     }
 
     /// `FILE FILE`: shows whether they hold the same.
-    pub fn compare(&mut self, words: &str) -> Result<()> {
+    pub(crate) fn compare(&mut self, words: &str) -> Result<()> {
         let (left, right) = two_of(words)?;
         let is_same = held_by(&self.held, left)? == held_by(&self.held, right)?;
         let answer = if is_same { "hold the same" } else { "differ" };

@@ -30,7 +30,7 @@ fn line_of(alloc: Global, bytes: &[u8]) -> Result<String> {
 }
 
 /// Shows the lines of a text, each behind the mark.
-pub fn push_lines(alloc: Global, shown: &mut String, mark: &str, text: &[u8]) -> Result<()> {
+pub(crate) fn push_lines(alloc: Global, shown: &mut String, mark: &str, text: &[u8]) -> Result<()> {
     let mut lines: Vec<&[u8]> = text.split(|byte| *byte == b'\n').collect(alloc)?;
     let last = lines.pop().unwrap_or(&[]);
     for run in lines.chunk_by(|left, right| left == right) {
@@ -47,7 +47,7 @@ pub fn push_lines(alloc: Global, shown: &mut String, mark: &str, text: &[u8]) ->
 }
 
 /// Shows bytes in hexadecimal digits, 16 in a line.
-pub fn push_bytes(shown: &mut String, bytes: &[u8]) -> Result<()> {
+pub(crate) fn push_bytes(shown: &mut String, bytes: &[u8]) -> Result<()> {
     for (place, byte) in bytes.iter().enumerate() {
         let space = match place % 16 {
             0 if place > 0 => "\n  ",

@@ -38,7 +38,7 @@ use Rattle.trace_commands.specs.Texts.{direct_text}
 use Rattle.trace_commands.specs.Traces.{TraceRead}
 use Rattle.trace_commands.specs.Tasks.{direct_task}
 use Rattle.log_commands.specs.Logs.{IsLog}
-use Rattle.log_commands.specs.Decompressing.{whole_ending, log_ending, HaveText, GivesText, decompress_task}
+use Rattle.log_commands.specs.Decompressing.{whole_ending, log_ending, HaveText, decompress_task}
 use Rattle.log_commands.proofs.Soundness.{not_damaged, decompress_sound}
 use Rattle.session_commands.specs.Headline.{taken_text, LogLawful, TextSame}
 use Rattle.session_commands.specs.Replays.{replay_task}

@@ -6,7 +6,6 @@ ghost use Rattle.nl_io.specs.Count.{Rose};
 ghost use Rattle.nl_io.specs.Desk.{Desk, Held, found_in};
 ghost use Rattle.nl_io.specs.Content.{with_end};
 ghost use Rattle.trace_text.specs.Recordings.{Recording};
-ghost use Rattle.trace_text.specs.Rows.{three_writers_run};
 ghost use Rattle.log_dictionary.specs.declared.severity.Severity.TheVariants.{Debug};
 ghost use Rattle.checkpoint_io.specs.declared.heads.TheConstants.{MAX_LOG};
 ghost use Rattle.session_options.specs.declared.options.Options.{Options};

@@ -1,13 +1,8 @@
 -- What came from a source, and what went to a sink, over several calls.
-use Rattle.std.proofs.Common.{◌≡◌, ℕ, ◌+◌, ◌<◌, ◌≤◌, List, [], ◌++◌, length, take, drop, Some, None, refl, sym, ap, subst, ◌∙◌, append_assoc, arith}
-use Rattle.std.specs.Prelude.{IfSome}
+use Rattle.std.proofs.Common.{◌≡◌, ℕ, ◌+◌, ◌≤◌, List, ◌++◌, length, take, drop, Some, None, refl, sym, ap, subst, ◌∙◌, append_assoc, arith}
 use Rattle.std.proofs.lemmas.List.{append-nil, take-append-drop, take-append-le, length-append}
 use Rattle.std.proofs.Math.Seq.{take-add, take-append-add, take-length, drop-append_seam}
-use Rattle.nl_io.specs.Content.{Told, without_front, with_end, IsFront, IsAtEnd, PutsFront, Came}
-
-pub Came-none : (old : Told) → Came [] old old
-Came-none None = refl
-Came-none (Some content) = (content, refl, refl)
+use Rattle.nl_io.specs.Content.{Told, without_front, with_end, IsFront, PutsFront, Came}
 
 pub Came-more : (bytes piece : List ℕ) (n : ℕ) (old mid new : Told) → Came bytes old mid → IsFront n piece mid → new ≡ without_front n mid → Came (bytes ++ piece) old new
 Came-more bytes piece n None mid new came front moved = moved ∙ ap (without_front n) came
@@ -15,16 +10,6 @@ Came-more bytes piece n (Some content) mid new (others, whole, is) front moved =
     let part : (n ≤ length others) × (piece ≡ take n others) = subst (IsFront n piece) is front in
     let parts : others ≡ piece ++ drop n others = sym (take-append-drop n others) ∙ ap (λ (p : List ℕ). p ++ drop n others) (sym part.1) in
     (drop n others, whole ∙ ap (λ (o : List ℕ). bytes ++ o) parts ∙ sym (append_assoc bytes piece (drop n others)), moved ∙ ap (without_front n) is)
-
-pub Came-all : (bytes : List ℕ) (old now : Told) → Came bytes old now → IsAtEnd now → IfSome old (λ left. bytes ≡ left)
-Came-all bytes None now came at_end = tt
-Came-all bytes (Some content) now (others, whole, is) at_end =
-    let nothing : others ≡ [] = subst IsAtEnd is at_end in
-    sym (whole ∙ ap (λ (o : List ℕ). bytes ++ o) nothing ∙ append-nil bytes)
-
-pub Came-long : (bytes : List ℕ) (old now : Told) (limit : ℕ) → Came bytes old now → limit < length bytes → IfSome old (λ left. limit < length left)
-Came-long bytes None now limit came long = tt
-Came-long bytes (Some content) now limit (others, whole, is) long = omega (arith, ap length whole, length-append bytes others)
 
 pub with_end-more : (bytes : List ℕ) (done n : ℕ) (old mid new : Told) → done + n ≤ length bytes → mid ≡ with_end (take done bytes) old
     → new ≡ with_end (take n (drop done bytes)) mid → new ≡ with_end (take (done + n) bytes) old

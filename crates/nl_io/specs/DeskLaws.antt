@@ -9,7 +9,7 @@ use Rattle.std.specs.Cmp.{nat_cmp_total, eq_by_cmp_equiv, Equal-is}
 use Rattle.std.specs.Cmp.Lexicographic.{nat_list_cmp_total}
 use Rattle.std.specs.FinMap as map
 use Rattle.nl_io.specs.Content.{Told, with_end}
-use Rattle.nl_io.specs.Desk.{Desk, Held, ById, IsReading, OnlyReadFaults, Opens, TakesBytes, Leaves, Creates, Puts, Finishes, held_by, put_by}
+use Rattle.nl_io.specs.Desk.{Desk, Held, ById, IsReading, OnlyReadFaults, Opens, Leaves, Creates, Puts, Finishes, held_by, put_by}
 use Rattle.nl_io.specs.Desk.{found_in, SameButLeft, SameButHeld, OnlyName}
 
 pub SameButLeft-same : (id : ℕ) (a : Desk) → SameButLeft id a a
@@ -105,13 +105,6 @@ pub Opens-reading : (old : Desk) (name : List ℕ) (id : ℕ) (new : Desk) → O
     → map.get new.left id ≢ None
 Opens-reading old name id new opens =
     subst (λ (desk : Desk). map.get desk.left id ≢ None) (sym opens.opened) (is_given old.left id opens.content)
-
--- a file is still being read after bytes were taken
-pub TakesBytes-reading : (old : Desk) (id n : ℕ) (new : Desk) → map.get old.left id ≢ None → TakesBytes old id n new
-    → map.get new.left id ≢ None
-TakesBytes-reading old id n new reading takes =
-    let told = some_told (map.get old.left id) reading in
-    subst (λ (desk : Desk). map.get desk.left id ≢ None) (sym (takes.taken told.0 told.1)) (is_given old.left id _)
 
 -- a name that was created isn't finished
 pub Creates-made : (old : Desk) (name : List ℕ) (id : ℕ) (new : Desk) → Creates old name id new

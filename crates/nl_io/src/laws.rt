@@ -1,11 +1,11 @@
 //! Laws over the limits of this crate. The functions do nothing: what they ensure is proved of the definitions.
 
 ghost use Rattle.std.specs.Prelude.{◌≡◌};
-ghost use Rattle.nl_io.specs.declared.sink.TheConstants.{PIECE};
-ghost use Rattle.nl_io.specs.declared.source.TheConstants.{PIECE as SOURCE_PIECE};
+ghost use Rattle.nl_io.specs.declared.source.TheConstants.{PIECE};
+ghost use Rattle.nl_io.specs.declared.text_writer.TheConstants.{MAX_HELD};
 
-/// A text is gathered up to 65,536 bytes before it is written, and so many are asked of a source in one call.
-pub fn pieces_have_65536_bytes()
-    ensures gathered { PIECE ≡ 65536 }
-    ensures asked { SOURCE_PIECE ≡ 65536 }
+/// A writer of texts holds 16,384 bytes before it writes them, and 65,536 are asked of a source in one call.
+pub fn limits_have_these_numbers()
+    ensures held { MAX_HELD ≡ 16384 }
+    ensures asked { PIECE ≡ 65536 }
 {}

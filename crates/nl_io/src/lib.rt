@@ -31,7 +31,7 @@ pub use files::Files;
 pub use mem_files::MemFiles;
 pub use mem_sink::MemSink;
 pub use mem_source::MemSource;
-pub use sink::{PIECE, Sink, write_all, write_long};
+pub use sink::{Sink, write_all};
 pub use source::{ReadAllFault, Source, read_to_limit};
 pub use std_files::StdFiles;
 pub use std_sink::StdSink;

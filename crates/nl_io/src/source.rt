@@ -1,4 +1,4 @@
-ghost use Rattle.std.specs.Prelude.{◌≡◌, ◌+◌, ◌-◌, ◌<◌, ◌≤◌, ℕ, length, take, Some, IfOk, IfSome, OnOk, OnErr, IsErrOf, vec_len};
+ghost use Rattle.std.specs.Prelude.{◌≡◌, ◌+◌, ◌-◌, ◌<◌, ◌≤◌, ℕ, length, take, IfOk, IfSome, OnOk, OnErr, IsErrOf, vec_len};
 ghost use Rattle.nl_io.specs.Count.{Rose};
 ghost use Rattle.nl_io.specs.Content.{Told, without_front, IsFront, IsAtEnd, TakesFront};
 ghost use Rattle.nl_io.specs.declared.source.ReadAllFault.TheVariants as faults;

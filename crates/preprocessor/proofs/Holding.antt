@@ -51,19 +51,6 @@ still_stopped findings more now stopped (inr front) =
       stopped = front.stopped;
     })
 
-pub refused_held : (findings : List Finding) (refusal : SourceRefusal) (now next : Numbering) → now.is_stopped ≡ false → next.dictionary ≡ now.dictionary → next.statements ≡ now.statements
-    → next.refusals.items ≡ now.refusals.items ++ refusal ∷ [] → next.is_stopped ≡ now.is_stopped → HoldsFindings findings now → HoldsFindings (findings ++ Finding.refused refusal ∷ []) next
-refused_held findings refusal now next goes_on dictionary statements refusals is_stopped held =
-    let all = all_held findings now goes_on held in
-    let same : stated_messages (findings ++ Finding.refused refusal ∷ []) ≡ stated_messages findings = messages-push findings (Finding.refused refusal) ∙ append-nil (stated_messages findings) in
-    inl (record {
-      few = subst (λ (l : List Message). length (firsts l) ≤ MAX_MESSAGES) (sym same) all.few;
-      messages = dictionary ∙ all.messages ∙ ap firsts (sym same);
-      statements = statements ∙ all.statements ∙ ap length (sym same);
-      refusals = refusals ∙ ap (λ (l : List SourceRefusal). l ++ refusal ∷ []) all.refusals ∙ sym (refusals-push findings (Finding.refused refusal));
-      goes_on = is_stopped ∙ goes_on;
-    })
-
 -- a dictionary that isn't full before is within its limit after
 within : (before after : List Message) (message : Message) (added : Added) → length before ≤ MAX_MESSAGES → (¬ (HasMessage before message) → ¬ (length before ≡ MAX_MESSAGES)) → IsAdded before message after added → length after ≤ MAX_MESSAGES
 within before after message (Old id) few room is = subst (λ (l : List Message). length l ≤ MAX_MESSAGES) (sym is.1) few

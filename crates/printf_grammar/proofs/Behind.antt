@@ -14,17 +14,8 @@ use Rattle.printf_grammar.specs.Breaks.{Head, is_only, is_empty_head, is_float, 
 
 -- ---- a byte that goes on
 
-by_a : (a b c d e f g h i : Bool) → a ≡ true → (a || b || c || d || e || f || g || h || i) ≡ true
-by_a a b c d e f g h i p = or_left _ _ (or_left _ _ (or_left _ _ (or_left _ _ (or_left _ _ (or_left _ _ (or_left _ _ (or_left _ _ p)))))))
-
-by_b : (a b c d e f g h i : Bool) → b ≡ true → (a || b || c || d || e || f || g || h || i) ≡ true
-by_b a b c d e f g h i p = or_left _ _ (or_left _ _ (or_left _ _ (or_left _ _ (or_left _ _ (or_left _ _ (or_left _ _ (or_right _ _ p)))))))
-
 by_c : (a b c d e f g h i : Bool) → c ≡ true → (a || b || c || d || e || f || g || h || i) ≡ true
 by_c a b c d e f g h i p = or_left _ _ (or_left _ _ (or_left _ _ (or_left _ _ (or_left _ _ (or_left _ _ (or_right _ _ p))))))
-
-by_d : (a b c d e f g h i : Bool) → d ≡ true → (a || b || c || d || e || f || g || h || i) ≡ true
-by_d a b c d e f g h i p = or_left _ _ (or_left _ _ (or_left _ _ (or_left _ _ (or_left _ _ (or_right _ _ p)))))
 
 by_e : (a b c d e f g h i : Bool) → e ≡ true → (a || b || c || d || e || f || g || h || i) ≡ true
 by_e a b c d e f g h i p = or_left _ _ (or_left _ _ (or_left _ _ (or_left _ _ (or_right _ _ p))))
@@ -32,29 +23,14 @@ by_e a b c d e f g h i p = or_left _ _ (or_left _ _ (or_left _ _ (or_left _ _ (o
 by_f : (a b c d e f g h i : Bool) → f ≡ true → (a || b || c || d || e || f || g || h || i) ≡ true
 by_f a b c d e f g h i p = or_left _ _ (or_left _ _ (or_left _ _ (or_right _ _ p)))
 
-by_g : (a b c d e f g h i : Bool) → g ≡ true → (a || b || c || d || e || f || g || h || i) ≡ true
-by_g a b c d e f g h i p = or_left _ _ (or_left _ _ (or_right _ _ p))
-
-pub on_flag : (head : Head) (byte : ℕ) → takes_flag head byte ≡ true → goes_on head byte ≡ true
-on_flag head byte takes = by_a (takes_flag head byte) (takes_width_star head byte) (takes_width_digit head byte) (takes_period head byte) (takes_precision_star head byte) (takes_precision_digit head byte) (takes_modifier head byte) (is_conversion byte) (byte == 37 && is_empty_head head) takes
-
-pub on_width_star : (head : Head) (byte : ℕ) → takes_width_star head byte ≡ true → goes_on head byte ≡ true
-on_width_star head byte takes = by_b (takes_flag head byte) (takes_width_star head byte) (takes_width_digit head byte) (takes_period head byte) (takes_precision_star head byte) (takes_precision_digit head byte) (takes_modifier head byte) (is_conversion byte) (byte == 37 && is_empty_head head) takes
-
 pub on_width_digit : (head : Head) (byte : ℕ) → takes_width_digit head byte ≡ true → goes_on head byte ≡ true
 on_width_digit head byte takes = by_c (takes_flag head byte) (takes_width_star head byte) (takes_width_digit head byte) (takes_period head byte) (takes_precision_star head byte) (takes_precision_digit head byte) (takes_modifier head byte) (is_conversion byte) (byte == 37 && is_empty_head head) takes
-
-pub on_period : (head : Head) (byte : ℕ) → takes_period head byte ≡ true → goes_on head byte ≡ true
-on_period head byte takes = by_d (takes_flag head byte) (takes_width_star head byte) (takes_width_digit head byte) (takes_period head byte) (takes_precision_star head byte) (takes_precision_digit head byte) (takes_modifier head byte) (is_conversion byte) (byte == 37 && is_empty_head head) takes
 
 pub on_precision_star : (head : Head) (byte : ℕ) → takes_precision_star head byte ≡ true → goes_on head byte ≡ true
 on_precision_star head byte takes = by_e (takes_flag head byte) (takes_width_star head byte) (takes_width_digit head byte) (takes_period head byte) (takes_precision_star head byte) (takes_precision_digit head byte) (takes_modifier head byte) (is_conversion byte) (byte == 37 && is_empty_head head) takes
 
 pub on_precision_digit : (head : Head) (byte : ℕ) → takes_precision_digit head byte ≡ true → goes_on head byte ≡ true
 on_precision_digit head byte takes = by_f (takes_flag head byte) (takes_width_star head byte) (takes_width_digit head byte) (takes_period head byte) (takes_precision_star head byte) (takes_precision_digit head byte) (takes_modifier head byte) (is_conversion byte) (byte == 37 && is_empty_head head) takes
-
-pub on_modifier : (head : Head) (byte : ℕ) → takes_modifier head byte ≡ true → goes_on head byte ≡ true
-on_modifier head byte takes = by_g (takes_flag head byte) (takes_width_star head byte) (takes_width_digit head byte) (takes_period head byte) (takes_precision_star head byte) (takes_precision_digit head byte) (takes_modifier head byte) (is_conversion byte) (byte == 37 && is_empty_head head) takes
 
 -- ---- a conversion
 

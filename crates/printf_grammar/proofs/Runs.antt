@@ -1,7 +1,7 @@
 -- Runs of bytes, and what stands behind them.
 use Rattle.std.proofs.Common.{◌≡◌, ℕ, ◌+◌, ◌-◌, ◌<◌, ◌≤◌, Bool, false, List, [], ◌∷◌, ◌++◌, length, take, drop, get_or, refl, sym, subst, arith}
 use Rattle.std.specs.List.{AllByRecursion}
-use Rattle.std.proofs.lemmas.List.{take_more, take_rest, drop_more, drop_all}
+use Rattle.std.proofs.lemmas.List.{take_more, take_rest, drop_more}
 use Rattle.printf_grammar.specs.Parts.{BeginsWithout}
 
 pub all_join : {X : Type 0} (P : X → Type 0) (xs ys : List X) → AllByRecursion P xs → AllByRecursion P ys → AllByRecursion P (xs ++ ys)
@@ -22,9 +22,6 @@ all_more P bytes i h all next = subst (AllByRecursion P) (sym (take_more bytes i
 
 pub ends_run : (test : ℕ → Bool) (bytes : List ℕ) (i : ℕ) → i < length bytes → test (get_or bytes i 0) ≡ false → BeginsWithout test (drop i bytes)
 ends_run test bytes i h fails = subst (BeginsWithout test) (sym (drop_more bytes i 0 h)) fails
-
-pub ends_bytes : (test : ℕ → Bool) (bytes : List ℕ) (i : ℕ) → length bytes ≤ i → BeginsWithout test (drop i bytes)
-ends_bytes test bytes i h = subst (BeginsWithout test) (sym (drop_all i bytes h)) tt
 
 -- the first byte and those behind it
 pub first_and_rest : (byte : ℕ) (bytes : List ℕ) → 1 ≤ length bytes → get_or bytes 0 0 ≡ byte → bytes ≡ byte ∷ take (length bytes - 1) (drop 1 bytes)

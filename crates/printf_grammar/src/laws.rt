@@ -1,4 +1,4 @@
-ghost use Rattle.std.specs.Prelude.{◌≡◌, ◌⊎◌, ℕ, ◌<◌, List, [], ◌∷◌, ◌++◌, length, replicate, codes, pos, negsuc};
+ghost use Rattle.std.specs.Prelude.{◌≡◌, ◌⊎◌, ℕ, ◌<◌, List, [], ◌∷◌, length, replicate, codes, pos, negsuc};
 ghost use Rattle.printf_grammar.specs.declared.arg_type.ArgType.TheVariants as types;
 ghost use Rattle.printf_grammar.specs.declared.argument.Value.TheVariants.{Signed};
 ghost use Rattle.printf_grammar.specs.declared.piece.Piece.{Piece};

@@ -1,4 +1,4 @@
-ghost use Rattle.std.specs.Prelude.{◌≡◌, ℕ, ◌<◌, ◌≤◌, List, [], ◌∷◌, length, take, drop, MatchResult, false, Some, ◌+◌};
+ghost use Rattle.std.specs.Prelude.{◌≡◌, ℕ, ◌<◌, ◌≤◌, List, ◌∷◌, length, take, drop, MatchResult, false, Some, ◌+◌};
 ghost use Rattle.std.specs.List.{AllByRecursion};
 ghost use Rattle.printf_grammar.specs.Spelling.{IsFlag, SpellsWidth, TakesLength, conversion_byte};
 ghost use Rattle.printf_grammar.specs.Breaks.{Head, IsHead, cause_in};

@@ -1,6 +1,6 @@
 //! Rings, and what is known of one when both its ends have come together again.
 
-ghost use Rattle.std.specs.Prelude.{◌≡◌, ◌<◌, ◌↔◌, ◌⊎◌, ◌++◌, [], ℕ, Bool, true, false, List, length, IfOk, IsErrOf};
+ghost use Rattle.std.specs.Prelude.{◌≡◌, ◌<◌, ◌↔◌, ◌⊎◌, [], ℕ, Bool, true, false, List, length, IfOk, IsErrOf};
 ghost use Rattle.session_options.specs.declared.limits.TheConstants.{MIN_RING, MAX_RING};
 ghost use Rattle.ring_core.specs.declared.answers.StageFault.TheVariants as faults;
 ghost use Rattle.ring_core.specs.Plans.{plan_of, BeginsWith};

@@ -2,7 +2,7 @@
 use Rattle.std.proofs.Common.{◌≡◌, ◌≢◌, ℕ, ◌+◌, ◌-◌, ◌%◌, ◌<◌, true, List, [], ◌∷◌, ◌++◌, length, refl, sym, ap, length-append, eqb-true, true≢false, ⊎_elim, arith}
 use Rattle.std.proofs.lemmas.Bool.{eqb-false}
 use Rattle.ring_machine.specs.declared.reach.Reach.{Reach}
-use Rattle.ring_machine.specs.Streams.{Walk, start, onward, Begins, Wraps, MayCome}
+use Rattle.ring_machine.specs.Streams.{Walk, onward, Begins, Wraps, MayCome}
 use Rattle.ring_machine.specs.Steps.{is_inside}
 use Rattle.ring_machine.specs.Reaches.{IsReach}
 use Rattle.ring_machine.proofs.Walks.{onward_cases}
@@ -12,9 +12,6 @@ reach at left frames = record { at = at; left = left; frames = frames }
 
 abbrev at_part : ℕ → List (List ℕ) → List ℕ → Walk
 at_part at frames part = record { at = at; frames = frames; part = part }
-
-pub reach_start : IsReach start (reach 0 0 0)
-reach_start = record { at = refl; frames = refl; left = refl; begun = λ some. absurd (some refl); few = omega arith }
 
 -- the frame isn't whole yet
 reach_part' : (size at : ℕ) (frames : List (List ℕ)) (part : List ℕ) (word : ℕ) (t : Reach) → IsReach (at_part at frames part) t → 1 < t.left

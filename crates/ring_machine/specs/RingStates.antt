@@ -16,6 +16,14 @@ pub record RingState : Type 0 where
   pub writer : WriterRecord
   pub roamer : RoamerRecord
 
+-- a writer that has stored nothing
+abbrev pub new_writer : WriterRecord
+new_writer = record { stream = []; seen = 0; published = 0; closed = false; looks = 0; steps = 0 }
+
+-- a roamer that has read nothing
+abbrev pub new_roamer : RoamerRecord
+new_roamer = record { stream = []; loaded = 0; learnt = false; released = 0; loads = 0; steps = 0 }
+
 -- a new ring, whose data words are 0
 abbrev pub new_ring : ℕ → RingState
 new_ring size = record {
@@ -24,8 +32,8 @@ new_ring size = record {
   closed = false;
   released = 0;
   words = replicate size 0;
-  writer = record { stream = []; seen = 0; published = 0; closed = false; looks = 0; steps = 0 };
-  roamer = record { stream = []; loaded = 0; learnt = false; released = 0; loads = 0; steps = 0 };
+  writer = new_writer;
+  roamer = new_roamer;
 }
 
 -- what the writer has stored

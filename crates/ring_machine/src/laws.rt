@@ -9,7 +9,7 @@ ghost use Rattle.ring_machine.specs.declared.steps.Step.TheVariants as steps;
 ghost use Rattle.ring_machine.specs.declared.steps.Event.{Event};
 ghost use Rattle.ring_machine.specs.declared.steps.Barred.TheVariants as bars;
 ghost use Rattle.ring_machine.specs.Streams.{is_whole_frame, IsStream};
-ghost use Rattle.ring_machine.specs.RingStates.{RingState, new_ring, written, taken, sent, got, has_ended, RingOk, RingLawful};
+ghost use Rattle.ring_machine.specs.RingStates.{RingState, new_ring, written, sent, got, has_ended, RingOk, RingLawful};
 ghost use Rattle.ring_machine.specs.Steps.{barred, after_step, is_store, IsEvent, Run};
 ghost use Rattle.ring_machine.specs.Rings.{new_rings};
 ghost use Rattle.ring_machine.specs.Rows.{row_ring, row_steps, positions_after, bars_after, after_all};

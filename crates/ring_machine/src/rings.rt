@@ -1,6 +1,6 @@
 //! Several rings.
 
-ghost use Rattle.std.specs.Prelude.{◌≡◌, ◌<◌, ◌≤◌, ◌↔◌, ◌⊎◌, None, Some, length, slice_get, All, IfOk, IfErr, IfSome, IsErrOf, IsTrue, OnOk, OnErr};
+ghost use Rattle.std.specs.Prelude.{◌≡◌, ◌<◌, ◌≤◌, ◌↔◌, ◌⊎◌, None, Some, length, slice_get, IfOk, IfErr, IfSome, IsErrOf, IsTrue, OnOk, OnErr};
 ghost use Rattle.session_options.specs.declared.limits.TheConstants.{MIN_RING, MAX_RING};
 ghost use Rattle.ring_core.specs.declared.limits.TheConstants.{MAX_POSITION};
 ghost use Rattle.ring_core.specs.declared.answers.StageFault.TheVariants as faults;

@@ -2,14 +2,14 @@
 use Rattle.std.proofs.Common.{◌≡◌, ℕ, zero, suc, ◌+◌, ◌≤◌, List, [], ◌∷◌, ◌++◌, Some, refl, sym, ap, subst, ◌∙◌, append_assoc, arith}
 use Rattle.std.specs.Prelude.{slice_get}
 use Rattle.std.specs.List.{AllByRecursion}
-use Rattle.std.proofs.lemmas.List.{append-nil, map-append, length-append, length-map}
+use Rattle.std.proofs.lemmas.List.{append-nil, map-append, length-append}
 use Rattle.std.proofs.lemmas.Option.{same_Some}
 use Rattle.printf_grammar.specs.declared.arg_type.ArgType.{ArgType}
 use Rattle.printf_grammar.specs.Types.{Types, Fits}
 use Rattle.log_dictionary.specs.declared.message.Message.{Message}
 use Rattle.arg_records.specs.declared.call.Call.{Call}
 use Rattle.arg_records.specs.Calls.{IsCall, NeverFalls, last_stamp}
-use Rattle.ring_core.specs.Plans.{Plan, types_by_id, plan_of, IsPlanned, frame_of, frames_of, AreFramesOf, Lawful, MayFollow}
+use Rattle.ring_core.specs.Plans.{types_by_id, plan_of, IsPlanned, frame_of, frames_of, AreFramesOf, Lawful, MayFollow}
 use Rattle.ring_core.proofs.Frames.{AreFramesOf-push, Lawful-front, Lawful-last}
 use Rattle.ring_core.proofs.OneReading.{AreFramesOf-unique}
 use Rattle.roaming_consumer.specs.declared.draft.Draft.{Draft}
@@ -46,13 +46,6 @@ last_behind least [] back rising = omega arith
 last_behind least (call ∷ front) back rising = omega (arith, last_rises least call.stamp back rising.0, last_behind call.stamp front back rising.1)
 
 -- ---- frames
-
--- no frame is taken yet
-pub comes_none : (plan : Plan) (before : List (List ℕ)) → CallsCame plan before before []
-comes_none plan before = record {
-  joined = sym (append-nil before);
-  lawful = λ calls are. subst (AreFramesOf plan before) (sym (append-nil calls)) are;
-}
 
 -- the next frame is that of a call which goes on with those that were taken
 record Next (messages : List Message) (tick : ℕ) (before after : List (List ℕ)) (entries : List Call) (last : ℕ)
@@ -109,15 +102,6 @@ gathers_more messages tick before after draft now body body_now frame was lawful
       drafted = puts next.call tick was.entries next.is was.drafted;
     }
 
--- nothing was taken yet
-pub gathers_none : (messages : List Message) (tick : ℕ) (before : List (List ℕ)) (body : List ℕ) → DraftsFrames messages tick before before (record { records = 0; len = 0; ids = 0; last = tick }) body
-gathers_none messages tick before body = record {
-  entries = [];
-  comes = comes_none (plan_of messages tick) before;
-  right = tt;
-  drafted = record { records = refl; ids = refl; last = refl; within = omega arith; spelled = refl };
-}
-
 -- ---- frames that are thrown away
 
 pub came_none : (before : List (List ℕ)) → FramesCame before before 0
@@ -129,7 +113,3 @@ came_more before mid after frame count (frames, is, many) more = (
   more ∙ ap (λ (l : List (List ℕ)). l ++ frame ∷ []) is ∙ append_assoc before frames (frame ∷ []),
   omega (arith, many, length-append frames (frame ∷ [])),
 )
-
--- the frames of a draft's records came
-pub gathers_came : (messages : List Message) (tick : ℕ) (before after : List (List ℕ)) (draft : Draft) (body : List ℕ) → DraftsFrames messages tick before after draft body → FramesCame before after draft.records
-gathers_came messages tick before after draft body was = (frames_of was.entries, was.comes.joined, length-map was.entries frame_of ∙ sym was.drafted.records)

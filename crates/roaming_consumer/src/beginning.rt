@@ -1,10 +1,10 @@
 //! The header of the log.
 
-ghost use Rattle.std.specs.Prelude.{◌≡◌, true, false, length, OnOk, OnErr};
+ghost use Rattle.std.specs.Prelude.{◌≡◌, true, false, OnOk, OnErr};
 ghost use Rattle.checkpoint_io.specs.Blocks.{header_bytes};
 ghost use Rattle.checkpoint_io.specs.Validity.{IsHeader};
 ghost use Rattle.roaming_consumer.specs.Sinks.{Sends};
-ghost use Rattle.roaming_consumer.specs.Roamers.{ends_of, roamer_clock, roamer_progress, is_begun, is_faulted, roamer_header, KeepsMarks, IsSameRun, AppendsToLog};
+ghost use Rattle.roaming_consumer.specs.Roamers.{ends_of, is_begun, is_faulted, roamer_header, KeepsMarks, IsSameRun, AppendsToLog};
 
 use crate::blocks::write_header;
 use crate::roamer::Roamer;

@@ -1,6 +1,6 @@
 //! The other parts of a log, as they are written to a sink: its header, extents and close marks.
 
-ghost use Rattle.std.specs.Prelude.{◌≡◌, ◌<◌, ◌≤◌, ◌++◌, length};
+ghost use Rattle.std.specs.Prelude.{◌<◌, ◌≤◌, ◌++◌, length};
 ghost use Rattle.session_options.specs.declared.limits.TheConstants.{MAX_WRITERS};
 ghost use Rattle.checkpoint_io.specs.declared.heads.TheConstants.{MAX_BODY};
 ghost use Rattle.checkpoint_io.specs.Blocks.{header_bytes, extent_head_bytes, close_bytes};

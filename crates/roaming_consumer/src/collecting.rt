@@ -1,6 +1,6 @@
 //! The parts of a visit: taking frames, and writing what was taken.
 
-ghost use Rattle.std.specs.Prelude.{◌≡◌, ◌+◌, ◌-◌, ◌<◌, ◌≤◌, ℕ, List, true, false, length, max, take, slice_set, OnOk, OnErr};
+ghost use Rattle.std.specs.Prelude.{◌≡◌, ◌+◌, ◌-◌, ◌<◌, ◌≤◌, true, length, max, take, OnOk, OnErr};
 ghost use Rattle.log_dictionary.specs.declared.dictionary.TheConstants.{MAX_MESSAGES};
 ghost use Rattle.log_dictionary.specs.Messages.{AreDistinct};
 ghost use Rattle.session_options.specs.declared.limits.TheConstants.{MAX_WRITERS};

@@ -1,6 +1,6 @@
 //! The fragments of messages that a log doesn't define yet.
 
-ghost use Rattle.std.specs.Prelude.{◌≡◌, ◌+◌, ◌*◌, ◌<◌, ◌≤◌, ℕ, List, length, take, drop};
+ghost use Rattle.std.specs.Prelude.{◌+◌, ◌*◌, ◌<◌, ◌≤◌, length, take, drop};
 ghost use Rattle.checkpoint_io.specs.declared.heads.TheConstants.{MAX_FRAGMENT_MESSAGES};
 ghost use Rattle.checkpoint_io.specs.Blocks.{SpellsEntries, SpellsFragment};
 ghost use Rattle.roaming_consumer.specs.Sinks.{SendsFragments};

@@ -1,6 +1,6 @@
 //! Making a roamer.
 
-ghost use Rattle.std.specs.Prelude.{◌≡◌, ◌<◌, ◌≤◌, ◌^◌, [], false, length, All, IfOk};
+ghost use Rattle.std.specs.Prelude.{◌≡◌, ◌<◌, ◌≤◌, [], false, length, All, IfOk};
 ghost use Rattle.session_options.specs.declared.limits.TheConstants.{MAX_BATCH, MAX_WRITERS};
 ghost use Rattle.ring_core.specs.Plans.{plan_of};
 ghost use Rattle.roaming_consumer.specs.Roamers.{ends_of, roamer_messages, roamer_clock, roamer_batch, is_begun, is_faulted, ArePlanned, RoamerStandsFor};

@@ -1,9 +1,9 @@
 //! Visits.
 
-ghost use Rattle.std.specs.Prelude.{◌≡◌, ◌<◌, ◌≤◌, ◌+◌, ℕ, true, false, length, Ok, IfOk, OnOk, OnErr};
+ghost use Rattle.std.specs.Prelude.{◌≡◌, ◌<◌, ◌≤◌, ◌+◌, true, false, length, Ok, IfOk, OnOk, OnErr};
 ghost use Rattle.nl_io.specs.Count.{Rose};
 ghost use Rattle.nl_io.specs.Content.{Told};
-ghost use Rattle.roaming_consumer.specs.Roamers.{ends_of, roamer_messages, roamer_clock, roamer_batch, roamer_progress, is_begun, is_faulted, ArePlanned, IsSameRun, ChangesOne, KeepsLog, AppendsToLog};
+ghost use Rattle.roaming_consumer.specs.Roamers.{ends_of, roamer_batch, is_begun, is_faulted, ArePlanned, IsSameRun, ChangesOne, KeepsLog, AppendsToLog};
 ghost use Rattle.roaming_consumer.specs.Visits.{VisitTells, KeepsRing, Marks, TakesAtMost, VisitWrites, VisitStops, IsWritten, IsThrown};
 
 use crate::gathering::{Gathered, Thrown};

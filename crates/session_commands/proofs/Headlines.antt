@@ -1,5 +1,5 @@
 -- A replay that was done has the headline.
-use Rattle.std.proofs.Common.{◌≡◌, ℕ, List, Option, Some, refl, sym, ap, subst, ◌∙◌}
+use Rattle.std.proofs.Common.{◌≡◌, ℕ, List, Option, Some, ap, subst, ◌∙◌}
 use Rattle.nl_io.specs.Content.{with_end}
 use Rattle.nl_io.specs.Desk.{Desk}
 use Rattle.trace_text.specs.Recordings.{Recording}

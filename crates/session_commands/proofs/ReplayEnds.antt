@@ -1,6 +1,6 @@
 -- How `replay` ends, by what was read, written and told.
 use Rattle.std.proofs.Common.{◌≡◌, ◌≢◌, ℕ, ◌+◌, ◌-◌, ◌≤◌, List, [], Some, Result, Ok, Err, refl, sym, ap, subst, ◌∙◌, inl, inr, arith}
-use Rattle.std.specs.Prelude.{◌⊎◌, ◌^◌, min, OnErr, IsErrOf}
+use Rattle.std.specs.Prelude.{◌^◌, min, OnErr, IsErrOf}
 use Rattle.nl_io.specs.Count.{Rose}
 use Rattle.nl_io.specs.Content.{Told, with_end}
 use Rattle.nl_io.specs.Desk.{Desk, OnlyName, OnlyWriteFaults, Creates, Finishes, SameButHeld, put_by, found_in}
@@ -15,9 +15,9 @@ use Rattle.trace_session.specs.declared.outcome.RunFault.TheVariants as run_faul
 use Rattle.trace_session.specs.Drops.{Taken}
 use Rattle.trace_session.specs.Sessions.{AreCounted, IsSession}
 use Rattle.decompressor.proofs.TextLaws.{log_is_text}
-use Rattle.command_base.specs.Endings.{Ending, Done, WriteFault, NoMemory}
+use Rattle.command_base.specs.Endings.{Ending, WriteFault, NoMemory}
 use Rattle.command_base.specs.Effects.{CommandEffect}
-use Rattle.command_base.specs.EffectLaws.{put_nothing, nothing_came, HasRead, printed_done, lost}
+use Rattle.command_base.specs.EffectLaws.{put_nothing, nothing_came, printed_done, lost}
 use Rattle.command_base.specs.HeldFiles.{IsHeld}
 use Rattle.command_base.specs.HeldLaws.{such_there, holds_written}
 use Rattle.command_base.specs.Printing.{Prints}

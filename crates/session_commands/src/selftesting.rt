@@ -21,7 +21,7 @@ use command_base::{Refusal, print_pieces};
 use decompressor::{DecodeFault, decompress};
 use itoa::Buffer;
 use log_dictionary::{Dictionary, Severity};
-use nl_io::{MemSink, MemSource, PIECE, Sink};
+use nl_io::{MemSink, MemSource, Sink};
 use ring_core::Stage;
 use session_options::Options;
 use std::alloc::Global;
@@ -60,7 +60,7 @@ where
         (arc_value trace.now).writers (sink_bytes sink)) }
     ensures err { OnErr result (ending_of result ≡ WantsMemory) }
 {
-    let mut sink = MemSink::make(alloc, PIECE, &[])?;
+    let mut sink = MemSink::make(alloc, usize::MAX, &[])?;
     match run::<R, S, MemSink, G>(rt, alloc, trace, &Options::default(), &mut sink, gate) {
         Ok(_) => Ok(sink),
         // A sink in memory of which no call is to fail fails where memory is wanting.
@@ -77,8 +77,8 @@ fn read_log(alloc: Global, log: &[u8]) -> Result<(u64, u64), Refusal<'static>>
         IfOk result (λ told. (told.0 ≡ length (calls_of run)) × (told.1 ≡ length (direct_text run))) }
     ensures err { OnErr result (ending_of result ≡ WantsMemory) }
 {
-    let mut source = MemSource::make(alloc, log, PIECE, &[])?;
-    let mut text = MemSink::make(alloc, PIECE, &[])?;
+    let mut source = MemSource::make(alloc, log, usize::MAX, &[])?;
+    let mut text = MemSink::make(alloc, usize::MAX, &[])?;
     match decompress(alloc, &mut source, &mut text) {
         Ok(report) => Ok((report.lines, text.bytes().len() as u64)),
         Err(DecodeFault::Damaged { .. }) => unreachable!(),

@@ -1,7 +1,5 @@
 //! Positions in a ring, and stored calls that are taken from an end.
 
-ghost use Rattle.std.specs.Prelude.{◌≤◌};
-
 use arg_records::MAX_FRAME_WORDS;
 use log_dictionary::Dictionary;
 use printf_grammar::Arg;

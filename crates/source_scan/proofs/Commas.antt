@@ -57,10 +57,6 @@ pub onto_front-first : (front : List Token) (token : Token) (lists : List (List 
 onto_front-first front token [] = refl
 onto_front-first front token (first ∷ others) = ap (λ (list : List Token). list ∷ others) (sym (append_assoc front (token ∷ []) first))
 
-pub onto_front-nothing : (lists : List (List Token)) → onto_front [] lists ≡ lists
-onto_front-nothing [] = refl
-onto_front-nothing (first ∷ others) = refl
-
 pub parted-none : (depth : ℕ) (tokens : List Token) (i : ℕ) → length tokens ≤ i → parted_from depth (drop i tokens) ≡ [] ∷ []
 unfolding parted_from
 parted-none depth tokens i past = ap (parted_from depth) (drop_all i tokens past)

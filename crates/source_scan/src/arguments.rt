@@ -1,8 +1,7 @@
 //! The parentheses of a statement, and its arguments.
 
-ghost use Rattle.std.specs.Prelude.{◌≡◌, ◌+◌, ◌<◌, ◌^◌, List, [], ◌∷◌, length, drop};
+ghost use Rattle.std.specs.Prelude.{◌≡◌, ◌+◌, ◌<◌, ◌^◌, [], ◌∷◌, length, drop};
 ghost use Rattle.std.specs.Prelude.{IfSome, MatchOption};
-ghost use Rattle.source_tokens.specs.declared.token.Token.{Token as SourceToken};
 ghost use Rattle.source_scan.specs.Arguments.{is_mark, is_bare, depth_behind};
 ghost use Rattle.source_scan.specs.Arguments.{closing_from, parted_from, first_argument};
 

@@ -1,6 +1,6 @@
 //! Escapes in literals.
 
-ghost use Rattle.std.specs.Prelude.{◌≡◌, ◌≤◌, ℕ, nat_le, length, if◌then◌else◌, Some, None, IfSome};
+ghost use Rattle.std.specs.Prelude.{◌≡◌, ◌≤◌, nat_le, length, if◌then◌else◌, Some, None, IfSome};
 ghost use Rattle.std.specs.Str.Parse.{digits_value, AllDigits};
 ghost use Rattle.source_scan.specs.Escapes.{letter_escape, digits_of, byte_of, character_of, escape_of, part_of};
 

@@ -1,6 +1,6 @@
 //! What whole literals stand for.
 
-ghost use Rattle.std.specs.Prelude.{◌≡◌, ◌∷◌, ◌++◌, [], true, length, ℕ, List, IfOk};
+ghost use Rattle.std.specs.Prelude.{◌≡◌, ◌∷◌, ◌++◌, [], true, length, IfOk};
 ghost use Rattle.std.specs.List.{before_first, after_first};
 ghost use Rattle.source_tokens.specs.RawStrings.{delimiter_of, opens_raw};
 ghost use Rattle.source_scan.specs.Texts.{unspliced};

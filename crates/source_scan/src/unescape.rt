@@ -1,6 +1,6 @@
 //! What literals stand for.
 
-ghost use Rattle.std.specs.Prelude.{◌≡◌, ◌++◌, ℕ, List, IfOk, OnOk};
+ghost use Rattle.std.specs.Prelude.{◌≡◌, ◌++◌, IfOk, OnOk};
 ghost use Rattle.source_scan.specs.Escapes.{meaning_bytes, unescaped_literal};
 
 use crate::escape::{Meaning, part_of};

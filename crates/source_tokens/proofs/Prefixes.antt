@@ -41,9 +41,6 @@ letter-other bytes prefix rest end i within reads some other whole =
 pub behind-prefix : (bytes prefix rest end : List ℕ) (i : ℕ) → length prefix ≤ i → ReadsUnspliced bytes (take i prefix) rest → ReadsUnspliced bytes prefix end → rest ≡ end
 behind-prefix bytes prefix rest end i all reads whole = reads-once bytes prefix rest end (subst (λ (text : List ℕ). ReadsUnspliced bytes text rest) (take_all i prefix all) reads) whole
 
-pub whole-prefix : (bytes prefix rest : List ℕ) (i : ℕ) → length prefix ≤ i → ReadsUnspliced bytes (take i prefix) rest → ReadsUnspliced bytes prefix rest
-whole-prefix bytes prefix rest i all reads = subst (λ (text : List ℕ). ReadsUnspliced bytes text rest) (take_all i prefix all) reads
-
 -- ---- one prefix
 
 is_no_mark : ℕ → Bool

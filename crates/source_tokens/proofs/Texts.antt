@@ -73,10 +73,6 @@ pub reads-none : (bytes : List ℕ) → ReadsUnspliced bytes [] bytes
 unfolding ReadsUnspliced
 reads-none bytes = refl
 
-pub reads-at_once : (bytes rest : List ℕ) → ReadsUnspliced bytes [] rest → bytes ≡ rest
-unfolding ReadsUnspliced
-reads-at_once bytes rest here = here
-
 pub reads-more : (byte : ℕ) (bytes text rest : List ℕ) → ReadsUnspliced (past_splices bytes) text rest → ReadsUnspliced (byte ∷ bytes) (byte ∷ text) rest
 unfolding ReadsUnspliced
 reads-more byte bytes text rest here = (refl, here)

@@ -1,6 +1,6 @@
 //! Block comments.
 
-ghost use Rattle.std.specs.Prelude.{◌≡◌, ◌≤◌, length};
+ghost use Rattle.std.specs.Prelude.{◌≤◌, length};
 ghost use Rattle.source_tokens.specs.Forms.{is_comment_body, is_comment_tail};
 ghost use Rattle.source_tokens.specs.Reading.{EndsLongest};
 

@@ -1,6 +1,6 @@
 //! Preprocessing numbers.
 
-ghost use Rattle.std.specs.Prelude.{◌≡◌, ◌≤◌, ◌<◌, length};
+ghost use Rattle.std.specs.Prelude.{◌≡◌, ◌≤◌, length};
 ghost use Rattle.std.specs.Prelude.{◌||◌, ◌&&◌, ◌==◌};
 ghost use Rattle.source_tokens.specs.Bytes.{is_number_byte, is_sign, is_exponent};
 ghost use Rattle.source_tokens.specs.Forms.{is_number_tail};

@@ -1,6 +1,6 @@
 //! What stands at the front of bytes.
 
-ghost use Rattle.std.specs.Prelude.{◌≡◌, ◌≤◌, ◌<◌, List, ℕ, [], length, MatchOption};
+ghost use Rattle.std.specs.Prelude.{◌≡◌, ◌≤◌, ◌<◌, [], length, MatchOption};
 ghost use Rattle.source_tokens.specs.Forms.{opening_of};
 ghost use Rattle.source_tokens.specs.Tokens.{GoesOn, Stands};
 

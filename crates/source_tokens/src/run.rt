@@ -1,6 +1,6 @@
 //! Runs of bytes of one class.
 
-ghost use Rattle.std.specs.Prelude.{◌≡◌, ◌≤◌, length};
+ghost use Rattle.std.specs.Prelude.{◌≤◌, length};
 ghost use Rattle.std.specs.List.{list_all};
 ghost use Rattle.source_tokens.specs.Bytes.{is_of_class};
 ghost use Rattle.source_tokens.specs.Reading.{EndsLongest};

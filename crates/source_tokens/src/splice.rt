@@ -1,6 +1,6 @@
 //! Splices, which end no line.
 
-ghost use Rattle.std.specs.Prelude.{◌≡◌, ◌≤◌, ◌<◌, length};
+ghost use Rattle.std.specs.Prelude.{◌≡◌, ◌≤◌, length};
 ghost use Rattle.source_tokens.specs.Splices.{splice_length, past_splices};
 
 /// How many bytes the splice at the front has, or 0.

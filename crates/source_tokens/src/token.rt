@@ -1,6 +1,6 @@
 //! Tokens with their places.
 
-ghost use Rattle.std.specs.Prelude.{◌≡◌, [], ◌∷◌, ◌++◌, length, OnOk, OnErr, IfOk};
+ghost use Rattle.std.specs.Prelude.{◌≡◌, [], ◌∷◌, ◌++◌, OnOk, OnErr, IfOk};
 ghost use Rattle.source_tokens.specs.Tokens.{front_tokens};
 
 use crate::kind::TokenKind;

@@ -4,4 +4,3 @@ pub mod Putting
 pub mod Writers
 pub mod Roamers
 pub mod Together
-pub mod Feeding

@@ -4,4 +4,3 @@ pub mod Ends
 pub mod WriterInside
 pub mod RoamerInside
 pub mod DoneInside
-pub mod Fed

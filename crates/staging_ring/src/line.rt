@@ -1,6 +1,6 @@
 //! Words that are put into the queue, and taken from it.
 
-ghost use Rattle.std.specs.Prelude.{◌≡◌, ◌<◌, ◌≤◌, ◌++◌, [], true, false, length, take, drop, IsTrue, IsFalse, MatchOption};
+ghost use Rattle.std.specs.Prelude.{◌≡◌, ◌<◌, ◌≤◌, [], true, false, length, take, drop, IsTrue, IsFalse, MatchOption};
 ghost use Rattle.crossbeam_queue.specs.Passes.{view, IsPassOf, ruled_capacity};
 ghost use Rattle.ring_core.specs.Plans.{Lawful};
 ghost use Rattle.staging_ring.specs.Readings.{words_read, frames_with, IsSettled};

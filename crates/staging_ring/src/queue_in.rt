@@ -1,14 +1,13 @@
 //! The writer's end of a ring over a queue.
 
-ghost use Rattle.std.specs.Prelude.{◌≡◌, ◌<◌, ◌≤◌, ◌+◌, ◌-◌, ◌++◌, ◌∷◌, [], true, false, length, take, drop, IsTrue, IsFalse};
+ghost use Rattle.std.specs.Prelude.{◌≡◌, ◌<◌, ◌≤◌, ◌+◌, ◌-◌, ◌++◌, ◌∷◌, [], true, false, IsTrue, IsFalse};
 ghost use Rattle.std.specs.Arc.{arc_value};
 ghost use Rattle.arg_records.specs.declared.frame.TheConstants.{MAX_FRAME_WORDS};
 ghost use Rattle.crossbeam_queue.specs.Passes.{view, IsPassOf, ruled_capacity};
 ghost use Rattle.nl_io.specs.Count.{counted};
 ghost use Rattle.ring_core.specs.declared.limits.TheConstants.{MAX_POSITION, OFFER_ROOM};
 ghost use Rattle.ring_core.specs.Answers.{IsFull};
-ghost use Rattle.ring_core.specs.Plans.{Plan, Lawful};
-ghost use Rattle.ring_core.specs.Positions.{Need};
+ghost use Rattle.ring_core.specs.Plans.{Lawful};
 ghost use Rattle.staging_ring.specs.Ends.{FrameAccepted, WordRefused, IsRingSize, numbers_of};
 ghost use Rattle.staging_ring.specs.Readings.{nothing_read};
 ghost use Rattle.staging_ring.specs.Rule.{plan_in, writer_of};
@@ -153,7 +152,7 @@ impl QueueIn {
 }
 
 impl StageIn for QueueIn {
-    ghost use Rattle.std.specs.Prelude.{◌≡◌, ◌≤◌, ◌-◌, ◌+◌, ◌++◌, ◌∷◌, [], false, length};
+    ghost use Rattle.std.specs.Prelude.{◌≡◌, ◌≤◌, ◌-◌, ◌+◌, ◌++◌, ◌∷◌, [], false};
     ghost use Rattle.std.proofs.Common.{arith};
 
     ghost sent = { λ end. end.sent };

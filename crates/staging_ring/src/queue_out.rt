@@ -1,6 +1,6 @@
 //! The roamer's end of a ring over a queue.
 
-ghost use Rattle.std.specs.Prelude.{◌≡◌, ◌<◌, ◌≤◌, ◌++◌, ◌∷◌, [], true, false, length, take, None, Some};
+ghost use Rattle.std.specs.Prelude.{◌≡◌, ◌<◌, true, false, None, Some};
 ghost use Rattle.std.specs.Arc.{arc_value};
 ghost use Rattle.arg_records.specs.declared.frame.TheConstants.{MAX_FRAME_WORDS};
 ghost use Rattle.crossbeam_queue.specs.Passes.{view, IsPassOf};

@@ -1,9 +1,8 @@
 //! Rings over queues.
 
-ghost use Rattle.std.specs.Prelude.{◌≡◌, ◌<◌, IfOk};
+ghost use Rattle.std.specs.Prelude.{◌≡◌, ◌<◌};
 ghost use Rattle.crossbeam_queue.specs.Passes.{view, IsPassOf};
 ghost use Rattle.ring_core.specs.Plans.{plan_of};
-ghost use Rattle.staging_ring.specs.Ends.{IsRingSize, numbers_of};
 ghost use Rattle.staging_ring.specs.Readings.{nothing_read};
 ghost use Rattle.staging_ring.specs.Rule.{newcomer, writer_of, roamer_of};
 

@@ -1,5 +1,5 @@
 -- What the commands over traces do.
-use Rattle.std.specs.Prelude.{◌≡◌, ℕ, List, []}
+use Rattle.std.specs.Prelude.{◌≡◌, ℕ, List}
 use Rattle.trace_text.specs.Recordings.{Recording}
 use Rattle.trace_text.specs.Canonical.{Canonical}
 use Rattle.trace_generator.specs.Generated.{Generated}

@@ -1,5 +1,5 @@
 -- What a file gives that is to hold a trace.
-use Rattle.std.specs.Prelude.{◌≡◌, ℕ, List, Option, Some, Result, Ok, Err, IfSome, IsErrOf}
+use Rattle.std.specs.Prelude.{◌≡◌, ℕ, List, Option, Some, Result, IfSome, IsErrOf}
 use Rattle.nl_io.specs.Count.{Rose}
 use Rattle.nl_io.specs.Content.{Told}
 use Rattle.nl_io.specs.Desk.{Desk}

@@ -3,14 +3,17 @@ use Rattle.std.proofs.Common.{◌≡◌, ℕ, zero, suc, ◌+◌, ◌*◌, ◌^�
 use Rattle.std.specs.List.{AllByRecursion}
 use Rattle.std.proofs.Math.Dec.{ltb}
 use Rattle.std.proofs.lemmas.Bool.{ltb-true}
+use Rattle.std.proofs.lemmas.List.Elements.{All-nil, All-cons, All-from_recursion}
+use Rattle.nibble_pack.specs.Bytes.{AreBytes}
 use Rattle.printf_grammar.specs.declared.piece.Piece.{Piece}
 use Rattle.printf_grammar.specs.Spelling.{Spells}
 use Rattle.log_dictionary.specs.declared.message.Message.{Message}
 use Rattle.log_dictionary.specs.declared.severity.Severity.{Severity}
 use Rattle.log_dictionary.specs.Messages.{AreDistinct}
-use Rattle.log_dictionary.specs.Canonical.{AreBytes, HasLine}
+use Rattle.log_dictionary.specs.Canonical.{HasLine}
+use Rattle.arg_records.specs.Kinds.{HoldsBytes}
 use Rattle.trace_text.specs.Recordings.{Recording}
-use Rattle.trace_text.specs.Canonical.{HasBytes, HasCallLine, HasText}
+use Rattle.trace_text.specs.Canonical.{HasCallLine, HasText}
 use Rattle.trace_generator.specs.Generated.{next_state, state_after, draw, generated_file, generated_message, generated_messages, drawn_arguments, drawn_call, generator_at, generated_call, Generated}
 use Rattle.trace_text.proofs.CallRuns.{all-push, all_after, all_at}
 use Rattle.printf_grammar.proofs.Worked.{all_copies}
@@ -24,11 +27,11 @@ are_low [] = true
 are_low (byte ∷ bytes) = cond (ltb byte 256) (are_low bytes) false
 
 all_bytes : (bytes : List ℕ) → are_low bytes ≡ true → AreBytes bytes
-all_bytes [] low = tt
+all_bytes [] low = All-nil (λ (b : ℕ). b < 256)
 all_bytes (byte ∷ bytes) low = at_test (ltb byte 256) refl (λ others. all_bytes bytes others) low
   where
     at_test : (b : Bool) → ltb byte 256 ≡ b → (are_low bytes ≡ true → AreBytes bytes) → cond b (are_low bytes) false ≡ true → AreBytes (byte ∷ bytes)
-    at_test true e others passed = (ltb-true byte 256 e, others passed)
+    at_test true e others passed = All-cons (λ (b : ℕ). b < 256) byte bytes (ltb-true byte 256 e) (others passed)
     at_test false e others passed = absurd cc
 
 has_line : (severity : Severity) (line : ℕ) (format : List ℕ) (pieces : List Piece) → are_low format ≡ true → line < 2 ^ 32 → Spells format pieces → HasLine (generated_message severity line format pieces)
@@ -52,9 +55,11 @@ distinct i j d earlier within same =
 
 -- ---- calls
 
-drawn_bytes : (id state : ℕ) → id < 4 → AllByRecursion HasBytes (drawn_arguments id state)
+drawn_bytes : (id state : ℕ) → id < 4 → AllByRecursion HoldsBytes (drawn_arguments id state)
 drawn_bytes zero state known = (tt, (tt, tt))
-drawn_bytes (suc zero) state known = ((lit< tt, (omega (arith, draw_below state 8 (lit≤ tt)), tt)), (tt, tt))
+drawn_bytes (suc zero) state known =
+    let digit : 48 + draw state 8 < 256 = omega (arith, draw_below state 8 (lit≤ tt)) in
+    (All-from_recursion (λ (b : ℕ). b < 256) (113 ∷ (48 + draw state 8) ∷ []) (lit< tt, (digit, tt)), (tt, tt))
 drawn_bytes (suc (suc zero)) state known = (tt, (tt, tt))
 drawn_bytes (suc (suc (suc zero))) state known = (tt, tt)
 drawn_bytes (suc (suc (suc (suc id)))) state known = absurd (omega (arith, known))

@@ -1,10 +1,10 @@
 -- Which calls are taken where one more is made, or one more is dropped.
-use Rattle.std.proofs.Common.{◌≡◌, ◌≢◌, ℕ, suc, ◌+◌, ◌-◌, ◌<◌, ◌≤◌, Bool, true, false, cond, not, ◌==◌, ◌&&◌, ◌||◌, List, [], ◌∷◌, ◌++◌, map, length, get_or, take, Option, Some, None, if◌then◌else◌, refl, sym, ap, ◌∙◌, subst, subst₂, inl, inr, arith}
+use Rattle.std.proofs.Common.{◌≡◌, ◌≢◌, ℕ, suc, ◌+◌, ◌-◌, ◌<◌, ◌≤◌, Bool, true, false, cond, not, ◌==◌, ◌&&◌, ◌||◌, List, [], ◌∷◌, ◌++◌, length, get_or, take, Option, Some, None, if◌then◌else◌, refl, sym, ap, ◌∙◌, subst, subst₂, inl, inr, arith}
 use Rattle.std.specs.Prelude.{All, AllPairs, filter}
 use Rattle.std.specs.List.{cons_option, filter_map, enumerate_from}
 use Rattle.std.proofs.lemmas.Bool.{and_right, and_left, ne_eqb, eq-eqb, and_from, or_right}
 use Rattle.std.proofs.lemmas.List.{append-nil, length-take}
-use Rattle.std.proofs.lemmas.List.Elements.{All-nil, All-push, All-append, All-head, All-tail, All-weaker, filter_map-append}
+use Rattle.std.proofs.lemmas.List.Elements.{All-push, All-append, All-head, All-tail, All-weaker, filter_map-append}
 use Rattle.std.proofs.lemmas.List.Folds.{list_any-append, list_any_none}
 use Rattle.std.proofs.lemmas.List.Kept.{AllPairs-cons}
 use Rattle.std.proofs.lemmas.List.Quantifiers.{all_pairs_push}
@@ -15,8 +15,8 @@ use Rattle.arg_records.specs.Frames.{FrameLen}
 use Rattle.ring_core.specs.Positions.{Position}
 use Rattle.trace_text.specs.Recordings.{Recording}
 use Rattle.trace_session.specs.declared.drops.Dropped.{Dropped}
-use Rattle.trace_session.specs.Levels.{keeps, Kept}
-use Rattle.trace_session.specs.Drops.{is_listed, taken_call, taken_calls, taken_of, Taken, calls_at, position_at, released_at, IsDrop, ComesBefore, LacksRoom, LawfulDrops}
+use Rattle.trace_session.specs.Levels.{keeps}
+use Rattle.trace_session.specs.Drops.{is_listed, taken_call, taken_calls, taken_of, calls_at, position_at, released_at, IsDrop, ComesBefore, LacksRoom, LawfulDrops}
 
 -- ---- numbered calls
 
@@ -85,10 +85,6 @@ module _ (dictionary : List Message) (level : Severity) where
       let others = none_from (from + 1) calls in
       one_unlisted (keeps dictionary level call) call (filter_map (taken_call dictionary level (λ k. false)) (enumerate_from (from + 1) calls))
       ∙ ap (λ (l : List Call). cond (keeps dictionary level call) (call ∷ l) l) others
-
-  -- drops that list none of the calls
-  pub taken_calls-unlisted : (listed : ℕ → Bool) (calls : List Call) → ((k : ℕ) → k < length calls → listed k ≡ false) → taken_calls dictionary level listed calls ≡ filter (keeps dictionary level) calls
-  taken_calls-unlisted listed calls none = taken_calls-same listed (λ k. false) calls none ∙ none_from 0 calls
 
 -- ---- what drops list
 
@@ -189,14 +185,6 @@ module _ (run : Recording) (level : Severity) (words : ℕ) where
   pairs-same drops other some same pairs = λ i j e lt within.
       NotBelow-same drops other (get_or some i e) (get_or some j e) (same i e (omega (arith, lt, within))) (same j e within) (pairs i j e lt within)
 
-  -- no drops
-  pub lawful_nil : LawfulDrops run level words []
-  lawful_nil = record {
-    in_order = λ i j e lt within. absurd (omega (arith, within));
-    lawful = All-nil (IsDrop run level words []);
-    never_falls = λ i j e lt within. absurd (omega (arith, within));
-  }
-
   -- one drop more of a writer, behind its others
   pub lawful_more : (drops : List Dropped) (d : Dropped) → LawfulDrops run level words drops → All (λ one. one.writer ≡ d.writer) drops → All (λ one. one.ordinal < d.ordinal) drops
       → IsDrop run level words (drops ++ d ∷ []) d → All (λ one. released_at run level words drops one ≤ released_at run level words (drops ++ d ∷ []) d) drops
@@ -251,14 +239,3 @@ module _ (run : Recording) (level : Severity) where
   taken_of-own drops more writer calls below =
       taken_calls-same run.dictionary level (is_listed (drops ++ more) writer) (is_listed more writer) calls
       (λ k within. is_listed-none_before drops more writer k (is_listed-others drops writer k (λ l f inside same. omega (arith, below l f inside, same))))
-
-  waits_from : (from : ℕ) (writers : List (List Call)) → map (taken_of run level []) (enumerate_from from writers) ≡ map (filter (keeps run.dictionary level)) writers
-  waits_from from [] = refl
-  waits_from from (calls ∷ writers) =
-      let here = taken_calls-unlisted run.dictionary level (is_listed [] from) calls (λ k within. refl) in
-      let others = waits_from (from + 1) writers in
-      λ i. here i ∷ others i
-
-  -- where none is dropped all calls are taken that the level keeps
-  pub Taken-waits : Taken run level [] ≡ Kept run level
-  Taken-waits = waits_from 0 run.writers

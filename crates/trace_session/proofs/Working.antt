@@ -3,13 +3,12 @@ use Rattle.std.proofs.Common.{◌≡◌, ℕ, zero, suc, ◌+◌, ◌-◌, ◌*�
 use Rattle.std.specs.Prelude.{All, Option, filter, slice_get, sum_by}
 use Rattle.std.specs.List.{AllByRecursion, cons_option, filter_map, enumerate_from}
 use Rattle.std.proofs.lemmas.List.{append-nil, length-take, length-take-le, length_push, take_more, take_all}
-use Rattle.std.proofs.lemmas.List.Elements.{All-nil, All-push, All-weaker, filter-append}
+use Rattle.std.proofs.lemmas.List.Elements.{All-push, All-weaker, filter-append}
 use Rattle.std.proofs.lemmas.List.Sums.{get_or-le-sum_by, length-filter, count_by-le-length}
 use Rattle.std.proofs.lemmas.Option.{same_Some, slice_get_within, slice_get-get_or, get_or_from_slice_get}
 use Rattle.printf_grammar.specs.declared.argument.Value.{Value}
 use Rattle.log_dictionary.specs.declared.severity.Severity.{Severity}
 use Rattle.log_dictionary.specs.declared.message.Message.{Message}
-use Rattle.session_options.specs.declared.limits.TheConstants.{MIN_RING, MAX_RING}
 use Rattle.session_options.specs.declared.options.Policy.TheVariants as policies
 use Rattle.arg_records.specs.declared.call.Call.{Call}
 use Rattle.arg_records.specs.declared.frame.TheConstants.{MAX_FRAME_WORDS}
@@ -17,19 +16,18 @@ use Rattle.arg_records.specs.Calls.{IsCall, NeverFalls, last_stamp}
 use Rattle.arg_records.specs.Frames.{FrameLen}
 use Rattle.ring_core.specs.declared.answers.Full.{Full}
 use Rattle.ring_core.specs.Answers.{IsFull}
-use Rattle.ring_core.specs.Plans.{Plan, plan_of, AreFramesOf}
+use Rattle.ring_core.specs.Plans.{AreFramesOf}
 use Rattle.ring_core.specs.Positions.{Need, Position, position_from}
-use Rattle.ring_core.proofs.Frames.{last_stamp-push, AreFramesOf-nil}
+use Rattle.ring_core.proofs.Frames.{last_stamp-push}
 use Rattle.ring_core.proofs.Needs.{Need-most, position_from-push}
 use Rattle.trace_text.specs.declared.trace.TheConstants.{MAX_CALLS}
 use Rattle.trace_text.specs.Recordings.{Recording, IsRecording}
 use Rattle.trace_session.specs.declared.drops.Dropped.{Dropped}
 use Rattle.trace_session.specs.Levels.{keeps}
 use Rattle.trace_session.specs.Drops.{is_listed, taken_call, taken_of, calls_at, position_at, released_at, LacksRoom, IsDrop}
-use Rattle.trace_session.specs.Workers.{WriterTask, WorkerProgress, WriterState, state_of, task_calls, calls_before, accepted_before, kept_before, drop_of, HasWorked, HasTriedOnce, IsNextFiltered, IsNextKept, WantsRoom}
-use Rattle.trace_session.specs.Running.{IsNewWriter}
-use Rattle.log_session.specs.Writers.{WriterView, Tries, one_log}
-use Rattle.trace_session.proofs.Taking.{taken_calls-passed, taken_calls-accepted, taken_calls-dropped, taken_calls-same, is_listed-below, is_listed-last, is_listed-earlier, released_at-same, lawful_nil, lawful_more}
+use Rattle.trace_session.specs.Workers.{WriterTask, WorkerProgress, WriterState, task_calls, calls_before, accepted_before, kept_before, drop_of, HasWorked, HasTriedOnce, IsNextFiltered, IsNextKept, WantsRoom}
+use Rattle.log_session.specs.Writers.{Tries, one_log}
+use Rattle.trace_session.proofs.Taking.{taken_calls-passed, taken_calls-accepted, taken_calls-dropped, taken_calls-same, is_listed-below, is_listed-last, is_listed-earlier, released_at-same, lawful_more}
 
 -- ---- calls of a run that is recorded
 
@@ -164,33 +162,6 @@ worked_next {task} {progress} h call is =
     let known : task.number < length task.run.writers = h.progress_is.known in
     omega (arith, slice_get_within (task_calls task) progress.next call is, get_or-le-sum_by length task.run.writers task.number [] known, h.recorded.few_calls)
 
--- nothing is done yet
-pub worked_first : {S : Type 0} (words : S → ℕ) (plan : S → Plan) (sent : S → List (List ℕ)) (closed : S → Bool) (at seen : S → ℕ) (task : WriterTask) (size : ℕ) (writer : WriterView S) → IsRecording task.run → task.number < length task.run.writers
-    → MIN_RING ≤ size → size ≤ MAX_RING → IsNewWriter size (plan_of task.run.dictionary task.run.clock.tick) words plan sent closed at seen writer
-    → HasWorked task (record { next = 0; drops = []; closed = false }) (state_of plan words sent at seen closed writer)
-worked_first words plan sent closed at seen task size writer recorded known least most new = record {
-  recorded = recorded;
-  ring = (omega (arith, least, new.size_is), omega (arith, most, new.size_is));
-  progress_is = record {
-    known = known;
-    within = omega arith;
-    own = All-nil (λ (d : Dropped). d.writer ≡ task.number);
-    before = All-nil (λ (d : Dropped). d.ordinal < 0);
-    lawful = lawful_nil task.run task.level (words writer.end);
-    waits = λ waits. refl;
-    kept = refl;
-    all = λ shut. absurd cc;
-  };
-  plan_is = new.plan_is;
-  frames = subst (λ (frames : List (List ℕ)). AreFramesOf (plan writer.end) frames []) (sym new.unused.none_sent) (AreFramesOf-nil (plan writer.end));
-  placed = new.unused.at_first;
-  released = All-nil (λ (d : Dropped). released_at task.run task.level (words writer.end) [] d ≤ seen writer.end);
-  closed_is = new.unused.open_end;
-  last_is = omega (arith, new.new.last);
-  counted = new.new.accepted ∙ sym (ap (λ (frames : List (List ℕ)). length frames) new.unused.none_sent);
-  tried = λ sheds. ap (λ (tries : Tries). tries.logs) new.new.untried;
-}
-
 -- a call that the level doesn't keep
 pub worked_passed : {task : WriterTask} {progress : WorkerProgress} {writer : WriterState} → HasWorked task progress writer → progress.closed ≡ false → (call : Call) → slice_get (task_calls task) progress.next ≡ Some call → keeps task.run.dictionary task.level call ≡ false
     → HasWorked task (record progress { next = progress.next + 1 }) writer
@@ -291,22 +262,6 @@ wants_room {at} {at_now} {words} {words_now} {seen} {full} task progress call ar
 abbrev pub state_refused : WriterState → ℕ → WriterState
 state_refused writer seen = record writer { seen = seen; tries = one_log writer.tries }
 
--- no room was there, and writers wait
-pub worked_refused : {task : WriterTask} {progress : WorkerProgress} {writer : WriterState} → HasWorked task progress writer → (task.policy ≡ policies.Shed → ⊥) → (seen : ℕ) → writer.seen ≤ seen → HasWorked task progress (state_refused writer seen)
-worked_refused {task} {progress} {writer} h waits seen grows = record {
-  recorded = h.recorded;
-  ring = h.ring;
-  progress_is = h.progress_is;
-  plan_is = h.plan_is;
-  frames = h.frames;
-  placed = h.placed;
-  released = seen_more task writer.words progress.drops progress.drops writer.seen seen grows h.released;
-  closed_is = h.closed_is;
-  last_is = h.last_is;
-  counted = h.counted;
-  tried = λ sheds. absurd (waits sheds);
-}
-
 -- one for which the ring lacked room, and that was dropped
 pub worked_dropped : {task : WriterTask} {progress : WorkerProgress} {writer : WriterState} → HasWorked task progress writer → progress.closed ≡ false → (call : Call) → slice_get (task_calls task) progress.next ≡ Some call → keeps task.run.dictionary task.level call ≡ true → (task.policy ≡ policies.Wait → ⊥)
     → (seen : ℕ) (full : Full) → IsFull writer.at (FrameLen call.args) writer.words seen full → writer.seen ≤ seen
@@ -356,25 +311,6 @@ worked_dropped {task} {progress} {writer} h still call is keeping shed seen full
     }
 
 -- ---- the end
-
--- all calls are done, and the writer was asked to close
-pub worked_closing : {task : WriterTask} {progress : WorkerProgress} {writer : WriterState} → HasWorked task progress writer → progress.next ≡ length (task_calls task) → (closed : Bool) (seen closes : ℕ) → writer.seen ≤ seen
-    → HasWorked task (record progress { closed = closed }) (record writer { closed = closed; seen = seen; tries = record { logs = writer.tries.logs; closes = closes } })
-worked_closing {task} {progress} {writer} h all closed seen closes grows =
-    let p = h.progress_is in
-    record {
-      recorded = h.recorded;
-      ring = h.ring;
-      progress_is = record { known = p.known; within = p.within; own = p.own; before = p.before; lawful = p.lawful; waits = p.waits; kept = p.kept; all = λ shut. all };
-      plan_is = h.plan_is;
-      frames = h.frames;
-      placed = h.placed;
-      released = seen_more task writer.words progress.drops progress.drops writer.seen seen grows h.released;
-      closed_is = refl;
-      last_is = h.last_is;
-      counted = h.counted;
-      tried = h.tried;
-    }
 
 -- where there is a call, and not one that the level doesn't keep, the level keeps it
 pub kept_next : (task : WriterTask) (progress : WorkerProgress) → progress.next < length (task_calls task) → (IsNextFiltered task progress → ⊥) → IsNextKept task progress

@@ -18,7 +18,3 @@ keeps dictionary level call = option_map_or (is_within level) (slice_get diction
 -- the calls that the level keeps, per writer, in their order
 abbrev pub Kept : Recording → Severity → List (List Call)
 Kept run level = map (filter (keeps run.dictionary level)) run.writers
-
--- the run without the calls that the level doesn't keep; each call has the place that is left to it
-abbrev pub kept_run : Recording → Severity → Recording
-kept_run run level = record run { writers = Kept run level }

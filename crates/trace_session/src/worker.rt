@@ -1,10 +1,7 @@
 //! Workers.
 
-ghost use Rattle.std.specs.Prelude.{◌≡◌, ◌≢◌, ℕ, ◌+◌, ◌-◌, ◌<◌, ◌≤◌, ◌↔◌, ◌++◌, ◌∷◌, [], true, false, length, slice_get, Some, IsTrue, IfOk, IfErr, vec_len};
-ghost use Rattle.std.specs.Option.{option_copied};
-ghost use Rattle.arg_records.specs.Calls.{IsCall};
+ghost use Rattle.std.specs.Prelude.{◌≡◌, ◌+◌, ◌-◌, ◌<◌, ◌≤◌, ◌↔◌, [], true, false, length, Some, IsTrue, IfOk, vec_len};
 ghost use Rattle.ring_core.specs.Plans.{plan_of};
-ghost use Rattle.trace_session.specs.Levels.{keeps};
 ghost use Rattle.std.specs.Arc.{arc_value};
 ghost use Rattle.std.specs.Vec.{vec_capacity};
 ghost use Rattle.session_options.specs.declared.limits.TheConstants.{MIN_RING, MAX_RING};

@@ -8,7 +8,7 @@ use Rattle.printf_grammar.specs.declared.arg_type.ArgType.{ArgType}
 use Rattle.printf_grammar.specs.declared.argument.Value.{Value}
 use Rattle.arg_records.specs.Frames.{FrameLen, argument_words}
 use Rattle.trace_text.specs.declared.cause.TraceCause.{TraceCause}
-use Rattle.trace_text.specs.declared.cause.TraceCause.TheVariants.{ArgCount, ArgKind}
+use Rattle.trace_text.specs.declared.cause.TraceCause.TheVariants.{ArgKind}
 use Rattle.trace_text.specs.CallReading.{◌>>=◌, Item, item_at, argument_of, arguments_at}
 use Rattle.trace_text.specs.CallFields.{spaced_argument}
 
@@ -73,11 +73,6 @@ pub one_refused : (types : List ArgType) (bytes : List ℕ) (place : ℕ) (rest 
     → ◌≡◌ {A = Result (Value × List ℕ) TraceCause} (Err cause) (spaced_argument (get_or types place d) rest) → arguments_at types bytes ≡ Err cause
 one_refused types bytes place rest args d cause read within found =
     read.goes ∙ ap (with_args args) (at_place types place d rest within ∙ ap (λ (r : Result (Value × List ℕ) TraceCause). r >>= behind (drop (place + 1) types)) (sym found))
-
--- something follows the last argument
-pub more_refused : (types : List ArgType) (bytes : List ℕ) (place : ℕ) (rest : List ℕ) (args : List Value) → AreRead types bytes place rest args → length types ≤ place → 0 < length rest → arguments_at types bytes ≡ Err ArgCount
-more_refused types bytes place [] args read past more = absurd (omega (arith, more))
-more_refused types bytes place (byte ∷ rest) args read past more = read.goes ∙ ap (λ (l : List ArgType). with_args args (arguments_at l (byte ∷ rest))) (drop_of_length-le types past)
 
 -- nothing follows it
 pub all_read : (types : List ArgType) (bytes : List ℕ) (place : ℕ) (rest : List ℕ) (args : List Value) → AreRead types bytes place rest args → length types ≤ place → length rest ≤ 0 → arguments_at types bytes ≡ Ok args

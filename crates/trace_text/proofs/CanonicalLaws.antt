@@ -12,6 +12,7 @@ use Rattle.log_dictionary.specs.Canonical.{canonical_text, message_line, message
 use Rattle.log_dictionary.specs.Calls.{LogCall}
 use Rattle.log_dictionary.proofs.Written.{written_text, written_message}
 use Rattle.arg_records.specs.declared.call.Call.{Call}
+use Rattle.arg_records.specs.Kinds.{HoldsBytes}
 use Rattle.arg_records.specs.Calls.{IsCall, NeverFalls, log_call}
 use Rattle.direct_printf.specs.Lines.{in_order}
 use Rattle.trace_text.specs.declared.order.CallPlace.{CallPlace}
@@ -20,7 +21,7 @@ use Rattle.trace_text.specs.Recordings.{Recording, calls_of}
 use Rattle.trace_text.specs.Order.{call_place}
 use Rattle.trace_text.specs.Lines.{WriterCall, first_line, last_line, clock_line, writers_line, SpellsArgumentFields, SpellsCall, SpellsMessages, SpellsCalls, text_of_lines}
 use Rattle.trace_text.specs.Traces.{TraceText, calls_by}
-use Rattle.trace_text.specs.Canonical.{argument_text, call_line, call_text, made_by, made_at, calls_in_order, Canonical, HasBytes, HasCallLine, HasText}
+use Rattle.trace_text.specs.Canonical.{argument_text, call_line, call_text, made_by, made_at, calls_in_order, Canonical, HasCallLine, HasText}
 use Rattle.trace_text.proofs.OwnCalls.{is_of, own_in_order}
 
 -- ---- what stands at a place
@@ -146,7 +147,7 @@ spells_messages : (n : ℕ) (messages : List Message) → n + length messages �
 spells_messages n [] few all = tt
 spells_messages n (message ∷ messages) few all = (written_message n message (omega (arith, few)) all.0, spells_messages (n + 1) messages (omega (arith, few)) all.1)
 
-spells_arguments : (args : List Value) → AllByRecursion HasBytes args → SpellsArgumentFields (flat_map argument_text args) args
+spells_arguments : (args : List Value) → AllByRecursion HoldsBytes args → SpellsArgumentFields (flat_map argument_text args) args
 spells_arguments [] all = refl
 spells_arguments (values.Signed z ∷ args) all = (_, flat_map argument_text args, refl, refl, spells_arguments args all.1)
 spells_arguments (values.Unsigned n ∷ args) all = (_, flat_map argument_text args, refl, refl, spells_arguments args all.1)

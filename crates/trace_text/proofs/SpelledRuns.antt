@@ -4,12 +4,15 @@ use Rattle.std.specs.Prelude.{filter}
 use Rattle.std.proofs.lemmas.Bool.Decides.{nat_tests}
 use Rattle.std.specs.Char.{digit_value, IsAsciiHexdigit}
 use Rattle.std.specs.List.{AllByRecursion}
+use Rattle.std.proofs.lemmas.List.Elements.{All-nil, All-cons}
+use Rattle.nibble_pack.specs.Bytes.{AreBytes}
+use Rattle.arg_records.specs.Kinds.{HoldsBytes}
 use Rattle.printf_grammar.specs.declared.argument.Value.{Value}
 use Rattle.printf_grammar.specs.declared.argument.Value.TheVariants as values
 use Rattle.log_dictionary.specs.declared.message.Message.{Message}
 use Rattle.log_dictionary.specs.Texts.{SpellsByte, SpellsText}
 use Rattle.log_dictionary.specs.Texts.SpellsByte.{itself, quotation_mark, backslash, line_feed, tab, hexadecimal}
-use Rattle.log_dictionary.specs.Canonical.{AreBytes, HasLine}
+use Rattle.log_dictionary.specs.Canonical.{HasLine}
 use Rattle.log_dictionary.specs.Messages.{SpellsMessage}
 use Rattle.log_dictionary.specs.Additions.{ReadsLine}
 use Rattle.log_dictionary.specs.declared.clock.Clock.{Clock}
@@ -25,7 +28,7 @@ use Rattle.trace_text.proofs.RunSteps.{start_of, start_recorded}
 use Rattle.trace_text.specs.Recordings.{Recording}
 use Rattle.trace_text.specs.Lines.{WriterCall, FitsLine, SpellsArgumentFields, SpellsCall, SpellsMessages, SpellsCalls}
 use Rattle.trace_text.specs.Traces.{TraceText, calls_by}
-use Rattle.trace_text.specs.Canonical.{HasBytes, HasCallLine, HaveMessageLines, HasText}
+use Rattle.trace_text.specs.Canonical.{HasCallLine, HaveMessageLines, HasText}
 
 digit_small : (b : ℕ) → IsAsciiHexdigit b → digit_value b < 16
 digit_small b is = grind (arith, nat_tests)
@@ -40,8 +43,9 @@ spelled_byte unit b (tab is e) = omega (arith, e)
 spelled_byte unit b (hexadecimal high low first second is e) = omega (arith, e, digit_small high first, digit_small low second)
 
 spelled_bytes : (spelled bytes : List ℕ) → SpellsText spelled bytes → AreBytes bytes
-spelled_bytes spelled [] spells = tt
-spelled_bytes spelled (b ∷ bytes) (unit, rest, joined, byte, others) = (spelled_byte unit b byte, spelled_bytes rest bytes others)
+spelled_bytes spelled [] spells = All-nil (λ (b : ℕ). b < 256)
+spelled_bytes spelled (b ∷ bytes) (unit, rest, joined, byte, others) =
+    All-cons (λ (b : ℕ). b < 256) b bytes (spelled_byte unit b byte) (spelled_bytes rest bytes others)
 
 spelled_message : (line : List ℕ) (id : ℕ) (message : Message) → SpellsMessage line id message → HasLine message
 spelled_message line id message spells = record { file = spelled_bytes _ _ spells.file; bytes = spelled_bytes _ _ spells.bytes; formed = spells.formed; line_fits = spells.line_fits }
@@ -52,7 +56,7 @@ spelled_messages n (line ∷ lines) (message ∷ messages) spells = (spelled_mes
 spelled_messages n [] (message ∷ messages) spells = absurd spells
 spelled_messages n (line ∷ lines) [] spells = absurd spells
 
-spelled_arguments : (fields : List ℕ) (args : List Value) → SpellsArgumentFields fields args → AllByRecursion HasBytes args
+spelled_arguments : (fields : List ℕ) (args : List Value) → SpellsArgumentFields fields args → AllByRecursion HoldsBytes args
 spelled_arguments fields [] spells = tt
 spelled_arguments fields (values.Signed z ∷ args) (field, others, joined, argument, rest) = (tt, spelled_arguments others args rest)
 spelled_arguments fields (values.Unsigned n ∷ args) (field, others, joined, argument, rest) = (tt, spelled_arguments others args rest)

@@ -1,6 +1,5 @@
 -- One line read, and what it says of all that follows.
-use Rattle.std.proofs.Common.{◌≡◌, ◌≢◌, ℕ, ◌+◌, List, [], ◌∷◌, All, eqb, length, false, true, Result, Ok, Err, refl, ap, sym, subst, inl, inr, arith}
-use Rattle.std.proofs.lemmas.Bool.{eqb-true}
+use Rattle.std.proofs.Common.{◌≡◌, ◌≢◌, ℕ, ◌+◌, List, [], ◌∷◌, All, eqb, length, false, Result, Ok, Err, refl, ap, sym, subst, inl, inr}
 use Rattle.log_dictionary.specs.Fields.{IsFirstSplit}
 use Rattle.trace_text.specs.declared.cause.TraceCause.{TraceCause}
 use Rattle.trace_text.specs.declared.cause.TraceCause.TheVariants.{AfterEnd}
@@ -49,11 +48,6 @@ refused_after run n byte bytes =
 pub refused_behind : (run : Recording) (n : ℕ) (bytes : List ℕ) → eqb (length bytes) 0 ≡ false → Gives (ended run) n bytes (Err (record { line = n; cause = AfterEnd }))
 refused_behind run n [] some = absurd cc
 refused_behind run n (byte ∷ bytes) some = refused_after run n byte bytes
-
--- no bytes
-pub gives_run : (run : Recording) (n : ℕ) (bytes : List ℕ) → eqb (length bytes) 0 ≡ true → Gives (ended run) n bytes (Ok run)
-gives_run run n [] none = record { lines = []; rest = []; cut = record { joined = refl; whole = tt; unended = tt }; reads = refl }
-gives_run run n (byte ∷ bytes) none = absurd (omega (arith, eqb-true _ _ none))
 
 -- ---- one reader after another
 

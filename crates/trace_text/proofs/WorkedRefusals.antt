@@ -1,8 +1,9 @@
 -- Worked texts that are refused.
-use Rattle.std.proofs.Common.{◌≡◌, ◌≢◌, ℕ, lit<, lit≤, true, not, eqb, List, [], ◌∷◌, ◌++◌, Result, Err, get_or, refl, ap, subst, inl, inr, arith}
+use Rattle.std.proofs.Common.{◌≡◌, ◌≢◌, ℕ, ◌<◌, lit<, lit≤, true, not, eqb, List, [], ◌∷◌, ◌++◌, Result, Err, get_or, refl, ap, subst, inl, inr, arith}
 use Rattle.std.specs.Prelude.{codes}
 use Rattle.std.specs.Fmt.{digits}
 use Rattle.std.specs.List.{list_all}
+use Rattle.std.proofs.lemmas.List.Elements.{All-from_recursion}
 use Rattle.log_dictionary.specs.declared.clock.Clock.{Clock}
 use Rattle.printf_grammar.specs.declared.piece.Piece.TheVariants.{Literal}
 use Rattle.printf_grammar.specs.Spelling.{Spells}
@@ -79,7 +80,7 @@ unfolding digits
 second_written = refl
 
 second_spelled : SpellsMessage (codes "message 1 DEBUG 1 \"a\" \"b\"") 1 second_message
-second_spelled = subst (λ (line : List ℕ). SpellsMessage line 1 second_message) second_written (written_message 1 second_message (lit< tt) (record { file = (lit< tt, tt); bytes = (lit< tt, tt); formed = second_formed; line_fits = lit< tt }))
+second_spelled = subst (λ (line : List ℕ). SpellsMessage line 1 second_message) second_written (written_message 1 second_message (lit< tt) (record { file = All-from_recursion (λ (b : ℕ). b < 256) (codes "a") (lit< tt, tt); bytes = All-from_recursion (λ (b : ℕ). b < 256) (codes "b") (lit< tt, tt); formed = second_formed; line_fits = lit< tt }))
 
 -- the id of the first message is 0
 no_message : (message : Message) → ¬ (SpellsNew [] (codes "message 1 DEBUG 1 \"a\" \"b\"") 0 message)

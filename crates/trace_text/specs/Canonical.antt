@@ -1,15 +1,16 @@
 -- How a run is written: its one text that is canonical.
-use Rattle.std.specs.Prelude.{ℕ, List, [], ◌∷◌, ◌++◌, length, codes, decimal, Option, option_and_then, slice_get, ◌<◌, ◌^◌, ◌≤◌, ⊤}
+use Rattle.std.specs.Prelude.{ℕ, List, [], ◌∷◌, ◌++◌, length, codes, decimal, Option, option_and_then, slice_get, ◌<◌, ◌^◌, ◌≤◌}
 use Rattle.std.specs.Fmt.{signed_decimal}
 use Rattle.std.specs.Option.{option_map}
 use Rattle.std.specs.List.{AllByRecursion, flat_map, filter_map}
 use Rattle.printf_grammar.specs.declared.argument.Value.{Value}
 use Rattle.printf_grammar.specs.declared.argument.Value.TheVariants as values
 use Rattle.log_dictionary.specs.declared.dictionary.TheConstants.{MAX_MESSAGES}
-use Rattle.log_dictionary.specs.Canonical.{quoted_text, dictionary_text, AreBytes, HasLine}
+use Rattle.log_dictionary.specs.Canonical.{quoted_text, dictionary_text, HasLine}
 use Rattle.log_dictionary.specs.Messages.{AreDistinct}
 use Rattle.log_dictionary.specs.declared.message.Message.{Message}
 use Rattle.arg_records.specs.declared.call.Call.{Call}
+use Rattle.arg_records.specs.Kinds.{HoldsBytes}
 use Rattle.trace_text.specs.declared.order.CallPlace.{CallPlace}
 use Rattle.trace_text.specs.Recordings.{Recording, IsRecording}
 use Rattle.trace_text.specs.Lines.{WriterCall, FitsLine, clock_line, writers_line}
@@ -63,15 +64,10 @@ Canonical run = front_text run ++ flat_map call_text (calls_in_order run) ++ cod
 
 -- ---- which runs a text can have
 
--- what a text holds is bytes
-abbrev pub HasBytes : Value → Type 0
-HasBytes (values.Text bytes) = AreBytes bytes
-HasBytes _ = ⊤
-
 -- a call that a line can spell: its stamp is a u64, and its texts are bytes
 pub record HasCallLine (call : Call) : Type 0 where
   pub stamp : call.stamp < 2 ^ 64
-  pub texts : AllByRecursion HasBytes call.args
+  pub texts : AllByRecursion HoldsBytes call.args
 
 -- messages that the front of a text can spell: no two are equal, they are at most 65,536, and each has a line
 pub record HaveMessageLines (messages : List Message) : Type 0 where

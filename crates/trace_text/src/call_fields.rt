@@ -1,6 +1,6 @@
 //! The arguments of a call's line.
 
-ghost use Rattle.std.specs.Prelude.{◌≡◌, ◌+◌, ◌≤◌, ◌≤ℤ◌, ℤ, pos, IsTrue, IfOk, length, Some, None, List, ℕ, OnOk, IfErr, ◌<◌, ◌++◌, ◌∷◌, []};
+ghost use Rattle.std.specs.Prelude.{◌≡◌, ◌+◌, ◌≤◌, ℤ, IfOk, length, Some, None, List, ℕ, OnOk, IfErr, ◌<◌, ◌++◌, ◌∷◌, []};
 ghost use Rattle.printf_grammar.specs.declared.limits.TheConstants.{MAX_ARGUMENTS};
 ghost use Rattle.log_dictionary.specs.Numbers.{integer_read, if_signed};
 ghost use Rattle.arg_records.specs.Frames.{FrameLen, IsShort, argument_words};

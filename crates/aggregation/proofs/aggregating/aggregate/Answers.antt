@@ -1,4 +1,4 @@
-use Rattle.std.proofs.Common.{◌≡◌, ℕ, sym, subst, ◌∙◌}
+use Rattle.std.proofs.Common.{◌≡◌, sym, subst, ◌∙◌}
 use Rattle.log_scan.specs.Parts.{blocks_read}
 use Rattle.aggregation.specs.Aggregating.{answer_at, AnswersTotals}
 use Rattle.aggregation.proofs.Outcomes.{answers_scan}

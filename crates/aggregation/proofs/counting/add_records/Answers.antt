@@ -1,4 +1,4 @@
-use Rattle.std.proofs.Common.{◌≡◌, List, [], ◌∷◌, ◌++◌, length, refl, subst, arith}
+use Rattle.std.proofs.Common.{List, [], ◌∷◌, ◌++◌, length, refl, subst, arith}
 use Rattle.arg_records.specs.declared.call.Call.{Call}
 use Rattle.aggregation.specs.Totals.{numbers_in, Adds}
 use Rattle.aggregation.proofs.Sums.{adds_none}

@@ -1,16 +1,11 @@
-use Rattle.std.proofs.Common.{◌≡◌, ◌+◌, ◌<◌, ◌≤◌, ℕ, List, [], ◌∷◌, ◌++◌, map, length, get_or, drop, refl, ap, sym, subst, ◌∙◌, arith, rules}
-use Rattle.std.specs.List.{flat_map}
+use Rattle.std.proofs.Common.{◌≡◌, ◌+◌, ℕ, List, [], ◌++◌, length, get_or, refl, ap, sym, subst, ◌∙◌, arith, rules}
 use Rattle.std.proofs.lemmas.List.{append-nil, get_or_default}
 use Rattle.nl_io.specs.Content.{with_end}
 use Rattle.nl_io.specs.TextWriters.{Carries, IsCutOff}
 use Rattle.nl_io.proofs.TextWriters.{carries_held, carries_more, carries_all, carries_front, cut_more, cut_held}
-use Rattle.log_dictionary.specs.Calls.{LogCall}
-use Rattle.arg_records.specs.declared.call.Call.{Call}
-use Rattle.arg_records.specs.Calls.{IsCall, calls_by_writer}
-use Rattle.direct_printf.specs.Lines.{Line}
+use Rattle.arg_records.specs.Calls.{calls_by_writer}
 use Rattle.decompressor.specs.declared.fault.DecodeFault.TheVariants.{WriteFault, NoMemory}
 use Rattle.decompressor.proofs.Merging.{merged_is}
-use Rattle.decompressor.proofs.Taking.{IsCallOf}
 use Rattle.decompressor.proofs.Lines.{first_turn, turn_at, next_turn, picks, line_next, text_is, many_lines, no_lines, cut_printing}
 use Rattle.decompressor.proofs.printing.print_lines.Goals as goal
 

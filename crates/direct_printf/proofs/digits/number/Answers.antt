@@ -1,7 +1,6 @@
 use Rattle.std.proofs.Common.{sym, ◌∙◌}
 use Rattle.direct_printf.proofs.Spelling.{Digits-none, Digits-some, has_digits}
 use Rattle.direct_printf.proofs.digits.number.Goals as goal
-use Rattle.direct_printf.proofs.digits.number.Goals.{else-value-eq0-via-then-value-eq0+else-least-eq0, else-value-eq0-via-else-value-eq0}
 
 pub returns-then-least-eq0-clause-digits : goal.returns-then-least-eq0-clause-digits
 returns-then-least-eq0-clause-digits c =

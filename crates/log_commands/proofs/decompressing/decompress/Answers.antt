@@ -1,4 +1,4 @@
-use Rattle.std.proofs.Common.{◌≡◌, ℕ, Ok, Err, sym, subst}
+use Rattle.std.proofs.Common.{ℕ, Ok, Err, sym, subst}
 use Rattle.nl_io.specs.DeskLaws.{Opens-reading, Opens-content}
 use Rattle.nl_io.proofs.Contents.{front-whole}
 use Rattle.decompressor.specs.Decompressing.{Decompresses}

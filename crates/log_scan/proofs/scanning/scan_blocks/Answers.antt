@@ -1,4 +1,4 @@
-use Rattle.std.proofs.Common.{◌≡◌, List, Err, refl, ap, sym, subst, ◌∙◌, rules}
+use Rattle.std.proofs.Common.{List, Err, refl, ap, sym, subst, ◌∙◌, rules}
 use Rattle.log_dictionary.specs.declared.message.Message.{Message}
 use Rattle.log_scan.specs.Parts.{log_part, StandsNext}
 use Rattle.log_scan.proofs.BlockScans.{some_next, stands_next, on_next, falls, ends_whole, ends_damaged, ends_failed}

@@ -1,6 +1,4 @@
-use Rattle.std.proofs.Common.{◌≡◌, Ok, Err, ap, sym, subst, ◌∙◌}
-use Rattle.std.specs.Prelude.{Result, IfOk}
-use Rattle.log_scan.specs.declared.scan.Scan.{Scan}
+use Rattle.std.proofs.Common.{Err, ap}
 use Rattle.log_scan.proofs.BlockScans.{begun_folds, without_header}
 use Rattle.log_scan.proofs.scanning.scan_log.Goals as goal
 

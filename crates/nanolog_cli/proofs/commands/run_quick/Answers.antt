@@ -1,4 +1,4 @@
-use Rattle.std.proofs.Common.{refl, sym, subst, inl, inr}
+use Rattle.std.proofs.Common.{refl, subst, inl, inr}
 use Rattle.cli_words.specs.declared.command.Command.{Command as Asked}
 use Rattle.cli_words.specs.CommandViews.{command_is}
 use Rattle.cli_words.specs.Rows.{IsLawful}

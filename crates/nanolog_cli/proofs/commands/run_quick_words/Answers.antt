@@ -1,4 +1,4 @@
-use Rattle.std.proofs.Common.{Some, None, refl, inl, ◌∙◌}
+use Rattle.std.proofs.Common.{Some, None, refl, inl}
 use Rattle.command_base.specs.declared.refusal.Refusal.TheVariants.{NoMemory as WantsMemory}
 use Rattle.command_base.specs.EffectLaws.{answered_as}
 use Rattle.nanolog_cli.specs.Outcomes.{quick_part}

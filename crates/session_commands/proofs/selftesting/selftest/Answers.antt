@@ -1,17 +1,12 @@
-use Rattle.std.proofs.Common.{◌≡◌, length, ap, sym, subst, ◌∙◌, refl, arith}
+use Rattle.std.proofs.Common.{◌≡◌, length, ap, subst, ◌∙◌, refl, arith}
 use Rattle.std.specs.Arc.{arc_value}
 use Rattle.nl_io.specs.MemSinks.{sink_bytes}
 use Rattle.trace_text.specs.Recordings.{Recording}
 use Rattle.trace_generator.specs.Generated.{Generated}
 use Rattle.trace_session.specs.Sessions.{IsWholeLog}
-use Rattle.command_base.specs.Endings.{Ending}
-use Rattle.command_base.specs.Effects.{CommandEffect}
-use Rattle.command_base.specs.EffectLaws.{ended_as, nothing_came, printed_done}
-use Rattle.command_base.specs.Scenes.{Scene, scene}
-use Rattle.command_base.specs.Tasks.{text_alone}
-use Rattle.session_commands.specs.Selftests.{summary_of, selftest_line, selftest_task}
+use Rattle.command_base.specs.EffectLaws.{ended_as}
+use Rattle.session_commands.specs.Selftests.{summary_of}
 use Rattle.session_commands.proofs.LogLengths.{generated_short}
-use Rattle.session_commands.proofs.Soundness.{selftest_sound}
 use Rattle.session_commands.proofs.SelftestEnds.{selftest_lacked, selftest_told}
 use Rattle.session_commands.proofs.selftesting.selftest.Goals as goal
 

@@ -1,4 +1,4 @@
-use Rattle.std.proofs.Common.{◌≡◌, ◌++◌, ◌∷◌, ◌≤◌, [], ℤ, FitsSigned, to_z, of_z, refl, ap, ◌∙◌, rules, arith}
+use Rattle.std.proofs.Common.{◌++◌, ◌∷◌, ◌≤◌, [], ℤ, FitsSigned, to_z, of_z, refl, ap, ◌∙◌, rules, arith}
 use Rattle.std.specs.Prelude.{◌+ℤ◌}
 use Rattle.std.proofs.lemmas.Int.{to_z-of_z}
 use mir.Syntax.{w128}

@@ -1,4 +1,4 @@
-use Rattle.std.proofs.Common.{◌≡◌, ◌+◌, List, ◌∷◌, ap, sym, ◌∙◌}
+use Rattle.std.proofs.Common.{◌+◌, List, ◌∷◌, ap, sym, ◌∙◌}
 use Rattle.arg_records.specs.declared.call.Call.{Call}
 use Rattle.decompressor.specs.Taking.{left_from}
 use Rattle.decompressor.proofs.LeftFrom.{left_from-more}

@@ -1,4 +1,4 @@
-use Rattle.std.proofs.Common.{rules, ◌≡◌, ℕ, ◌+◌, List, [], ◌∷◌, ◌++◌, Some, Err, true, false, inr, refl, subst, sym, ap, ◌∙◌, arith}
+use Rattle.std.proofs.Common.{rules, ◌≡◌, ◌+◌, List, [], ◌∷◌, ◌++◌, Some, Err, true, false, inr, refl, subst, sym, ap, ◌∙◌, arith}
 use Rattle.std.specs.Prelude.{slice_get}
 use Rattle.std.proofs.lemmas.Option.{same_Some, slice_get_within}
 use Rattle.nl_io.specs.Count.{Rose}
@@ -14,10 +14,10 @@ use Rattle.log_session.specs.declared.refusal.LogRefusal.{LogRefusal}
 use Rattle.log_session.specs.Writers.{Knows, IfRefusedFull, knows_taken}
 use Rattle.trace_session.specs.declared.drops.Dropped.{Dropped}
 use Rattle.trace_session.specs.Levels.{keeps}
-use Rattle.trace_session.specs.Workers.{WorkerView, WriterState, state_of, HasWorked, IsNextKept, task_calls, accepted_before}
+use Rattle.trace_session.specs.Workers.{WorkerView, state_of, HasWorked, IsNextKept, task_calls, accepted_before}
 use Rattle.trace_session.specs.Turns.{TriesCall}
 use Rattle.trace_session.specs.WorkerInside.{worker_task, worker_progress_of}
-use Rattle.trace_session.proofs.Working.{worked_call, worked_last, worked_position, worked_accepted, worked_refused, worked_dropped, worked_state, state_accepted, state_refused, wants_room, next_found}
+use Rattle.trace_session.proofs.Working.{worked_call, worked_last, worked_position, worked_accepted, worked_dropped, worked_state, state_accepted, state_refused, wants_room, next_found}
 use Rattle.trace_session.proofs.worker.Worker.log_or_shed.Goals as goal
 
 pub log-requires-clause-known : goal.log-requires-clause-known
