@@ -1,14 +1,10 @@
-//! Tests of rings, of the consumer and of sessions: what no contract says of their calls.
+//! Tests of the consumer and of sessions: what no contract says of their calls.
 #![tactic(auto)]
 
 #[cfg(test)]
 mod gates;
 #[cfg(test)]
 mod late;
-#[cfg(test)]
-mod machine;
-#[cfg(test)]
-mod rings;
 #[cfg(test)]
 mod stored;
 #[cfg(test)]

@@ -1,0 +1,10 @@
+pub mod Counting
+pub mod Laying
+pub mod SeatSteps
+pub mod SameSeats
+pub mod FrameWords
+pub mod Storing
+pub mod Putting
+pub mod Reading
+pub mod NextFrames
+pub mod Roaming

@@ -1,0 +1,18 @@
+use Rattle.std.proofs.Common.{◌<◌, arith}
+use Rattle.std.proofs.Math.Nat.{mod-lt}
+use Rattle.word_ring.specs.Plays.{read_by}
+use Rattle.word_ring.proofs.SeatSteps.{reads}
+use Rattle.word_ring.proofs.steps.read.Goals as goal
+
+pub overflow_add-place : goal.overflow_add-place
+overflow_add-place c =
+    let v = c.args.seat.now.me.0 in
+    let r = c.requires in
+    omega (arith, r.place, r.size.most, mod-lt (read_by v).at {m = v.size} (omega (arith, r.size.least)))
+
+pub load-requires : goal.load-requires
+load-requires c =
+    let v = c.args.seat.now.me.0 in
+    let r = c.requires in
+    let inside : c.args.place < v.size = omega (arith, r.place, mod-lt (read_by v).at {m = v.size} (omega (arith, r.size.least))) in
+    (r.seat.one, omega (arith, r.seat.words, inside), reads _ _ _ c.args.place c.args.seat.now.me r.reads r.place (omega (arith, r.size.least)) r.left)

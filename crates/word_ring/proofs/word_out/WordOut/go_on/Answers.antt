@@ -1,0 +1,64 @@
+use Rattle.std.proofs.Common.{◌≡◌, false, ap, ◌∙◌, arith}
+use Rattle.word_ring.specs.Ends.{RoamerEnd}
+use Rattle.word_ring.specs.Seats.{view}
+use Rattle.word_ring.specs.RoamerInside.{roamer_end_of}
+use Rattle.word_ring.specs.declared.word_out.WordOut.TheInside.{Inside}
+use Rattle.word_ring.proofs.NextFrames.{head_read, begun, place, count_fits}
+use Rattle.word_ring.proofs.Roaming.{marked, skips, frame_at, framed, takes, len_within}
+use Rattle.word_ring.proofs.word_out.WordOut.go_on.Goals as goal
+
+open_inside : (s : Inside) (e : RoamerEnd) → roamer_end_of s ≡ e → e.ended ≡ false → s.ended ≡ false
+open_inside s e is h = ap (λ (r : RoamerEnd). r.ended) is ∙ h
+
+pub read_frame-len-requires-clause-head : goal.read_frame-len-requires-clause-head
+read_frame-len-requires-clause-head c =
+    head_read c.self.inside c.self.invariant c.read-word.result c.read-word.ensures.fits c.if-word-eq0.false (view c.read-word.new.seat) c.read-word.ensures.knows
+
+pub read_frame-len-requires-clause-begun : goal.read_frame-len-requires-clause-begun
+read_frame-len-requires-clause-begun c =
+    begun c.self.inside c.self.invariant c.read-word.result c.read-word.ensures.fits c.if-word-eq0.false (view c.read-word.new.seat) c.read-word.ensures.knows
+
+pub read_frame-len-requires-clause-place : goal.read_frame-len-requires-clause-place
+read_frame-len-requires-clause-place c =
+    place c.self.inside c.self.invariant c.read-word.result c.read-word.ensures.fits c.if-word-eq0.false (view c.read-word.new.seat) c.read-word.ensures.knows
+
+pub invariant_of-self : goal.invariant_of-self
+invariant_of-self c =
+    let e = c.read-word.ensures in
+    marked c.self.inside c.self.invariant c.read-word.result e.fits c.read-word.new.seat e.same e.knows (open_inside c.self.inside c.args.self.now c.self.view_is c.requires.not_ended) c.if-word-eq0.true
+
+pub returns-then-word-eq0 : goal.returns-then-word-eq0
+returns-then-word-eq0 c =
+    let s = c.self.inside in
+    let e = c.read-word.ensures in
+    let not_ended = open_inside s c.args.self.now c.self.view_is c.requires.not_ended in
+    skips s c.self.invariant c.read-word.result e.fits c.read-word.new.seat e.same e.knows not_ended c.if-word-eq0.true c.args.self.now c.self.view_is
+
+pub overflow_add-self-3 : goal.overflow_add-self-3
+overflow_add-self-3 c = omega (arith, count_fits c.self.inside c.self.invariant c.read-word.result c.read-word.ensures.fits)
+
+pub release-requires-clause-at : goal.release-requires-clause-at
+release-requires-clause-at c =
+    let e = c.read-word.ensures in
+    let f = c.read_frame-len.ensures in
+    frame_at c.self.inside c.self.invariant c.read-word.result e.fits c.read-word.new.seat e.same e.knows (open_inside c.self.inside c.args.self.now c.self.view_is c.requires.not_ended)
+    c.if-word-eq0.false c.read_frame-len.result f.len c.read_frame-len.new.into c.read_frame-len.new.seat f.read
+
+pub invariant_of-self-2 : goal.invariant_of-self-2
+invariant_of-self-2 c =
+    let e = c.read-word.ensures in
+    let f = c.read_frame-len.ensures in
+    let r = c.release.ensures in
+    framed c.self.inside c.self.invariant c.read-word.result e.fits c.read-word.new.seat e.same e.knows (open_inside c.self.inside c.args.self.now c.self.view_is c.requires.not_ended)
+    c.if-word-eq0.false c.read_frame-len.result f.len c.read_frame-len.new.into c.read_frame-len.new.seat c.release.new.seat c.read_frame-len.array_long f.same r.same f.others f.read r.knows f.steps
+
+pub returns : goal.returns
+returns c =
+    let s = c.self.inside in
+    let e = c.read-word.ensures in
+    let f = c.read_frame-len.ensures in
+    let r = c.release.ensures in
+    let not_ended = open_inside s c.args.self.now c.self.view_is c.requires.not_ended in
+    let took = takes s c.self.invariant c.read-word.result e.fits c.read-word.new.seat e.same e.knows not_ended
+    c.if-word-eq0.false c.read_frame-len.result f.len c.read_frame-len.new.into c.read_frame-len.new.seat c.release.new.seat c.read_frame-len.array_long f.same r.same f.others f.read r.knows f.steps c.args.self.now c.self.view_is f.lawful in
+    (len_within s c.self.invariant c.read-word.result e.fits c.read-word.new.seat e.same e.knows not_ended c.if-word-eq0.false c.read_frame-len.result f.len, took)

@@ -1,0 +1,10 @@
+pub mod Counts
+pub mod Rule
+pub mod Plays
+pub mod Frames
+pub mod Ends
+pub mod Seats
+pub mod Taking
+pub mod WriterInside
+pub mod RoamerInside
+pub mod DoneInside

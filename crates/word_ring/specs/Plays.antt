@@ -1,0 +1,118 @@
+-- What each step of a ring does to what its seat knows, and what the seat learns.
+use Rattle.std.specs.Prelude.{◌≡◌, ℕ, ◌+◌, ◌/◌, ◌%◌, ◌≤◌, ◌==◌, true, [], ◌∷◌, ◌++◌}
+use Rattle.atomic_table.specs.Table.{Me, Step}
+use Rattle.nl_io.specs.Count.{counted}
+use Rattle.ring_core.specs.Plans.{Lawful, BeginsWith}
+use Rattle.ring_machine.specs.Streams.{Walk, walk, FitsWithin}
+use Rattle.word_ring.specs.declared.known.Known.{Known}
+use Rattle.word_ring.specs.Rule.{plan_in}
+
+-- what a seat knows, and the slots that it holds: of a ring's table none
+abbrev pub Sitting : Type 0
+Sitting = Me (Unit {0}) Known
+
+-- a step of a ring
+abbrev pub RingStep : Type 0
+RingStep = Step (Unit {0})
+
+-- where the writer has come to
+abbrev pub written_by : Known → Walk
+written_by v = walk v.size v.writer.stream
+
+-- where the roamer has come to
+abbrev pub read_by : Known → Walk
+read_by v = walk v.size v.roamer.stream
+
+-- ---- what is known after each step
+
+-- the writer found this position released
+abbrev pub having_looked : Known → ℕ → Known
+having_looked v found = record v {
+  writer = record v.writer { seen = found; looks = counted v.writer.looks; steps = counted v.writer.steps };
+}
+
+-- the writer stored this word
+abbrev pub having_put : Known → ℕ → Known
+having_put v word = record v {
+  writer = record v.writer { stream = v.writer.stream ++ word ∷ []; steps = counted v.writer.steps };
+}
+
+-- the writer published all that it had stored
+abbrev pub having_published : Known → Known
+having_published v = record v {
+  writer = record v.writer { published = (written_by v).at; steps = counted v.writer.steps };
+}
+
+-- the writer closed the ring
+abbrev pub having_closed : Known → Known
+having_closed v = record v { writer = record v.writer { closed = true; steps = counted v.writer.steps } }
+
+-- the roamer found this producer word
+abbrev pub having_loaded : Known → ℕ → Known
+having_loaded v found = record v {
+  roamer = record v.roamer {
+    loaded = found / 2;
+    learnt = found % 2 == 1;
+    loads = counted v.roamer.loads;
+    steps = counted v.roamer.steps;
+  };
+}
+
+-- the roamer read this word
+abbrev pub having_read : Known → ℕ → Known
+having_read v word = record v {
+  roamer = record v.roamer { stream = v.roamer.stream ++ word ∷ []; steps = counted v.roamer.steps };
+}
+
+-- the roamer released all that it had read
+abbrev pub having_released : Known → Known
+having_released v = record v {
+  roamer = record v.roamer { released = (read_by v).at; steps = counted v.roamer.steps };
+}
+
+-- ---- what each step tells
+
+-- after the step the seat knows this, and it holds what it held
+pub record Leaves (before : Sitting) (now : Known) (after : Sitting) : Type 0 where
+  pub knows : after.0 ≡ now
+  pub holds : after.1 ≡ before.1
+
+-- the position that was found lies behind none that was found before, and at most a lap before the writer's
+pub record Looks (step : RingStep) (before : Sitting) (found : ℕ) (after : Sitting) : Type 0 where
+  pub leaves : Leaves before (having_looked before.0 found) after
+  pub further : before.0.writer.seen ≤ found
+  pub within : found ≤ (written_by before.0).at
+  pub lap : (written_by before.0).at ≤ found + before.0.size
+
+abbrev pub Puts : RingStep → Sitting → ℕ → Sitting → Type 0
+Puts step before stored after = Leaves before (having_put before.0 stored) after
+
+abbrev pub Publishes : RingStep → Sitting → ℕ → Sitting → Type 0
+Publishes step before stored after = Leaves before (having_published before.0) after
+
+abbrev pub Closes : RingStep → Sitting → ℕ → Sitting → Type 0
+Closes step before stored after = Leaves before (having_closed before.0) after
+
+-- what is published lies behind what was read
+pub record Loads (step : RingStep) (before : Sitting) (found : ℕ) (after : Sitting) : Type 0 where
+  pub leaves : Leaves before (having_loaded before.0 found) after
+  pub further : (read_by before.0).at ≤ found / 2
+
+-- the word may come next, what it begins is loaded whole, and the frames are lawful
+pub record Reads (step : RingStep) (before : Sitting) (found : ℕ) (after : Sitting) : Type 0 where
+  pub leaves : Leaves before (having_read before.0 found) after
+  pub fits : FitsWithin before.0.size before.0.roamer.loaded (read_by before.0) found
+  pub lawful : Lawful (plan_in before.0) (walk before.0.size (before.0.roamer.stream ++ found ∷ [])).frames
+
+abbrev pub Releases : RingStep → Sitting → ℕ → Sitting → Type 0
+Releases step before stored after = Leaves before (having_released before.0) after
+
+-- what was read is the front of what was stored, and all of it where the roamer has read what it loaded and learnt that the
+-- ring is closed
+pub record IsSettled (v : Known) : Type 0 where
+  pub front : BeginsWith (written_by v).frames (read_by v).frames
+  pub whole : v.roamer.learnt ≡ true → (read_by v).at ≡ v.roamer.loaded → (read_by v).frames ≡ (written_by v).frames
+
+pub record Settles (step : RingStep) (before : Sitting) (found : ℕ) (after : Sitting) : Type 0 where
+  pub same : after ≡ before
+  pub settled : IsSettled before.0

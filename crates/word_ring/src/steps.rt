@@ -1,0 +1,128 @@
+//! The steps of a ring's ends, each on one word of the table.
+
+ghost use Rattle.std.specs.Prelude.{◌≡◌, ◌≢◌, ◌+◌, ◌/◌, ◌%◌, ◌≤◌, ◌<◌, [], true, false};
+ghost use Rattle.ring_core.specs.declared.limits.TheConstants.{MAX_POSITION};
+ghost use Rattle.ring_core.specs.Plans.{Lawful};
+ghost use Rattle.ring_machine.specs.Streams.{FitsWithin};
+ghost use Rattle.word_ring.specs.Ends.{IsRingSize};
+ghost use Rattle.word_ring.specs.Plays.{written_by, read_by, IsSettled};
+ghost use Rattle.word_ring.specs.Plays.{having_looked, having_put, having_published, having_closed};
+ghost use Rattle.word_ring.specs.Plays.{having_loaded, having_read, having_released};
+ghost use Rattle.word_ring.specs.Rule.{plan_in};
+ghost use Rattle.word_ring.specs.Seats.{view, IsSeatOf, IsSameSeat};
+
+use crate::known::{Close, Known, Load, Look, Publish, Put, Read, Release, Ringed, Settle};
+use crate::places::{CONSUMER, DATA, PRODUCER};
+use atomic_table::{Seat, Table};
+use std::alloc::Global;
+
+/// The table of a ring.
+pub type WordTable = Table<(), Known, usize, Ringed, Global>;
+
+/// A seat of a ring's table.
+pub type WordSeat = Seat<(), Known>;
+
+/// The writer looks how far places are released.
+pub fn look(table: &WordTable, seat: &mut WordSeat) -> u64
+    requires seat { IsSeatOf (view seat.old).size table.now seat.old }
+    requires writes { (view seat.old).writes ≡ true }
+    ensures same { IsSameSeat seat.old seat.new }
+    ensures knows { view seat.new ≡ having_looked (view seat.old) result }
+    ensures further { (view seat.old).writer.seen ≤ result }
+    ensures within { result ≤ (written_by (view seat.old)).at }
+    ensures lap { (written_by (view seat.old)).at ≤ result + (view seat.old).size }
+{
+    table.shared.load::<Look>(seat, CONSUMER)
+}
+
+/// The writer stores the next word of its stream.
+pub fn put(table: &WordTable, seat: &mut WordSeat, place: usize, word: u64)
+    requires seat { IsSeatOf (view seat.old).size table.now seat.old }
+    requires writes { (view seat.old).writes ≡ true }
+    requires not_closed { (view seat.old).writer.closed ≡ false }
+    requires place { place ≡ (written_by (view seat.old)).at % (view seat.old).size }
+    requires size { IsRingSize (view seat.old).size }
+    requires fits { FitsWithin (view seat.old).size ((view seat.old).writer.seen + (view seat.old).size)
+        (written_by (view seat.old)) word }
+    requires lawful { Lawful (plan_in (view seat.old)) (written_by (having_put (view seat.old) word)).frames }
+    ensures same { IsSameSeat seat.old seat.new }
+    ensures knows { view seat.new ≡ having_put (view seat.old) word }
+{
+    table.shared.store::<Put>(seat, DATA + place, word);
+}
+
+/// The writer publishes all that it has stored, up to this position.
+pub fn publish(table: &WordTable, seat: &mut WordSeat, at: u64)
+    requires seat { IsSeatOf (view seat.old).size table.now seat.old }
+    requires writes { (view seat.old).writes ≡ true }
+    requires not_closed { (view seat.old).writer.closed ≡ false }
+    requires at { (at ≡ (written_by (view seat.old)).at) × (at ≤ MAX_POSITION) }
+    requires whole { (written_by (view seat.old)).part ≡ [] }
+    ensures same { IsSameSeat seat.old seat.new }
+    ensures knows { view seat.new ≡ having_published (view seat.old) }
+{
+    table.shared.store::<Publish>(seat, PRODUCER, 2 * at);
+}
+
+/// The writer closes the ring, all of which is published, up to this position.
+pub fn close(table: &WordTable, seat: &mut WordSeat, at: u64)
+    requires seat { IsSeatOf (view seat.old).size table.now seat.old }
+    requires writes { (view seat.old).writes ≡ true }
+    requires not_closed { (view seat.old).writer.closed ≡ false }
+    requires at { (at ≡ (written_by (view seat.old)).at) × (at ≤ MAX_POSITION) }
+    requires published { (view seat.old).writer.published ≡ at }
+    ensures same { IsSameSeat seat.old seat.new }
+    ensures knows { view seat.new ≡ having_closed (view seat.old) }
+{
+    table.shared.store::<Close>(seat, PRODUCER, 2 * at + 1);
+}
+
+/// The roamer loads the producer word.
+pub fn load(table: &WordTable, seat: &mut WordSeat) -> u64
+    requires seat { IsSeatOf (view seat.old).size table.now seat.old }
+    requires reads { (view seat.old).reads ≡ true }
+    ensures same { IsSameSeat seat.old seat.new }
+    ensures knows { view seat.new ≡ having_loaded (view seat.old) result }
+    ensures further { (read_by (view seat.old)).at ≤ result / 2 }
+{
+    table.shared.load::<Load>(seat, PRODUCER)
+}
+
+/// The roamer reads the next word of the writer's stream.
+pub fn read(table: &WordTable, seat: &mut WordSeat, place: usize) -> u64
+    requires seat { IsSeatOf (view seat.old).size table.now seat.old }
+    requires reads { (view seat.old).reads ≡ true }
+    requires place { place ≡ (read_by (view seat.old)).at % (view seat.old).size }
+    requires size { IsRingSize (view seat.old).size }
+    requires left { (view seat.old).roamer.loaded ≢ (read_by (view seat.old)).at }
+    ensures same { IsSameSeat seat.old seat.new }
+    ensures knows { view seat.new ≡ having_read (view seat.old) result }
+    ensures fits { FitsWithin (view seat.old).size (view seat.old).roamer.loaded (read_by (view seat.old)) result }
+    ensures lawful { Lawful (plan_in (view seat.old)) (read_by (view seat.new)).frames }
+{
+    table.shared.load::<Read>(seat, DATA + place)
+}
+
+/// The roamer releases all places that it has read, up to this position.
+pub fn release(table: &WordTable, seat: &mut WordSeat, at: u64)
+    requires seat { IsSeatOf (view seat.old).size table.now seat.old }
+    requires reads { (view seat.old).reads ≡ true }
+    requires at { at ≡ (read_by (view seat.old)).at }
+    requires whole { (read_by (view seat.old)).part ≡ [] }
+    ensures same { IsSameSeat seat.old seat.new }
+    ensures knows { view seat.new ≡ having_released (view seat.old) }
+{
+    table.shared.store::<Release>(seat, CONSUMER, at);
+}
+
+/// A seat that knows what both ends did learns that what was read is the front of what was stored.
+pub fn settle(table: &WordTable, seat: &mut WordSeat)
+    requires seat { IsSeatOf (view seat.old).size table.now seat.old }
+    requires writes { (view seat.old).writes ≡ true }
+    requires reads { (view seat.old).reads ≡ true }
+    ensures same { IsSameSeat seat.old seat.new }
+    ensures knows { view seat.new ≡ view seat.old }
+    ensures settled { IsSettled (view seat.old) }
+{
+    table.shared.load::<Settle>(seat, PRODUCER);
+}
