@@ -31,7 +31,7 @@ lap_begins at size some =
 -- ---- words of a frame
 
 -- the words are none, and a frame may begin with the next one, or they are the first of a frame that isn't whole
-pub record GoesOn (words : List ℕ) (word : ℕ) : Type 0 where
+pub record FrameGoesOn (words : List ℕ) (word : ℕ) : Type 0 where
   pub first : words ≡ [] → 2 ≤ word % 65536
   pub later : words ≢ [] → length words < frame_len words
 
@@ -49,7 +49,7 @@ pub whole_words : (w : Walk) (head : ℕ) (words : List ℕ) → head % 65536 �
 whole_words w head words all =
     cond-true (is_whole_frame (head ∷ words)) (with_frame w (head ∷ words)) (with_part w (head ∷ words)) (eq-eqb (head % 65536) (length (head ∷ words)) all)
 
-next_at : (size at : ℕ) (frames : List (List ℕ)) (words : List ℕ) (word : ℕ) → GoesOn words word
+next_at : (size at : ℕ) (frames : List (List ℕ)) (words : List ℕ) (word : ℕ) → FrameGoesOn words word
     → let w : Walk = record { at = at; frames = frames; part = [] } in onward size (with_words w words) word ≡ with_words w (words ++ word ∷ [])
 next_at size at frames [] word goes =
     let w : Walk = record { at = at; frames = frames; part = [] } in
@@ -73,12 +73,12 @@ between : (w : Walk) → w.part ≡ [] → w ≡ record { at = w.at; frames = w.
 between w none = λ i. record { at = w.at; frames = w.frames; part = none i }
 
 -- with one word more the walk has one word more
-pub next_words : (size : ℕ) (w : Walk) (words : List ℕ) (word : ℕ) → w.part ≡ [] → GoesOn words word → onward size (with_words w words) word ≡ with_words w (words ++ word ∷ [])
+pub next_words : (size : ℕ) (w : Walk) (words : List ℕ) (word : ℕ) → w.part ≡ [] → FrameGoesOn words word → onward size (with_words w words) word ≡ with_words w (words ++ word ∷ [])
 next_words size w words word none goes =
     subst (λ (v : Walk). onward size (with_words v words) word ≡ with_words v (words ++ word ∷ [])) (sym (between w none)) (next_at size w.at w.frames words word goes)
 
 -- the next word of a frame may come
-pub next_fits : (size limit : ℕ) (w : Walk) (words : List ℕ) (word : ℕ) → w.part ≡ [] → (words ≡ [] → Begins size w.at word × (w.at + word % 65536 ≤ limit)) → GoesOn words word
+pub next_fits : (size limit : ℕ) (w : Walk) (words : List ℕ) (word : ℕ) → w.part ≡ [] → (words ≡ [] → Begins size w.at word × (w.at + word % 65536 ≤ limit)) → FrameGoesOn words word
     → FitsWithin size limit (with_words w words) word
 next_fits size limit w [] word none begins goes = λ _. inr (begins refl)
 next_fits size limit w (head ∷ words) word none begins goes =
@@ -120,7 +120,7 @@ frame_begins size at frame has inside = record {
 }
 
 -- the first words of a frame go on to the next one
-pub frame_goes_on : (frame : List ℕ) (i : ℕ) → HasHead frame → i < length frame → GoesOn (take i frame) (get_or frame i 0)
+pub frame_goes_on : (frame : List ℕ) (i : ℕ) → HasHead frame → i < length frame → FrameGoesOn (take i frame) (get_or frame i 0)
 frame_goes_on [] i has within = absurd (omega (arith, within))
 frame_goes_on (head ∷ words) zero has within = record { first = λ _. omega (arith, has.tells, has.least); later = λ some. absurd (some refl) }
 frame_goes_on (head ∷ words) (suc i) has within = record {

@@ -7,7 +7,7 @@ use Rattle.word_ring.specs.declared.known.Known.{Known}
 use Rattle.word_ring.specs.declared.word_out.WordOut.TheInside.{Inside}
 use Rattle.word_ring.specs.Frames.{with_part}
 use Rattle.word_ring.specs.Plays.{read_by, having_read}
-use Rattle.word_ring.specs.RoamerInside.{roamer_knows, IsRoamer}
+use Rattle.word_ring.specs.RoamerInside.{roamer_knows, IsWordRoamer}
 use Rattle.word_ring.proofs.FrameWords.{next_words, parted_words}
 
 -- a walk has no more frames than positions
@@ -21,7 +21,7 @@ walk_from-few size w [] few = few
 walk_from-few size w (word ∷ words) few = walk_from-few size (onward size w word) words (onward_few size w word few)
 
 -- what a roamer reads, of whom nothing is begun and for whom a word is left
-module _ (s : Inside) (h : IsRoamer s) (word : ℕ)
+module _ (s : Inside) (h : IsWordRoamer s) (word : ℕ)
     (fits : (read_by (roamer_knows s)).part ≡ []
     → (Wraps (roamer_knows s).size (read_by (roamer_knows s)).at word × (next_lap (roamer_knows s).size (read_by (roamer_knows s)).at ≤ (roamer_knows s).roamer.loaded))
     ⊎ (Begins (roamer_knows s).size (read_by (roamer_knows s)).at word × ((read_by (roamer_knows s)).at + word % 65536 ≤ (roamer_knows s).roamer.loaded))) where

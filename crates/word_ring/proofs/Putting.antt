@@ -8,13 +8,13 @@ use Rattle.ring_core.proofs.Needs.{Need-beyond}
 use Rattle.ring_machine.specs.Streams.{Walk, is_wrap_mark, skipped, FitsWithin}
 use Rattle.ring_machine.proofs.Walks.{onward-skipped, walk-push}
 use Rattle.word_ring.specs.declared.known.Known.{Known}
-use Rattle.word_ring.specs.Ends.{IsRingSize}
+use Rattle.word_ring.specs.Ends.{IsTableSize}
 use Rattle.word_ring.specs.Frames.{with_frame, with_next, MayStore, MayPut}
 use Rattle.word_ring.specs.Plays.{written_by, having_put}
 use Rattle.word_ring.specs.Rule.{plan_in}
 use Rattle.word_ring.proofs.FrameWords.{HasHead, lawful_head, lap_begins}
 
-module _ (v : Known) (frame : List ℕ) (size : IsRingSize v.size) (may : MayPut v frame) where
+module _ (v : Known) (frame : List ℕ) (size : IsTableSize v.size) (may : MayPut v frame) where
   abbrev at : ℕ
   at = (written_by v).at
 

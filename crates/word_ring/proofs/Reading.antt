@@ -7,11 +7,11 @@ use Rattle.ring_machine.specs.Streams.{Walk, frame_len, onward, IsBegun}
 use Rattle.ring_machine.proofs.Walks.{walk-push}
 use Rattle.word_ring.specs.declared.known.Known.{Known}
 use Rattle.word_ring.specs.Counts.{CountsSteps}
-use Rattle.word_ring.specs.Ends.{IsRingSize}
+use Rattle.word_ring.specs.Ends.{IsTableSize}
 use Rattle.word_ring.specs.Frames.{with_frame, with_words}
 use Rattle.word_ring.specs.Plays.{read_by, having_read}
 use Rattle.word_ring.specs.Rule.{plan_in}
-use Rattle.word_ring.proofs.FrameWords.{GoesOn, next_words, place_further, parted_words, whole_words}
+use Rattle.word_ring.proofs.FrameWords.{FrameGoesOn, next_words, place_further, parted_words, whole_words}
 use Rattle.word_ring.proofs.Counting.{no_step, one_step, steps_then}
 use Rattle.word_ring.proofs.Storing.{with_words-at}
 
@@ -24,7 +24,7 @@ abbrev pub having_gone_on : Known → List ℕ → ℕ → Known
 having_gone_on v stream steps = record v { roamer = record v.roamer { stream = stream; steps = steps } }
 
 -- the roamer had read the first word of a frame, and has read so many of its words now
-pub record HasRead (before now : Known) (head : ℕ) (into : List ℕ) (i : ℕ) : Type 0 where
+pub record HasReadWords (before now : Known) (head : ℕ) (into : List ℕ) (i : ℕ) : Type 0 where
   pub some : 1 ≤ i
   pub long : length into ≡ MAX_FRAME_WORDS
   pub first : get_or into 0 0 ≡ head
@@ -39,7 +39,7 @@ words_begin [] head i first some within = absurd (omega (arith, some, within))
 words_begin (word ∷ into) head zero first some within = absurd (omega (arith, some))
 words_begin (word ∷ into) head (suc i) first some within = (take i into, ap (λ (n : ℕ). n ∷ take i into) first, ap suc (length-take-le i into (omega (arith, within))))
 
-goes_on : (words : List ℕ) (head : ℕ) (more : List ℕ) (word : ℕ) → words ≡ head ∷ more → length words < head % 65536 → GoesOn words word
+goes_on : (words : List ℕ) (head : ℕ) (more : List ℕ) (word : ℕ) → words ≡ head ∷ more → length words < head % 65536 → FrameGoesOn words word
 goes_on words head more word is short = record {
   first = λ none. absurd (some_there (sym is ∙ none));
   later = λ _. omega (arith, short, ap frame_len is);
@@ -56,7 +56,7 @@ module _ (before : Known) (head : ℕ) (begun : IsBegun before.size before.roame
   long = omega (arith, begun.short, ap (λ (ws : List ℕ). length ws) one, ap frame_len one)
 
   -- the first word is read
-  pub head_read : (into : List ℕ) → length into ≡ MAX_FRAME_WORDS → HasRead before before head (set into 0 head) 1
+  pub head_read : (into : List ℕ) → length into ≡ MAX_FRAME_WORDS → HasReadWords before before head (set into 0 head) 1
   head_read [] long_all = absurd (omega (arith, long_all))
   head_read (word ∷ into) long_all = record {
     some = omega arith;
@@ -71,7 +71,7 @@ module _ (before : Known) (head : ℕ) (begun : IsBegun before.size before.roame
       position_again : (read_by before).at ≡ (read_by before).at - 1 + 1
       position_again = omega (arith, position)
 
-  module _ (now : Known) (into : List ℕ) (i : ℕ) (h : HasRead before now head into i) (few : i < head % 65536) (most : head % 65536 ≤ MAX_FRAME_WORDS) where
+  module _ (now : Known) (into : List ℕ) (i : ℕ) (h : HasReadWords before now head into i) (few : i < head % 65536) (most : head % 65536 ≤ MAX_FRAME_WORDS) where
     room : head % 65536 ≤ length into
     room = omega (arith, h.long, most)
 
@@ -85,7 +85,7 @@ module _ (before : Known) (head : ℕ) (begun : IsBegun before.size before.roame
     now_at = ap (λ (w : Walk). w.at) h.read ∙ with_words-at (before_frame before) (take i into) ∙ omega (arith, position, taken_long)
 
     -- the place of the next word
-    pub next_place : (place : ℕ) → IsRingSize before.size → place ≡ ((read_by before).at - 1) % before.size → place + i ≡ (read_by now).at % now.size
+    pub next_place : (place : ℕ) → IsTableSize before.size → place ≡ ((read_by before).at - 1) % before.size → place + i ≡ (read_by now).at % now.size
     next_place place size is =
         let start : (read_by before).at - 1 ≡ begun.begin = omega (arith, position) in
         let inside = begun.inside in
@@ -98,7 +98,7 @@ module _ (before : Known) (head : ℕ) (begun : IsBegun before.size before.roame
     next_left e = omega (arith, e, ap (λ (v : Known). v.roamer.loaded) h.same, now_at, begun.room, few, ap frame_len one)
 
     -- and then one word more is read
-    pub next_read : (after : Known) (word : ℕ) → after ≡ having_read now word → Lawful (plan_in now) (read_by after).frames → HasRead before after head (set into i word) (i + 1)
+    pub next_read : (after : Known) (word : ℕ) → after ≡ having_read now word → Lawful (plan_in now) (read_by after).frames → HasReadWords before after head (set into i word) (i + 1)
     next_read after word is lawful =
         let steps : after.roamer.steps ≡ counted now.roamer.steps = ap (λ (v : Known). v.roamer.steps) is in
         let stream : after.roamer.stream ≡ now.roamer.stream ++ word ∷ [] = ap (λ (v : Known). v.roamer.stream) is in
@@ -124,7 +124,7 @@ module _ (before : Known) (head : ℕ) (begun : IsBegun before.size before.roame
         kept (first ∷ into) (suc i) word some = refl
 
   -- all words are read
-  pub all_read : (now : Known) (into : List ℕ) (i : ℕ) → HasRead before now head into i → i ≡ head % 65536 → i ≤ MAX_FRAME_WORDS
+  pub all_read : (now : Known) (into : List ℕ) (i : ℕ) → HasReadWords before now head into i → i ≡ head % 65536 → i ≤ MAX_FRAME_WORDS
       → read_by now ≡ record { at = (read_by before).at + (i - 1); frames = (read_by before).frames ++ take i into ∷ []; part = [] }
   all_read now into i h all most =
       let room : i ≤ length into = omega (arith, h.long, most) in

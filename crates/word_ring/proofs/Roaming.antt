@@ -8,9 +8,9 @@ use Rattle.ring_machine.specs.Streams.{Walk, next_lap, Begins, Wraps}
 use Rattle.word_ring.specs.declared.known.Known.{Known}
 use Rattle.word_ring.specs.declared.word_out.WordOut.TheInside.{Inside}
 use Rattle.word_ring.specs.Counts.{RisesBy, CountsSteps}
-use Rattle.word_ring.specs.Ends.{RoamerEnd, numbers_of}
+use Rattle.word_ring.specs.Ends.{WordRoamerEnd, numbers_of}
 use Rattle.word_ring.specs.Plays.{read_by, having_read, having_released}
-use Rattle.word_ring.specs.RoamerInside.{roamer_knows, roamer_end_of, IsRoamer}
+use Rattle.word_ring.specs.RoamerInside.{roamer_knows, roamer_end_of, IsWordRoamer}
 use Rattle.word_ring.specs.Rule.{plan_in}
 use Rattle.word_ring.specs.Seats.{RingSeat, view, IsSameSeat}
 use Rattle.word_ring.specs.Taking.{SkipsMark, TakesLoaded}
@@ -24,7 +24,7 @@ use Rattle.word_ring.proofs.Reading.{having_gone_on}
 one_more : (before now : ℕ) → now ≡ counted before → CountsSteps 1 before now
 one_more before now is = subst (CountsSteps 1 before) (sym is) (one_step before)
 
-module _ (s : Inside) (h : IsRoamer s) (word : ℕ)
+module _ (s : Inside) (h : IsWordRoamer s) (word : ℕ)
     (fits : (read_by (roamer_knows s)).part ≡ []
     → (Wraps (roamer_knows s).size (read_by (roamer_knows s)).at word × (next_lap (roamer_knows s).size (read_by (roamer_knows s)).at ≤ (roamer_knows s).roamer.loaded))
     ⊎ (Begins (roamer_knows s).size (read_by (roamer_knows s)).at word × ((read_by (roamer_knows s)).at + word % 65536 ≤ (roamer_knows s).roamer.loaded)))
@@ -41,7 +41,7 @@ module _ (s : Inside) (h : IsRoamer s) (word : ℕ)
     walk_is : read_by (view seat) ≡ record { at = next_lap (roamer_knows s).size (read_by (roamer_knows s)).at; frames = (read_by (roamer_knows s)).frames; part = (read_by (roamer_knows s)).part }
     walk_is = ap read_by knows ∙ mark_read s h word fits zero
 
-    pub marked : IsRoamer behind_mark
+    pub marked : IsWordRoamer behind_mark
     marked = record {
       seat = still_seat s.size s.size _ s.seat seat h.seat same refl;
       size = h.size;
@@ -59,8 +59,8 @@ module _ (s : Inside) (h : IsRoamer s) (word : ℕ)
       frames = h.frames ∙ sym (ap (λ (w : Walk). length w.frames) walk_is);
     }
 
-    pub skips : (e : RoamerEnd) → roamer_end_of s ≡ e → SkipsMark e (roamer_end_of behind_mark)
-    skips e is = subst (λ (old : RoamerEnd). SkipsMark old (roamer_end_of behind_mark)) is (record {
+    pub skips : (e : WordRoamerEnd) → roamer_end_of s ≡ e → SkipsMark e (roamer_end_of behind_mark)
+    skips e is = subst (λ (old : WordRoamerEnd). SkipsMark old (roamer_end_of behind_mark)) is (record {
       same = λ i. record {
         pair = numbers_of (same.one i);
         plan = plan_in (knows i);
@@ -117,7 +117,7 @@ module _ (s : Inside) (h : IsRoamer s) (word : ℕ)
           (steps_then (1 + (len - 1)) 1 _ _ _ (steps_then 1 (len - 1) _ _ _ (one_more _ _ (ap (λ (v : Known). v.roamer.steps) knows)) counts)
           (one_more _ _ (ap (λ (v : Known). v.roamer.steps) released)))
 
-      pub framed : IsRoamer behind_frame
+      pub framed : IsWordRoamer behind_frame
       framed =
           let reach = first.1 in
           record {
@@ -137,7 +137,7 @@ module _ (s : Inside) (h : IsRoamer s) (word : ℕ)
             frames = omega (arith, h.frames, ap (λ (fs : List (List ℕ)). length fs) frames_are, length-append (read_by (roamer_knows s)).frames (take len into ∷ []));
           }
 
-      pub takes : (e : RoamerEnd) → roamer_end_of s ≡ e → Lawful (plan_in (view seat)) (read_by (view frame_seat)).frames → TakesLoaded e (take len into) (roamer_end_of behind_frame)
+      pub takes : (e : WordRoamerEnd) → roamer_end_of s ≡ e → Lawful (plan_in (view seat)) (read_by (view frame_seat)).frames → TakesLoaded e (take len into) (roamer_end_of behind_frame)
       takes e is lawful =
           let words : length (take len into) ≡ len = length-take-le len into (omega (arith, long, len_within)) in
           let plan_is : plan_in (view last_seat) ≡ plan_in (roamer_knows s) = ap plan_in released ∙ ap plan_in others ∙ ap plan_in knows in
@@ -147,7 +147,7 @@ module _ (s : Inside) (h : IsRoamer s) (word : ℕ)
           let loads_same : (view last_seat).roamer.loads ≡ (roamer_knows s).roamer.loads =
           ap (λ (v : Known). v.roamer.loads) released ∙ ap (λ (v : Known). v.roamer.loads) others ∙ ap (λ (v : Known). v.roamer.loads) knows
           in
-          subst (λ (old : RoamerEnd). TakesLoaded old (take len into) (roamer_end_of behind_frame)) is (record {
+          subst (λ (old : WordRoamerEnd). TakesLoaded old (take len into) (roamer_end_of behind_frame)) is (record {
             same = λ i. record {
               pair = numbers_of ((last_same.one ∙ frame_same.one ∙ same.one) i);
               plan = plan_is i;

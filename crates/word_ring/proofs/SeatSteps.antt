@@ -21,8 +21,8 @@ use Rattle.ring_machine.proofs.StepLaws.{RingOk-new, RingOk-look, RingOk-stored,
 use Rattle.ring_machine.proofs.Schedules.{lawful_read}
 use Rattle.word_ring.specs.declared.known.Known.{Known}
 use Rattle.word_ring.specs.declared.places.TheConstants.{PRODUCER, CONSUMER, DATA}
-use Rattle.word_ring.specs.Rule.{plan_in, no_plan, newcomer, writer_of, roamer_of, both_of, spent, LaysOut, IsEnd, SeatKnows, IsRing}
-use Rattle.word_ring.specs.Plays.{Sitting, written_by, read_by, having_looked, having_put, having_published, having_closed, having_loaded, having_read, having_released, Looks, Puts, Publishes, Closes, Loads, Reads, Releases, Settles}
+use Rattle.word_ring.specs.Rule.{plan_in, no_plan, newcomer, writer_of, roamer_of, both_of, spent, LaysOut, IsEnd, SeatKnows, IsRingTable}
+use Rattle.word_ring.specs.Plays.{Sitting, written_by, read_by, having_looked, having_put, having_published, having_closed, having_loaded, having_read, having_released, Looks, PutsWord, Publishes, Closes, Loads, ReadsWord, Releases, Settles}
 use Rattle.word_ring.proofs.Laying.{produced, consumed, data_stored}
 
 abbrev RingTable : Type 0
@@ -57,11 +57,11 @@ at_end (x ∷ xs) a b (suc j) n e = ap suc (at_end xs a b j n e)
 no_true : {P : Type 0} → false ≡ true → P
 no_true e = absurd (true≢false (sym e))
 
-module _ (size : ℕ) (table : RingTable) (h : IsRing size table) (id : ℕ) (v : Known) (at : get_elem? table.views id ≡ some v) where
+module _ (size : ℕ) (table : RingTable) (h : IsRingTable size table) (id : ℕ) (v : Known) (at : get_elem? table.views id ≡ some v) where
   -- the writer made a step, which left the roamer's record
   writer_moves : (words : List ℕ) (next : RingState) (record_now : WriterRecord) → v.writes ≡ true → record_now ≡ next.writer
       → next.roamer ≡ h.ring.roamer → LaysOut size words next → RingOk next → RingLawful h.plan next
-      → IsRing size (record { words = words; homes = table.homes; views = set table.views id (record v { writer = record_now }) })
+      → IsRingTable size (record { words = words; homes = table.homes; views = set table.views id (record v { writer = record_now }) })
   writer_moves words next record_now may is same laid ok lawful =
       let mine = (h.each id v at).writes may in
       let now : Known = record v { writer = record_now } in
@@ -84,7 +84,7 @@ module _ (size : ℕ) (table : RingTable) (h : IsRing size table) (id : ℕ) (v 
   -- the roamer made a step, which left the writer's record
   roamer_moves : (words : List ℕ) (next : RingState) (record_now : RoamerRecord) → v.reads ≡ true → record_now ≡ next.roamer
       → next.writer ≡ h.ring.writer → LaysOut size words next → RingOk next → RingLawful h.plan next
-      → IsRing size (record { words = words; homes = table.homes; views = set table.views id (record v { roamer = record_now }) })
+      → IsRingTable size (record { words = words; homes = table.homes; views = set table.views id (record v { roamer = record_now }) })
   roamer_moves words next record_now may is same laid ok lawful =
       let mine = (h.each id v at).reads may in
       let now : Known = record v { roamer = record_now } in
@@ -119,7 +119,7 @@ module _ (size : ℕ) (table : RingTable) (h : IsRing size table) (id : ℕ) (v 
 -- ---- the writer's steps
 
 pub looks : (size slots id : ℕ) (me : Sitting) → me.0.writes ≡ true
-    → Allows (IsRing size) slots id me CONSUMER (λ n. n) (Looks (step slots CONSUMER 0 0 none) me)
+    → Allows (IsRingTable size) slots id me CONSUMER (λ n. n) (Looks (step slots CONSUMER 0 0 none) me)
 looks size slots id me may table h homes at small =
     let v = me.0 in
     let ring = h.ring in
@@ -135,7 +135,7 @@ looks size slots id me may table h homes at small =
       having_looked v found,
       keeps,
       tt,
-      subst (λ (ws : List ℕ). IsRing size (record { words = ws; homes = table.homes; views = set table.views id (having_looked v found) })) (sym words)
+      subst (λ (ws : List ℕ). IsRingTable size (record { words = ws; homes = table.homes; views = set table.views id (having_looked v found) })) (sym words)
           (writer_moves size table h id v at table.words (after_step ring steps.Look) (having_looked v found).writer may
           (λ i. record (mine.1 i) { seen = is i; looks = counted (mine.1 i).looks; steps = counted (mine.1 i).steps })
           refl
@@ -156,7 +156,7 @@ pub record CanPut (v : Known) (word : ℕ) : Type 0 where
   pub lawful : Lawful (plan_in v) (walk v.size (v.writer.stream ++ word ∷ [])).frames
 
 pub puts : (size slots id place word : ℕ) (me : Sitting) → me.0.writes ≡ true → place ≡ (written_by me.0).at % me.0.size → 1 ≤ me.0.size → CanPut me.0 word
-    → Allows (IsRing size) slots id me (DATA + place) (λ _. word) (λ _ after. Puts (step slots (DATA + place) word 0 none) me word after)
+    → Allows (IsRingTable size) slots id me (DATA + place) (λ _. word) (λ _ after. PutsWord (step slots (DATA + place) word 0 none) me word after)
 puts size slots id place word me may there enough can table h homes at small =
     let v = me.0 in
     let ring = h.ring in
@@ -182,7 +182,7 @@ puts size slots id place word me may there enough can table h homes at small =
     )
 
 pub publishes : (size slots id word : ℕ) (me : Sitting) → me.0.writes ≡ true → me.0.writer.closed ≡ false → (written_by me.0).part ≡ [] → word ≡ 2 * (written_by me.0).at
-    → Allows (IsRing size) slots id me PRODUCER (λ _. word) (λ _ after. Publishes (step slots PRODUCER word 0 none) me word after)
+    → Allows (IsRingTable size) slots id me PRODUCER (λ _. word) (λ _ after. Publishes (step slots PRODUCER word 0 none) me word after)
 publishes size slots id word me may unclosed whole is table h homes at small =
     let v = me.0 in
     let ring = h.ring in
@@ -207,7 +207,7 @@ publishes size slots id word me may unclosed whole is table h homes at small =
 
 pub closes : (size slots id word : ℕ) (me : Sitting) → me.0.writes ≡ true → me.0.writer.closed ≡ false → me.0.writer.published ≡ (written_by me.0).at
     → word ≡ 2 * (written_by me.0).at + 1
-    → Allows (IsRing size) slots id me PRODUCER (λ _. word) (λ _ after. Closes (step slots PRODUCER word 0 none) me word after)
+    → Allows (IsRingTable size) slots id me PRODUCER (λ _. word) (λ _ after. Closes (step slots PRODUCER word 0 none) me word after)
 closes size slots id word me may unclosed all is table h homes at small =
     let v = me.0 in
     let ring = h.ring in
@@ -247,7 +247,7 @@ parity published true = ap (λ (n : ℕ). n == 1) (odd published)
 parity published false = ap (λ (n : ℕ). n == 1) (even published)
 
 pub loads : (size slots id : ℕ) (me : Sitting) → me.0.reads ≡ true
-    → Allows (IsRing size) slots id me PRODUCER (λ n. n) (Loads (step slots PRODUCER 0 0 none) me)
+    → Allows (IsRingTable size) slots id me PRODUCER (λ n. n) (Loads (step slots PRODUCER 0 0 none) me)
 loads size slots id me may table h homes at small =
     let v = me.0 in
     let ring = h.ring in
@@ -263,7 +263,7 @@ loads size slots id me may table h homes at small =
       having_loaded v found,
       keeps,
       tt,
-      subst (λ (ws : List ℕ). IsRing size (record { words = ws; homes = table.homes; views = set table.views id (having_loaded v found) })) (sym words)
+      subst (λ (ws : List ℕ). IsRingTable size (record { words = ws; homes = table.homes; views = set table.views id (having_loaded v found) })) (sym words)
           (roamer_moves size table h id v at table.words (after_step ring steps.Load) (having_loaded v found).roamer may
           (λ i. record (mine.1 i) { loaded = position_is i; learnt = bit_is i; loads = counted (mine.1 i).loads; steps = counted (mine.1 i).steps })
           refl
@@ -276,7 +276,7 @@ loads size slots id me may table h homes at small =
     )
 
 pub reads : (size slots id place : ℕ) (me : Sitting) → me.0.reads ≡ true → place ≡ (read_by me.0).at % me.0.size → 1 ≤ me.0.size → me.0.roamer.loaded ≢ (read_by me.0).at
-    → Allows (IsRing size) slots id me (DATA + place) (λ n. n) (Reads (step slots (DATA + place) 0 0 none) me)
+    → Allows (IsRingTable size) slots id me (DATA + place) (λ n. n) (ReadsWord (step slots (DATA + place) 0 0 none) me)
 reads size slots id place me may there enough left table h homes at small =
     let v = me.0 in
     let ring = h.ring in
@@ -297,7 +297,7 @@ reads size slots id place me may there enough left table h homes at small =
       having_read v found,
       keeps,
       tt,
-      subst (λ (ws : List ℕ). IsRing size (record { words = ws; homes = table.homes; views = set table.views id (having_read v found) })) (sym words)
+      subst (λ (ws : List ℕ). IsRingTable size (record { words = ws; homes = table.homes; views = set table.views id (having_read v found) })) (sym words)
           (roamer_moves size table h id v at table.words (after_step ring steps.Read) (having_read v found).roamer may
           (λ i. record (mine.1 i) { stream = (mine.1 i).stream ++ is i ∷ []; steps = counted (mine.1 i).steps })
           refl
@@ -311,7 +311,7 @@ reads size slots id place me may there enough left table h homes at small =
     )
 
 pub releases : (size slots id word : ℕ) (me : Sitting) → me.0.reads ≡ true → (read_by me.0).part ≡ [] → word ≡ (read_by me.0).at
-    → Allows (IsRing size) slots id me CONSUMER (λ _. word) (λ _ after. Releases (step slots CONSUMER word 0 none) me word after)
+    → Allows (IsRingTable size) slots id me CONSUMER (λ _. word) (λ _ after. Releases (step slots CONSUMER word 0 none) me word after)
 releases size slots id word me may whole is table h homes at small =
     let v = me.0 in
     let ring = h.ring in
@@ -338,7 +338,7 @@ Lawful-none : (plan : Plan) → Lawful plan []
 Lawful-none plan = ([], AreFramesOf-nil plan)
 
 -- the first seat of a new table
-pub begins : (size : ℕ) → 1 ≤ size → IsRing size (opening (replicate (DATA + size) 0) [] (newcomer size))
+pub begins : (size : ℕ) → 1 ≤ size → IsRingTable size (opening (replicate (DATA + size) 0) [] (newcomer size))
 begins size enough = record {
   plan = no_plan;
   ring = new_ring size;
@@ -359,7 +359,7 @@ begins size enough = record {
 }
 
 -- the two roles are parted before anything is stored
-pub parts : (size : ℕ) (plan : Plan) (id : ℕ) (v : Known) → v ≡ newcomer v.size → Splits (IsRing size) id v (writer_of plan v) (roamer_of plan v)
+pub parts : (size : ℕ) (plan : Plan) (id : ℕ) (v : Known) → v ≡ newcomer v.size → Splits (IsRingTable size) id v (writer_of plan v) (roamer_of plan v)
 parts size plan id v new table h at =
     let writes : v.writes ≡ true = ap (λ (k : Known). k.writes) new in
     let reads : v.reads ≡ true = ap (λ (k : Known). k.reads) new in
@@ -399,7 +399,7 @@ parts size plan id v new table h at =
     }
 
 -- the two roles come together again
-pub joins : (size id : ℕ) (v : Known) (other : ℕ) (u : Known) → v.writes ≡ true → u.reads ≡ true → Joins (IsRing size) id v other u (both_of v u) spent
+pub joins : (size id : ℕ) (v : Known) (other : ℕ) (u : Known) → v.writes ≡ true → u.reads ≡ true → Joins (IsRingTable size) id v other u (both_of v u) spent
 joins size id v other u a b table h at two at' =
     let both : Known = both_of v u in
     let put = (h.each id v at).writes a in
@@ -446,7 +446,7 @@ module _ (ring : RingState) (ok : RingOk ring) where
       (here ∙ ok.bits.learnt_loaded learnt ∙ sym (ok.bits.closed_written (ok.bits.learnt_closed learnt)))
 
 pub settles : (size slots id : ℕ) (me : Sitting) → me.0.writes ≡ true → me.0.reads ≡ true
-    → Allows (IsRing size) slots id me PRODUCER (λ n. n) (Settles (step slots PRODUCER 0 0 none) me)
+    → Allows (IsRingTable size) slots id me PRODUCER (λ n. n) (Settles (step slots PRODUCER 0 0 none) me)
 settles size slots id me writes reads table h homes at small =
     let v = me.0 in
     let ring = h.ring in
@@ -459,7 +459,7 @@ settles size slots id me writes reads table h homes at small =
       v,
       keeps,
       tt,
-      subst (λ (t : List ℕ × List Known). IsRing size (record { words = t.0; homes = table.homes; views = t.1 })) (λ i. (sym words i, sym views i)) h,
+      subst (λ (t : List ℕ × List Known). IsRingTable size (record { words = t.0; homes = table.homes; views = t.1 })) (λ i. (sym words i, sym views i)) h,
       record {
         same = refl;
         settled = record {

@@ -8,7 +8,7 @@ use Rattle.ring_machine.specs.Streams.{Walk, is_whole_frame, onward, Begins, Fit
 use Rattle.ring_machine.proofs.Walks.{walk-push}
 use Rattle.word_ring.specs.declared.known.Known.{Known}
 use Rattle.word_ring.specs.Counts.{CountsSteps}
-use Rattle.word_ring.specs.Ends.{IsRingSize}
+use Rattle.word_ring.specs.Ends.{IsTableSize}
 use Rattle.word_ring.proofs.Counting.{one_step, steps_then}
 use Rattle.word_ring.specs.Frames.{with_frame, with_part, with_words, having_stored, MayStore}
 use Rattle.word_ring.specs.Plays.{written_by, having_put}
@@ -16,7 +16,7 @@ use Rattle.word_ring.specs.Rule.{plan_in}
 use Rattle.word_ring.proofs.FrameWords.{HasHead, lawful_head, frame_begins, frame_goes_on, next_words, next_fits, place_further, all_words, parted_words}
 
 -- so many of the frame's words are stored
-pub record HasStored (before now : Known) (frame : List ℕ) (i : ℕ) : Type 0 where
+pub record HasStoredWords (before now : Known) (frame : List ℕ) (i : ℕ) : Type 0 where
   pub within : i ≤ length frame
   pub same : now ≡ having_stored before (take i frame) now.writer.steps
   pub written : written_by now ≡ with_words (written_by before) (take i frame)
@@ -47,9 +47,9 @@ module _ (before : Known) (frame : List ℕ) (may : MayStore before frame) where
       part_is [] i has part = absurd (omega (arith, part))
       part_is (head ∷ words) i has part = parted_words (written_by before) head (take i words) (omega (arith, has.tells, part, length-take-le i words (omega (arith, part))))
 
-  module _ (now : Known) (i : ℕ) (h : HasStored before now frame i) (within : i < length frame) where
+  module _ (now : Known) (i : ℕ) (h : HasStoredWords before now frame i) (within : i < length frame) where
     -- the place of the next word
-    pub next_place : (place : ℕ) → IsRingSize before.size → place ≡ (written_by before).at % before.size → place + i ≡ (written_by now).at % now.size
+    pub next_place : (place : ℕ) → IsTableSize before.size → place ≡ (written_by before).at % before.size → place + i ≡ (written_by now).at % now.size
     next_place place size is =
         let position : (written_by now).at ≡ (written_by before).at + i =
         ap (λ (w : Walk). w.at) h.written ∙ with_words-at (written_by before) (take i frame) ∙ ap (λ (n : ℕ). (written_by before).at + n) (length-take-le i frame h.within) in
@@ -82,14 +82,14 @@ module _ (before : Known) (frame : List ℕ) (may : MayStore before frame) where
         (subst (λ (w : Walk). Lawful (plan_in before) w.frames) (sym written_next) (lawful_words i within))
 
     -- and then one word more is stored
-    pub next_stored : (after : Known) → after ≡ having_put now (get_or frame i 0) → HasStored before after frame (i + 1)
+    pub next_stored : (after : Known) → after ≡ having_put now (get_or frame i 0) → HasStoredWords before after frame (i + 1)
     next_stored after is =
         let one : i + 1 ≡ suc i = omega arith in
         let word : ℕ = get_or frame i 0 in
         let steps : after.writer.steps ≡ counted now.writer.steps = ap (λ (v : Known). v.writer.steps) is in
         let stream : (before.writer.stream ++ take i frame) ++ word ∷ [] ≡ before.writer.stream ++ take (suc i) frame =
         append_assoc before.writer.stream (take i frame) (word ∷ []) ∙ ap (λ (ws : List ℕ). before.writer.stream ++ ws) (sym (take-suc frame i 0 within)) in
-        subst (HasStored before after frame) (sym one) (record {
+        subst (HasStoredWords before after frame) (sym one) (record {
           within = within;
           same = is ∙ ap (λ (v : Known). having_put v word) h.same
               ∙ (λ t. record before { writer = record before.writer { stream = stream t; steps = sym steps t } });

@@ -73,46 +73,46 @@ having_released v = record v {
 -- ---- what each step tells
 
 -- after the step the seat knows this, and it holds what it held
-pub record Leaves (before : Sitting) (now : Known) (after : Sitting) : Type 0 where
+pub record LeavesSeat (before : Sitting) (now : Known) (after : Sitting) : Type 0 where
   pub knows : after.0 ≡ now
   pub holds : after.1 ≡ before.1
 
 -- the position that was found lies behind none that was found before, and at most a lap before the writer's
 pub record Looks (step : RingStep) (before : Sitting) (found : ℕ) (after : Sitting) : Type 0 where
-  pub leaves : Leaves before (having_looked before.0 found) after
+  pub leaves : LeavesSeat before (having_looked before.0 found) after
   pub further : before.0.writer.seen ≤ found
   pub within : found ≤ (written_by before.0).at
   pub lap : (written_by before.0).at ≤ found + before.0.size
 
-abbrev pub Puts : RingStep → Sitting → ℕ → Sitting → Type 0
-Puts step before stored after = Leaves before (having_put before.0 stored) after
+abbrev pub PutsWord : RingStep → Sitting → ℕ → Sitting → Type 0
+PutsWord step before stored after = LeavesSeat before (having_put before.0 stored) after
 
 abbrev pub Publishes : RingStep → Sitting → ℕ → Sitting → Type 0
-Publishes step before stored after = Leaves before (having_published before.0) after
+Publishes step before stored after = LeavesSeat before (having_published before.0) after
 
 abbrev pub Closes : RingStep → Sitting → ℕ → Sitting → Type 0
-Closes step before stored after = Leaves before (having_closed before.0) after
+Closes step before stored after = LeavesSeat before (having_closed before.0) after
 
 -- what is published lies behind what was read
 pub record Loads (step : RingStep) (before : Sitting) (found : ℕ) (after : Sitting) : Type 0 where
-  pub leaves : Leaves before (having_loaded before.0 found) after
+  pub leaves : LeavesSeat before (having_loaded before.0 found) after
   pub further : (read_by before.0).at ≤ found / 2
 
 -- the word may come next, what it begins is loaded whole, and the frames are lawful
-pub record Reads (step : RingStep) (before : Sitting) (found : ℕ) (after : Sitting) : Type 0 where
-  pub leaves : Leaves before (having_read before.0 found) after
+pub record ReadsWord (step : RingStep) (before : Sitting) (found : ℕ) (after : Sitting) : Type 0 where
+  pub leaves : LeavesSeat before (having_read before.0 found) after
   pub fits : FitsWithin before.0.size before.0.roamer.loaded (read_by before.0) found
   pub lawful : Lawful (plan_in before.0) (walk before.0.size (before.0.roamer.stream ++ found ∷ [])).frames
 
 abbrev pub Releases : RingStep → Sitting → ℕ → Sitting → Type 0
-Releases step before stored after = Leaves before (having_released before.0) after
+Releases step before stored after = LeavesSeat before (having_released before.0) after
 
 -- what was read is the front of what was stored, and all of it where the roamer has read what it loaded and learnt that the
 -- ring is closed
-pub record IsSettled (v : Known) : Type 0 where
+pub record HasReadFront (v : Known) : Type 0 where
   pub front : BeginsWith (written_by v).frames (read_by v).frames
   pub whole : v.roamer.learnt ≡ true → (read_by v).at ≡ v.roamer.loaded → (read_by v).frames ≡ (written_by v).frames
 
 pub record Settles (step : RingStep) (before : Sitting) (found : ℕ) (after : Sitting) : Type 0 where
   pub same : after ≡ before
-  pub settled : IsSettled before.0
+  pub settled : HasReadFront before.0

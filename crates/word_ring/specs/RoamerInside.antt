@@ -4,7 +4,7 @@ use Rattle.std.specs.Arc.{arc_value}
 use Rattle.word_ring.specs.declared.known.Known.{Known}
 use Rattle.word_ring.specs.declared.word_out.WordOut.TheInside.{Inside}
 use Rattle.word_ring.specs.Counts.{IsCount}
-use Rattle.word_ring.specs.Ends.{IsRingSize, RoamerEnd, numbers_of}
+use Rattle.word_ring.specs.Ends.{IsTableSize, WordRoamerEnd, numbers_of}
 use Rattle.word_ring.specs.Plays.{read_by}
 use Rattle.word_ring.specs.Rule.{plan_in}
 use Rattle.word_ring.specs.Seats.{IsSeatOf}
@@ -14,7 +14,7 @@ abbrev pub roamer_knows : Inside → Known
 roamer_knows s = s.seat.me.0
 
 -- what contracts see
-abbrev pub roamer_end_of : Inside → RoamerEnd
+abbrev pub roamer_end_of : Inside → WordRoamerEnd
 roamer_end_of s = record {
   pair = numbers_of s.seat.table_id;
   plan = plan_in (roamer_knows s);
@@ -30,9 +30,9 @@ roamer_end_of s = record {
 }
 
 -- Between two calls no frame is read in part.
-pub record IsRoamer (s : Inside) : Type 0 where
+pub record IsWordRoamer (s : Inside) : Type 0 where
   pub seat : IsSeatOf s.size (arc_value s.ring) s.seat
-  pub size : IsRingSize s.size
+  pub size : IsTableSize s.size
   pub told : (roamer_knows s).size ≡ s.size
   pub reads : (roamer_knows s).reads ≡ true
   pub whole : (read_by (roamer_knows s)).part ≡ []

@@ -73,7 +73,7 @@ pub record SeatKnows (size : ℕ) (plan : Plan) (ring : RingState) (writer roame
   pub writes : v.writes ≡ true → IsEnd size plan writer seat v × (v.writer ≡ ring.writer)
   pub reads : v.reads ≡ true → IsEnd size plan roamer seat v × (v.roamer ≡ ring.roamer)
 
-pub record IsRing (size : ℕ) (table : State (Unit {0}) Known) : Type 0 where
+pub record IsRingTable (size : ℕ) (table : State (Unit {0}) Known) : Type 0 where
   pub plan : Plan
   pub ring : RingState
   pub writer : ℕ

@@ -6,7 +6,7 @@ use Rattle.ring_core.specs.declared.answers.Taken.{Taken}
 use Rattle.ring_core.specs.declared.answers.Taken.TheVariants as answers
 use Rattle.ring_core.specs.Plans.{Lawful}
 use Rattle.word_ring.specs.Counts.{RisesBy}
-use Rattle.word_ring.specs.Ends.{RoamerEnd}
+use Rattle.word_ring.specs.Ends.{WordRoamerEnd}
 
 -- the producer word was loaded once at most
 pub record LoadsOnce (before after : ℕ) : Type 0 where
@@ -16,7 +16,7 @@ pub record LoadsOnce (before after : ℕ) : Type 0 where
 -- ---- parts of a call
 
 -- the frame that was next among the words that are loaded was taken and released
-pub record TakesLoaded (old : RoamerEnd) (frame : List ℕ) (new : RoamerEnd) : Type 0 where
+pub record TakesLoaded (old : WordRoamerEnd) (frame : List ℕ) (new : WordRoamerEnd) : Type 0 where
   pub same : new ≡ record old {
     got = old.got ++ frame ∷ [];
     at = old.at + length frame;
@@ -27,7 +27,7 @@ pub record TakesLoaded (old : RoamerEnd) (frame : List ℕ) (new : RoamerEnd) : 
   pub steps : RisesBy (length frame + 1) old.steps new.steps
 
 -- a wrap mark was next, behind which the ring begins anew
-pub record SkipsMark (old new : RoamerEnd) : Type 0 where
+pub record SkipsMark (old new : WordRoamerEnd) : Type 0 where
   pub same : new ≡ record old { at = new.at; steps = new.steps }
   pub mark : 1 ≤ old.at % old.words
   pub beginning : new.at % old.words ≡ 0
@@ -40,7 +40,7 @@ answer_of learnt = if learnt then answers.Ended else answers.Nothing
 -- ---- a call
 
 -- a frame was taken, which is lawful behind the others, and its places are released
-pub record TakesFrame (old : RoamerEnd) (frame : List ℕ) (new : RoamerEnd) : Type 0 where
+pub record TakesFrame (old : WordRoamerEnd) (frame : List ℕ) (new : WordRoamerEnd) : Type 0 where
   pub not_ended : old.ended ≡ false
   pub same : new ≡ record old {
     got = old.got ++ frame ∷ [];
@@ -56,7 +56,7 @@ pub record TakesFrame (old : RoamerEnd) (frame : List ℕ) (new : RoamerEnd) : T
   pub steps : RisesBy (length frame + 3) old.steps new.steps
 
 -- all was taken that was published when the producer word was loaded, once in this call, and the ring wasn't closed then
-pub record FindsNothing (old new : RoamerEnd) : Type 0 where
+pub record TakesNothing (old new : WordRoamerEnd) : Type 0 where
   pub not_ended : old.ended ≡ false
   pub same : new ≡ record old {
     at = new.at;
@@ -70,7 +70,7 @@ pub record FindsNothing (old new : RoamerEnd) : Type 0 where
   pub steps : RisesBy 3 old.steps new.steps
 
 -- all was taken that was ever published, and the ring is known to be closed
-pub record FindsEnd (old new : RoamerEnd) : Type 0 where
+pub record TakesEnd (old new : WordRoamerEnd) : Type 0 where
   pub same : new ≡ record old {
     at = new.at;
     loaded = new.loaded;
@@ -85,7 +85,7 @@ pub record FindsEnd (old new : RoamerEnd) : Type 0 where
   pub steps : RisesBy 3 old.steps new.steps
 
 -- the frame, if there is one, stands at the front of `into`
-abbrev pub IsTaken : RoamerEnd → List ℕ → Taken → RoamerEnd → Type 0
+abbrev pub IsTaken : WordRoamerEnd → List ℕ → Taken → WordRoamerEnd → Type 0
 IsTaken old into (answers.Frame n) new = (n ≤ MAX_FRAME_WORDS) × TakesFrame old (take n into) new
-IsTaken old into answers.Nothing new = FindsNothing old new
-IsTaken old into answers.Ended new = FindsEnd old new
+IsTaken old into answers.Nothing new = TakesNothing old new
+IsTaken old into answers.Ended new = TakesEnd old new

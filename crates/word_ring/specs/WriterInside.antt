@@ -5,7 +5,7 @@ use Rattle.ring_core.specs.declared.limits.TheConstants.{MAX_POSITION}
 use Rattle.word_ring.specs.declared.known.Known.{Known}
 use Rattle.word_ring.specs.declared.word_in.WordIn.TheInside.{Inside}
 use Rattle.word_ring.specs.Counts.{IsCount}
-use Rattle.word_ring.specs.Ends.{IsRingSize, WriterEnd, numbers_of}
+use Rattle.word_ring.specs.Ends.{IsTableSize, WordWriterEnd, numbers_of}
 use Rattle.word_ring.specs.Plays.{written_by}
 use Rattle.word_ring.specs.Rule.{plan_in}
 use Rattle.word_ring.specs.Seats.{IsSeatOf}
@@ -15,7 +15,7 @@ abbrev pub writer_knows : Inside → Known
 writer_knows s = s.seat.me.0
 
 -- what contracts see
-abbrev pub writer_end_of : Inside → WriterEnd
+abbrev pub writer_end_of : Inside → WordWriterEnd
 writer_end_of s = record {
   pair = numbers_of s.seat.table_id;
   plan = plan_in (writer_knows s);
@@ -29,9 +29,9 @@ writer_end_of s = record {
 }
 
 -- Between two calls no frame is begun, and all that was stored is published.
-pub record IsWriter (s : Inside) : Type 0 where
+pub record IsWordWriter (s : Inside) : Type 0 where
   pub seat : IsSeatOf s.size (arc_value s.ring) s.seat
-  pub size : IsRingSize s.size
+  pub size : IsTableSize s.size
   pub told : (writer_knows s).size ≡ s.size
   pub writes : (writer_knows s).writes ≡ true
   pub whole : (written_by (writer_knows s)).part ≡ []

@@ -5,7 +5,7 @@ ghost use Rattle.arg_records.specs.declared.frame.TheConstants.{MAX_FRAME_WORDS}
 ghost use Rattle.ring_core.specs.Plans.{Lawful};
 ghost use Rattle.ring_machine.specs.Streams.{IsBegun};
 ghost use Rattle.word_ring.specs.Counts.{CountsSteps};
-ghost use Rattle.word_ring.specs.Ends.{IsRingSize};
+ghost use Rattle.word_ring.specs.Ends.{IsTableSize};
 ghost use Rattle.word_ring.specs.Frames.{with_frame, with_next, having_stored, having_put_on, MayStore, MayPut};
 ghost use Rattle.word_ring.specs.Plays.{written_by, read_by};
 ghost use Rattle.word_ring.specs.Rule.{plan_in};
@@ -18,7 +18,7 @@ use arg_records::MAX_FRAME_WORDS;
 pub fn put_frame(table: &WordTable, seat: &mut WordSeat, place: usize, frame: &[u64])
     requires seat { IsSeatOf (view seat.old).size table.now seat.old }
     requires writes { (view seat.old).writes ≡ true }
-    requires size { IsRingSize (view seat.old).size }
+    requires size { IsTableSize (view seat.old).size }
     requires not_closed { (view seat.old).writer.closed ≡ false }
     requires place { place ≡ (written_by (view seat.old)).at % (view seat.old).size }
     requires may { MayStore (view seat.old) frame.now }
@@ -36,7 +36,7 @@ pub fn put_frame(table: &WordTable, seat: &mut WordSeat, place: usize, frame: &[
 pub fn put_next(table: &WordTable, seat: &mut WordSeat, at: u64, frame: &[u64], size: u64)
     requires seat { IsSeatOf (view seat.old).size table.now seat.old }
     requires writes { (view seat.old).writes ≡ true }
-    requires size { IsRingSize size }
+    requires size { IsTableSize size }
     requires not_closed { (view seat.old).writer.closed ≡ false }
     requires told { (size ≡ (view seat.old).size) × (at ≡ (written_by (view seat.old)).at) }
     requires may { MayPut (view seat.old) frame.now }
@@ -66,7 +66,7 @@ pub fn read_frame(
 ) -> usize
     requires seat { IsSeatOf (view seat.old).size table.now seat.old }
     requires reads { (view seat.old).reads ≡ true }
-    requires size { IsRingSize (view seat.old).size }
+    requires size { IsTableSize (view seat.old).size }
     requires head { (read_by (view seat.old)).part ≡ head ∷ [] }
     requires most { head % 65536 ≤ MAX_FRAME_WORDS }
     requires begun { IsBegun (view seat.old).size (view seat.old).roamer.loaded (read_by (view seat.old)) }

@@ -23,9 +23,9 @@ pub struct Known {
 pub struct Ringed;
 
 impl TableRule<(), Known, usize> for Ringed {
-    ghost use Rattle.word_ring.specs.Rule.{newcomer, IsRing};
+    ghost use Rattle.word_ring.specs.Rule.{newcomer, IsRingTable};
 
-    ghost holds = { IsRing };
+    ghost holds = { IsRingTable };
 
     ghost first = { newcomer };
 }
@@ -80,9 +80,9 @@ impl Play<(), Known> for Look {
 pub struct Put;
 
 impl Play<(), Known> for Put {
-    ghost use Rattle.word_ring.specs.Plays.{Puts};
+    ghost use Rattle.word_ring.specs.Plays.{PutsWord};
 
-    ghost then = { Puts };
+    ghost then = { PutsWord };
 }
 
 /// The writer published all that it had stored.
@@ -116,9 +116,9 @@ impl Play<(), Known> for Load {
 pub struct Read;
 
 impl Play<(), Known> for Read {
-    ghost use Rattle.word_ring.specs.Plays.{Reads};
+    ghost use Rattle.word_ring.specs.Plays.{ReadsWord};
 
-    ghost then = { Reads };
+    ghost then = { ReadsWord };
 }
 
 /// The roamer released all places that it had read.

@@ -4,8 +4,8 @@ ghost use Rattle.std.specs.Prelude.{◌≡◌, ◌≢◌, ◌+◌, ◌/◌, ◌%
 ghost use Rattle.ring_core.specs.declared.limits.TheConstants.{MAX_POSITION};
 ghost use Rattle.ring_core.specs.Plans.{Lawful};
 ghost use Rattle.ring_machine.specs.Streams.{FitsWithin};
-ghost use Rattle.word_ring.specs.Ends.{IsRingSize};
-ghost use Rattle.word_ring.specs.Plays.{written_by, read_by, IsSettled};
+ghost use Rattle.word_ring.specs.Ends.{IsTableSize};
+ghost use Rattle.word_ring.specs.Plays.{written_by, read_by, HasReadFront};
 ghost use Rattle.word_ring.specs.Plays.{having_looked, having_put, having_published, having_closed};
 ghost use Rattle.word_ring.specs.Plays.{having_loaded, having_read, having_released};
 ghost use Rattle.word_ring.specs.Rule.{plan_in};
@@ -41,7 +41,7 @@ pub fn put(table: &WordTable, seat: &mut WordSeat, place: usize, word: u64)
     requires writes { (view seat.old).writes ≡ true }
     requires not_closed { (view seat.old).writer.closed ≡ false }
     requires place { place ≡ (written_by (view seat.old)).at % (view seat.old).size }
-    requires size { IsRingSize (view seat.old).size }
+    requires size { IsTableSize (view seat.old).size }
     requires fits { FitsWithin (view seat.old).size ((view seat.old).writer.seen + (view seat.old).size)
         (written_by (view seat.old)) word }
     requires lawful { Lawful (plan_in (view seat.old)) (written_by (having_put (view seat.old) word)).frames }
@@ -93,7 +93,7 @@ pub fn read(table: &WordTable, seat: &mut WordSeat, place: usize) -> u64
     requires seat { IsSeatOf (view seat.old).size table.now seat.old }
     requires reads { (view seat.old).reads ≡ true }
     requires place { place ≡ (read_by (view seat.old)).at % (view seat.old).size }
-    requires size { IsRingSize (view seat.old).size }
+    requires size { IsTableSize (view seat.old).size }
     requires left { (view seat.old).roamer.loaded ≢ (read_by (view seat.old)).at }
     ensures same { IsSameSeat seat.old seat.new }
     ensures knows { view seat.new ≡ having_read (view seat.old) result }
@@ -122,7 +122,7 @@ pub fn settle(table: &WordTable, seat: &mut WordSeat)
     requires reads { (view seat.old).reads ≡ true }
     ensures same { IsSameSeat seat.old seat.new }
     ensures knows { view seat.new ≡ view seat.old }
-    ensures settled { IsSettled (view seat.old) }
+    ensures settled { HasReadFront (view seat.old) }
 {
     table.shared.load::<Settle>(seat, PRODUCER);
 }

@@ -20,15 +20,15 @@ pub struct WordDone {
 }
 
 impl Model for WordDone {
-    ghost use Rattle.word_ring.specs.Ends.{BothEnds};
+    ghost use Rattle.word_ring.specs.Ends.{BothWordEnds};
 
-    ghost Value = { BothEnds };
+    ghost Value = { BothWordEnds };
 
-    ghost use Rattle.word_ring.specs.DoneInside.{both_ends_of, FramesAreCounted};
+    ghost use Rattle.word_ring.specs.DoneInside.{both_ends_of, CountsFrames};
 
     ghost view = { both_ends_of };
 
-    ghost invariant = { FramesAreCounted };
+    ghost invariant = { CountsFrames };
 }
 
 impl WordDone {

@@ -8,7 +8,7 @@ ghost use Rattle.ring_core.specs.Plans.{Lawful};
 ghost use Rattle.ring_core.specs.Positions.{Need};
 ghost use Rattle.ring_machine.specs.RingStates.{new_writer, new_roamer};
 ghost use Rattle.word_ring.specs.Counts.{RisesBy};
-ghost use Rattle.word_ring.specs.Ends.{FrameAccepted, FrameRefused, IsRingSize, numbers_of, seen_by, room_found};
+ghost use Rattle.word_ring.specs.Ends.{AcceptsFrame, RefusesFrame, IsTableSize, numbers_of, seen_by, room_found};
 ghost use Rattle.word_ring.specs.Rule.{plan_in, known};
 ghost use Rattle.word_ring.specs.Seats.{view, IsSeatOf};
 
@@ -29,22 +29,22 @@ pub struct WordIn {
 }
 
 impl Model for WordIn {
-    ghost use Rattle.word_ring.specs.Ends.{WriterEnd};
+    ghost use Rattle.word_ring.specs.Ends.{WordWriterEnd};
 
-    ghost Value = { WriterEnd };
+    ghost Value = { WordWriterEnd };
 
-    ghost use Rattle.word_ring.specs.WriterInside.{writer_end_of, IsWriter};
+    ghost use Rattle.word_ring.specs.WriterInside.{writer_end_of, IsWordWriter};
 
     ghost view = { writer_end_of };
 
-    ghost invariant = { IsWriter };
+    ghost invariant = { IsWordWriter };
 }
 
 impl WordIn {
     /// The end with this seat, before anything was put.
     pub(crate) fn over(ring: Arc<WordTable, Global>, seat: WordSeat, size: u64) -> WordIn
         requires seat { IsSeatOf size (arc_value ring) seat }
-        requires size { IsRingSize size }
+        requires size { IsTableSize size }
         requires new { view seat ≡ known true false size (plan_in (view seat)) new_writer new_roamer }
         ensures { result ≡ record {
           pair = numbers_of seat.table_id;
@@ -66,7 +66,7 @@ impl WordIn {
         }
     }
 
-    /// Puts a frame behind those that were put before, if the ring has room for it. It looks once how far the roamer
+    /// PutsWord a frame behind those that were put before, if the ring has room for it. It looks once how far the roamer
     /// has released places, and never waits.
     pub fn offer(&mut self, frame: &[u64]) -> Result<(), Full>
         requires lawful { Lawful self.old.plan (self.old.sent ++ frame.now ∷ []) }
@@ -74,8 +74,8 @@ impl WordIn {
         requires position { self.old.at + OFFER_ROOM ≤ MAX_POSITION }
         ensures exact { IsOk result ↔ (Need self.old.at (length frame.now) self.old.words
             ≤ room_found self.old self.new) }
-        ensures ok { OnOk result (FrameAccepted self.old frame.now self.new) }
-        ensures err { OnErr result (FrameRefused self.old self.new) }
+        ensures ok { OnOk result (AcceptsFrame self.old frame.now self.new) }
+        ensures err { OnErr result (RefusesFrame self.old self.new) }
         ensures full { IfErr result (IsFull self.old.at (length frame.now) self.old.words (seen_by self.new)) }
         ensures further { seen_by self.old ≤ seen_by self.new }
         ensures within { seen_by self.new ≤ self.old.at }

@@ -6,7 +6,7 @@ ghost use Rattle.arg_records.specs.declared.frame.TheConstants.{MAX_FRAME_WORDS}
 ghost use Rattle.nl_io.specs.Count.{counted};
 ghost use Rattle.ring_machine.specs.RingStates.{new_writer, new_roamer};
 ghost use Rattle.word_ring.specs.Counts.{RisesBy};
-ghost use Rattle.word_ring.specs.Ends.{IsRingSize, numbers_of};
+ghost use Rattle.word_ring.specs.Ends.{IsTableSize, numbers_of};
 ghost use Rattle.word_ring.specs.Taking.{IsTaken, TakesLoaded, SkipsMark, answer_of};
 ghost use Rattle.word_ring.specs.Rule.{plan_in, known};
 ghost use Rattle.word_ring.specs.Seats.{view, IsSeatOf};
@@ -33,22 +33,22 @@ pub struct WordOut {
 }
 
 impl Model for WordOut {
-    ghost use Rattle.word_ring.specs.Ends.{RoamerEnd};
+    ghost use Rattle.word_ring.specs.Ends.{WordRoamerEnd};
 
-    ghost Value = { RoamerEnd };
+    ghost Value = { WordRoamerEnd };
 
-    ghost use Rattle.word_ring.specs.RoamerInside.{roamer_end_of, IsRoamer};
+    ghost use Rattle.word_ring.specs.RoamerInside.{roamer_end_of, IsWordRoamer};
 
     ghost view = { roamer_end_of };
 
-    ghost invariant = { IsRoamer };
+    ghost invariant = { IsWordRoamer };
 }
 
 impl WordOut {
     /// The end with this seat, before anything was taken.
     pub(crate) fn over(ring: Arc<WordTable, Global>, seat: WordSeat, size: u64) -> WordOut
         requires seat { IsSeatOf size (arc_value ring) seat }
-        requires size { IsRingSize size }
+        requires size { IsTableSize size }
         requires new { view seat ≡ known false true size (plan_in (view seat)) new_writer new_roamer }
         ensures { result ≡ record {
           pair = numbers_of seat.table_id;

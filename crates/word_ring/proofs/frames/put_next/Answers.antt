@@ -1,6 +1,6 @@
 use Rattle.std.proofs.Common.{◌≡◌, ℕ, ◌+◌, ◌%◌, ◌<◌, length, sym, ap, ◌∙◌, subst}
 use Rattle.word_ring.specs.declared.known.Known.{Known}
-use Rattle.word_ring.specs.Ends.{IsRingSize}
+use Rattle.word_ring.specs.Ends.{IsTableSize}
 use Rattle.word_ring.specs.Frames.{with_next}
 use Rattle.word_ring.specs.Plays.{written_by}
 use Rattle.word_ring.specs.Seats.{view}
@@ -11,8 +11,8 @@ use Rattle.word_ring.proofs.frames.put_next.Goals as goal
 beyond : (v : Known) (at size n : ℕ) → (size ≡ v.size) × (at ≡ (written_by v).at) → size < at % size + n → v.size < (written_by v).at % v.size + n
 beyond v at size n told test = subst (λ (x : ℕ × ℕ). x.0 < x.1 % x.0 + n) (λ i. (told.0 i, told.1 i)) test
 
-size_of : (v : Known) (size : ℕ) → size ≡ v.size → IsRingSize size → IsRingSize v.size
-size_of v size is h = subst IsRingSize is h
+size_of : (v : Known) (size : ℕ) → size ≡ v.size → IsTableSize size → IsTableSize v.size
+size_of v size is h = subst IsTableSize is h
 
 pub put-requires-clause-fits : goal.put-requires-clause-fits
 put-requires-clause-fits c =

@@ -1,7 +1,7 @@
 use Rattle.std.proofs.Common.{◌≡◌, ◌+◌, sym, ap, ◌∙◌, arith}
 use Rattle.std.specs.Arc.{arc_value}
 use Rattle.word_ring.specs.declared.places.TheConstants.{DATA}
-use Rattle.word_ring.specs.Ends.{WriterEnd, RoamerEnd}
+use Rattle.word_ring.specs.Ends.{WordWriterEnd, WordRoamerEnd}
 use Rattle.word_ring.proofs.SeatSteps.{joins}
 use Rattle.word_ring.proofs.SameSeats.{same_table}
 use Rattle.word_ring.proofs.word_done.WordDone.of.Goals as goal
@@ -11,7 +11,7 @@ join_seat-requires c =
     let w = c.writer.inside.seat in
     let r = c.roamer.inside.seat in
     let one : r.table_id ≡ w.table_id =
-    same_table r.table_id w.table_id (ap (λ (e : RoamerEnd). e.pair) c.roamer.view_is ∙ sym c.requires ∙ sym (ap (λ (e : WriterEnd). e.pair) c.writer.view_is))
+    same_table r.table_id w.table_id (ap (λ (e : WordRoamerEnd). e.pair) c.roamer.view_is ∙ sym c.requires ∙ sym (ap (λ (e : WordWriterEnd). e.pair) c.writer.view_is))
     in
     let seat = c.writer.invariant.seat in
     let table : arc_value c.writer.inside.ring ≡ c.deref-table.result.now = sym c.deref-table.ensures in

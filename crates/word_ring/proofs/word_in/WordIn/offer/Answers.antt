@@ -7,11 +7,11 @@ use Rattle.ring_machine.specs.Streams.{Walk}
 use Rattle.word_ring.specs.declared.known.Known.{Known}
 use Rattle.word_ring.specs.declared.word_in.WordIn.TheInside.{Inside}
 use Rattle.word_ring.specs.Counts.{IsCount}
-use Rattle.word_ring.specs.Ends.{WriterEnd}
+use Rattle.word_ring.specs.Ends.{WordWriterEnd}
 use Rattle.word_ring.specs.Frames.{with_next}
 use Rattle.word_ring.specs.Plays.{written_by, having_looked}
 use Rattle.word_ring.specs.Seats.{RingSeat, view}
-use Rattle.word_ring.specs.WriterInside.{writer_knows, IsWriter}
+use Rattle.word_ring.specs.WriterInside.{writer_knows, IsWordWriter}
 use Rattle.word_ring.proofs.Counting.{one_step}
 use Rattle.word_ring.proofs.FrameWords.{lawful_head}
 use Rattle.word_ring.proofs.SameSeats.{still_seat, same_then}
@@ -21,14 +21,14 @@ pub need-need-requires-clause-frame : goal.need-need-requires-clause-frame
 need-need-requires-clause-frame c = (lawful_head c.args.self.now.plan c.args.self.now.sent c.args.frame.now c.requires.lawful).most
 
 -- the position behind the frame
-behind : (s : Inside) (looked put : RingSeat) (found need : ℕ) (frame : List ℕ) → IsWriter s → view looked ≡ having_looked (writer_knows s) found
+behind : (s : Inside) (looked put : RingSeat) (found need : ℕ) (frame : List ℕ) → IsWordWriter s → view looked ≡ having_looked (writer_knows s) found
     → written_by (view put) ≡ with_next s.size (written_by (view looked)) frame → need ≡ Need s.at (length frame) s.size → s.at + need ≡ (written_by (view put)).at
 behind s looked put found need frame h knows written is =
     let here : (written_by (view looked)).at ≡ s.at = ap (λ (v : Known). (written_by v).at) knows ∙ h.at in
     ap (λ (n : ℕ). s.at + n) is ∙ (λ i. sym here i + Need (sym here i) (length frame) s.size) ∙ ap (λ (w : Walk). w.at) (sym written)
 
 -- it lies within what a position may be
-within_reach : (s : Inside) (e : WriterEnd) (need : ℕ) (frame : List ℕ) → IsWriter s → s.at ≡ e.at → e.at + 1024 ≤ MAX_POSITION → length frame ≤ 512 → need ≡ Need s.at (length frame) s.size
+within_reach : (s : Inside) (e : WordWriterEnd) (need : ℕ) (frame : List ℕ) → IsWordWriter s → s.at ≡ e.at → e.at + 1024 ≤ MAX_POSITION → length frame ≤ 512 → need ≡ Need s.at (length frame) s.size
     → s.at + need ≤ MAX_POSITION
 within_reach s e need frame h is low few need_is =
     omega (arith, is, low, need_is, Need-most s.at (length frame) s.size (omega (arith, h.size.least)) few)
@@ -40,7 +40,7 @@ publish-requires-clause-at c =
     let frame = c.args.frame.now in
     let few = (lawful_head e.plan e.sent frame c.requires.lawful).most in (
       behind s c.look-released.new.seat c.put_next.new.seat c.look-released.result c.need-need.result frame c.self.invariant c.look-released.ensures.knows c.put_next.ensures.written c.need-need.ensures,
-      within_reach s e c.need-need.result frame c.self.invariant (ap (λ (w : WriterEnd). w.at) c.self.view_is) c.requires.position few c.need-need.ensures,
+      within_reach s e c.need-need.result frame c.self.invariant (ap (λ (w : WordWriterEnd). w.at) c.self.view_is) c.requires.position few c.need-need.ensures,
     )
 
 pub invariant_of-self-2 : goal.invariant_of-self-2
@@ -74,5 +74,5 @@ invariant_of-self-2 c =
       seen = omega (arith, seen, look.within, h.at);
       looks = omega (arith, looks, (one_step (writer_knows s).writer.looks).range h.looks);
       steps = omega (arith, published_steps, (one_step (view c.put_next.new.seat).writer.steps).range (put.steps.range put_steps));
-      position = within_reach s e c.need-need.result frame h (ap (λ (w : WriterEnd). w.at) c.self.view_is) c.requires.position few c.need-need.ensures;
+      position = within_reach s e c.need-need.result frame h (ap (λ (w : WordWriterEnd). w.at) c.self.view_is) c.requires.position few c.need-need.ensures;
     }

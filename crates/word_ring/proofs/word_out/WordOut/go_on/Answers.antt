@@ -1,5 +1,5 @@
 use Rattle.std.proofs.Common.{◌≡◌, false, ap, ◌∙◌, arith}
-use Rattle.word_ring.specs.Ends.{RoamerEnd}
+use Rattle.word_ring.specs.Ends.{WordRoamerEnd}
 use Rattle.word_ring.specs.Seats.{view}
 use Rattle.word_ring.specs.RoamerInside.{roamer_end_of}
 use Rattle.word_ring.specs.declared.word_out.WordOut.TheInside.{Inside}
@@ -7,8 +7,8 @@ use Rattle.word_ring.proofs.NextFrames.{head_read, begun, place, count_fits}
 use Rattle.word_ring.proofs.Roaming.{marked, skips, frame_at, framed, takes, len_within}
 use Rattle.word_ring.proofs.word_out.WordOut.go_on.Goals as goal
 
-open_inside : (s : Inside) (e : RoamerEnd) → roamer_end_of s ≡ e → e.ended ≡ false → s.ended ≡ false
-open_inside s e is h = ap (λ (r : RoamerEnd). r.ended) is ∙ h
+open_inside : (s : Inside) (e : WordRoamerEnd) → roamer_end_of s ≡ e → e.ended ≡ false → s.ended ≡ false
+open_inside s e is h = ap (λ (r : WordRoamerEnd). r.ended) is ∙ h
 
 pub read_frame-len-requires-clause-head : goal.read_frame-len-requires-clause-head
 read_frame-len-requires-clause-head c =
