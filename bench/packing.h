@@ -145,3 +145,16 @@ static unsigned char *put_record(unsigned char *out, unsigned id, unsigned long 
     }
     return out;
 }
+
+/* Packs a call's frame of words, whose stamp counts from `before`, and answers the end of its record. */
+static unsigned char *pack_frame(const unsigned long long *words, unsigned long long before, unsigned char *out) {
+    struct argument arguments[ARGUMENTS], *argument = arguments;
+    unsigned id = (unsigned)(words[0] >> 16);
+    const unsigned long long *word = words + 2;
+    for (const char *kind = kinds[id]; *kind; kind++, argument++) {
+        argument->number = *word++;
+        argument->text = (const char *)word;
+        if (*kind == 't') word += (argument->number + 7) / 8;
+    }
+    return put_record(out, id, words[1] - before, arguments);
+}

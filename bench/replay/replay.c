@@ -105,19 +105,6 @@ static void *make_calls(void *of) {
     return 0;
 }
 
-/* Packs the frame, and answers the end of its record. */
-static unsigned char *pack_frame(const unsigned long long *words, unsigned long long before, unsigned char *out) {
-    struct argument arguments[ARGUMENTS], *argument = arguments;
-    unsigned id = (unsigned)(words[0] >> 16);
-    const unsigned long long *word = words + 2;
-    for (const char *kind = kinds[id]; *kind; kind++, argument++) {
-        argument->number = *word++;
-        argument->text = (const char *)word;
-        if (*kind == 't') word += (argument->number + 7) / 8;
-    }
-    return put_record(out, id, words[1] - before, arguments);
-}
-
 /* Takes a batch of frames of a writer, and writes their extent. It answers how many there were. */
 static unsigned visit(FILE *log, unsigned number) {
     static unsigned char body[BODY];

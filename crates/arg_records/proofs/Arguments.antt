@@ -1,5 +1,5 @@
 -- The words of arguments, one argument behind another.
-use Rattle.std.proofs.Common.{◌≡◌, ℕ, ◌+◌, ◌*◌, ◌<◌, ◌≤◌, List, ◌∷◌, ◌++◌, length, take, drop, get_or, sym, ap, ◌∙◌, arith}
+use Rattle.std.proofs.Common.{◌≡◌, ℕ, ◌+◌, ◌*◌, ◌<◌, ◌≤◌, List, ◌∷◌, ◌++◌, length, map, take, drop, get_or, sym, ap, ◌∙◌, arith}
 use Rattle.std.proofs.Math.ListN.{set}
 use Rattle.std.specs.Prelude.{All, sum_by}
 use Rattle.std.specs.List.{flat_map}
@@ -7,10 +7,8 @@ use Rattle.std.proofs.lemmas.List.{drop_more, length-set, take_at, drop_at}
 use Rattle.std.proofs.lemmas.List.Sums.{sum_by-cons, sum_by-le}
 use Rattle.std.proofs.lemmas.List.Concat.{flat_map-cons}
 use Rattle.std.proofs.lemmas.List.Elements.{All-map, All-weaker}
-use Rattle.printf_grammar.specs.declared.argument.Arg.{Arg}
 use Rattle.printf_grammar.specs.declared.argument.Value.{Value}
 use Rattle.printf_grammar.specs.declared.argument.Value.TheVariants as values
-use Rattle.printf_grammar.specs.Types.{argument_value, values_of}
 use Rattle.arg_records.specs.Frames.{IsShort, AreArguments, words_of_argument, argument_words, FrameLen, Frame}
 use Rattle.arg_records.specs.Kinds.{HoldsBytes}
 use Rattle.arg_records.specs.Places.{with_words}
@@ -26,29 +24,27 @@ short_words (values.Text bytes) short = omega arith
 pub FrameLen-bound : (args : List Value) → AreArguments args → FrameLen args ≤ 32066
 FrameLen-bound args are = omega (arith, are.few, sum_by-le argument_words 501 args (All-weaker IsShort (λ value. argument_words value ≤ 501) short_words args are.short))
 
--- the lengths of the arguments from a place on
-pub words_from : (args : List Arg) (place : ℕ) (other : Arg) → place < length args
-    → sum_by argument_words (values_of (drop place args)) ≡ argument_words (argument_value (get_or args place other)) + sum_by argument_words (values_of (drop (place + 1) args))
-words_from args place other within =
-    ap (λ (rest : List Arg). sum_by argument_words (values_of rest)) (drop_more args place other within)
-    ∙ sum_by-cons argument_words (argument_value (get_or args place other)) (values_of (drop (place + 1) args))
+-- the first of the arguments from a place on, which has this value
+module _ {A : Type 0} (value : A → Value) (args : List A) (place : ℕ) (item : A) (first : Value) (within : place < length args) (item_is : item ≡ get_or args place item) (first_is : first ≡ value item) where
+  values_from : map value (drop place args) ≡ first ∷ map value (drop (place + 1) args)
+  values_from =
+      ap (map value) (drop_more args place item within)
+      ∙ ap (λ (one : Value). one ∷ map value (drop (place + 1) args)) (sym (first_is ∙ ap value item_is))
 
-spelled_from : (args : List Arg) (place : ℕ) (other : Arg) → place < length args
-    → flat_map words_of_argument (values_of (drop place args)) ≡ words_of_argument (argument_value (get_or args place other)) ++ flat_map words_of_argument (values_of (drop (place + 1) args))
-spelled_from args place other within =
-    ap (λ (rest : List Arg). flat_map words_of_argument (values_of rest)) (drop_more args place other within)
-    ∙ flat_map-cons words_of_argument (argument_value (get_or args place other)) (values_of (drop (place + 1) args))
+  -- their lengths
+  pub words_from : sum_by argument_words (map value (drop place args)) ≡ argument_words first + sum_by argument_words (map value (drop (place + 1) args))
+  words_from =
+      ap (sum_by argument_words) values_from ∙ sum_by-cons argument_words first (map value (drop (place + 1) args))
 
--- an argument was written, and the others behind it are left
-pub others_left : (args : List Arg) (place : ℕ) (other : Arg) (list new : List ℕ) (at end : ℕ) → place < length args → at ≤ length list
-    → new ≡ with_words list at (words_of_argument (argument_value (get_or args place other))) → end ≡ at + argument_words (argument_value (get_or args place other))
-    → with_words new end (flat_map words_of_argument (values_of (drop (place + 1) args))) ≡ with_words list at (flat_map words_of_argument (values_of (drop place args)))
-others_left args place other list new at end within inside written is =
-    let words : List ℕ = words_of_argument (argument_value (get_or args place other)) in
-    let rest : List ℕ = flat_map words_of_argument (values_of (drop (place + 1) args)) in
-    ap (λ (l : List ℕ). with_words l end rest) written
-    ∙ words_first list at end words rest (omega (arith, length-words_of_argument (argument_value (get_or args place other)))) inside
-    ∙ ap (with_words list at) (sym (spelled_from args place other within))
+  -- it was written, and the others behind it are left
+  pub others_left : (list new : List ℕ) (at end : ℕ) → at ≤ length list → new ≡ with_words list at (words_of_argument first) → end ≡ at + argument_words first
+      → with_words new end (flat_map words_of_argument (map value (drop (place + 1) args))) ≡ with_words list at (flat_map words_of_argument (map value (drop place args)))
+  others_left list new at end inside written is =
+      let words : List ℕ = words_of_argument first in
+      let others : List Value = map value (drop (place + 1) args) in
+      ap (λ (l : List ℕ). with_words l end (flat_map words_of_argument others)) written
+      ∙ words_first list at end words (flat_map words_of_argument others) (omega (arith, length-words_of_argument first)) inside
+      ∙ ap (with_words list at) (sym (ap (flat_map words_of_argument) values_from ∙ flat_map-cons words_of_argument first others))
 
 -- the head and the arguments are the frame, and the words behind it are as before
 pub frame_written : (old new : List ℕ) (id stamp wide len n : ℕ) (args : List Value) → 2 ≤ length old → wide ≡ id → len ≡ FrameLen args → n ≡ FrameLen args
@@ -74,5 +70,5 @@ frame_written old new id stamp wide len n args two wide_is len_is n_is written =
 -- ---- the texts
 
 -- what holds of the values of arguments, one by one, holds of them in a list
-pub bytes_of_all : (args : List Arg) → All (λ arg. HoldsBytes (argument_value arg)) args → All HoldsBytes (values_of args)
-bytes_of_all args all = All-map HoldsBytes argument_value args all
+pub bytes_of_all : {A : Type 0} (value : A → Value) (args : List A) → All (λ arg. HoldsBytes (value arg)) args → All HoldsBytes (map value args)
+bytes_of_all value args all = All-map HoldsBytes value args all

@@ -1,16 +1,15 @@
 //! Frames: how long they are, writing one, and reading its head.
 
-ghost use Rattle.std.specs.Prelude.{◌≡◌, ◌+◌, ◌<◌, ◌≤◌, ◌↔◌, ℕ, List, take, drop, All, IfOk, OnOk, OnErr, IsErr};
+ghost use Rattle.std.specs.Prelude.{◌≡◌, ◌+◌, ◌<◌, ◌≤◌, ◌↔◌, ℕ, List, map, take, drop, All, IfOk, OnOk, OnErr, IsErr};
 ghost use Rattle.std.specs.List.{flat_map};
 ghost use Rattle.printf_grammar.specs.declared.argument.Value.{Value};
-ghost use Rattle.printf_grammar.specs.Types.{values_of};
 ghost use Rattle.log_dictionary.specs.declared.dictionary.TheConstants.{MAX_MESSAGES};
 ghost use Rattle.arg_records.specs.Frames.{AreArguments, IsStaged, IsFrame, words_of_argument, FrameLen, Frame};
 ghost use Rattle.arg_records.specs.Kinds.{HoldsBytes};
 ghost use Rattle.arg_records.specs.Places.{with_words};
 
 use crate::words::{put_argument, word_count};
-use printf_grammar::Arg;
+use printf_grammar::Argument;
 
 /// The most words of a frame.
 pub const MAX_FRAME_WORDS: usize = 512;
@@ -20,48 +19,48 @@ pub const MAX_FRAME_WORDS: usize = 512;
 pub struct TooLong;
 
 /// How many words the frame of a call with these arguments has.
-pub fn frame_len(args: &[Arg]) -> u64
-    requires { AreArguments (values_of args.now) }
-    ensures { result ≡ FrameLen (values_of args.now) }
+pub fn frame_len<A: Argument>(args: &[A]) -> u64
+    requires { AreArguments (map A.value args.now) }
+    ensures { result ≡ FrameLen (map A.value args.now) }
 {
     let mut len = 2;
     for arg in args {
-        len += word_count(*arg);
+        len += word_count(arg.arg());
     }
     len
 }
 
 /// Writes the arguments' words behind the head of a frame. It answers the frame's length.
-fn put_arguments(args: &[Arg], into: &mut [u64; MAX_FRAME_WORDS]) -> usize
-    requires { FrameLen (values_of args.now) ≤ MAX_FRAME_WORDS }
-    ensures written { into.new ≡ with_words into.old 2 (flat_map words_of_argument (values_of args.now)) }
-    ensures end { result ≡ FrameLen (values_of args.now) }
-    ensures bytes { All HoldsBytes (values_of args.now) }
+fn put_arguments<A: Argument>(args: &[A], into: &mut [u64; MAX_FRAME_WORDS]) -> usize
+    requires { FrameLen (map A.value args.now) ≤ MAX_FRAME_WORDS }
+    ensures written { into.new ≡ with_words into.old 2 (flat_map words_of_argument (map A.value args.now)) }
+    ensures end { result ≡ FrameLen (map A.value args.now) }
+    ensures bytes { All HoldsBytes (map A.value args.now) }
 {
     let mut end = 2;
     for arg in args {
-        end = put_argument(*arg, into, end);
+        end = put_argument(arg.arg(), into, end);
     }
     end
 }
 
 /// Writes the frame of a call, and answers its length. The words behind it stay as they were.
-pub fn frame_words(
+pub fn frame_words<A: Argument>(
     id: u32,
     stamp: u64,
-    args: &[Arg],
+    args: &[A],
     into: &mut [u64; MAX_FRAME_WORDS],
 ) -> Result<usize, TooLong>
     requires id_in_range { id < MAX_MESSAGES }
-    requires arguments { AreArguments (values_of args.now) }
+    requires arguments { AreArguments (map A.value args.now) }
     ensures ok { IfOk result (λ len.
-        (len ≡ FrameLen (values_of args.now))
-        × (take len into.new ≡ Frame id stamp (values_of args.now))
+        (len ≡ FrameLen (map A.value args.now))
+        × (take len into.new ≡ Frame id stamp (map A.value args.now))
         × (drop len into.new ≡ drop len into.old)) }
 
     // What texts hold is below 256, since they are bytes.
-    ensures bytes { OnOk result (All HoldsBytes (values_of args.now)) }
-    ensures too_long { IsErr result ↔ (MAX_FRAME_WORDS < FrameLen (values_of args.now)) }
+    ensures bytes { OnOk result (All HoldsBytes (map A.value args.now)) }
+    ensures too_long { IsErr result ↔ (MAX_FRAME_WORDS < FrameLen (map A.value args.now)) }
     ensures unchanged { OnErr result (into.new ≡ into.old) }
 {
     let len = frame_len(args);

@@ -12,7 +12,7 @@ ghost use Rattle.arg_records.specs.Reading.{IsFrameOf, SpellsArguments, BeginsWi
 
 use crate::frame::MAX_FRAME_WORDS;
 use log_dictionary::MAX_MESSAGES;
-use printf_grammar::{ArgType, Bytes, MAX_TEXT, Value, Values};
+use printf_grammar::{ArgType, Argument, Bytes, MAX_TEXT, Value, Values};
 use std::alloc::{AllocError, Global};
 
 /// The bytes of a word.

@@ -92,9 +92,9 @@ fn trace_with(alloc: Global, lines: &str) -> Result<String, Fail> {
     Ok(TRACE.replacen(alloc, "writers 1\ncall 0 1003 0 7\n", lines, 1)?)
 }
 
-/// A ring of 1,024 words has room for 342 frames of 3 words where none of them is taken, and then for none.
+/// A ring of 1,024 words has room for 341 frames of 3 words where none of them is taken: the next would cross its end.
 #[test]
-fn a_full_ring_drops_a_call(rt: HostRuntime) -> Result<(), Fail> {
+fn a_full_ring_drops_calls(rt: HostRuntime) -> Result<(), Fail> {
     let alloc = rt.alloc();
     let calls = "call 0 1003 0 7\n".repeat(alloc, 343)?;
     let lines = format!(in alloc; "writers 1\n{calls}")?;
@@ -103,10 +103,13 @@ fn a_full_ring_drops_a_call(rt: HostRuntime) -> Result<(), Fail> {
     let line = "replay t l --ring 1024 --full drop";
     let file = ("t", text.as_bytes());
     let ran = run_gated(&rt, alloc, line, file, &[], &gate)?;
-    let told = "drop 0 342 need 3 room 0\naccepted 342 dropped 1 filtered 0\n";
+    let told = "drop 0 341 need 4 room 1
+drop 0 342 need 4 room 1
+accepted 341 dropped 2 filtered 0
+";
     assert_eq!(rt; ran.shown(), (Status::Done, told, ""));
     assert!(rt; !gate.was_late());
-    let lines = LINE.repeat(alloc, 342)?;
+    let lines = LINE.repeat(alloc, 341)?;
     expect_lines(&rt, alloc, &ran, lines.as_str())
 }
 

@@ -40,7 +40,14 @@ fn push_line(
         return Ok(());
     };
     let clock = &reader.header().clock;
-    line(clock, writer, message, call.stamp, &call.args.args(), text)
+    line(
+        clock,
+        writer,
+        message,
+        call.stamp,
+        call.args.as_slice(),
+        text,
+    )
 }
 
 // The records of each writer, from its first one on.

@@ -1,14 +1,13 @@
 -- A field's own arguments.
-use Rattle.std.proofs.Common.{◌≡◌, ℕ, ◌+◌, ◌<◌, refl, Bool, ◌&&◌, ◌||◌, List, ◌++◌, length, get_or, Option, is_none, sym, ap, arith, ◌∙◌}
+use Rattle.std.proofs.Common.{◌≡◌, ℕ, ◌+◌, ◌<◌, refl, Bool, ◌&&◌, ◌||◌, List, ◌++◌, length, map, get_or, Option, is_none, sym, ap, arith, ◌∙◌}
 use Rattle.std.proofs.lemmas.List.{length-append, get_or-map}
 use Rattle.printf_grammar.specs.declared.piece.Spec.{Spec}
 use Rattle.printf_grammar.specs.declared.piece.Size.{Size}
 use Rattle.printf_grammar.specs.declared.piece.Size.TheVariants.{Absent, Star, Given}
 use Rattle.printf_grammar.specs.declared.arg_type.ArgType.{ArgType}
 use Rattle.printf_grammar.specs.declared.arg_type.ArgType.TheVariants.{Width, Precision}
-use Rattle.printf_grammar.specs.declared.argument.Arg.{Arg}
 use Rattle.printf_grammar.specs.declared.argument.Value.{Value}
-use Rattle.printf_grammar.specs.Types.{Fits, size_types, field_types, argument_value, values_of}
+use Rattle.printf_grammar.specs.Types.{Fits, size_types, field_types}
 use Rattle.printf_grammar.proofs.Fitting.{Fits-length_of_args}
 use Rattle.direct_printf.specs.Fields.{Field, padded, converted, is_integer, width_of, is_left_star, precision_of, stars, argument_at, argument_count, signed_of}
 
@@ -23,13 +22,13 @@ argument_count-types spec =
     simp length-append (omega (arith, size_types-stars Width spec.width, size_types-stars Precision spec.precision))
 
 -- and its own arguments are as many
-pub argument_count-args : (spec : Spec) (args : List Arg) → Fits (values_of args) (field_types spec) → length args ≡ argument_count spec
-argument_count-args spec args fits = omega (arith, Fits-length_of_args args (field_types spec) fits, argument_count-types spec)
+pub argument_count-args : {A : Type 0} (value : A → Value) (spec : Spec) (args : List A) → Fits (map value args) (field_types spec) → length args ≡ argument_count spec
+argument_count-args value spec args fits = omega (arith, Fits-length_of_args value args (field_types spec) fits, argument_count-types spec)
 
 -- the argument at a place
-pub argument_at-args : (args : List Arg) (n m : ℕ) (d : Arg) → n ≡ m → n < length args → argument_value (get_or args n d) ≡ argument_at (values_of args) m
-argument_at-args args n m d same inside =
-    sym (get_or-map argument_value args n d _ inside) ∙ ap (argument_at (values_of args)) same
+pub argument_at-args : {A : Type 0} (value : A → Value) (args : List A) (n m : ℕ) (item : A) (is : Value) → item ≡ get_or args n item → is ≡ value item → n ≡ m → n < length args → is ≡ argument_at (map value args) m
+argument_at-args value args n m item is item_is value_is same inside =
+    value_is ∙ ap value item_is ∙ sym (get_or-map value args n item _ inside) ∙ ap (argument_at (map value args)) same
 
 -- a field is its converted argument, padded
 pub Field-appended : (spec : Spec) (values : List Value) (left zeros : Bool) (width : ℕ) (precision : Option ℕ) (argument : Value) (old new : List ℕ) → precision ≡ precision_of spec.precision (signed_of (argument_at values (stars spec.width))) → width ≡ width_of spec.width (signed_of (argument_at values 0)) → left ≡ (spec.minus || is_left_star spec.width (signed_of (argument_at values 0))) → zeros ≡ (spec.zero && is_integer spec.conversion && is_none precision) → argument ≡ argument_at values (stars spec.width + stars spec.precision) → new ≡ old ++ padded left zeros width (converted spec.conversion spec precision argument) → new ≡ old ++ Field spec values

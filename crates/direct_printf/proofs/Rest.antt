@@ -1,5 +1,5 @@
 -- What is left to write of a format, piece by piece.
-use Rattle.std.proofs.Common.{◌≡◌, ℕ, ◌+◌, ◌-◌, ◌<◌, ◌≤◌, List, [], ◌∷◌, ◌++◌, length, get_or, take, drop, refl, sym, ◌∙◌, ap, subst, zero-add, arith}
+use Rattle.std.proofs.Common.{◌≡◌, ℕ, ◌+◌, ◌-◌, ◌<◌, ◌≤◌, List, [], ◌∷◌, ◌++◌, length, map, get_or, take, drop, refl, sym, ◌∙◌, ap, subst, zero-add, arith}
 use Rattle.std.specs.Prelude.{slice_range, ⊤}
 use Rattle.std.specs.List.{AllByRecursion}
 use Rattle.std.proofs.lemmas.List.{append_assoc, append-nil, length-append, length-drop, length-map, take-map, drop-map, drop-drop, drop_more, drop_all}
@@ -7,11 +7,10 @@ use Rattle.printf_grammar.specs.declared.piece.Piece.{Piece}
 use Rattle.printf_grammar.specs.declared.piece.Piece.TheVariants as pieces
 use Rattle.printf_grammar.specs.declared.piece.Spec.{Spec}
 use Rattle.printf_grammar.specs.declared.arg_type.ArgType.{ArgType}
-use Rattle.printf_grammar.specs.declared.argument.Arg.{Arg}
 use Rattle.printf_grammar.specs.declared.argument.Value.{Value}
 use Rattle.printf_grammar.specs.Pieces.{Parsed}
 use Rattle.printf_grammar.specs.Spelling.{Spells, SpelledFrom, SpellsPiece}
-use Rattle.printf_grammar.specs.Types.{Types, Fits, field_types, argument_value, values_of}
+use Rattle.printf_grammar.specs.Types.{Types, Fits, field_types}
 use Rattle.direct_printf.specs.Fields.{Field, Text, argument_count, pieces_text}
 use Rattle.direct_printf.proofs.Arguments.{argument_count-types}
 
@@ -84,21 +83,21 @@ Rest-own bytes spec list values front whole rest =
     }
 
 -- the values of the arguments from a place up to another
-own_values : (args : List Arg) (n m count : ℕ) → m ≡ count → values_of (take (n + m - n) (drop n args)) ≡ take count (drop n (values_of args))
-own_values args n m count same =
+own_values : {A : Type 0} (value : A → Value) (args : List A) (n m count : ℕ) → m ≡ count → map value (take (n + m - n) (drop n args)) ≡ take count (drop n (map value args))
+own_values value args n m count same =
     let many : n + m - n ≡ count = omega arith in
-    ap (λ k. values_of (take k (drop n args))) many ∙ sym (take-map argument_value count (drop n args)) ∙ ap (take count) (sym (drop-map argument_value n args))
+    ap (λ k. map value (take k (drop n args))) many ∙ sym (take-map value count (drop n args)) ∙ ap (take count) (sym (drop-map value n args))
 
 -- they are arguments of the call
-pub own_inside : (bytes : List ℕ) (spec : Spec) (list : List Piece) (args : List Arg) (n count : ℕ) (front whole : List ℕ) → count ≡ argument_count spec → Rest bytes (pieces.Field spec ∷ list) (drop n (values_of args)) front whole → n + count ≤ length args
-own_inside bytes spec list args n count front whole count_is rest =
-    let own : IsOwn spec (drop n (values_of args)) = Rest-own bytes spec list (drop n (values_of args)) front whole rest in
-    omega (arith, own.enough, length-drop n (values_of args), length-map args argument_value)
+pub own_inside : {A : Type 0} (value : A → Value) (bytes : List ℕ) (spec : Spec) (list : List Piece) (args : List A) (n count : ℕ) (front whole : List ℕ) → count ≡ argument_count spec → Rest bytes (pieces.Field spec ∷ list) (drop n (map value args)) front whole → n + count ≤ length args
+own_inside value bytes spec list args n count front whole count_is rest =
+    let own : IsOwn spec (drop n (map value args)) = Rest-own bytes spec list (drop n (map value args)) front whole rest in
+    omega (arith, own.enough, length-drop n (map value args), length-map args value)
 
-pub own_fitting : (bytes : List ℕ) (spec : Spec) (list : List Piece) (args : List Arg) (n count : ℕ) (front whole : List ℕ) → count ≡ argument_count spec → Rest bytes (pieces.Field spec ∷ list) (drop n (values_of args)) front whole → Fits (values_of (take (n + count - n) (drop n args))) (field_types spec)
-own_fitting bytes spec list args n count front whole count_is rest =
+pub own_fitting : {A : Type 0} (value : A → Value) (bytes : List ℕ) (spec : Spec) (list : List Piece) (args : List A) (n count : ℕ) (front whole : List ℕ) → count ≡ argument_count spec → Rest bytes (pieces.Field spec ∷ list) (drop n (map value args)) front whole → Fits (map value (take (n + count - n) (drop n args))) (field_types spec)
+own_fitting value bytes spec list args n count front whole count_is rest =
     let P : List Value → Type 0 = λ values. Fits values (field_types spec) in
-    subst P (sym (own_values args n count (argument_count spec) count_is)) (Rest-own bytes spec list (drop n (values_of args)) front whole rest).fitting
+    subst P (sym (own_values value args n count (argument_count spec) count_is)) (Rest-own bytes spec list (drop n (map value args)) front whole rest).fitting
 
 -- a field is written with its own values
 Rest-field : (bytes : List ℕ) (spec : Spec) (list : List Piece) (values : List Value) (front whole : List ℕ) → Rest bytes (pieces.Field spec ∷ list) values front whole → Rest bytes list (drop (argument_count spec) values) (front ++ Field spec (take (argument_count spec) values)) whole
@@ -113,13 +112,13 @@ Rest-field bytes spec list values front whole rest =
     }
 
 -- and these are those of its own arguments
-pub Rest-field_args : (bytes : List ℕ) (spec : Spec) (list : List Piece) (args : List Arg) (n count : ℕ) (front whole : List ℕ) → count ≡ argument_count spec → Rest bytes (pieces.Field spec ∷ list) (drop n (values_of args)) front whole → Rest bytes list (drop (n + count) (values_of args)) (front ++ Field spec (values_of (take (n + count - n) (drop n args)))) whole
-Rest-field_args bytes spec list args n count front whole count_is rest =
+pub Rest-field_args : {A : Type 0} (value : A → Value) (bytes : List ℕ) (spec : Spec) (list : List Piece) (args : List A) (n count : ℕ) (front whole : List ℕ) → count ≡ argument_count spec → Rest bytes (pieces.Field spec ∷ list) (drop n (map value args)) front whole → Rest bytes list (drop (n + count) (map value args)) (front ++ Field spec (map value (take (n + count - n) (drop n args)))) whole
+Rest-field_args value bytes spec list args n count front whole count_is rest =
     let many : ℕ = argument_count spec in
-    let others : drop many (drop n (values_of args)) ≡ drop (n + count) (values_of args) = drop-drop many n (values_of args) ∙ ap (λ m. drop (n + m) (values_of args)) (sym count_is) in
-    let P : List Value → Type 0 = λ v. Rest bytes list v (front ++ Field spec (take many (drop n (values_of args)))) whole in
-    let Q : List Value → Type 0 = λ v. Rest bytes list (drop (n + count) (values_of args)) (front ++ Field spec v) whole in
-    subst Q (sym (own_values args n count many count_is)) (subst P others (Rest-field bytes spec list (drop n (values_of args)) front whole rest))
+    let others : drop many (drop n (map value args)) ≡ drop (n + count) (map value args) = drop-drop many n (map value args) ∙ ap (λ m. drop (n + m) (map value args)) (sym count_is) in
+    let P : List Value → Type 0 = λ v. Rest bytes list v (front ++ Field spec (take many (drop n (map value args)))) whole in
+    let Q : List Value → Type 0 = λ v. Rest bytes list (drop (n + count) (map value args)) (front ++ Field spec v) whole in
+    subst Q (sym (own_values value args n count many count_is)) (subst P others (Rest-field bytes spec list (drop n (map value args)) front whole rest))
 
 -- the text at the start: all pieces and values are left
 pub Rest-start : (format : Parsed) (bytes : List ℕ) (list : List Piece) (values : List Value) → bytes ≡ format.bytes → list ≡ format.pieces → Spells format.bytes format.pieces → Fits values (Types format.pieces) → Rest bytes list values [] (Text format values)

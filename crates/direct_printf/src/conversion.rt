@@ -16,11 +16,11 @@ pub fn append_converted(
     spec: &Spec,
     padding: Padding,
     precision: Option<u16>,
-    arg: &Arg,
+    arg: Arg<'_>,
     out: &mut Vec<u8>,
 ) -> Result<(), AllocError>
     ensures ok { OnOk result (out.new.items ≡ out.old.items ++ padded padding.left padding.zeros padding.width
-        (converted spec.now.conversion spec.now precision (argument_value arg.now))) }
+        (converted spec.now.conversion spec.now precision (argument_value arg.entry))) }
     ensures err { OnErr result (take (vec_len out.old) out.new.items ≡ out.old.items) }
 {
     match spec.conversion {
@@ -51,29 +51,29 @@ pub fn append_converted(
 }
 
 /// A signed argument; 0 for one of another kind.
-pub fn signed(arg: &Arg) -> i64
-    ensures { result ≡ signed_of (argument_value arg.now) }
+pub fn signed(arg: Arg<'_>) -> i64
+    ensures { result ≡ signed_of (argument_value arg.entry) }
 {
     match arg {
-        Arg::Signed(number) => *number,
+        Arg::Signed(number) => number,
         Arg::Unsigned(_) | Arg::Text(_) => 0,
     }
 }
 
-fn unsigned(arg: &Arg) -> u64
-    ensures { result ≡ unsigned_of (argument_value arg.now) }
+fn unsigned(arg: Arg<'_>) -> u64
+    ensures { result ≡ unsigned_of (argument_value arg.entry) }
 {
     match arg {
-        Arg::Unsigned(number) => *number,
+        Arg::Unsigned(number) => number,
         Arg::Signed(_) | Arg::Text(_) => 0,
     }
 }
 
-fn text<'a>(arg: &Arg<'a>) -> &'a [u8]
-    ensures { result.now ≡ text_of (argument_value arg.now) }
+fn text<'a>(arg: Arg<'a>) -> &'a [u8]
+    ensures { result.now ≡ text_of (argument_value arg.entry) }
 {
     match arg {
-        Arg::Text(bytes) => *bytes,
+        Arg::Text(bytes) => bytes,
         Arg::Signed(_) | Arg::Unsigned(_) => b"",
     }
 }

@@ -1,14 +1,14 @@
 //! A field with its own arguments.
 
-ghost use Rattle.std.specs.Prelude.{◌≡◌, ◌≤◌, ◌<◌, ◌^◌, ◌++◌, ◌≤ℤ◌, ◌&&◌, ◌||◌, pos, unsigned_abs, is_none, OnOk, OnErr, take, vec_len};
+ghost use Rattle.std.specs.Prelude.{◌≡◌, ◌≤◌, ◌<◌, ◌^◌, ◌++◌, ◌≤ℤ◌, ◌&&◌, ◌||◌, pos, unsigned_abs, is_none, map, OnOk, OnErr, take, vec_len};
 ghost use Rattle.printf_grammar.specs.declared.limits.TheConstants.{MAX_SIZE};
 ghost use Rattle.printf_grammar.specs.declared.piece.Size.TheVariants.{Star};
-ghost use Rattle.printf_grammar.specs.Types.{Fits, field_types, values_of};
+ghost use Rattle.printf_grammar.specs.Types.{Fits, field_types};
 ghost use Rattle.direct_printf.specs.Fields.{Field, argument_count, stars, width_of, is_left_star, precision_of, is_integer};
 
 use crate::conversion::{append_converted, signed};
 use crate::padding::Padding;
-use printf_grammar::{Arg, Conversion, Size, Spec};
+use printf_grammar::{Argument, Conversion, Size, Spec};
 use std::alloc::AllocError;
 
 /// How many arguments a field takes.
@@ -29,16 +29,20 @@ fn count_stars(size: Size) -> usize
 }
 
 /// Appends a field; the arguments are those that it takes.
-pub fn append_field(spec: &Spec, args: &[Arg], out: &mut Vec<u8>) -> Result<(), AllocError>
-    requires { Fits (values_of args.now) (field_types spec.now) }
-    ensures ok { OnOk result (out.new.items ≡ out.old.items ++ Field spec.now (values_of args.now)) }
+pub fn append_field<A: Argument>(
+    spec: &Spec,
+    args: &[A],
+    out: &mut Vec<u8>,
+) -> Result<(), AllocError>
+    requires { Fits (map A.value args.now) (field_types spec.now) }
+    ensures ok { OnOk result (out.new.items ≡ out.old.items ++ Field spec.now (map A.value args.now)) }
     ensures err { OnErr result (take (vec_len out.old) out.new.items ≡ out.old.items) }
 {
     let precision_at = count_stars(spec.width);
     let value_at = precision_at + count_stars(spec.precision);
-    let precision = field_precision(spec.precision, signed(&args[precision_at]));
-    let padding = field_padding(spec, signed(&args[0]), precision);
-    append_converted(spec, padding, precision, &args[value_at], out)
+    let precision = field_precision(spec.precision, signed(args[precision_at].arg()));
+    let padding = field_padding(spec, signed(args[0].arg()), precision);
+    append_converted(spec, padding, precision, args[value_at].arg(), out)
 }
 
 // `width` is the argument of the width's `*`.

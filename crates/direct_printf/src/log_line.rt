@@ -1,16 +1,16 @@
 //! One line of the log.
 
-ghost use Rattle.std.specs.Prelude.{◌≡◌, ◌≤◌, ◌<◌, ◌^◌, ◌++◌, ◌∷◌, ℕ, OnOk, OnErr, codes, false, take, vec_len};
+ghost use Rattle.std.specs.Prelude.{◌≡◌, ◌≤◌, ◌<◌, ◌^◌, ◌++◌, ◌∷◌, ℕ, OnOk, OnErr, codes, false, map, take, vec_len};
 ghost use Rattle.std.specs.Fmt.{decimal};
 ghost use Rattle.log_dictionary.specs.Severities.{severity_name};
-ghost use Rattle.printf_grammar.specs.Types.{Types, Fits, values_of};
+ghost use Rattle.printf_grammar.specs.Types.{Types, Fits};
 ghost use Rattle.direct_printf.specs.Fields.{Digits};
 ghost use Rattle.direct_printf.specs.Lines.{Line, seconds_text};
 
 use crate::text::render;
 use itoa::Buffer;
 use log_dictionary::{Clock, Message, Severity};
-use printf_grammar::Arg;
+use printf_grammar::Argument;
 use std::alloc::AllocError;
 
 const NANOS: u128 = 1_000_000_000;
@@ -19,24 +19,24 @@ const ZEROS: [u8; 9] = [b'0'; 9];
 
 /// Appends the line of a call: its time in seconds with nine digits behind the point, where its
 /// message stands, the severity, the writer and the text. After an error `out` is as before.
-pub fn line(
+pub fn line<A: Argument>(
     clock: &Clock,
     writer: u32,
     message: &Message,
     stamp: u64,
-    args: &[Arg],
+    args: &[A],
     out: &mut Vec<u8>,
 ) -> Result<(), AllocError>
     requires not_before { clock.now.tick ≤ stamp }
     requires rate { 1 ≤ clock.now.rate }
-    requires fitting { Fits (values_of args.now) (Types message.now.format.pieces) }
+    requires fitting { Fits (map A.value args.now) (Types message.now.format.pieces) }
     ensures ok { OnOk result ((ordinal : ℕ) → out.new.items ≡ out.old.items
         ++ Line clock.now (record {
           writer = writer;
           ordinal = ordinal;
           stamp = stamp;
           message = message.now;
-          args = values_of args.now;
+          args = map A.value args.now;
         })) }
     ensures err { OnErr result (out.new.items ≡ out.old.items) }
 {
@@ -49,24 +49,24 @@ pub fn line(
 }
 
 // After an error a part of the line may stand behind what was there, here and below.
-fn append_line(
+fn append_line<A: Argument>(
     clock: &Clock,
     writer: u32,
     message: &Message,
     stamp: u64,
-    args: &[Arg],
+    args: &[A],
     out: &mut Vec<u8>,
 ) -> Result<(), AllocError>
     requires not_before { clock.now.tick ≤ stamp }
     requires rate { 1 ≤ clock.now.rate }
-    requires fitting { Fits (values_of args.now) (Types message.now.format.pieces) }
+    requires fitting { Fits (map A.value args.now) (Types message.now.format.pieces) }
     ensures ok { OnOk result ((ordinal : ℕ) → out.new.items ≡ out.old.items
         ++ Line clock.now (record {
           writer = writer;
           ordinal = ordinal;
           stamp = stamp;
           message = message.now;
-          args = values_of args.now;
+          args = map A.value args.now;
         })) }
     ensures err { OnErr result (take (vec_len out.old) out.new.items ≡ out.old.items) }
 {

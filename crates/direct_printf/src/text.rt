@@ -1,17 +1,17 @@
 //! What printf writes.
 
-ghost use Rattle.std.specs.Prelude.{◌≡◌, ◌++◌, OnOk, OnErr, take, vec_len};
-ghost use Rattle.printf_grammar.specs.Types.{Types, Fits, values_of};
+ghost use Rattle.std.specs.Prelude.{◌≡◌, ◌++◌, map, OnOk, OnErr, take, vec_len};
+ghost use Rattle.printf_grammar.specs.Types.{Types, Fits};
 ghost use Rattle.direct_printf.specs.Fields.{Text};
 
 use crate::field::{append_field, count_arguments};
-use printf_grammar::{Arg, Format, Piece};
+use printf_grammar::{Argument, Format, Piece};
 use std::alloc::AllocError;
 
 /// Appends what printf writes for the format and the arguments. After an error `out` is as before.
-pub fn render(format: &Format, args: &[Arg], out: &mut Vec<u8>) -> Result<(), AllocError>
-    requires { Fits (values_of args.now) (Types format.now.pieces) }
-    ensures ok { OnOk result (out.new.items ≡ out.old.items ++ Text format.now (values_of args.now)) }
+pub fn render<A: Argument>(format: &Format, args: &[A], out: &mut Vec<u8>) -> Result<(), AllocError>
+    requires { Fits (map A.value args.now) (Types format.now.pieces) }
+    ensures ok { OnOk result (out.new.items ≡ out.old.items ++ Text format.now (map A.value args.now)) }
     ensures err { OnErr result (out.new.items ≡ out.old.items) }
 {
     let before = out.len();
@@ -23,9 +23,13 @@ pub fn render(format: &Format, args: &[Arg], out: &mut Vec<u8>) -> Result<(), Al
 }
 
 // After an error a part of the text may stand behind what was there.
-fn append_text(format: &Format, args: &[Arg], out: &mut Vec<u8>) -> Result<(), AllocError>
-    requires { Fits (values_of args.now) (Types format.now.pieces) }
-    ensures ok { OnOk result (out.new.items ≡ out.old.items ++ Text format.now (values_of args.now)) }
+fn append_text<A: Argument>(
+    format: &Format,
+    args: &[A],
+    out: &mut Vec<u8>,
+) -> Result<(), AllocError>
+    requires { Fits (map A.value args.now) (Types format.now.pieces) }
+    ensures ok { OnOk result (out.new.items ≡ out.old.items ++ Text format.now (map A.value args.now)) }
     ensures err { OnErr result (take (vec_len out.old) out.new.items ≡ out.old.items) }
 {
     let bytes = format.bytes();

@@ -120,12 +120,11 @@ fn text_written(alloc: Global, row: &str) -> Result<String, Fail> {
     let (format, words) = cut(row)?;
     let format = parse(alloc, text_of(alloc, format)?.as_bytes())?;
     let values = values_of(alloc, words)?;
-    let args = values.args();
-    if !fits(format.types(), args.as_slice()) {
+    if !fits(format.types(), values.as_slice()) {
         return Ok(String::from_str(alloc, "none")?);
     }
     let mut out = Vec::new(alloc);
-    render(&format, args.as_slice(), &mut out)?;
+    render(&format, values.as_slice(), &mut out)?;
     if out.len() > 300 {
         return Ok(format!(in alloc; "{} bytes", out.len())?);
     }

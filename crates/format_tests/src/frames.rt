@@ -4,7 +4,7 @@ ghost use Rattle.std.specs.Prelude.{◌≤◌, length, IfSome};
 
 use crate::tables::{check_rows, cut, text_of, times, values_of};
 use arg_records::{FrameFault, frame_id, frame_stamp, frame_words, read_frame};
-use printf_grammar::{Arg, ArgType, Values, fits, parse};
+use printf_grammar::{ArgType, Value, Values, fits, parse};
 use std::alloc::{AllocError, Global};
 use std::test::Fail;
 
@@ -75,7 +75,7 @@ pub(crate) fn framed(
     id: u32,
     stamp: u64,
     types: &[ArgType],
-    args: &[Arg],
+    args: &[Value],
     words: &mut [u64; 512],
 ) -> Option<usize>
     requires few { length types.now ≤ 64 }
@@ -100,7 +100,7 @@ fn frame_written(alloc: Global, row: &str) -> Result<String, Fail> {
     let id = id.parse::<u32>()?;
     let stamp = stamp.parse::<u64>()?;
     let mut words = [77; 512];
-    let Some(len) = framed(id, stamp, types, values.args().as_slice(), &mut words) else {
+    let Some(len) = framed(id, stamp, types, values.as_slice(), &mut words) else {
         return Ok(String::from_str(alloc, "too long")?);
     };
     if !is_frame_of(alloc, types, &words, len, (id, stamp, &values))? {

@@ -116,7 +116,7 @@ fn takes(alloc: Global, row: &str) -> Result<String, Fail> {
     let (id, words) = cut(row)?;
     let dictionary = one_message(alloc, "message 0 NOTICE 12 \"srv.cc\" \"x=%d\"")?;
     let values = values_of(alloc, words)?;
-    let takes = dictionary.takes(id.parse()?, values.args().as_slice());
+    let takes = dictionary.takes(id.parse()?, values.as_slice());
     Ok(format!(in alloc; "{takes}")?)
 }
 

@@ -80,7 +80,7 @@ fn record_written(alloc: Global, row: &str) -> Result<String, Fail> {
     }
     let args = values_of(alloc, words)?;
     let mut words = [0; 512];
-    let len = framed(0, stamp, types, args.args().as_slice(), &mut words).ok_or("no frame")?;
+    let len = framed(0, stamp, types, args.as_slice(), &mut words).ok_or("no frame")?;
     let mut body = [77; 8200];
     let end = put_frame(alloc, types, &words[..len], before, &mut body)?;
     if body[..3] != [77; 3] || body[end..].iter().any(|byte| *byte != 77) {

@@ -1,11 +1,10 @@
 //! The messages that calls name by number.
 
-ghost use Rattle.std.specs.Prelude.{List, ◌≡◌, ◌≤◌, ◌↔◌, [], length, slice_get, IsNone, Ok, Err, ℕ, IfOk, IfErr, IsTrue, OnErr, ◌<◌};
+ghost use Rattle.std.specs.Prelude.{List, ◌≡◌, ◌≤◌, ◌↔◌, [], length, map, slice_get, IsNone, Ok, Err, ℕ, IfOk, IfErr, IsTrue, OnErr, ◌<◌};
 ghost use Rattle.std.specs.Option.{option_copied};
 ghost use Rattle.std.specs.Slice.Iter.{iter_rest};
 ghost use Rattle.printf_grammar.specs.declared.piece.Piece.{Piece};
 ghost use Rattle.printf_grammar.specs.Spelling.{Spells};
-ghost use Rattle.printf_grammar.specs.Types.{values_of};
 ghost use Rattle.log_dictionary.specs.declared.message.Message.{Message};
 ghost use Rattle.log_dictionary.specs.Messages.{SpellsMessage, HasMessage};
 ghost use Rattle.log_dictionary.specs.Calls.{Takes};
@@ -19,7 +18,7 @@ use crate::message_line::message_line_of;
 use crate::message_set::MessageSet;
 use crate::numbers::Natural;
 use crate::text::SpelledText;
-use printf_grammar::{Arg, Format, fits};
+use printf_grammar::{Argument, Format, fits};
 use std::alloc::{AllocError, Global};
 use std::marker::Model;
 use std::slice;
@@ -168,8 +167,8 @@ impl Dictionary {
     }
 
     /// Whether a call may have this id and these arguments.
-    pub fn takes(&self, id: u32, args: &[Arg]) -> bool
-        ensures { IsTrue result ↔ Takes self.now id (values_of args.now) }
+    pub fn takes<A: Argument>(&self, id: u32, args: &[A]) -> bool
+        ensures { IsTrue result ↔ Takes self.now id (map A.value args.now) }
     {
         match self.get(id) {
             Some(message) => fits(message.format.types(), args),

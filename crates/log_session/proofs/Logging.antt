@@ -24,7 +24,7 @@ use Rattle.ring_core.specs.Positions.{Need, Position, position_from}
 use Rattle.ring_core.proofs.Frames.{AreFramesOf-push, last_stamp-push}
 use Rattle.ring_core.proofs.Needs.{Need-within, Need-beyond, position_from-push}
 use Rattle.ring_core.proofs.OneReading.{AreFramesOf-unique}
-use Rattle.log_session.specs.Writers.{WriterView, IsDictionaryPlan, Knows, AppendsCall, HasLogged}
+use Rattle.log_session.specs.Writers.{WriterView, IsDictionaryPlan, Knows, AppendsCall, HasLogged, knows_taken}
 
 -- ---- positions
 
@@ -144,3 +144,11 @@ taken_known messages first id args known =
     let types_of = λ (message : Message). Types message.format.pieces in
     let found = mapped (slice_get messages id) known.0 (sym (slice_get-map types_of messages id) ∙ known.1) in
     (found.0, found.1, subst (Fits args) (sym found.2) known.2)
+
+-- a plan knows what the dictionary takes for which it was made
+pub knows_if_taken : (plan : Plan) (messages : List Message) (first id : ℕ) (args : List Value) → plan ≡ plan_of messages first
+    → (Takes messages id args → Knows plan id args) × (Knows plan id args → Takes messages id args)
+knows_if_taken plan messages first id args is = (
+  λ taken. subst (λ (p : Plan). Knows p id args) (sym is) (knows_taken messages first id args taken),
+  λ known. taken_known messages first id args (subst (λ (p : Plan). Knows p id args) is known),
+)

@@ -2,7 +2,7 @@
 use Rattle.std.specs.Prelude.{◌≡◌, ℕ, Bool, false, List, [], ◌∷◌, ◌++◌}
 use Rattle.std.specs.List.{AllZip}
 use Rattle.ring_core.specs.Plans.{Plan}
-use Rattle.log_session.specs.Writers.{WriterView, no_tries}
+use Rattle.log_session.specs.Writers.{WriterView}
 
 -- nothing was put into the ring, and it is open
 pub record IsUnused (sent : List (List ℕ)) (closed : Bool) (at seen : ℕ) : Type 0 where
@@ -11,11 +11,11 @@ pub record IsUnused (sent : List (List ℕ)) (closed : Bool) (at seen : ℕ) : T
   pub at_first : at ≡ 0
   pub none_seen : seen ≡ 0
 
--- nothing was logged since this stamp, nor tried
+-- nothing was logged since this stamp, nor asked for
 pub record IsNew {S : Type 0} (first : ℕ) (writer : WriterView S) : Type 0 where
   pub last : writer.last ≡ first
   pub accepted : writer.accepted ≡ 0
-  pub untried : writer.tries ≡ no_tries
+  pub unasked : writer.asked ≡ 0
 
 -- A writer and the roamer's end have one ring, which is new: of this size, for this plan, open, and nothing was put
 -- into it or taken from it.

@@ -9,7 +9,6 @@ use Rattle.printf_grammar.specs.Types.{Types, Fits}
 use Rattle.log_dictionary.specs.declared.dictionary.TheConstants.{MAX_MESSAGES}
 use Rattle.log_dictionary.specs.declared.message.Message.{Message}
 use Rattle.log_dictionary.specs.Calls.{Takes}
-use Rattle.nl_io.specs.Count.{counted}
 use Rattle.session_options.specs.declared.limits.TheConstants.{MAX_RING, MIN_RING}
 use Rattle.arg_records.specs.declared.call.Call.{Call}
 use Rattle.arg_records.specs.Calls.{last_stamp}
@@ -19,29 +18,13 @@ use Rattle.ring_core.specs.Positions.{Position}
 use Rattle.log_session.specs.declared.refusal.LogRefusal.{LogRefusal}
 use Rattle.log_session.specs.declared.refusal.LogRefusal.TheVariants as refusals
 
--- how often a writer was asked to log a call, and how often to close
-pub record Tries : Type 0 where
-  pub logs : ℕ
-  pub closes : ℕ
-
-abbrev pub no_tries : Tries
-no_tries = record { logs = 0; closes = 0 }
-
--- once more to log a call
-abbrev pub one_log : Tries → Tries
-one_log tries = record tries { logs = counted tries.logs }
-
--- once more to close
-abbrev pub one_close : Tries → Tries
-one_close tries = record tries { closes = counted tries.closes }
-
 -- a writer as contracts see it: the end of its ring, the stamp of its last call, the number of its calls, and how often
--- it was tried
+-- it was asked to log one
 pub record WriterView (S : Type 0) : Type 0 where
   pub end : S
   pub last : ℕ
   pub accepted : ℕ
-  pub tries : Tries
+  pub asked : ℕ
 
 -- the plan is one of a dictionary: it has so many ids at most, each with so many types at most
 pub record IsDictionaryPlan (plan : Plan) : Type 0 where

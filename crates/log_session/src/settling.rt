@@ -9,16 +9,10 @@ ghost use Rattle.log_session.specs.Settling.{IsRejoined, AllZip3, OneMore};
 use crate::writer::Writer;
 use ring_core::{Stage, StageDone};
 use roaming_consumer::Roamer;
-use std::sync::Wait;
 
 /// Brings the two ends of a ring together, and puts what is left of it behind the others. It answers how many calls
 /// were taken from it.
-fn rejoin<S: Stage, R: Wait + Copy>(
-    rt: R,
-    writer: Writer<S::In>,
-    end: S::Out,
-    into: &mut Vec<S::Done>,
-) -> u64
+fn rejoin<S: Stage>(writer: Writer<S::In>, end: S::Out, into: &mut Vec<S::Done>) -> u64
     requires ring { S.In.pair writer.end ≡ S.Out.pair end }
     requires room { vec_len into.old < vec_capacity into.old }
     ensures more { OneMore (IsRejoined S.In.sent S.In.closed S.Out.got S.Out.ended
@@ -26,7 +20,7 @@ fn rejoin<S: Stage, R: Wait + Copy>(
     ensures few { result ≤ writer.accepted }
     ensures room { (vec_len into.new ≡ vec_len into.old + 1) × (vec_capacity into.new ≡ vec_capacity into.old) }
 {
-    let left = S::settle(rt, writer.into_end(), end);
+    let left = S::settle(writer.into_end(), end);
     let taken = left.frames();
     into.push_reserved(left);
     taken
@@ -34,8 +28,7 @@ fn rejoin<S: Stage, R: Wait + Copy>(
 
 /// Brings the ends of each ring together, when nothing more is logged or taken. What is left of the rings is put behind
 /// what `into` has, in the order of the writers. It answers how many calls were taken from all of them.
-pub fn settle<S: Stage, R: Wait + Copy>(
-    rt: R,
+pub fn settle<S: Stage>(
     writers: Vec<Writer<S::In>>,
     roamer: Roamer<'_, S::Out>,
     into: &mut Vec<S::Done>,
@@ -54,7 +47,7 @@ pub fn settle<S: Stage, R: Wait + Copy>(
         let Some(end) = ends.next() else {
             break;
         };
-        taken += rejoin::<S, R>(rt, writer, end, into);
+        taken += rejoin::<S>(writer, end, into);
     }
     taken
 }

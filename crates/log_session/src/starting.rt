@@ -80,6 +80,8 @@ fn open_rings<S: Stage>(
 
 /// The writers of a session, each with a ring of its own, and the roamer that takes their calls and writes the log.
 ///
+/// Over a dictionary that is kept for ever, as by [`Box::leak`], the session outlives the frame that started it.
+///
 /// # Errors
 ///
 /// A ring can't have this size, or there is no memory.

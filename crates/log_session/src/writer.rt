@@ -1,23 +1,23 @@
 //! Writers.
 
-ghost use Rattle.std.specs.Prelude.{◌≡◌, ◌+◌, ◌<◌, ◌≤◌, ◌↔◌, ◌∷◌, ◌++◌, [], length, false, true, Err, OnOk, OnErr, IfErr};
-ghost use Rattle.nl_io.specs.Count.{Rose};
-ghost use Rattle.printf_grammar.specs.Types.{values_of};
+ghost use Rattle.std.specs.Prelude.{◌≡◌, ◌+◌, ◌<◌, ◌≤◌, ◌↔◌, ◌∷◌, ◌++◌, ℕ, [], length, map, false, true, Err, OnOk, OnErr, IfErr, IsTrue};
+ghost use Rattle.nl_io.specs.Count.{Rose, counted};
 ghost use Rattle.session_options.specs.declared.limits.TheConstants.{MIN_RING, MAX_RING};
 ghost use Rattle.arg_records.specs.declared.frame.TheConstants.{MAX_FRAME_WORDS};
 ghost use Rattle.arg_records.specs.Frames.{Frame, FrameLen};
 ghost use Rattle.ring_core.specs.declared.limits.TheConstants.{MAX_POSITION, OFFER_ROOM};
 ghost use Rattle.ring_core.specs.Answers.{IsFull};
-ghost use Rattle.ring_core.specs.Plans.{call_of};
+ghost use Rattle.ring_core.specs.Counts.{RisesBy};
+ghost use Rattle.ring_core.specs.Plans.{call_of, plan_of};
 ghost use Rattle.ring_core.specs.Positions.{Need};
-ghost use Rattle.log_session.specs.Writers.{IsDictionaryPlan, Knows, AppendsCall, IfRefusedFull, IsSameEnd, one_log, one_close};
+ghost use Rattle.log_session.specs.Writers.{IsDictionaryPlan, Knows, AppendsCall, IfRefusedFull, IsSameEnd};
 
 use crate::refusal::LogRefusal;
 use arg_records::{MAX_FRAME_WORDS, frame_words};
-use printf_grammar::Arg;
-use ring_core::{Full, StageIn};
+use log_dictionary::Dictionary;
+use printf_grammar::Argument;
+use ring_core::{MAX_POSITION, OFFER_ROOM, StageIn};
 use std::marker::Model;
-use std::sync::Wait;
 
 /// Logs the calls of one thread into a ring of its own.
 ///
@@ -29,13 +29,13 @@ pub struct Writer<S: StageIn> {
     last: u64,
     accepted: u64,
     /// How often it was asked to log a call.
-    logs: u64,
-    /// How often it was asked to close.
-    closes: u64,
+    asked: u64,
+    closed: bool,
     frame: [u64; MAX_FRAME_WORDS],
 }
 
 impl<S: StageIn> Model for Writer<S> {
+    ghost use Rattle.std.specs.Prelude.{◌≡◌};
     ghost use Rattle.log_session.specs.Writers.{WriterView, HasLogged};
 
     ghost Value = { WriterView S };
@@ -44,10 +44,11 @@ impl<S: StageIn> Model for Writer<S> {
       end = w.end;
       last = w.last;
       accepted = w.accepted;
-      tries = record { logs = w.logs; closes = w.closes };
+      asked = w.asked;
     } };
 
-    ghost invariant = { λ w. HasLogged (S.plan w.end) (S.sent w.end) (S.at w.end) (S.words w.end) w.last w.accepted };
+    ghost invariant = { λ w. HasLogged (S.plan w.end) (S.sent w.end) (S.at w.end) (S.words w.end) w.last w.accepted
+        × (w.closed ≡ S.closed w.end) };
 }
 
 impl<S: StageIn> Writer<S> {
@@ -65,54 +66,49 @@ impl<S: StageIn> Writer<S> {
             end,
             last: first,
             accepted: 0,
-            logs: 0,
-            closes: 0,
+            asked: 0,
+            closed: false,
             frame: [0; MAX_FRAME_WORDS],
         }
     }
 
-    /// Logs a call, with the arguments that its message takes.
+    /// Logs a call, with the arguments that its message takes. It waits for nobody, and takes no memory.
     ///
     /// # Errors
     ///
     /// The ring has too little room, or the call is too long for any ring. Nothing was logged then.
-    pub fn log<R: Wait + Copy>(
-        &mut self,
-        rt: R,
-        stamp: u64,
-        id: u32,
-        args: &[Arg],
-    ) -> Result<(), LogRefusal>
-        requires known { Knows (S.plan self.old.end) id (values_of args.now) }
+    pub fn log<A: Argument>(&mut self, stamp: u64, id: u32, args: &[A]) -> Result<(), LogRefusal>
+        requires known { Knows (S.plan self.old.end) id (map A.value args.now) }
         requires not_closed { S.closed self.old.end ≡ false }
         requires not_before { self.old.last ≤ stamp }
         requires position { S.at self.old.end + OFFER_ROOM ≤ MAX_POSITION }
         ensures ok { OnOk result (S.sent self.new.end
-            ≡ S.sent self.old.end ++ Frame id stamp (values_of args.now) ∷ []) }
+            ≡ S.sent self.old.end ++ Frame id stamp (map A.value args.now) ∷ []) }
         ensures accepted { OnOk result (AppendsCall (S.plan self.old.end) (S.sent self.old.end)
-            (S.plan self.new.end) (S.sent self.new.end) (call_of stamp id (values_of args.now))) }
+            (S.plan self.new.end) (S.sent self.new.end) (call_of stamp id (map A.value args.now))) }
         ensures counted { OnOk result ((self.new.last ≡ stamp) × (self.new.accepted ≡ self.old.accepted + 1)) }
         ensures moved { OnOk result (S.at self.new.end ≡ S.at self.old.end
-            + Need (S.at self.old.end) (FrameLen (values_of args.now)) (S.words self.old.end)) }
-        ensures too_long { (result ≡ Err LogRefusal.TooLong) ↔ (MAX_FRAME_WORDS < FrameLen (values_of args.now)) }
+            + Need (S.at self.old.end) (FrameLen (map A.value args.now)) (S.words self.old.end)) }
+        ensures too_long { (result ≡ Err LogRefusal.TooLong) ↔ (MAX_FRAME_WORDS < FrameLen (map A.value args.now)) }
         ensures full { IfErr result (λ refusal. IfRefusedFull refusal
-            (IsFull (S.at self.old.end) (FrameLen (values_of args.now)) (S.words self.old.end) (S.seen self.new.end))) }
+            (IsFull (S.at self.old.end) (FrameLen (map A.value args.now)) (S.words self.old.end) (S.seen self.new.end))) }
         ensures looked { IfErr result (λ refusal. IfRefusedFull refusal
             (λ _. Rose (S.looks self.old.end) (S.looks self.new.end))) }
         ensures err { OnErr result ((S.sent self.new.end ≡ S.sent self.old.end)
             × (S.at self.new.end ≡ S.at self.old.end) × (self.new.last ≡ self.old.last)
             × (self.new.accepted ≡ self.old.accepted)) }
-        ensures tried { self.new.tries ≡ one_log self.old.tries }
+        ensures asked { self.new.asked ≡ counted self.old.asked }
         ensures stays_open { S.closed self.new.end ≡ false }
         ensures seen_never_falls { S.seen self.old.end ≤ S.seen self.new.end }
         ensures looks_never_fall { S.looks self.old.end ≤ S.looks self.new.end }
+        ensures steps { RisesBy (FrameLen (map A.value args.now) + 3) (S.steps self.old.end) (S.steps self.new.end) }
         ensures same { IsSameEnd S.pair S.words S.plan self.old.end self.new.end }
     {
-        self.logs = self.logs.saturating_add(1);
+        self.asked = self.asked.saturating_add(1);
         let Ok(len) = frame_words(id, stamp, args, &mut self.frame) else {
             return Err(LogRefusal::TooLong);
         };
-        if let Err(full) = self.end.offer(rt, &self.frame[..len]) {
+        if let Err(full) = self.end.offer(&self.frame[..len]) {
             return Err(LogRefusal::Full(full));
         }
         self.last = stamp;
@@ -120,23 +116,51 @@ impl<S: StageIn> Writer<S> {
         Ok(())
     }
 
-    /// Closes the writer: it logs no more. Where the ring has no room for the mark that tells it, the writer stays
-    /// open.
-    pub fn close<R: Wait + Copy>(&mut self, rt: R) -> Result<(), Full>
+    /// Closes the writer: it logs no more.
+    pub fn close(&mut self)
         requires { S.closed self.old.end ≡ false }
-        ensures ok { OnOk result (S.closed self.new.end ≡ true) }
-        ensures full { IfErr result (IsFull (S.at self.old.end) 1 (S.words self.old.end) (S.seen self.new.end)) }
-        ensures looked { OnErr result (Rose (S.looks self.old.end) (S.looks self.new.end)) }
-        ensures err { OnErr result (S.closed self.new.end ≡ false) }
+        ensures closed { S.closed self.new.end ≡ true }
         ensures others { (S.sent self.new.end ≡ S.sent self.old.end) × (S.at self.new.end ≡ S.at self.old.end)
-            × (self.new.last ≡ self.old.last) × (self.new.accepted ≡ self.old.accepted) }
-        ensures tried { self.new.tries ≡ one_close self.old.tries }
-        ensures seen_never_falls { S.seen self.old.end ≤ S.seen self.new.end }
+            × (S.seen self.new.end ≡ S.seen self.old.end) × (self.new.last ≡ self.old.last)
+            × (self.new.accepted ≡ self.old.accepted) × (self.new.asked ≡ self.old.asked) }
         ensures looks_never_fall { S.looks self.old.end ≤ S.looks self.new.end }
+        ensures steps { RisesBy 1 (S.steps self.old.end) (S.steps self.new.end) }
         ensures same { IsSameEnd S.pair S.words S.plan self.old.end self.new.end }
     {
-        self.closes = self.closes.saturating_add(1);
-        self.end.close(rt)
+        self.end.close();
+        self.closed = true;
+    }
+
+    /// Whether a call with this stamp may come next.
+    fn is_ready(&self, stamp: u64) -> bool
+        ensures { IsTrue result ↔ ((S.closed self.now.end ≡ false) × (self.now.last ≤ stamp)
+            × (S.at self.now.end + OFFER_ROOM ≤ MAX_POSITION)) }
+    {
+        !self.closed && self.last <= stamp && self.end.at() <= MAX_POSITION - OFFER_ROOM
+    }
+
+    /// Whether [`log`](Writer::log) may be asked to log this call. The dictionary is the one for which the ring was
+    /// made.
+    pub fn takes<A: Argument>(
+        &self,
+        dictionary: &Dictionary,
+        stamp: u64,
+        id: u32,
+        args: &[A],
+    ) -> bool
+        requires { (first : ℕ) × (S.plan self.now.end ≡ plan_of dictionary.now first) }
+        ensures { IsTrue result ↔ (Knows (S.plan self.now.end) id (map A.value args.now)
+            × (S.closed self.now.end ≡ false) × (self.now.last ≤ stamp)
+            × (S.at self.now.end + OFFER_ROOM ≤ MAX_POSITION)) }
+    {
+        self.is_ready(stamp) && dictionary.takes(id, args)
+    }
+
+    /// Whether it is closed.
+    pub fn is_closed(&self) -> bool
+        ensures { result ≡ S.closed self.now.end }
+    {
+        self.closed
     }
 
     /// The stamp of the last call that was logged, and at first that of the clock's tick. No call may be earlier.
@@ -164,9 +188,9 @@ impl<S: StageIn> Writer<S> {
     /// How often it was asked to log a call. All but the [`accepted`](Writer::accepted) ones were refused, each tried
     /// once. The number stands still at 2^64-1.
     pub fn asked(&self) -> u64
-        ensures { result ≡ self.now.tries.logs }
+        ensures { result ≡ self.now.asked }
     {
-        self.logs
+        self.asked
     }
 
     /// The end of its ring.
@@ -178,8 +202,8 @@ impl<S: StageIn> Writer<S> {
             end,
             last: _,
             accepted: _,
-            logs: _,
-            closes: _,
+            asked: _,
+            closed: _,
             frame: _,
         } = self;
         end

@@ -21,12 +21,12 @@ use log_commands::{aggregate, decompress};
 use nl_io::{Files, Sink};
 use session_commands::{replay, selftest};
 use source_commands::preprocess;
-use staging_ring::QueueStage;
 use std::alloc::Global;
 use std::sync::{Arc, Wait};
 use std::thread::Threads;
 use trace_commands::{direct, generate};
 use trace_session::Gate;
+use word_ring::WordRing;
 
 /// The answer of a command that has nothing to tell beside its text.
 fn without_note<'a>(answer: Result<(), Refusal<'a>>) -> Result<Note<'a>, Refusal<'a>>
@@ -105,14 +105,14 @@ where
             trace,
             log,
             options,
-        } => without_note(replay::<R, QueueStage, F, O, G>(
+        } => without_note(replay::<R, WordRing, F, O, G>(
             rt, alloc, files, trace, log, &options, out, gate,
         )),
         Command::Selftest {
             seed,
             calls,
             writers,
-        } => without_note(selftest::<R, QueueStage, O, G>(
+        } => without_note(selftest::<R, WordRing, O, G>(
             rt, alloc, seed, calls, writers, out, gate,
         )),
         command => run_quick(alloc, command, files, out),

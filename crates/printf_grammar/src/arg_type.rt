@@ -1,9 +1,9 @@
-ghost use Rattle.std.specs.Prelude.{◌≡◌, ◌↔◌, ◌++◌, IsTrue, OnOk, FitsSigned, neg_ℤ, pos, ◌≤ℤ◌};
+ghost use Rattle.std.specs.Prelude.{◌≡◌, ◌↔◌, ◌++◌, map, IsTrue, OnOk, FitsSigned, neg_ℤ, pos, ◌≤ℤ◌};
 ghost use Rattle.std.specs.Int.{w32};
 ghost use Rattle.printf_grammar.specs.declared.limits.TheConstants.{MAX_SIZE};
-ghost use Rattle.printf_grammar.specs.Types.{values_of, Fits, IsText, signed_type, unsigned_type, conversion_type, field_types, piece_types};
+ghost use Rattle.printf_grammar.specs.Types.{Fits, IsText, signed_type, unsigned_type, conversion_type, field_types, piece_types};
 
-use crate::argument::Arg;
+use crate::argument::{Arg, Argument};
 use crate::limits::{MAX_SIZE, MAX_TEXT};
 use crate::piece::{Conversion, Length, Piece, Size, Spec};
 use std::alloc::AllocError;
@@ -67,14 +67,14 @@ fn is_text(text: &[u8]) -> bool
 }
 
 /// Whether there are as many arguments as types, each of its type's kind and in its range.
-pub fn fits(types: &[ArgType], args: &[Arg]) -> bool
-    ensures { IsTrue result ↔ Fits (values_of args.now) types.now }
+pub fn fits<A: Argument>(types: &[ArgType], args: &[A]) -> bool
+    ensures { IsTrue result ↔ Fits (map A.value args.now) types.now }
 {
     if types.len() != args.len() {
         return false;
     }
     for (place, kind) in types.iter().enumerate() {
-        if !kind.takes(args[place]) {
+        if !kind.takes(args[place].arg()) {
             return false;
         }
     }

@@ -4,7 +4,6 @@ ghost use Rattle.printf_grammar.specs.declared.limits.TheConstants.{MAX_ARGUMENT
 
 use crate::bytes::Bytes;
 use crate::limits::MAX_ARGUMENTS;
-use arrayvec::ArrayVec;
 use std::alloc::{AllocError, Global};
 use std::marker::Model;
 
@@ -53,13 +52,33 @@ impl Model for Values {
     ghost invariant = { λ values. length values.items.items ≤ MAX_ARGUMENTS };
 }
 
-impl Value {
+/// What a call takes as an argument: one that is lent, or one that is kept.
+pub trait Argument {
+    ghost use Rattle.printf_grammar.specs.declared.argument.Value.{Value as ArgValue};
     ghost use Rattle.printf_grammar.specs.Types.{argument_value};
 
+    /// What the argument is, without where it lies.
+    ghost value: { Self → ArgValue };
+
     /// The same argument, lent.
-    pub fn arg(&self) -> Arg<'_>
-        ensures { argument_value result ≡ self.now }
-    {
+    fn arg(&self) -> Arg<'_>
+        ensures { argument_value result ≡ value self.now };
+}
+
+impl Argument for Arg<'_> {
+    ghost use Rattle.printf_grammar.specs.Types.{argument_value};
+
+    ghost value = { argument_value };
+
+    fn arg(&self) -> Arg<'_> {
+        *self
+    }
+}
+
+impl Argument for Value {
+    ghost value = { λ value. value };
+
+    fn arg(&self) -> Arg<'_> {
         match self {
             Value::Signed(number) => Arg::Signed(*number),
             Value::Unsigned(number) => Arg::Unsigned(*number),
@@ -69,8 +88,6 @@ impl Value {
 }
 
 impl Values {
-    ghost use Rattle.printf_grammar.specs.Types.{values_of};
-
     /// No arguments.
     pub fn make(alloc: Global) -> Values
         ensures { result ≡ [] }
@@ -113,15 +130,11 @@ impl Values {
         self.items.as_slice().get(place)
     }
 
-    /// The values as arguments, in order.
-    pub fn args(&self) -> ArrayVec<Arg<'_>, MAX_ARGUMENTS>
-        ensures values { values_of result.items ≡ self.now }
+    /// The values, in order.
+    pub fn as_slice(&self) -> &[Value]
+        ensures values { result.now ≡ self.now }
         ensures limit { length self.now ≤ MAX_ARGUMENTS }
     {
-        let mut args = ArrayVec::new();
-        for value in self.items.iter() {
-            args.push(value.arg());
-        }
-        args
+        self.items.as_slice()
     }
 }

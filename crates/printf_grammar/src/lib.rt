@@ -13,7 +13,7 @@ mod parts;
 mod piece;
 
 pub use arg_type::{ArgType, fits};
-pub use argument::{Arg, Value, Values};
+pub use argument::{Arg, Argument, Value, Values};
 pub use bytes::Bytes;
 pub use fault::{FormatCause, ParseFault};
 pub use format::{Format, parse};

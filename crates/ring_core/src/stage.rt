@@ -10,7 +10,6 @@ use crate::stage_in::StageIn;
 use crate::stage_out::StageOut;
 use log_dictionary::Dictionary;
 use std::alloc::Global;
-use std::sync::Wait;
 
 /// A kind of rings, each with one writer and one roamer.
 pub trait Stage {
@@ -38,7 +37,7 @@ pub trait Stage {
         ensures roamer { IfOk result (λ ends. (Self.Out.got ends.1 ≡ []) × (Self.Out.ended ends.1 ≡ false)) };
 
     /// Brings the two ends of a ring together, when nothing more is put or taken.
-    fn settle<R: Wait + Copy>(rt: R, writer: Self::In, roamer: Self::Out) -> Self::Done
+    fn settle(writer: Self::In, roamer: Self::Out) -> Self::Done
         requires { Self.In.pair writer ≡ Self.Out.pair roamer }
         ensures pair { Self.Done.pair result ≡ Self.In.pair writer }
         ensures writer { (Self.Done.sent result ≡ Self.In.sent writer)

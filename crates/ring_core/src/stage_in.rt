@@ -6,9 +6,9 @@ ghost use Rattle.ring_core.specs.declared.limits.TheConstants.{MAX_POSITION, OFF
 ghost use Rattle.ring_core.specs.Positions.{Need};
 ghost use Rattle.ring_core.specs.Plans.{Plan, Lawful};
 ghost use Rattle.ring_core.specs.Answers.{IsFull};
+ghost use Rattle.ring_core.specs.Counts.{RisesBy};
 
 use crate::answers::Full;
-use std::sync::Wait;
 
 /// The end of a ring into which a writer puts the frames of its calls.
 pub trait StageIn {
@@ -36,8 +36,11 @@ pub trait StageIn {
     /// What the two ends agree on.
     ghost plan: { Self → Plan };
 
+    /// How many steps the end made on the words that both ends share.
+    ghost steps: { Self → ℕ };
+
     /// Puts a frame behind those that were put before, if the ring has room for it.
-    fn offer<R: Wait + Copy>(&mut self, rt: R, frame: &[u64]) -> Result<(), Full>
+    fn offer(&mut self, frame: &[u64]) -> Result<(), Full>
         requires lawful { Lawful (plan self.old) (sent self.old ++ frame.now ∷ []) }
         requires not_closed { closed self.old ≡ false }
         requires position { at self.old + OFFER_ROOM ≤ MAX_POSITION }
@@ -50,20 +53,18 @@ pub trait StageIn {
         ensures stays_open { closed self.new ≡ false }
         ensures seen_never_falls { seen self.old ≤ seen self.new }
         ensures looks_never_fall { looks self.old ≤ looks self.new }
+        ensures steps { RisesBy (length frame.now + 3) (steps self.old) (steps self.new) }
         ensures same { (words self.new ≡ words self.old) × (pair self.new ≡ pair self.old)
             × (plan self.new ≡ plan self.old) };
 
-    /// Closes the end: no frame comes behind those that were put. Where the ring has no room for the mark that tells
-    /// it, which takes one place, the end stays open.
-    fn close<R: Wait + Copy>(&mut self, rt: R) -> Result<(), Full>
+    /// Closes the end: no frame comes behind those that were put.
+    fn close(&mut self)
         requires { closed self.old ≡ false }
-        ensures ok { OnOk result ((closed self.new ≡ true) × (seen self.new ≡ seen self.old)) }
-        ensures full { IfErr result (IsFull (at self.old) 1 (words self.old) (seen self.new)) }
-        ensures looked { OnErr result (Rose (looks self.old) (looks self.new)) }
-        ensures err { OnErr result (closed self.new ≡ false) }
-        ensures others { (sent self.new ≡ sent self.old) × (at self.new ≡ at self.old) }
-        ensures seen_never_falls { seen self.old ≤ seen self.new }
+        ensures closed { closed self.new ≡ true }
+        ensures others { (sent self.new ≡ sent self.old) × (at self.new ≡ at self.old)
+            × (seen self.new ≡ seen self.old) }
         ensures looks_never_fall { looks self.old ≤ looks self.new }
+        ensures steps { RisesBy 1 (steps self.old) (steps self.new) }
         ensures same { (words self.new ≡ words self.old) × (pair self.new ≡ pair self.old)
             × (plan self.new ≡ plan self.old) };
 

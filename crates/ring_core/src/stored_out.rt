@@ -17,7 +17,6 @@ use log_dictionary::Dictionary;
 use printf_grammar::Arg;
 use std::alloc::{AllocError, AllocFailed, Global};
 use std::marker::Model;
-use std::sync::Wait;
 use thiserror::Error;
 
 /// One answer that is stored.
@@ -202,7 +201,9 @@ impl<'d> StageOut for StoredOut<'d> {
 
     ghost plan = { λ end. end.plan };
 
-    fn take<R: Wait + Copy>(&mut self, _rt: R, into: &mut [u64; MAX_FRAME_WORDS]) -> Taken {
+    ghost steps = { λ _. 0 };
+
+    fn take(&mut self, into: &mut [u64; MAX_FRAME_WORDS]) -> Taken {
         self.answer(into)
     }
 }

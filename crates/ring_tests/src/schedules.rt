@@ -3,39 +3,38 @@
 use crate::feed::{Feed, TICK, is_frame, one_ring};
 use arg_records::MAX_FRAME_WORDS;
 use log_session::LogRefusal;
-use ring_core::{Full, Stage, StageOut, Taken};
-use staging_ring::QueueStage;
+use ring_core::{Full, StageOut, Taken};
 use std::alloc::Global;
-use std::sync::Wait;
 use std::test::Fail;
-use word_ring::WordRing;
+use word_ring::WordOut;
 
 /// Schedules of a ring of 1,024 words. A number logs a call that makes so many words, `3:5,4` one that is refused, as it
 /// needs 5 places and 4 are free. `take` takes the next frame, `none` and `ended` take none, `close` closes the writer,
 /// and `at=7` tells its position. `511*2` is 511 times `2`.
-const SCHEDULES: [&str; 8] = [
+const SCHEDULES: [&str; 9] = [
     "none 2 3 512 at=517 take take take none",
     "511*2 take 3:5,4 at=1022",
     "3 3 508*2 take at=1022 3 at=1027 510*take none",
     "3 3 508*2 take 3 take 3 510*take none",
     "341*3 3:4,1 3:4,1 take 3 at=1027",
     "512 512 2:2,0 take 2 take take none",
+    "512 512 2:2,0 close take take ended",
     "512 511 2:3,1 take 2 at=1026 take take none close ended ended",
     "close ended ended",
 ];
 
 /// A ring, and what was logged of which how many calls were taken. Stamps follow one another.
 #[derive(Drop)]
-struct Run<S: Stage> {
-    feed: Feed<S::In>,
-    end: S::Out,
+struct Run {
+    feed: Feed,
+    end: WordOut,
     logged: Vec<usize>,
     taken: usize,
 }
 
-impl<S: Stage> Run<S> {
-    fn make(alloc: Global, words: u64) -> Result<Run<S>, Fail> {
-        let (feed, end) = one_ring::<S>(alloc, words)?;
+impl Run {
+    fn make(alloc: Global) -> Result<Run, Fail> {
+        let (feed, end) = one_ring(alloc)?;
         Ok(Run {
             feed,
             end,
@@ -45,13 +44,8 @@ impl<S: Stage> Run<S> {
     }
 
     /// Logs a call that makes so many words. It answers whether that is answered which is wanted.
-    fn log<R: Wait + Copy>(
-        &mut self,
-        rt: R,
-        words: usize,
-        want: Result<(), LogRefusal>,
-    ) -> Result<bool, Fail> {
-        let answer = self.feed.log(rt, TICK + self.logged.len() as u64, words);
+    fn log(&mut self, words: usize, want: Result<(), LogRefusal>) -> Result<bool, Fail> {
+        let answer = self.feed.log(TICK + self.logged.len() as u64, words);
         if want.is_ok() {
             self.logged.push(words)?;
         }
@@ -59,28 +53,28 @@ impl<S: Stage> Run<S> {
     }
 
     /// Takes the next frame, and answers whether it is that of the next call.
-    fn take<R: Wait + Copy>(&mut self, rt: R) -> bool {
+    fn take(&mut self) -> bool {
         let mut into = [0; MAX_FRAME_WORDS];
         let Some(words) = self.logged.get(self.taken) else {
             return false;
         };
         let stamp = TICK + self.taken as u64;
         self.taken += 1;
-        match self.end.take(rt, &mut into) {
+        match self.end.take(&mut into) {
             Taken::Frame(len) => is_frame(&into[..len], stamp, *words),
             _ => false,
         }
     }
 
     /// Takes nothing, and answers whether that is answered which is wanted.
-    fn take_none<R: Wait + Copy>(&mut self, rt: R, want: Taken) -> bool {
-        self.end.take(rt, &mut [0; MAX_FRAME_WORDS]) == want
+    fn take_none(&mut self, want: Taken) -> bool {
+        self.end.take(&mut [0; MAX_FRAME_WORDS]) == want
     }
 
     /// One word of a schedule. It answers whether all was as it says.
-    fn step<R: Wait + Copy>(&mut self, rt: R, word: &str) -> Result<bool, Fail> {
+    fn step(&mut self, word: &str) -> Result<bool, Fail> {
         if let Some((_, at)) = word.split_once('=') {
-            return Ok(self.feed.at() == at.parse()?);
+            return Ok(self.feed.writer.sent() == at.parse()?);
         }
         if let Some((words, wanting)) = word.split_once(':') {
             let (need, room) = wanting.split_once(',').ok_or("need and room")?;
@@ -88,31 +82,27 @@ impl<S: Stage> Run<S> {
                 need: need.parse()?,
                 room: room.parse()?,
             };
-            return self.log(rt, words.parse()?, Err(LogRefusal::Full(full)));
+            return self.log(words.parse()?, Err(LogRefusal::Full(full)));
         }
         Ok(match word {
-            "take" => self.take(rt),
-            "none" => self.take_none(rt, Taken::Nothing),
-            "ended" => self.take_none(rt, Taken::Ended),
-            "close" => self.feed.close(rt),
-            _ => self.log(rt, word.parse()?, Ok(()))?,
+            "take" => self.take(),
+            "none" => self.take_none(Taken::Nothing),
+            "ended" => self.take_none(Taken::Ended),
+            "close" => self.feed.close(),
+            _ => self.log(word.parse()?, Ok(()))?,
         })
     }
 
     /// A schedule, whose words one space each stands between. It answers with the first word at which something isn't as
     /// it says.
-    fn play<'s, R: Wait + Copy>(
-        &mut self,
-        rt: R,
-        schedule: &'s str,
-    ) -> Result<Option<&'s str>, Fail> {
+    fn play<'s>(&mut self, schedule: &'s str) -> Result<Option<&'s str>, Fail> {
         for unit in schedule.split(' ') {
             let (count, word) = match unit.split_once('*') {
                 Some((count, word)) => (count.parse()?, word),
                 None => (1, unit),
             };
             for _time in 0..count {
-                if !self.step(rt, word)? {
+                if !self.step(word)? {
                     return Ok(Some(unit));
                 }
             }
@@ -124,8 +114,8 @@ impl<S: Stage> Run<S> {
 #[test]
 fn schedules(rt: HostRuntime) -> Result<(), Fail> {
     for schedule in SCHEDULES {
-        let mut run = Run::<WordRing>::make(rt.alloc(), 1_024)?;
-        assert_eq!(rt; run.play(&rt, schedule)?, None, "{schedule}");
+        let mut run = Run::make(rt.alloc())?;
+        assert_eq!(rt; run.play(schedule)?, None, "{schedule}");
     }
     Ok(())
 }
@@ -134,27 +124,13 @@ fn schedules(rt: HostRuntime) -> Result<(), Fail> {
 #[test]
 fn frames_at_the_edge(rt: HostRuntime) -> Result<(), Fail> {
     for place in 500..1_024 {
-        let mut run = Run::<WordRing>::make(rt.alloc(), 1_024)?;
+        let mut run = Run::make(rt.alloc())?;
         let (odd, twos) = (place % 2, (place - 3 * (place % 2)) / 2);
         let taken = odd + twos;
         let schedule = format!(in rt.alloc();
             "{odd}*3 {twos}*2 {taken}*take at={place} 2 take 512 take none 512 take none"
         )?;
-        assert_eq!(rt; run.play(&rt, &schedule)?, None, "{schedule}");
-    }
-    Ok(())
-}
-
-/// The queue of words, in which no places are skipped: a frame is accepted once its first word is.
-#[test]
-fn queue_schedules(rt: HostRuntime) -> Result<(), Fail> {
-    for schedule in [
-        "none 2 3 512 at=517 take take take none",
-        "342*3 3:3,0 take 3 at=1030",
-        "512 512 2:2,0 take 2 take take none",
-    ] {
-        let mut run = Run::<QueueStage>::make(rt.alloc(), 1_024)?;
-        assert_eq!(rt; run.play(&rt, schedule)?, None, "{schedule}");
+        assert_eq!(rt; run.play(&schedule)?, None, "{schedule}");
     }
     Ok(())
 }

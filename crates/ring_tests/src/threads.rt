@@ -2,11 +2,11 @@
 
 use crate::feed::{Feed, TICK, is_frame, one_ring};
 use arg_records::MAX_FRAME_WORDS;
-use ring_core::{Stage, StageIn, StageOut, Taken};
+use ring_core::{StageOut, Taken};
 use std::sync::Wait;
 use std::test::Fail;
 use std::thread::{self, Threads};
-use word_ring::{WordIn, WordOut, WordRing};
+use word_ring::WordOut;
 
 /// How many frames go from one thread to the other.
 const MANY: u64 = 100_000;
@@ -17,17 +17,17 @@ fn words_of(number: u64) -> usize {
 }
 
 /// Logs the calls in turn, each as often as is needed, and closes the writer.
-fn put_all<R: Wait + Copy>(rt: R, mut feed: Feed<WordIn>) -> bool {
+fn put_all<R: Wait + Copy>(rt: R, mut feed: Feed) -> bool {
     for number in 0..MANY {
         for _turn in rt.forever() {
-            match feed.log(rt, TICK + number, words_of(number)) {
+            match feed.log(TICK + number, words_of(number)) {
                 Some(Ok(())) => break,
                 Some(Err(_)) => thread::yield_now(),
                 None => return false,
             }
         }
     }
-    feed.close(rt)
+    feed.close()
 }
 
 /// Takes frames until the ring has ended. It answers how many were, in order, those of the calls.
@@ -48,13 +48,13 @@ fn take_all<R: Wait + Copy>(rt: R, mut end: WordOut) -> u64 {
     right
 }
 
-fn both<R: Threads + Wait + Sync>(rt: &R, feed: Feed<WordIn>, end: WordOut) -> (bool, u64) {
+fn both<R: Threads + Wait + Sync>(rt: &R, feed: Feed, end: WordOut) -> (bool, u64) {
     thread::join(rt, move || put_all(rt, feed), move || take_all(rt, end))
 }
 
 #[test]
 fn frames_between_two_threads(rt: HostRuntime) -> Result<(), Fail> {
-    let (feed, end) = one_ring::<WordRing>(rt.alloc(), 1_024)?;
+    let (feed, end) = one_ring(rt.alloc())?;
     assert_eq!(rt; both(&rt, feed, end), (true, MANY));
     Ok(())
 }
@@ -64,9 +64,8 @@ fn frames_between_two_threads(rt: HostRuntime) -> Result<(), Fail> {
 fn sixty_four_rings(rt: HostRuntime) -> Result<(), Fail> {
     let mut rings = Vec::new(rt.alloc());
     for number in 0..64_u64 {
-        let (mut feed, end) = one_ring::<WordRing>(rt.alloc(), 1_024)?;
-        let logged = feed.log(&rt, TICK + number, 3);
-        assert_eq!(rt; logged, Some(Ok(())));
+        let (mut feed, end) = one_ring(rt.alloc())?;
+        assert_eq!(rt; feed.log(TICK + number, 3), Some(Ok(())));
         rings.push((feed, end))?;
     }
     let mut into = [0; MAX_FRAME_WORDS];

@@ -20,11 +20,10 @@ use checkpoint_io::MAX_BODY;
 use nl_io::{Failed, Sink};
 use ring_core::StageOut;
 use session_options::MAX_WRITERS;
-use std::sync::Wait;
 
 impl<'d, S: StageOut> Roamer<'d, S> {
     /// Takes frames of the writer's end, and puts their records into the body.
-    pub(crate) fn collect<R: Wait + Copy>(&mut self, rt: R, writer: u32) -> Gathered
+    pub(crate) fn collect(&mut self, writer: u32) -> Gathered
         requires known { writer < length (ends_of self.old) }
         requires planned { ArePlanned S.plan self.old }
         ensures gathers { ChangesOne (ends_of self.old) (ends_of self.new) writer (λ before after.
@@ -39,7 +38,6 @@ impl<'d, S: StageOut> Roamer<'d, S> {
     {
         let end = &mut self.ends[writer as usize];
         gather(
-            rt,
             end,
             self.dictionary,
             self.clock.tick,
@@ -50,7 +48,7 @@ impl<'d, S: StageOut> Roamer<'d, S> {
     }
 
     /// Takes frames of the writer's end, and throws them away.
-    pub(crate) fn toss<R: Wait + Copy>(&mut self, rt: R, writer: u32) -> Thrown
+    pub(crate) fn toss(&mut self, writer: u32) -> Thrown
         requires known { writer < length (ends_of self.old) }
         ensures came { ChangesOne (ends_of self.old) (ends_of self.new) writer (λ before after.
             FramesCame (S.got before) (S.got after) result.frames
@@ -60,7 +58,7 @@ impl<'d, S: StageOut> Roamer<'d, S> {
         ensures others { KeepsLog self.old self.new }
     {
         let end = &mut self.ends[writer as usize];
-        throw_away(rt, end, self.batch, &mut self.frame)
+        throw_away(end, self.batch, &mut self.frame)
     }
 }
 

@@ -13,7 +13,6 @@ use arg_records::MAX_FRAME_WORDS;
 use buffer_extent::RECORD_ROOM;
 use log_dictionary::Dictionary;
 use ring_core::{StageOut, Taken};
-use std::sync::Wait;
 
 /// What was taken from an end.
 #[derive(Clone, Copy)]
@@ -26,8 +25,7 @@ pub(crate) struct Gathered {
 
 /// Takes frames of an end, and puts their records into the front of the body: so many at most, and none where a record
 /// might have no room.
-pub(crate) fn gather<S: StageOut, R: Wait + Copy>(
-    rt: R,
+pub(crate) fn gather<S: StageOut>(
     end: &mut S,
     dictionary: &Dictionary,
     tick: u64,
@@ -53,7 +51,7 @@ pub(crate) fn gather<S: StageOut, R: Wait + Copy>(
         if draft.len + RECORD_ROOM > body.len() {
             break;
         }
-        match end.take(rt, frame) {
+        match end.take(frame) {
             Taken::Frame(len) => draft = put_frame(dictionary, &frame[..len], draft, body),
             Taken::Nothing => return Gathered {
                 draft,
@@ -78,8 +76,7 @@ pub(crate) struct Thrown {
 }
 
 /// Takes frames of an end, so many at most, and throws them away.
-pub(crate) fn throw_away<S: StageOut, R: Wait + Copy>(
-    rt: R,
+pub(crate) fn throw_away<S: StageOut>(
     end: &mut S,
     batch: u32,
     frame: &mut [u64; MAX_FRAME_WORDS],
@@ -95,7 +92,7 @@ pub(crate) fn throw_away<S: StageOut, R: Wait + Copy>(
     ensures same { (S.pair end.new ≡ S.pair end.old) × (S.plan end.new ≡ S.plan end.old) }
 {
     for frames in 0..batch {
-        match end.take(rt, frame) {
+        match end.take(frame) {
             Taken::Frame(_) => {}
             Taken::Nothing => return Thrown {
                 frames,

@@ -11,16 +11,10 @@ use crate::roamer::Roamer;
 use crate::visit::{SinkFault, Visit};
 use nl_io::Sink;
 use ring_core::StageOut;
-use std::sync::Wait;
 
 impl<'d, S: StageOut> Roamer<'d, S> {
     /// A visit before any write has failed.
-    fn write_visit<R: Wait + Copy, K: Sink>(
-        &mut self,
-        rt: R,
-        writer: u32,
-        sink: &mut K,
-    ) -> Result<Visit, SinkFault>
+    fn write_visit<K: Sink>(&mut self, writer: u32, sink: &mut K) -> Result<Visit, SinkFault>
         requires known { writer < length (ends_of self.old) }
         requires planned { ArePlanned S.plan self.old }
         requires begun { is_begun self.old ≡ true }
@@ -45,7 +39,7 @@ impl<'d, S: StageOut> Roamer<'d, S> {
         ensures begun { is_begun self.new ≡ true }
         ensures same_run { IsSameRun self.old self.new }
     {
-        let Gathered { draft, ended } = self.collect(rt, writer);
+        let Gathered { draft, ended } = self.collect(writer);
         if draft.records > 0 {
             if self.write_draft(writer, draft, sink).is_err() {
                 self.faulted = true;
@@ -66,7 +60,7 @@ impl<'d, S: StageOut> Roamer<'d, S> {
 
 impl<'d, S: StageOut> Roamer<'d, S> {
     /// A visit after a write has failed.
-    fn throw_visit<R: Wait + Copy>(&mut self, rt: R, writer: u32) -> Visit
+    fn throw_visit(&mut self, writer: u32) -> Visit
         requires known { writer < length (ends_of self.old) }
         requires faulted { is_faulted self.old ≡ true }
         ensures visits { ChangesOne (ends_of self.old) (ends_of self.new) writer (λ before after.
@@ -78,7 +72,7 @@ impl<'d, S: StageOut> Roamer<'d, S> {
         ensures few { TakesAtMost (roamer_batch self.old) result }
         ensures others { KeepsLog self.old self.new }
     {
-        let Thrown { frames, ended } = self.toss(rt, writer);
+        let Thrown { frames, ended } = self.toss(writer);
         if frames > 0 {
             return Visit::Discarded(u64::from(frames));
         }
@@ -95,12 +89,7 @@ impl<'d, S: StageOut> Roamer<'d, S> {
     /// # Errors
     ///
     /// A write failed in this call. The roamer is faulted from then on.
-    pub fn visit<R: Wait + Copy, K: Sink>(
-        &mut self,
-        rt: R,
-        writer: u32,
-        sink: &mut K,
-    ) -> Result<Visit, SinkFault>
+    pub fn visit<K: Sink>(&mut self, writer: u32, sink: &mut K) -> Result<Visit, SinkFault>
         requires known { writer < length (ends_of self.old) }
         requires planned { ArePlanned S.plan self.old }
         requires begun { is_begun self.old ≡ true }
@@ -135,8 +124,8 @@ impl<'d, S: StageOut> Roamer<'d, S> {
         ensures same_count { length (ends_of self.new) ≡ length (ends_of self.old) }
     {
         if self.faulted {
-            return Ok(self.throw_visit(rt, writer));
+            return Ok(self.throw_visit(writer));
         }
-        self.write_visit(rt, writer, sink)
+        self.write_visit(writer, sink)
     }
 }

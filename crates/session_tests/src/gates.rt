@@ -7,7 +7,6 @@ use log_dictionary::Severity;
 use nl_io::{MemSink, Sink};
 use ring_core::{Stage, StageDone};
 use session_options::{Options, Policy};
-use staging_ring::QueueStage;
 use std::alloc::Global;
 use std::hint::spin_loop;
 use std::process::Abort;
@@ -17,6 +16,7 @@ use std::test::Fail;
 use std::thread::Threads;
 use trace_session::{Dropped, FreeGate, Gate, Outcome, RunFault, run};
 use trace_text::{Trace, read_text};
+use word_ring::WordRing;
 
 /// What a session needs of the machine that it runs on.
 trait Machine: Abort + Threads + Wait + Copy + Send + 'static {}
@@ -201,7 +201,7 @@ fn writers_meet(rt: HostRuntime) -> Result<(), Fail> {
         },
     )?;
     let given = options(1_024, Policy::Wait, Severity::Debug);
-    let (ran, _) = run_over::<QueueStage, _, _>(&rt, rt.alloc(), &trace, &given, &[], &gate)?;
+    let (ran, _) = run_over::<WordRing, _, _>(&rt, rt.alloc(), &trace, &given, &[], &gate)?;
     let outcome = ran?;
     assert_eq!(rt; counts(&outcome), (4, 0, 0, 2));
     assert_eq!(rt; gate.late.load(Ordering::SeqCst), 0);
@@ -215,14 +215,7 @@ fn a_level_keeps_graver_calls(rt: HostRuntime) -> Result<(), Fail> {
     let gate = Arc::new(rt.alloc(), FreeGate)?;
     for policy in [Policy::Wait, Policy::Shed] {
         let given = options(1_024, policy, Severity::Notice);
-        let (ran, sink) = run_over::<QueueStage, _, _>(
-            &rt,
-            rt.alloc(),
-            &trace,
-            &given,
-            &[],
-            &gate,
-        )?;
+        let (ran, sink) = run_over::<WordRing, _, _>(&rt, rt.alloc(), &trace, &given, &[], &gate)?;
         let outcome = ran?;
         assert_eq!(rt; counts(&outcome), (6, 0, 3, 2));
         for left in &outcome.settled {
@@ -240,7 +233,7 @@ fn rings_of_no_size(rt: HostRuntime) -> Result<(), Fail> {
     let gate = Arc::new(rt.alloc(), FreeGate)?;
     for ring in [1_023, 1_048_577] {
         let given = options(ring, Policy::Wait, Severity::Debug);
-        let (ran, mut sink) = run_over::<QueueStage, _, _>(
+        let (ran, mut sink) = run_over::<WordRing, _, _>(
             &rt,
             rt.alloc(),
             &trace,
@@ -264,7 +257,7 @@ fn writes_that_fail(rt: HostRuntime) -> Result<(), Fail> {
     for failing in 0..WRITES {
         let gate = Arc::new(rt.alloc(), HeldRound::make(4))?;
         let listed = [failing, failing + 1];
-        let (ran, mut sink) = run_over::<QueueStage, _, _>(
+        let (ran, mut sink) = run_over::<WordRing, _, _>(
             &rt,
             rt.alloc(),
             &trace,
@@ -288,7 +281,7 @@ fn all_writes(rt: HostRuntime) -> Result<(), Fail> {
     let trace = trace_of(rt.alloc(), MEETING)?;
     let given = options(1_024, Policy::Wait, Severity::Debug);
     let gate = Arc::new(rt.alloc(), HeldRound::make(4))?;
-    let (ran, mut sink) = run_over::<QueueStage, _, _>(
+    let (ran, mut sink) = run_over::<WordRing, _, _>(
         &rt,
         rt.alloc(),
         &trace,

@@ -8,15 +8,14 @@ use arg_records::MAX_FRAME_WORDS;
 use log_dictionary::Dictionary;
 use ring_core::{Full, Stage, StageFault, StageIn, need};
 use session_options::{MAX_RING, MIN_RING};
-use staging_ring::{QueueDone, QueueIn, QueueOut, QueueStage};
 use std::alloc::Global;
-use std::sync::Wait;
+use word_ring::{WordDone, WordIn, WordOut, WordRing};
 
-/// The writer's end of a queue. It refuses its third frame, where the room isn't enough of which it knows: it learns
-/// from refusals only what was taken.
+/// The writer's end of a ring of words. It refuses its third frame, where the room isn't enough of which it knows: it
+/// learns from refusals only what was taken.
 #[derive(Drop)]
 pub(crate) struct LateIn {
-    end: QueueIn,
+    end: WordIn,
     /// Up to which position it knows that its frames were taken.
     known: u64,
     offers: u64,
@@ -25,7 +24,7 @@ pub(crate) struct LateIn {
 }
 
 impl LateIn {
-    fn over(end: QueueIn) -> LateIn
+    fn over(end: WordIn) -> LateIn
         ensures { (result.end ≡ end) × (result.known ≡ 0) }
     {
         LateIn {
@@ -53,7 +52,7 @@ impl LateIn {
         }
     }
 
-    /// Learns from a refusal of its queue how far its frames were taken.
+    /// Learns from a refusal of its ring how far its frames were taken.
     fn learn(&mut self, full: Full)
         requires room { (full.room ≤ self.old.end.words) × (self.old.end.words - full.room ≤ self.old.end.at) }
         requires seen { self.old.end.at - self.old.end.ahead ≡ self.old.end.at - (self.old.end.words - full.room) }
@@ -81,7 +80,9 @@ impl StageIn for LateIn {
 
     ghost plan = { λ late. late.end.plan };
 
-    fn offer<R: Wait + Copy>(&mut self, rt: R, frame: &[u64]) -> Result<(), Full> {
+    ghost steps = { λ late. late.end.steps };
+
+    fn offer(&mut self, frame: &[u64]) -> Result<(), Full> {
         self.offers = self.offers.saturating_add(1);
         if self.offers == 3
             && let Some(full) = self.wanting(frame.len())
@@ -89,7 +90,7 @@ impl StageIn for LateIn {
             self.looks = self.looks.saturating_add(1);
             return Err(full);
         }
-        match self.end.offer(rt, frame) {
+        match self.end.offer(frame) {
             Ok(()) => Ok(()),
             Err(full) => {
                 self.learn(full);
@@ -98,14 +99,8 @@ impl StageIn for LateIn {
         }
     }
 
-    fn close<R: Wait + Copy>(&mut self, rt: R) -> Result<(), Full> {
-        match self.end.close(rt) {
-            Ok(()) => Ok(()),
-            Err(full) => {
-                self.learn(full);
-                Err(full)
-            }
-        }
+    fn close(&mut self) {
+        self.end.close();
     }
 
     fn at(&self) -> u64 {
@@ -119,33 +114,33 @@ impl StageIn for LateIn {
     ghost seen_within = { λ late. Prim.omega arith };
 }
 
-/// Rings over queues, whose writers' ends refuse a frame.
+/// Rings of words whose writers' ends refuse a frame.
 pub(crate) struct LateStage;
 
 impl Stage for LateStage {
     type In = LateIn;
 
-    type Out = QueueOut;
+    type Out = WordOut;
 
-    type Done = QueueDone;
+    type Done = WordDone;
 
     fn make(
         alloc: Global,
         words: u64,
         dictionary: &Dictionary,
         first: u64,
-    ) -> Result<(LateIn, QueueOut), StageFault> {
-        let (end, roamer) = QueueStage::make(alloc, words, dictionary, first)?;
+    ) -> Result<(LateIn, WordOut), StageFault> {
+        let (end, roamer) = WordRing::make(alloc, words, dictionary, first)?;
         Ok((LateIn::over(end), roamer))
     }
 
-    fn settle<R: Wait + Copy>(rt: R, writer: LateIn, roamer: QueueOut) -> QueueDone {
+    fn settle(writer: LateIn, roamer: WordOut) -> WordDone {
         let LateIn {
             end,
             known: _,
             offers: _,
             looks: _,
         } = writer;
-        QueueStage::settle(rt, end, roamer)
+        WordRing::settle(end, roamer)
     }
 }

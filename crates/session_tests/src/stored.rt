@@ -7,7 +7,6 @@ use ring_core::{MAX_POSITION, StageFault, StageOut, StoreFault, StoredOut, Taken
 use session_options::{MAX_RING, MIN_RING};
 use std::alloc::Global;
 use std::process::Abort;
-use std::sync::Wait;
 use std::test::Fail;
 use trace_session::RunFault;
 
@@ -39,13 +38,9 @@ fn needs(rt: HostRuntime) {
 }
 
 /// What an end answers: the words of a frame, `nothing` or `ended`.
-fn shown<S: StageOut, R: Wait + Abort + Copy>(
-    rt: R,
-    alloc: Global,
-    end: &mut S,
-) -> Result<String, Fail> {
+fn shown(alloc: Global, end: &mut StoredOut<'_>) -> Result<String, Fail> {
     let mut into = [77; MAX_FRAME_WORDS];
-    let text = match end.take(rt, &mut into) {
+    let text = match end.take(&mut into) {
         Taken::Frame(len) => format!(in alloc; "{:?}", &into[..len])?,
         Taken::Nothing => String::from_str(alloc, "nothing")?,
         Taken::Ended => String::from_str(alloc, "ended")?,
@@ -54,15 +49,15 @@ fn shown<S: StageOut, R: Wait + Abort + Copy>(
 }
 
 /// Asserts the next answers of an end, one a line.
-fn expect<S: StageOut, R: Wait + Abort + Copy>(
-    rt: R,
+fn expect(
+    rt: &impl Abort,
     alloc: Global,
-    end: &mut S,
+    end: &mut StoredOut<'_>,
     answers: &str,
 ) -> Result<(), Fail> {
     for answer in answers.lines() {
-        let told = shown(rt, alloc, end)?;
-        assert_eq!(&rt; told.as_str(), answer);
+        let told = shown(alloc, end)?;
+        assert_eq!(rt; told.as_str(), answer);
     }
     Ok(())
 }
@@ -122,7 +117,7 @@ fn the_greatest_frame(rt: HostRuntime) -> Result<(), Fail> {
     end.push(5, 1, &[Arg::Text(&long), Arg::Text(&short)])?;
     end.close();
     let mut into = [77; MAX_FRAME_WORDS];
-    assert_eq!(rt; end.take(&rt, &mut into), Taken::Frame(512));
+    assert_eq!(rt; end.take(&mut into), Taken::Frame(512));
     let words = format!(in rt.alloc(); "{:?} {:?}", &into[..4], &into[502..506])?;
     assert_eq!(rt;
         words.as_str(),

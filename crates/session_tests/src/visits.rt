@@ -11,8 +11,6 @@ use roaming_consumer::Roamer;
 use session_options::MAX_BATCH;
 use std::alloc::{AllocError, Global};
 use std::fmt::Write;
-use std::process::Abort;
-use std::sync::Wait;
 use std::test::Fail;
 
 const CLOCK: Clock = Clock {
@@ -50,8 +48,7 @@ fn one_message(alloc: Global, line: &[u8]) -> Result<Dictionary, Fail> {
 }
 
 /// Begins a log over one end, and visits that so many times.
-fn make_visits<R: Wait + Abort + Copy>(
-    rt: R,
+fn make_visits(
     end: StoredOut<'_>,
     dictionary: &Dictionary,
     batch: u32,
@@ -70,7 +67,7 @@ fn make_visits<R: Wait + Abort + Copy>(
     let begun = roamer.begin(&mut sink);
     let mut answers = format!(in alloc; "{begun:?}")?;
     for _visit in 0..visits {
-        let answer = roamer.visit(rt, 0, &mut sink);
+        let answer = roamer.visit(0, &mut sink);
         write!(answers, " {answer:?}")?;
     }
     Ok(Visited {
@@ -90,13 +87,7 @@ fn hexadecimal(alloc: Global, bytes: &[u8]) -> Result<String, AllocError> {
 }
 
 /// Visits of two calls with the numbers 7 and 8, over a sink of which these calls fail.
-fn two_calls<R: Wait + Abort + Copy>(
-    rt: R,
-    alloc: Global,
-    batch: u32,
-    failing: &[u64],
-    visits: u32,
-) -> Result<Visited, Fail>
+fn two_calls(alloc: Global, batch: u32, failing: &[u64], visits: u32) -> Result<Visited, Fail>
     requires some_batch { 1 ≤ batch }
     requires few_in_batch { batch ≤ MAX_BATCH }
 {
@@ -106,7 +97,7 @@ fn two_calls<R: Wait + Abort + Copy>(
     end.push(1003, 0, &[Arg::Signed(8)])?;
     end.close();
     let sink = MemSink::make(alloc, 100, failing)?;
-    make_visits(rt, end, &dictionary, batch, sink, visits, alloc)
+    make_visits(end, &dictionary, batch, sink, visits, alloc)
 }
 
 #[test]
@@ -125,7 +116,7 @@ fn logs(rt: HostRuntime) -> Result<(), Fail> {
             TOGETHER,
         ),
     ] {
-        let got = two_calls(&rt, rt.alloc(), batch, &[], visits)?;
+        let got = two_calls(rt.alloc(), batch, &[], visits)?;
         let log = hexadecimal(rt.alloc(), got.sink.bytes())?;
         let want = format!(in rt.alloc(); "{FRONT}{behind}")?;
         assert_eq!(rt; got.answers.as_str(), answers);
@@ -153,7 +144,7 @@ fn faults(rt: HostRuntime) -> Result<(), Fail> {
         let (write, row) = row.split_once('|').ok_or("a row without answers")?;
         let (answers, len) = row.split_once('|').ok_or("a row without a length")?;
         let write = write.parse::<u64>()?;
-        let got = two_calls(&rt, rt.alloc(), 1, &[write], 4)?;
+        let got = two_calls(rt.alloc(), 1, &[write], 4)?;
         let log = hexadecimal(rt.alloc(), got.sink.bytes())?;
         assert!(rt; got.answers.as_str() == answers, "write {write}");
         assert_eq!(rt; got.sink.bytes().len(), len.parse::<usize>()?);
@@ -164,12 +155,7 @@ fn faults(rt: HostRuntime) -> Result<(), Fail> {
 }
 
 /// As many calls of 512 words as are asked for.
-fn long_calls<R: Wait + Abort + Copy>(
-    rt: R,
-    alloc: Global,
-    calls: u32,
-    visits: u32,
-) -> Result<Visited, Fail> {
+fn long_calls(alloc: Global, calls: u32, visits: u32) -> Result<Visited, Fail> {
     let dictionary = one_message(alloc, b"message 0 NOTICE 12 \"srv.cc\" \"%s%s\"")?;
     let text = [97; 4000];
     let args = [Arg::Text(&text), Arg::Text(&text[..64])];
@@ -179,7 +165,7 @@ fn long_calls<R: Wait + Abort + Copy>(
     }
     end.close();
     let sink = MemSink::make(alloc, 100_000, &[])?;
-    make_visits(rt, end, &dictionary, MAX_BATCH, sink, visits, alloc)
+    make_visits(end, &dictionary, MAX_BATCH, sink, visits, alloc)
 }
 
 /// Behind 15 records of 512 words fewer than 8,192 bytes of a body are free. The first record of an extent has 4,070
@@ -190,7 +176,7 @@ fn full_bodies(rt: HostRuntime) -> Result<(), Fail> {
         (15, 2, "Ok(()) Ok(Wrote(15)) Ok(Ended)", 61_100),
         (20, 3, "Ok(()) Ok(Wrote(15)) Ok(Wrote(5)) Ok(Ended)", 81_452),
     ] {
-        let got = long_calls(&rt, rt.alloc(), calls, visits)?;
+        let got = long_calls(rt.alloc(), calls, visits)?;
         assert_eq!(rt; got.answers.as_str(), answers);
         assert_eq!(rt; got.sink.bytes().len(), len);
     }
@@ -208,7 +194,7 @@ fn pauses(rt: HostRuntime) -> Result<(), Fail> {
     end.pause()?;
     end.close();
     let sink = MemSink::make(alloc, 100, &[])?;
-    let got = make_visits(&rt, end, &dictionary, 4, sink, 4, alloc)?;
+    let got = make_visits(end, &dictionary, 4, sink, 4, alloc)?;
     let answers = "Ok(()) Ok(Idle) Ok(Wrote(1)) Ok(Ended) Ok(Ended)";
     assert_eq!(rt; got.answers.as_str(), answers);
     assert_eq!(rt; got.sink.bytes().len(), 63);
@@ -235,7 +221,7 @@ fn all_messages_at_once(rt: HostRuntime) -> Result<(), Fail> {
     end.push(1003, 65_535, &[])?;
     end.close();
     let sink = MemSink::make(alloc, 100_000, &[])?;
-    let got = make_visits(&rt, end, &dictionary, 1, sink, 2, alloc)?;
+    let got = make_visits(end, &dictionary, 1, sink, 2, alloc)?;
     assert_eq!(rt; got.answers.as_str(), "Ok(()) Ok(Wrote(1)) Ok(Ended)");
     assert_eq!(rt; got.sink.bytes().len(), 749_610);
     for row in "30|01 00 00 00 00 10 00 03 00 00 00 00 01 00 66 01 00 78 

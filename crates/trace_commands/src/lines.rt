@@ -32,7 +32,14 @@ fn append_line(
         text.new.items ≡ text.old.items ++ Line clock.now made) }
 {
     let message = dictionary.message(call.id);
-    line(clock, writer, message, call.stamp, &call.args.args(), text)
+    line(
+        clock,
+        writer,
+        message,
+        call.stamp,
+        call.args.as_slice(),
+        text,
+    )
 }
 
 /// The call of a run that stands at a place.

@@ -144,8 +144,8 @@ done_more {S} plan words sent at seen closed done writer progress were worked ri
         were.kept,
       );
       tried = λ sheds.
-          let one : writer.tries.logs ≡ length (filter (keeps run.dictionary level) (calls_at run n)) = worked.tried sheds ∙ ap (λ (l : List Call). length l) whole in
-          map-append (λ (w : WriterView S). w.tries.logs) done.writers (writer ∷ [])
+          let one : writer.asked ≡ length (filter (keeps run.dictionary level) (calls_at run n)) = worked.tried sheds ∙ ap (λ (l : List Call). length l) whole in
+          map-append (λ (w : WriterView S). w.asked) done.writers (writer ∷ [])
           ∙ (λ i. were.tried sheds i ++ one i ∷ [])
           ∙ sym (map-append length (take n (Kept run level)) (filter (keeps run.dictionary level) (calls_at run n) ∷ []))
           ∙ ap (λ (l : List (List Call)). map length l) (sym kept);

@@ -6,6 +6,7 @@ use Rattle.std.proofs.lemmas.List.{append-nil, length-take, length-take-le, leng
 use Rattle.std.proofs.lemmas.List.Elements.{All-push, All-weaker, filter-append}
 use Rattle.std.proofs.lemmas.List.Sums.{get_or-le-sum_by, length-filter, count_by-le-length}
 use Rattle.std.proofs.lemmas.Option.{same_Some, slice_get_within, slice_get-get_or, get_or_from_slice_get}
+use Rattle.nl_io.specs.Count.{counted}
 use Rattle.printf_grammar.specs.declared.argument.Value.{Value}
 use Rattle.log_dictionary.specs.declared.severity.Severity.{Severity}
 use Rattle.log_dictionary.specs.declared.message.Message.{Message}
@@ -26,7 +27,6 @@ use Rattle.trace_session.specs.declared.drops.Dropped.{Dropped}
 use Rattle.trace_session.specs.Levels.{keeps}
 use Rattle.trace_session.specs.Drops.{is_listed, taken_call, taken_of, calls_at, position_at, released_at, LacksRoom, IsDrop}
 use Rattle.trace_session.specs.Workers.{WriterTask, WorkerProgress, WriterState, task_calls, calls_before, accepted_before, kept_before, drop_of, HasWorked, HasTriedOnce, IsNextFiltered, IsNextKept, WantsRoom}
-use Rattle.log_session.specs.Writers.{Tries, one_log}
 use Rattle.trace_session.proofs.Taking.{taken_calls-passed, taken_calls-accepted, taken_calls-dropped, taken_calls-same, is_listed-below, is_listed-last, is_listed-earlier, released_at-same, lawful_more}
 
 -- ---- calls of a run that is recorded
@@ -198,12 +198,12 @@ kept_longer : (task : WriterTask) (progress : WorkerProgress) (call : Call) → 
 kept_longer task progress call is keeping = ap (λ (calls : List Call). length calls) (kept_more task progress call is keeping) ∙ length_push (kept_before task progress) call
 
 -- was tried once
-tried_more : {task : WriterTask} {progress : WorkerProgress} {writer : WriterState} → HasWorked task progress writer → (call : Call) → slice_get (task_calls task) progress.next ≡ Some call → keeps task.run.dictionary task.level call ≡ true → (tries : Tries) → tries ≡ one_log writer.tries
-    → HasTriedOnce task (record progress { next = progress.next + 1 }) tries
-tried_more {task} {progress} {writer} h call is keeping tries more = λ sheds.
+tried_more : {task : WriterTask} {progress : WorkerProgress} {writer : WriterState} → HasWorked task progress writer → (call : Call) → slice_get (task_calls task) progress.next ≡ Some call → keeps task.run.dictionary task.level call ≡ true → (asked : ℕ) → asked ≡ counted writer.asked
+    → HasTriedOnce task (record progress { next = progress.next + 1 }) asked
+tried_more {task} {progress} {writer} h call is keeping asked more = λ sheds.
     let few : length (kept_before task progress) ≤ progress.next =
     omega (arith, length-filter (keeps task.run.dictionary task.level) (calls_before task progress), count_by-le-length (keeps task.run.dictionary task.level) (calls_before task progress), before_length task progress call is) in
-    omega (arith, ap (λ (t : Tries). t.logs) more, h.tried sheds, kept_longer task progress call is keeping, few, worked_next h call is)
+    omega (arith, more, h.tried sheds, kept_longer task progress call is keeping, few, worked_next h call is)
 
 -- what a writer tells behind a call that it accepted
 abbrev pub state_accepted : WriterState → Call → List (List ℕ) → ℕ → WriterState
@@ -213,7 +213,7 @@ state_accepted writer call sent seen = record writer {
   seen = seen;
   last = call.stamp;
   accepted = writer.accepted + 1;
-  tries = one_log writer.tries;
+  asked = counted writer.asked;
 }
 
 -- one whose frame was accepted
@@ -248,7 +248,7 @@ worked_accepted {task} {progress} {writer} h still call is keeping sent frame se
       closed_is = h.closed_is;
       last_is = omega (arith, last_more task progress call is);
       counted = omega (arith, h.counted, ap (λ (frames : List (List ℕ)). length frames) more, length_push writer.sent frame);
-      tried = tried_more h call is keeping (one_log writer.tries) refl;
+      tried = tried_more h call is keeping (counted writer.asked) refl;
     }
 
 -- the ring lacks room for the next call where it does for arguments that are its own
@@ -260,7 +260,7 @@ wants_room {at} {at_now} {words} {words_now} {seen} {full} task progress call ar
 
 -- what a writer tells behind a call for which its ring lacked room
 abbrev pub state_refused : WriterState → ℕ → WriterState
-state_refused writer seen = record writer { seen = seen; tries = one_log writer.tries }
+state_refused writer seen = record writer { seen = seen; asked = counted writer.asked }
 
 -- one for which the ring lacked room, and that was dropped
 pub worked_dropped : {task : WriterTask} {progress : WorkerProgress} {writer : WriterState} → HasWorked task progress writer → progress.closed ≡ false → (call : Call) → slice_get (task_calls task) progress.next ≡ Some call → keeps task.run.dictionary task.level call ≡ true → (task.policy ≡ policies.Wait → ⊥)
@@ -307,7 +307,7 @@ worked_dropped {task} {progress} {writer} h still call is keeping shed seen full
       closed_is = h.closed_is;
       last_is = omega (arith, last_more task progress call is, worked_last h call is);
       counted = h.counted;
-      tried = tried_more h call is keeping (one_log writer.tries) refl;
+      tried = tried_more h call is keeping (counted writer.asked) refl;
     }
 
 -- ---- the end

@@ -56,5 +56,5 @@ pub record AreDone {S : Type 0} (sent : S → List (List ℕ)) (closed : S → B
       (taken_front done.run done.options.level done.drops (length done.writers))
   pub kept : call_count (taken_front done.run done.options.level done.drops (length done.writers))
       + length done.drops ≡ call_count (take (length done.writers) (Kept done.run done.options.level))
-  pub tried : done.options.policy ≡ policies.Shed → map (λ writer. writer.tries.logs) done.writers
+  pub tried : done.options.policy ≡ policies.Shed → map (λ writer. writer.asked) done.writers
       ≡ map length (take (length done.writers) (Kept done.run done.options.level))

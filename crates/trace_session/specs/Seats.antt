@@ -17,8 +17,10 @@ abbrev pub works_at : {S G : Type 0} → (S → List ℕ) → (S → ℕ) → Li
 works_at pair words seats = map (λ seat. work_of pair words (worker_of seat)) seats
 
 -- the turn of a seat, and whether that moved its worker: one that is here takes one turn, and one that is away none
-abbrev pub TakesOneTurn : {S G : Type 0} → (S → ℕ) → (S → ℕ) → (S → ℕ) → (S → ℕ) → Seat S G → Seat S G → Bool → Type 0
-TakesOneTurn {S} at words seen looks (seats.Away handle) new moved = (new ≡ seats.Away handle) × (moved ≡ false)
-TakesOneTurn {S} at words seen looks (seats.Here old) new moved =
+abbrev pub TakesOneTurn : {S G : Type 0} → (S → ℕ) → (S → ℕ) → (S → ℕ) → (S → ℕ) → (S → Bool) → Seat S G → Seat S G
+    → Bool → Type 0
+TakesOneTurn {S} at words seen looks closed (seats.Away handle) new moved =
+    (new ≡ seats.Away handle) × (moved ≡ false)
+TakesOneTurn {S} at words seen looks closed (seats.Here old) new moved =
     (worker : WorkerView S) × (answer : Turn) × (new ≡ seats.Here worker)
-    × IsTurn at words seen looks answer old worker × ((moved ≡ true) ↔ (answer ≡ turns.Moved))
+    × IsTurn at words seen looks closed answer old worker × ((moved ≡ true) ↔ (answer ≡ turns.Moved))

@@ -1,12 +1,11 @@
 -- What a turn of a worker did.
 use Rattle.std.specs.Prelude.{◌≡◌, ◌⊎◌, ℕ, ◌+◌, Bool, true, false, [], ◌∷◌, ◌++◌, length}
-use Rattle.nl_io.specs.Count.{Rose}
+use Rattle.nl_io.specs.Count.{Rose, counted}
 use Rattle.session_options.specs.declared.options.Policy.TheVariants as policies
 use Rattle.ring_core.specs.declared.answers.Full.{Full}
 use Rattle.trace_session.specs.declared.worker.Turn.{Turn}
 use Rattle.trace_session.specs.declared.worker.Turn.TheVariants as turns
 use Rattle.trace_session.specs.Workers.{WorkerView, task_calls, kept_before, drop_of, IsNextKept, WantsRoom}
-use Rattle.log_session.specs.Writers.{one_log, one_close}
 
 -- Calls were passed over that the level doesn't keep, and nothing was tried.
 pub record SkipsFiltered {S : Type 0} (old new : WorkerView S) : Type 0 where
@@ -36,30 +35,33 @@ pub record DropsNext {S : Type 0} (at words seen looks : S → ℕ) (old new : W
 pub record TriesCall {S : Type 0} (at words seen looks : S → ℕ) (old new : WorkerView S) (answered : Bool)
     : Type 0 where
   pub next : IsNextKept old.task old.progress
-  pub once : new.writer.tries ≡ one_log old.writer.tries
+  pub once : new.writer.asked ≡ counted old.writer.asked
   pub answer : answered ≡ true → LogsNext old new ⊎ DropsNext at words seen looks old new
   pub none : answered ≡ false → (old.task.policy ≡ policies.Wait) × (new.progress ≡ old.progress)
 
--- All calls are answered, and the writer was asked, once, to close.
-pub record TriesToClose {S : Type 0} (old new : WorkerView S) (closed : Bool) : Type 0 where
+-- All calls are answered, and the writer was closed.
+pub record ClosesWriter {S : Type 0} (closed : S → Bool) (old new : WorkerView S) : Type 0 where
   pub all : old.progress.next ≡ length (task_calls old.task)
-  pub once : new.writer.tries ≡ one_close old.writer.tries
-  pub progress_is : new.progress ≡ record old.progress { closed = closed }
+  pub untried : new.writer.asked ≡ old.writer.asked
+  pub closed_is : closed new.writer.end ≡ true
+  pub progress_is : new.progress ≡ record old.progress { closed = true }
 
--- One call was tried, or one close where no call was left.
-abbrev pub TriesNext : {S : Type 0} → (S → ℕ) → (S → ℕ) → (S → ℕ) → (S → ℕ) → WorkerView S → WorkerView S → Bool
-    → Type 0
-TriesNext at words seen looks old new moved = TriesCall at words seen looks old new moved ⊎ TriesToClose old new moved
+-- One call was tried, or the writer was closed where no call was left.
+abbrev pub TriesNext : {S : Type 0} → (S → ℕ) → (S → ℕ) → (S → ℕ) → (S → ℕ) → (S → Bool) → WorkerView S → WorkerView S
+    → Bool → Type 0
+TriesNext at words seen looks closed old new moved =
+    TriesCall at words seen looks old new moved ⊎ (ClosesWriter closed old new × moved ≡ true)
 
 -- The same, behind calls that the level doesn't keep.
-pub record TakesTurn {S : Type 0} (at words seen looks : S → ℕ) (old new : WorkerView S) (moved : Bool) : Type 0 where
+pub record TakesTurn {S : Type 0} (at words seen looks : S → ℕ) (closed : S → Bool) (old new : WorkerView S)
+    (moved : Bool) : Type 0 where
   pub passed : WorkerView S
   pub passes : SkipsFiltered old passed
-  pub tries : TriesNext at words seen looks passed new moved
+  pub tries : TriesNext at words seen looks closed passed new moved
 
 -- What a turn with this answer did. There was nothing to do where the end was closed before.
-abbrev pub IsTurn : {S : Type 0} → (S → ℕ) → (S → ℕ) → (S → ℕ) → (S → ℕ) → Turn → WorkerView S → WorkerView S
-    → Type 0
-IsTurn at words seen looks turns.Moved old new = TakesTurn at words seen looks old new true
-IsTurn at words seen looks turns.Stuck old new = TakesTurn at words seen looks old new false
-IsTurn at words seen looks turns.Finished old new = (old.progress.closed ≡ true) × (new ≡ old)
+abbrev pub IsTurn : {S : Type 0} → (S → ℕ) → (S → ℕ) → (S → ℕ) → (S → ℕ) → (S → Bool) → Turn → WorkerView S
+    → WorkerView S → Type 0
+IsTurn at words seen looks closed turns.Moved old new = TakesTurn at words seen looks closed old new true
+IsTurn at words seen looks closed turns.Stuck old new = TakesTurn at words seen looks closed old new false
+IsTurn at words seen looks closed turns.Finished old new = (old.progress.closed ≡ true) × (new ≡ old)

@@ -11,7 +11,7 @@ use Rattle.ring_core.specs.declared.answers.Full.{Full}
 use Rattle.ring_core.specs.Answers.{IsFull}
 use Rattle.ring_core.specs.Plans.{Plan, plan_of, AreFramesOf}
 use Rattle.ring_core.specs.Positions.{Position}
-use Rattle.log_session.specs.Writers.{WriterView, Tries}
+use Rattle.log_session.specs.Writers.{WriterView}
 use Rattle.trace_text.specs.Recordings.{Recording, IsRecording}
 use Rattle.trace_session.specs.declared.drops.Dropped.{Dropped}
 use Rattle.trace_session.specs.Levels.{keeps}
@@ -48,7 +48,7 @@ pub record WriterState : Type 0 where
   pub closed : Bool
   pub last : ℕ
   pub accepted : ℕ
-  pub tries : Tries
+  pub asked : ℕ
 
 abbrev pub state_of : {S : Type 0} → (S → Plan) → (S → ℕ) → (S → List (List ℕ)) → (S → ℕ) → (S → ℕ) → (S → Bool)
     → WriterView S → WriterState
@@ -61,7 +61,7 @@ state_of plan words sent at seen closed writer = record {
   closed = closed writer.end;
   last = writer.last;
   accepted = writer.accepted;
-  tries = writer.tries;
+  asked = writer.asked;
 }
 
 -- all calls of its writer
@@ -92,8 +92,8 @@ pub record IsProgress (task : WriterTask) (words : ℕ) (progress : WorkerProgre
   pub all : progress.closed ≡ true → progress.next ≡ length (task_calls task)
 
 -- where calls are dropped, its writer was asked once to log each of the calls that the level keeps
-abbrev pub HasTriedOnce : WriterTask → WorkerProgress → Tries → Type 0
-HasTriedOnce task progress tries = task.policy ≡ policies.Shed → tries.logs ≡ length (kept_before task progress)
+abbrev pub HasTriedOnce : WriterTask → WorkerProgress → ℕ → Type 0
+HasTriedOnce task progress asked = task.policy ≡ policies.Shed → asked ≡ length (kept_before task progress)
 
 -- and what is known of its writer beside it: it accepted the frames of these calls
 pub record HasWorked (task : WriterTask) (progress : WorkerProgress) (writer : WriterState) : Type 0 where
@@ -108,7 +108,7 @@ pub record HasWorked (task : WriterTask) (progress : WorkerProgress) (writer : W
   pub closed_is : writer.closed ≡ progress.closed
   pub last_is : writer.last ≤ last_stamp task.run.clock.tick (calls_before task progress)
   pub counted : writer.accepted ≡ length writer.sent
-  pub tried : HasTriedOnce task progress writer.tries
+  pub tried : HasTriedOnce task progress writer.asked
 
 -- what a worker works on: its task, and a ring of so many words
 pub record Work : Type 0 where

@@ -8,12 +8,19 @@ ghost use Rattle.trace_session.specs.Seats.{works_at, TakesOneTurn};
 
 use crate::gate::Gate;
 use crate::seat::Seat;
-use crossbeam_utils::Backoff;
 use nl_io::Sink;
 use ring_core::{StageIn, StageOut};
 use roaming_consumer::{Roamer, Visit};
 use std::alloc::Global;
 use std::sync::{Arc, Wait};
+use std::thread::Parker;
+use std::time::Duration;
+
+/// How many microseconds the consumer naps where a round found nothing and the one before found something.
+const FIRST_NAP: u64 = 50;
+
+/// The most microseconds that it naps.
+const LONGEST_NAP: u64 = 1_000;
 
 /// What came of a round, or of a part of one.
 #[derive(Clone, Copy, Debug, PartialEq, Eq)]
@@ -40,12 +47,7 @@ impl Round {
 }
 
 /// Visits a writer.
-fn visit_one<O: StageOut, K: Sink, R: Wait + Copy>(
-    rt: R,
-    roamer: &mut Roamer<'_, O>,
-    writer: u32,
-    sink: &mut K,
-) -> Round
+fn visit_one<O: StageOut, K: Sink>(roamer: &mut Roamer<'_, O>, writer: u32, sink: &mut K) -> Round
     requires known { writer < length (ends_of roamer.old) }
     requires planned { ArePlanned O.plan roamer.old }
     requires begun { is_begun roamer.old ≡ true }
@@ -55,7 +57,7 @@ fn visit_one<O: StageOut, K: Sink, R: Wait + Copy>(
         → IsOverUpTo O.ended (writer + 1) roamer.new }
     ensures others { K.rest sink.old sink.new }
 {
-    match roamer.visit(rt, writer, sink) {
+    match roamer.visit(writer, sink) {
         Ok(Visit::Ended) => Round::Over,
         Ok(Visit::Idle) => Round::Idle,
         Ok(Visit::Wrote(_) | Visit::Discarded(_)) | Err(_) => Round::Moved,
@@ -63,12 +65,7 @@ fn visit_one<O: StageOut, K: Sink, R: Wait + Copy>(
 }
 
 /// Visits each of so many writers once, one after the other.
-fn visit_all<O: StageOut, K: Sink, R: Wait + Copy>(
-    rt: R,
-    roamer: &mut Roamer<'_, O>,
-    writers: u32,
-    sink: &mut K,
-) -> Round
+fn visit_all<O: StageOut, K: Sink>(roamer: &mut Roamer<'_, O>, writers: u32, sink: &mut K) -> Round
     requires known { writers ≡ length (ends_of roamer.old) }
     requires planned { ArePlanned O.plan roamer.old }
     requires begun { is_begun roamer.old ≡ true }
@@ -79,31 +76,31 @@ fn visit_all<O: StageOut, K: Sink, R: Wait + Copy>(
 {
     let mut round = Round::Over;
     for writer in 0..writers {
-        round = round.with(visit_one(rt, roamer, writer, sink));
+        round = round.with(visit_one(roamer, writer, sink));
     }
     round
 }
 
 /// Takes a turn of each worker that is here.
-fn take_turns<I, G, R>(rt: R, seats: &mut [Seat<I, G>]) -> Round
+fn take_turns<I, G>(seats: &mut [Seat<I, G>]) -> Round
 where
     I: StageIn + Send + Drop + 'static,
     G: Gate + 'static,
-    R: Wait + Copy,
     ensures same { works_at I.pair I.words seats.new ≡ works_at I.pair I.words seats.old }
-    ensures turns { AllZip (λ old new. (moved : Bool) × TakesOneTurn I.at I.words I.seen I.looks old new moved)
+    ensures turns { AllZip (λ old new. (moved : Bool) × TakesOneTurn I.at I.words I.seen I.looks I.closed old new moved)
         seats.old seats.new }
 {
     let mut round = Round::Over;
     for place in 0..seats.len() {
-        if seats[place].take_turn(rt) {
+        if seats[place].take_turn() {
             round = Round::Moved;
         }
     }
     round
 }
 
-/// Goes round the writers until all of them have ended, and takes the turns of those workers that are here.
+/// Goes round the writers until all of them have ended, and takes the turns of those workers that are here. Where a
+/// round found nothing it naps, each time twice as long as the time before.
 pub(crate) fn consume<I, O, K, G, R>(
     rt: R,
     roamer: &mut Roamer<'_, O>,
@@ -126,16 +123,20 @@ where
     ensures same { works_at I.pair I.words seats.new ≡ works_at I.pair I.words seats.old }
     ensures others { K.rest sink.old sink.new }
 {
-    let backoff = Backoff::new();
+    let pause = Parker::new();
+    let mut nap = FIRST_NAP;
     let mut number = 0u64;
     for _ in rt.forever() {
         gate.round(number);
         number = number.saturating_add(1);
-        let visits = visit_all(rt, roamer, seats.len() as u32, sink);
-        let turns = take_turns(rt, seats);
+        let visits = visit_all(roamer, seats.len() as u32, sink);
+        let turns = take_turns(seats);
         match visits.with(turns) {
-            Round::Moved => backoff.reset(),
-            Round::Idle => backoff.snooze(),
+            Round::Moved => nap = FIRST_NAP,
+            Round::Idle => {
+                pause.park_timeout(&rt, Duration::from_micros(nap));
+                nap = nap.saturating_mul(2).min(LONGEST_NAP);
+            }
             Round::Over => return,
         }
     }

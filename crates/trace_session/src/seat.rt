@@ -65,13 +65,13 @@ impl<S: StageIn + Send + Drop + 'static, G: Gate + 'static> Seat<S, G> {
     }
 
     /// Takes a turn of the worker, if it is here, and answers whether that moved it.
-    pub(crate) fn take_turn<R: Wait + Copy>(&mut self, rt: R) -> bool
+    pub(crate) fn take_turn(&mut self) -> bool
         ensures same { IsSameWork S.pair S.words (worker_of self.old) (worker_of self.new) }
-        ensures turn { TakesOneTurn S.at S.words S.seen S.looks self.old self.new result }
+        ensures turn { TakesOneTurn S.at S.words S.seen S.looks S.closed self.old self.new result }
     {
         match self {
             Seat::Away(_) => false,
-            Seat::Here(worker) => worker.turn(rt) == Turn::Moved,
+            Seat::Here(worker) => worker.turn() == Turn::Moved,
         }
     }
 

@@ -89,7 +89,7 @@ where
         return Err(SinkFault);
     }
     let (drops, writers) = finished.into_parts();
-    let accepted = settle::<S, R>(rt, writers, roamer, &mut settled);
+    let accepted = settle::<S>(writers, roamer, &mut settled);
     let others = calls - accepted;
     Ok(Outcome {
         filtered: others - drops.len() as u64,

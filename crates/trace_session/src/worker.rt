@@ -10,15 +10,15 @@ use crate::drops::Dropped;
 use crate::gate::Gate;
 use crate::level::is_kept;
 use arg_records::{Call, Calls};
-use crossbeam_utils::Backoff;
 use log_dictionary::Severity;
 use log_session::{LogRefusal, Writer};
-use ring_core::{Full, StageIn};
+use ring_core::StageIn;
 use session_options::{Options, Policy};
 use std::alloc::{AllocError, Global};
 use std::marker::Model;
 use std::sync::atomic::AtomicBool;
 use std::sync::{Arc, Wait};
+use std::thread;
 use trace_text::Trace;
 
 /// What came of a turn.
@@ -78,7 +78,7 @@ impl<S: StageIn, G> Model for Worker<S, G> {
 impl<S: StageIn + Drop, G: Gate> Worker<S, G> {
     ghost use Rattle.trace_session.specs.Workers.{HasWorked, state_of, task_calls, IsSameWork, IsNextFiltered, IsNextKept};
     ghost use Rattle.trace_session.specs.Running.{IsNewWriter};
-    ghost use Rattle.trace_session.specs.Turns.{SkipsFiltered, TriesCall, TriesToClose};
+    ghost use Rattle.trace_session.specs.Turns.{SkipsFiltered, TriesCall, ClosesWriter};
 
     /// A worker for a writer of the run, which has logged nothing. Where calls may be dropped, the room for all of them
     /// is taken here.
@@ -186,7 +186,7 @@ impl<S: StageIn + Drop, G: Gate> Worker<S, G> {
 
     /// Tries the next call, once: logs it, or drops it where there is no room and that is the policy. It answers
     /// whether the call was answered.
-    fn log_or_shed<R: Wait + Copy>(&mut self, rt: R) -> bool
+    fn log_or_shed(&mut self) -> bool
         requires unfinished { self.old.progress.closed ≡ false }
         requires next { IsNextKept self.old.task self.old.progress }
         ensures same { IsSameWork S.pair S.words self.old self.new }
@@ -197,7 +197,7 @@ impl<S: StageIn + Drop, G: Gate> Worker<S, G> {
             .writers
             .calls(self.number as usize)
             .call(self.next);
-        match self.writer.log(rt, call.stamp, call.id, &call.args.args()) {
+        match self.writer.log(call.stamp, call.id, call.args.as_slice()) {
             Ok(()) => {
                 self.next += 1;
                 true
@@ -220,15 +220,15 @@ impl<S: StageIn + Drop, G: Gate> Worker<S, G> {
         }
     }
 
-    /// Tries to close the writer, once, and answers whether it is closed.
-    fn try_close<R: Wait + Copy>(&mut self, rt: R) -> bool
+    /// Closes the writer.
+    fn close(&mut self)
         requires unfinished { self.old.progress.closed ≡ false }
         requires all { self.old.progress.next ≡ length (task_calls self.old.task) }
         ensures same { IsSameWork S.pair S.words self.old self.new }
-        ensures tried { TriesToClose self.old self.new result }
+        ensures closes { ClosesWriter S.closed self.old self.new }
     {
-        self.closed = self.writer.close(rt).is_ok();
-        self.closed
+        self.writer.close();
+        self.closed = true;
     }
 }
 
@@ -256,7 +256,7 @@ impl<S: StageIn + Drop, G: Gate> Worker<S, G> {
     }
 
     /// Tries the next call, once, and tells the gate. It answers whether the call was answered.
-    fn try_call<R: Wait + Copy>(&mut self, rt: R) -> bool
+    fn try_call(&mut self) -> bool
         requires unfinished { self.old.progress.closed ≡ false }
         requires next { IsNextKept self.old.task self.old.progress }
         ensures same { IsSameWork S.pair S.words self.old self.new }
@@ -264,54 +264,53 @@ impl<S: StageIn + Drop, G: Gate> Worker<S, G> {
     {
         let ordinal = self.next as u64;
         self.announce();
-        let answered = self.log_or_shed(rt);
+        let answered = self.log_or_shed();
         if answered {
             self.tell(ordinal);
         }
         answered
     }
 
-    /// Tries the next call, which the level keeps, or to close the writer where there is none. It answers whether that
+    /// Tries the next call, which the level keeps, or closes the writer where there is none. It answers whether that
     /// moved it.
-    fn try_next<R: Wait + Copy>(&mut self, rt: R) -> bool
+    fn try_next(&mut self) -> bool
         requires unfinished { self.old.progress.closed ≡ false }
         requires passed { ¬ (IsNextFiltered self.old.task self.old.progress) }
         ensures same { IsSameWork S.pair S.words self.old self.new }
-        ensures tried { TriesNext S.at S.words S.seen S.looks self.old self.new result }
+        ensures tried { TriesNext S.at S.words S.seen S.looks S.closed self.old self.new result }
     {
         if self.next < self.calls().len() {
-            self.try_call(rt)
-        } else {
-            self.try_close(rt)
+            return self.try_call();
         }
+        self.close();
+        true
     }
 
-    /// Takes a turn: tries the next call that the level keeps, or to close the writer where there is none.
-    pub(crate) fn turn<R: Wait + Copy>(&mut self, rt: R) -> Turn
+    /// Takes a turn: tries the next call that the level keeps, or closes the writer where there is none.
+    pub(crate) fn turn(&mut self) -> Turn
         ensures same { IsSameWork S.pair S.words self.old self.new }
-        ensures turn { IsTurn S.at S.words S.seen S.looks result self.old self.new }
+        ensures turn { IsTurn S.at S.words S.seen S.looks S.closed result self.old self.new }
     {
         if self.closed {
             return Turn::Finished;
         }
         self.pass_filtered();
-        if self.try_next(rt) {
+        if self.try_next() {
             Turn::Moved
         } else {
             Turn::Stuck
         }
     }
 
-    /// Takes turns until all is done.
+    /// Takes turns until all is done. Where there is no room it leaves the processor to others.
     pub(crate) fn work<R: Wait + Copy>(&mut self, rt: R)
         ensures same { IsSameWork S.pair S.words self.old self.new }
         ensures finished { self.new.progress.closed ≡ true }
     {
-        let backoff = Backoff::new();
         for _ in rt.forever() {
-            match self.turn(rt) {
-                Turn::Moved => backoff.reset(),
-                Turn::Stuck => backoff.snooze(),
+            match self.turn() {
+                Turn::Moved => {}
+                Turn::Stuck => thread::yield_now(),
                 Turn::Finished => return,
             }
         }

@@ -3,7 +3,6 @@
 ghost use Rattle.std.specs.Prelude.{◌≡◌, ◌≤◌, ◌++◌, ◌∷◌, [], length, OnOk};
 ghost use Rattle.std.specs.Option.{option_map};
 ghost use Rattle.std.specs.List.{flat_map, filter_map};
-ghost use Rattle.printf_grammar.specs.Types.{argument_value, values_of};
 ghost use Rattle.trace_text.specs.Lines.{clock_line};
 ghost use Rattle.trace_text.specs.Canonical.{argument_text, call_front, call_text, made_by, made_at, front_text, Canonical, HasText};
 ghost use Rattle.trace_text.specs.Traces.{TraceText};
@@ -17,7 +16,7 @@ use arg_records::Call;
 use itoa::Buffer;
 use log_dictionary::{Clock, push_text};
 use nl_io::{Failed, Sink, TextWriter};
-use printf_grammar::Arg;
+use printf_grammar::Value;
 use std::alloc::{AllocError, Global};
 
 /// Why a trace wasn't written whole.
@@ -46,23 +45,23 @@ impl From<AllocError> for WriteTraceFault {
 
 // An argument behind its space. After an error a part of it may stand behind what was there, here
 // and below.
-fn push_argument(text: &mut Vec<u8>, arg: Arg<'_>) -> Result<(), AllocError>
-    ensures { OnOk result (text.new.items ≡ text.old.items ++ argument_text (argument_value arg.entry)) }
+fn push_argument(text: &mut Vec<u8>, arg: &Value) -> Result<(), AllocError>
+    ensures { OnOk result (text.new.items ≡ text.old.items ++ argument_text arg.now) }
 {
     let mut buffer = Buffer::new();
     text.push(b' ')?;
     match arg {
-        Arg::Signed(number) => text.extend_from_slice(buffer.format(number).as_bytes()),
-        Arg::Unsigned(number) => text.extend_from_slice(buffer.format(number).as_bytes()),
-        Arg::Text(bytes) => push_text(text, bytes),
+        Value::Signed(number) => text.extend_from_slice(buffer.format(*number).as_bytes()),
+        Value::Unsigned(number) => text.extend_from_slice(buffer.format(*number).as_bytes()),
+        Value::Text(bytes) => push_text(text, bytes.as_slice()),
     }
 }
 
-fn push_arguments(text: &mut Vec<u8>, args: &[Arg]) -> Result<(), AllocError>
-    ensures { OnOk result (text.new.items ≡ text.old.items ++ flat_map argument_text (values_of args.now)) }
+fn push_arguments(text: &mut Vec<u8>, args: &[Value]) -> Result<(), AllocError>
+    ensures { OnOk result (text.new.items ≡ text.old.items ++ flat_map argument_text args.now) }
 {
     for arg in args {
-        push_argument(text, *arg)?;
+        push_argument(text, arg)?;
     }
     Ok(())
 }
@@ -87,7 +86,7 @@ fn push_call(text: &mut Vec<u8>, writer: u32, call: &Call) -> Result<(), AllocEr
         ++ call_text (made_by writer call.now)) }
 {
     push_call_front(text, writer, call)?;
-    push_arguments(text, &call.args.args())?;
+    push_arguments(text, call.args.as_slice())?;
     text.push(b'\n')?;
     Ok(())
 }

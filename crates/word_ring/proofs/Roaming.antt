@@ -7,7 +7,8 @@ use Rattle.ring_core.specs.Plans.{Plan, Lawful}
 use Rattle.ring_machine.specs.Streams.{Walk, next_lap, Begins, Wraps}
 use Rattle.word_ring.specs.declared.known.Known.{Known}
 use Rattle.word_ring.specs.declared.word_out.WordOut.TheInside.{Inside}
-use Rattle.word_ring.specs.Counts.{RisesBy, CountsSteps}
+use Rattle.ring_core.specs.Counts.{RisesBy}
+use Rattle.word_ring.specs.Counts.{CountsSteps}
 use Rattle.word_ring.specs.Ends.{WordRoamerEnd, numbers_of}
 use Rattle.word_ring.specs.Plays.{read_by, having_read, having_released}
 use Rattle.word_ring.specs.RoamerInside.{roamer_knows, roamer_end_of, IsWordRoamer}

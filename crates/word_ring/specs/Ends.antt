@@ -2,7 +2,7 @@
 use Rattle.std.specs.Prelude.{◌≡◌, ℕ, ◌+◌, ◌-◌, ◌≤◌, Bool, List, [], ◌∷◌, ◌++◌, length}
 use Rattle.atomic_table.specs.Seated.{TableId}
 use Rattle.nl_io.specs.Count.{counted}
-use Rattle.word_ring.specs.Counts.{RisesBy}
+use Rattle.ring_core.specs.Counts.{RisesBy}
 use Rattle.session_options.specs.declared.limits.TheConstants.{MIN_RING, MAX_RING}
 use Rattle.ring_core.specs.Plans.{Plan}
 use Rattle.ring_core.specs.Positions.{Need}

@@ -5,7 +5,7 @@ use Rattle.nl_io.specs.Count.{counted}
 use Rattle.ring_core.specs.declared.answers.Taken.{Taken}
 use Rattle.ring_core.specs.declared.answers.Taken.TheVariants as answers
 use Rattle.ring_core.specs.Plans.{Lawful}
-use Rattle.word_ring.specs.Counts.{RisesBy}
+use Rattle.ring_core.specs.Counts.{RisesBy}
 use Rattle.word_ring.specs.Ends.{WordRoamerEnd}
 
 -- the producer word was loaded once at most

@@ -4,10 +4,10 @@ ghost use Rattle.std.specs.Prelude.{◌≡◌, ◌↔◌, ◌<◌, ◌≤◌, �
 ghost use Rattle.std.specs.Arc.{arc_value};
 ghost use Rattle.ring_core.specs.declared.limits.TheConstants.{MAX_POSITION, OFFER_ROOM};
 ghost use Rattle.ring_core.specs.Answers.{IsFull};
+ghost use Rattle.ring_core.specs.Counts.{RisesBy};
 ghost use Rattle.ring_core.specs.Plans.{Lawful};
 ghost use Rattle.ring_core.specs.Positions.{Need};
 ghost use Rattle.ring_machine.specs.RingStates.{new_writer, new_roamer};
-ghost use Rattle.word_ring.specs.Counts.{RisesBy};
 ghost use Rattle.word_ring.specs.Ends.{AcceptsFrame, RefusesFrame, IsTableSize, numbers_of, seen_by, room_found};
 ghost use Rattle.word_ring.specs.Rule.{plan_in, known};
 ghost use Rattle.word_ring.specs.Seats.{view, IsSeatOf};
@@ -17,7 +17,7 @@ use crate::steps::{WordSeat, WordTable, close, look, publish};
 use ring_core::{Full, StageIn, need};
 use std::alloc::Global;
 use std::marker::Model;
-use std::sync::{Arc, Wait};
+use std::sync::Arc;
 
 /// The end into which a writer puts frames. No call of it waits, or takes memory.
 #[derive(Drop)]
@@ -66,7 +66,7 @@ impl WordIn {
         }
     }
 
-    /// PutsWord a frame behind those that were put before, if the ring has room for it. It looks once how far the roamer
+    /// Puts a frame behind those that were put before, if the ring has room for it. It looks once how far the roamer
     /// has released places, and never waits.
     pub fn offer(&mut self, frame: &[u64]) -> Result<(), Full>
         requires lawful { Lawful self.old.plan (self.old.sent ++ frame.now ∷ []) }
@@ -124,13 +124,14 @@ impl StageIn for WordIn {
 
     ghost plan = { λ end. end.plan };
 
-    fn offer<R: Wait + Copy>(&mut self, _rt: R, frame: &[u64]) -> Result<(), Full> {
+    ghost steps = { λ end. end.steps };
+
+    fn offer(&mut self, frame: &[u64]) -> Result<(), Full> {
         WordIn::offer(self, frame)
     }
 
-    fn close<R: Wait + Copy>(&mut self, _rt: R) -> Result<(), Full> {
+    fn close(&mut self) {
         WordIn::close(self);
-        Ok(())
     }
 
     fn at(&self) -> u64 {

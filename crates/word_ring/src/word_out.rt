@@ -4,8 +4,8 @@ ghost use Rattle.std.specs.Prelude.{◌≡◌, ◌≢◌, ◌<◌, ◌≤◌, �
 ghost use Rattle.std.specs.Arc.{arc_value};
 ghost use Rattle.arg_records.specs.declared.frame.TheConstants.{MAX_FRAME_WORDS};
 ghost use Rattle.nl_io.specs.Count.{counted};
+ghost use Rattle.ring_core.specs.Counts.{RisesBy};
 ghost use Rattle.ring_machine.specs.RingStates.{new_writer, new_roamer};
-ghost use Rattle.word_ring.specs.Counts.{RisesBy};
 ghost use Rattle.word_ring.specs.Ends.{IsTableSize, numbers_of};
 ghost use Rattle.word_ring.specs.Taking.{IsTaken, TakesLoaded, SkipsMark, answer_of};
 ghost use Rattle.word_ring.specs.Rule.{plan_in, known};
@@ -17,7 +17,7 @@ use arg_records::MAX_FRAME_WORDS;
 use ring_core::{StageOut, Taken};
 use std::alloc::Global;
 use std::marker::Model;
-use std::sync::{Arc, Wait};
+use std::sync::Arc;
 
 /// The end from which a roamer takes frames. No call of it waits, or takes memory.
 #[derive(Drop)]
@@ -169,7 +169,9 @@ impl StageOut for WordOut {
 
     ghost plan = { λ end. end.plan };
 
-    fn take<R: Wait + Copy>(&mut self, _rt: R, into: &mut [u64; MAX_FRAME_WORDS]) -> Taken {
+    ghost steps = { λ end. end.steps };
+
+    fn take(&mut self, into: &mut [u64; MAX_FRAME_WORDS]) -> Taken {
         WordOut::take(self, into)
     }
 }

@@ -17,7 +17,7 @@ use ring_core::{Stage, StageFault};
 use session_options::{MAX_RING, MIN_RING};
 use std::alloc::Global;
 use std::marker::Brand;
-use std::sync::{Arc, Wait};
+use std::sync::Arc;
 
 /// Rings each of which is a table of atomic words.
 pub struct WordRing;
@@ -80,7 +80,7 @@ impl Stage for WordRing {
         ))
     }
 
-    fn settle<R: Wait + Copy>(_rt: R, writer: WordIn, roamer: WordOut) -> WordDone {
+    fn settle(writer: WordIn, roamer: WordOut) -> WordDone {
         WordDone::of(writer, roamer)
     }
 }

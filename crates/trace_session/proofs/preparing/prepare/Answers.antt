@@ -20,7 +20,7 @@ make_workers-requires-clause-new g c κs within =
     let plan_is : plan_of c.behind-trace-3.inside.dictionary c.behind-trace-2.inside.clock.tick ≡ plan_of run.dictionary run.clock.tick = λ i. plan_of (dictionary_is i) (clock_is i).tick in
     let is_new = IsNewWriter c.args.options.now.ring (plan_of run.dictionary run.clock.tick) g.S.In.StageIn.words g.S.In.StageIn.plan g.S.In.StageIn.sent g.S.In.StageIn.closed g.S.In.StageIn.at g.S.In.StageIn.seen in
     zip_first _ is_new
-    (λ writer end ring. record { size_is = ring.size_is; plan_is = ring.plan_is ∙ plan_is; unused = ring.unused; new = record { last = ring.new.last ∙ ap (λ (plan : Plan). plan.first) plan_is; accepted = ring.new.accepted; untried = ring.new.untried } })
+    (λ writer end ring. record { size_is = ring.size_is; plan_is = ring.plan_is ∙ plan_is; unused = ring.unused; new = record { last = ring.new.last ∙ ap (λ (plan : Plan). plan.first) plan_is; accepted = ring.new.accepted; unasked = ring.new.unasked } })
     c.in_ok-writers.writers.items (ends_of c.in_ok-writers.roamer) c.in_ok-writers.ensures.rings
 
 never_both : {T E : Type 0} (x : T) (e : E) → IsErrOf (Ok x) e → ⊥

@@ -8,5 +8,5 @@ use Rattle.trace_session.proofs.seat.Seat.take_turn.Goals as goal
 pub returns-in-Here-clause-turn : goal.returns-in-Here-clause-turn
 returns-in-Here-clause-turn g c =
     let moved : (c.eq.result ≡ true) ↔ (c.turn.result ≡ turns.Moved) = let e = c.eq.ensures in search rules in
-    subst (λ (seat : Seat g.row.S.Denot g.row.G.Denot). TakesOneTurn g.S.StageIn.at g.S.StageIn.words g.S.StageIn.seen g.S.StageIn.looks seat (seats.Here c.turn.new.self) c.eq.result) (sym c.in-Here.is)
+    subst (λ (seat : Seat g.row.S.Denot g.row.G.Denot). TakesOneTurn g.S.StageIn.at g.S.StageIn.words g.S.StageIn.seen g.S.StageIn.looks g.S.StageIn.closed seat (seats.Here c.turn.new.self) c.eq.result) (sym c.in-Here.is)
     (c.turn.new.self, c.turn.result, refl, c.turn.ensures.turn, moved)

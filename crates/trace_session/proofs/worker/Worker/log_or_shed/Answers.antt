@@ -1,9 +1,9 @@
-use Rattle.std.proofs.Common.{rules, ◌≡◌, ◌+◌, List, [], ◌∷◌, ◌++◌, Some, Err, true, false, inr, refl, subst, sym, ap, ◌∙◌, arith}
+use Rattle.std.proofs.Common.{rules, ◌≡◌, ◌+◌, List, [], ◌∷◌, ◌++◌, Some, Err, true, false, inr, map, map-id, refl, subst, sym, ap, ◌∙◌, arith}
 use Rattle.std.specs.Prelude.{slice_get}
 use Rattle.std.proofs.lemmas.Option.{same_Some, slice_get_within}
 use Rattle.nl_io.specs.Count.{Rose}
 use Rattle.printf_grammar.specs.declared.argument.Value.{Value}
-use Rattle.printf_grammar.specs.Types.{values_of, Types, Fits}
+use Rattle.printf_grammar.specs.Types.{Types, Fits}
 use Rattle.session_options.specs.declared.options.Policy.TheVariants as policies
 use Rattle.arg_records.specs.declared.call.Call.{Call}
 use Rattle.arg_records.specs.Frames.{FrameLen}
@@ -25,10 +25,10 @@ log-requires-clause-known g c =
     let task = worker_task c.self.inside in
     let call = c.call-call.result.now in
     let is : slice_get (task_calls task) c.self.inside.next ≡ Some call = next_found task _ _ _ _ (sym (c.behind-self.view_is ∙ c.deref.ensures)) c.calls.ensures c.call-call.ensures in
-    let values : values_of c.deref-2.result.now ≡ call.args = ap values_of c.deref-2.ensures.0 ∙ c.args-2.ensures.values in
+    let values : map (λ (value : Value). value) c.as_slice.result.now ≡ call.args = map-id c.as_slice.result.now ∙ c.as_slice.ensures.values in
     let good = worked_call c.self.invariant.0 call is in
     let fits = subst (λ (args : List Value). Fits args (Types good.message.format.pieces)) (sym values) good.fits in
-    subst (λ (plan : Plan). Knows plan call.id (values_of c.deref-2.result.now)) (sym c.self.invariant.0.plan_is)
+    subst (λ (plan : Plan). Knows plan call.id (map (λ (value : Value). value) c.as_slice.result.now)) (sym c.self.invariant.0.plan_is)
     (knows_taken task.run.dictionary task.run.clock.tick call.id _ (good.message, good.known, fits))
 
 pub log-requires-clause-not_before : goal.log-requires-clause-not_before
@@ -46,7 +46,7 @@ invariant_of-self g c =
     let task = worker_task c.self.inside in
     let call = c.call-call.result.now in
     let is : slice_get (task_calls task) c.self.inside.next ≡ Some call = next_found task _ _ _ _ (sym (c.behind-self.view_is ∙ c.deref.ensures)) c.calls.ensures c.call-call.ensures in
-    let values : values_of c.deref-2.result.now ≡ call.args = ap values_of c.deref-2.ensures.0 ∙ c.args-2.ensures.values in
+    let values : map (λ (value : Value). value) c.as_slice.result.now ≡ call.args = map-id c.as_slice.result.now ∙ c.as_slice.ensures.values in
     let progress = worker_progress_of c.self.inside in
     let end = c.self.inside.writer.end in
     let new_end = c.log.new.self.end in
@@ -56,7 +56,7 @@ invariant_of-self g c =
     let same : next.0 ≡ call = same_Some next.0 call (sym next.1 ∙ is) in
     let keeping = ap (λ (x : Call). keeps task.run.dictionary task.level x) (sym same) ∙ next.2 in
     let still = ap (λ (w : WorkerView g.row.S.Denot). w.progress.closed) c.self.view_is ∙ c.requires.unfinished in
-    let whole : call_of call.stamp call.id (values_of c.deref-2.result.now) ≡ call = λ i. record { stamp = call.stamp; id = call.id; args = values i } in
+    let whole : call_of call.stamp call.id (map (λ (value : Value). value) c.as_slice.result.now) ≡ call = λ i. record { stamp = call.stamp; id = call.id; args = values i } in
     let frames = subst (λ (x : Plan × Call). AreFramesOf x.0 (g.S.StageIn.sent new_end) (accepted_before task progress ++ x.1 ∷ [])) (λ i. (logged.same.same_plan i, whole i)) (logged.accepted (accepted_before task progress) worked.frames) in
     let moved : g.S.StageIn.at new_end ≡ g.S.StageIn.at end + Need (g.S.StageIn.at end) (FrameLen call.args) (g.S.StageIn.words end) =
     logged.moved ∙ ap (λ (v : List Value). g.S.StageIn.at end + Need (g.S.StageIn.at end) (FrameLen v) (g.S.StageIn.words end)) values in
@@ -70,7 +70,7 @@ invariant_of-self g c =
       closed = stays i;
       last = logged.counted.0 i;
       accepted = logged.counted.1 i;
-      tries = logged.tried i;
+      asked = logged.asked i;
     } in (
       worked_state (worked_accepted worked still call is keeping (g.S.StageIn.sent new_end) _ (g.S.StageIn.seen new_end) logged.seen_never_falls frames logged.ok) told,
       λ shed. let room = c.self.invariant.1 shed in omega (arith, room),
@@ -81,7 +81,7 @@ unreachable-requires g c =
     let task = worker_task c.self.inside in
     let call = c.call-call.result.now in
     let is : slice_get (task_calls task) c.self.inside.next ≡ Some call = next_found task _ _ _ _ (sym (c.behind-self.view_is ∙ c.deref.ensures)) c.calls.ensures c.call-call.ensures in
-    let values : values_of c.deref-2.result.now ≡ call.args = ap values_of c.deref-2.ensures.0 ∙ c.args-2.ensures.values in
+    let values : map (λ (value : Value). value) c.as_slice.result.now ≡ call.args = map-id c.as_slice.result.now ∙ c.as_slice.ensures.values in
     let long = c.in-Err-TooLong.ensures.too_long.0 (ap Err c.in-Err-TooLong.field-0-is) in
     omega (arith, long, ap FrameLen values, (worked_call c.self.invariant.0 call is).short)
 
@@ -98,13 +98,13 @@ invariant_of-self-in-Err-Full g c =
     let task = worker_task c.self.inside in
     let call = c.call-call.result.now in
     let is : slice_get (task_calls task) c.self.inside.next ≡ Some call = next_found task _ _ _ _ (sym (c.behind-self.view_is ∙ c.deref.ensures)) c.calls.ensures c.call-call.ensures in
-    let values : values_of c.deref-2.result.now ≡ call.args = ap values_of c.deref-2.ensures.0 ∙ c.args-2.ensures.values in
+    let values : map (λ (value : Value). value) c.as_slice.result.now ≡ call.args = map-id c.as_slice.result.now ∙ c.as_slice.ensures.values in
     let progress = worker_progress_of c.self.inside in
     let end = c.self.inside.writer.end in
     let new_end = c.log.new.self.end in
     let refused = c.in-Err-Full.ensures in
-    let full : IsFull (g.S.StageIn.at end) (FrameLen (values_of c.deref-2.result.now)) (g.S.StageIn.words end) (g.S.StageIn.seen new_end) c.in-Err-Full.full =
-    subst (λ (x : LogRefusal). IfRefusedFull x (IsFull (g.S.StageIn.at end) (FrameLen (values_of c.deref-2.result.now)) (g.S.StageIn.words end) (g.S.StageIn.seen new_end))) c.in-Err-Full.field-0-is refused.full in
+    let full : IsFull (g.S.StageIn.at end) (FrameLen (map (λ (value : Value). value) c.as_slice.result.now)) (g.S.StageIn.words end) (g.S.StageIn.seen new_end) c.in-Err-Full.full =
+    subst (λ (x : LogRefusal). IfRefusedFull x (IsFull (g.S.StageIn.at end) (FrameLen (map (λ (value : Value). value) c.as_slice.result.now)) (g.S.StageIn.words end) (g.S.StageIn.seen new_end))) c.in-Err-Full.field-0-is refused.full in
     let next = subst (λ (w : WorkerView g.row.S.Denot). IsNextKept w.task w.progress) (sym c.self.view_is) c.requires.next in
     let still = ap (λ (w : WorkerView g.row.S.Denot). w.progress.closed) c.self.view_is ∙ c.requires.unfinished in
     let worked = worked_dropped c.self.invariant.0 still next.0 next.1 next.2 (λ waits. let never = sym waits ∙ sheds in absurd cc) (g.S.StageIn.seen new_end) c.in-Err-Full.full (wants_room task progress call _ is values full refl refl next.0 next.1) refused.seen_never_falls in
@@ -118,7 +118,7 @@ invariant_of-self-in-Err-Full g c =
       closed = stays i;
       last = refused.err.2 i;
       accepted = refused.err.3 i;
-      tries = refused.tried i;
+      asked = refused.asked i;
     } in
     let within = slice_get_within (task_calls task) c.self.inside.next next.0 next.1 in (
       subst (λ (drops : List Dropped). HasWorked task (record { next = c.self.inside.next + 1; drops = drops; closed = c.self.inside.closed }) (state_of g.S.StageIn.plan g.S.StageIn.words g.S.StageIn.sent g.S.StageIn.at g.S.StageIn.seen g.S.StageIn.closed c.log.new.self))
@@ -132,13 +132,13 @@ returns-else-eq-clause-tried g c =
     let task = worker_task c.self.inside in
     let call = c.call-call.result.now in
     let is : slice_get (task_calls task) c.self.inside.next ≡ Some call = next_found task _ _ _ _ (sym (c.behind-self.view_is ∙ c.deref.ensures)) c.calls.ensures c.call-call.ensures in
-    let values : values_of c.deref-2.result.now ≡ call.args = ap values_of c.deref-2.ensures.0 ∙ c.args-2.ensures.values in
+    let values : map (λ (value : Value). value) c.as_slice.result.now ≡ call.args = map-id c.as_slice.result.now ∙ c.as_slice.ensures.values in
     let progress = worker_progress_of c.self.inside in
     let end = c.self.inside.writer.end in
     let new_end = c.log.new.self.end in
     let refused = c.in-Err-Full.ensures in
-    let full : IsFull (g.S.StageIn.at end) (FrameLen (values_of c.deref-2.result.now)) (g.S.StageIn.words end) (g.S.StageIn.seen new_end) c.in-Err-Full.full =
-    subst (λ (x : LogRefusal). IfRefusedFull x (IsFull (g.S.StageIn.at end) (FrameLen (values_of c.deref-2.result.now)) (g.S.StageIn.words end) (g.S.StageIn.seen new_end))) c.in-Err-Full.field-0-is refused.full in
+    let full : IsFull (g.S.StageIn.at end) (FrameLen (map (λ (value : Value). value) c.as_slice.result.now)) (g.S.StageIn.words end) (g.S.StageIn.seen new_end) c.in-Err-Full.full =
+    subst (λ (x : LogRefusal). IfRefusedFull x (IsFull (g.S.StageIn.at end) (FrameLen (map (λ (value : Value). value) c.as_slice.result.now)) (g.S.StageIn.words end) (g.S.StageIn.seen new_end))) c.in-Err-Full.field-0-is refused.full in
     let new : WorkerView g.row.S.Denot = record {
       task = task;
       writer = c.log.new.self;
@@ -146,7 +146,7 @@ returns-else-eq-clause-tried g c =
     } in
     subst (λ (w : WorkerView g.row.S.Denot). TriesCall g.S.StageIn.at g.S.StageIn.words g.S.StageIn.seen g.S.StageIn.looks w new true) c.self.view_is (record {
       next = subst (λ (w : WorkerView g.row.S.Denot). IsNextKept w.task w.progress) (sym c.self.view_is) c.requires.next;
-      once = refused.tried;
+      once = refused.asked;
       answer = λ _. inr (record {
         sheds = sheds;
         looked = subst (λ (x : LogRefusal). IfRefusedFull x (λ _. Rose (g.S.StageIn.looks end) (g.S.StageIn.looks new_end))) c.in-Err-Full.field-0-is refused.looked;

@@ -1,0 +1,5 @@
+use Rattle.std.proofs.Common.{map-id, rules}
+use Rattle.trace_commands.proofs.lines.append_line.Goals as goal
+
+pub returns : goal.returns
+returns c = let written = rw (map-id, c.as_slice.ensures.values) at c.line.ensures.ok in search rules
