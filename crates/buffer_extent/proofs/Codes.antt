@@ -67,7 +67,7 @@ pub last_code_of_bytes : (codes bytes back : List ℕ) (half : ℕ) → bytes �
 last_code_of_bytes codes bytes back half parts len small =
     subst (λ (n : ℕ). n < 16) (sym (ap (λ (b : List ℕ). get_or b half 0) parts ∙ get_or_append_left (code_bytes codes) back 0 half (omega (arith, length-code_bytes codes)))) (last_code codes half len small)
 
-take_fits : (n : ℕ) (bytes : List ℕ) (i : ℕ) → ((k : ℕ) → get_or bytes k 0 < 256) → get_or (take n bytes) i 0 < 256
+pub take_fits : (n : ℕ) (bytes : List ℕ) (i : ℕ) → ((k : ℕ) → get_or bytes k 0 < 256) → get_or (take n bytes) i 0 < 256
 take_fits zero bytes i fits = omega arith
 take_fits (suc n) [] i fits = omega arith
 take_fits (suc n) (b ∷ bytes) zero fits = fits 0

@@ -13,6 +13,7 @@ pub mod Staging
 pub mod Putting
 pub mod Writes
 pub mod Worked
+pub mod Joining
 pub mod Deciding
 pub mod NumberCases
 pub mod ArgumentCases

@@ -1,12 +1,11 @@
 -- Words as packed numbers.
-use Rattle.std.proofs.Common.{◌≡◌, ℕ, zero, suc, ◌+◌, ◌/◌, ◌<◌, ◌≤◌, ◌^◌, List, [], ◌∷◌, ◌++◌, length, take, drop, get_or, refl, sym, ap, subst, ◌∙◌, arith, rules}
-use Rattle.std.proofs.Math.ListN.{set}
-use Rattle.std.proofs.lemmas.List.{length-take, take_all, take_more, take_more_set, drop_more, map-append}
+use Rattle.std.proofs.Common.{◌≡◌, ℕ, zero, suc, ◌+◌, ◌-◌, ◌/◌, ◌<◌, ◌≤◌, ◌^◌, List, [], ◌∷◌, ◌++◌, length, take, drop, replicate, get_or, refl, sym, ap, subst, ◌∙◌, arith}
+use Rattle.std.proofs.lemmas.List.{length-append, length-replicate, length-take-le, take-append-drop, drop_more}
+use Rattle.std.proofs.lemmas.List.Elements.{All-head, All-tail, All-append, All-replicate}
 use Rattle.std.proofs.lemmas.Int.{ints, to_z-of_z, of_z-to_z}
 use Rattle.std.specs.Prelude.{ℤ, pos, negsuc, FitsSigned, All}
-use Rattle.std.proofs.lemmas.List.Elements.{All-head, All-tail}
-use Rattle.std.specs.Int.{w64, cast_signed, cast_unsigned}
-use Rattle.std.specs.List.{flat_map, AllByRecursion}
+use Rattle.std.specs.Int.{w64, cast_signed, cast_unsigned, to_le_bytes, from_le_bytes, bytes_low_first}
+use Rattle.std.specs.List.{flat_map}
 use Rattle.printf_grammar.specs.declared.arg_type.ArgType.{ArgType}
 use Rattle.printf_grammar.specs.declared.arg_type.ArgType.TheVariants as argument_types
 use Rattle.printf_grammar.specs.declared.argument.Value.{Value}
@@ -16,11 +15,12 @@ use Rattle.printf_grammar.proofs.Fitting.{Fits-length}
 use Rattle.arg_records.specs.Frames.{words_of_argument}
 use Rattle.arg_records.specs.Kinds.{HoldsBytes}
 use Rattle.nibble_pack.specs.declared.pack.Packed.{Packed as PackedBytes}
+use Rattle.nibble_pack.specs.Bytes.{AreBytes, number_of_bytes, length-bytes_low_first, low_first-number_of_bytes, from_le_bytes-number}
 use Rattle.nibble_pack.specs.Packing.{Kind, unsigned, signed, byte_count, Packed}
-use Rattle.nibble_pack.specs.PackingLaws.{Packed-length}
+use Rattle.nibble_pack.specs.PackingLaws.{Packed-length, Packed-bytes}
 use Rattle.buffer_extent.specs.Records.{PackedNumber, kind_of, packed_value, PacksArguments, code_bytes}
-use Rattle.buffer_extent.specs.RecordLaws.{codes_of}
-use Rattle.buffer_extent.specs.Writing.{BeginsWithWords, packed_number, packed_numbers, HasItsBytes, PacksWord}
+use Rattle.buffer_extent.specs.RecordLaws.{codes_of, numbers_are_as_many}
+use Rattle.buffer_extent.specs.Writing.{BeginsWithWords, HasItsBytes}
 use Rattle.buffer_extent.proofs.Codes.{length-code_bytes}
 
 -- ---- one word
@@ -47,31 +47,40 @@ signed_value_packed argument_types.ULong word code bytes kind packed _ more fits
 signed_value_packed argument_types.Text word code bytes kind packed _ more fits is = cc
 signed_value_packed _ word code bytes kind packed _ more fits is = absurd fits
 
-is_whole : (kind : Kind) (z : ℤ) (packed : PackedBytes) → Packed kind z packed.code (take packed.len packed.bytes) → packed.len ≡ byte_count kind packed.code → packed.len ≤ 8 → HasItsBytes packed
-is_whole kind z packed packs len room = record { room = room; whole = Packed-length kind z packed.code (take packed.len packed.bytes) packs ∙ sym len }
-
-pub signed_word : (type : ArgType) (word : ℕ) (number : ℤ) (packed : PackedBytes) → kind_of type ≡ signed → number ≡ cast_signed w64 word → word < 2 ^ 64
-    → Packed signed (cast_signed w64 (cast_unsigned w64 number)) packed.code (take packed.len packed.bytes) → packed.len ≡ byte_count signed packed.code → packed.len ≤ 8 → PacksWord type word packed
-signed_word type word number packed kind is below packs len room =
+pub signed_word : (type : ArgType) (word : ℕ) (number : ℤ) (code : ℕ) (bytes : List ℕ) → kind_of type ≡ signed → number ≡ cast_signed w64 word → word < 2 ^ 64
+    → Packed signed (cast_signed w64 (cast_unsigned w64 number)) code bytes → (value : Value) (more : List ℕ) → FitsType value type → words_of_argument value ≡ word ∷ more → Packed (kind_of type) (packed_value value) code bytes
+signed_word type word number code bytes kind is below packs =
     let again : cast_signed w64 (cast_unsigned w64 number) ≡ cast_signed w64 word = ap (cast_signed w64) (ap (cast_unsigned w64) is ∙ of_z-to_z w64 word below) in
-    let of_word = subst (λ (z : ℤ). Packed signed z packed.code (take packed.len packed.bytes)) again packs in
-    record { packs = signed_value_packed type word packed.code (take packed.len packed.bytes) kind of_word; whole = is_whole signed (cast_signed w64 word) packed of_word len room }
+    signed_value_packed type word code bytes kind (subst (λ (z : ℤ). Packed signed z code bytes) again packs)
 
-unsigned_value_packed : (type : ArgType) (word code : ℕ) (bytes : List ℕ) → kind_of type ≡ unsigned → Packed unsigned (pos word) code bytes
+pub unsigned_word : (type : ArgType) (word code : ℕ) (bytes : List ℕ) → kind_of type ≡ unsigned → Packed unsigned (pos word) code bytes
     → (value : Value) (more : List ℕ) → FitsType value type → words_of_argument value ≡ word ∷ more → Packed (kind_of type) (packed_value value) code bytes
-unsigned_value_packed argument_types.UInt word code bytes kind packed (values.Unsigned n) more fits is = let same : word ≡ n = cc in subst (λ (k : ℕ). Packed unsigned (pos k) code bytes) same packed
-unsigned_value_packed argument_types.ULong word code bytes kind packed (values.Unsigned n) more fits is = let same : word ≡ n = cc in subst (λ (k : ℕ). Packed unsigned (pos k) code bytes) same packed
-unsigned_value_packed argument_types.Text word code bytes kind packed (values.Text text) more fits is = let same : word ≡ length text = cc in subst (λ (k : ℕ). Packed unsigned (pos k) code bytes) same packed
-unsigned_value_packed argument_types.Int word code bytes kind packed _ more fits is = cc
-unsigned_value_packed argument_types.Long word code bytes kind packed _ more fits is = cc
-unsigned_value_packed argument_types.Width word code bytes kind packed _ more fits is = cc
-unsigned_value_packed argument_types.Precision word code bytes kind packed _ more fits is = cc
-unsigned_value_packed _ word code bytes kind packed _ more fits is = absurd fits
+unsigned_word argument_types.UInt word code bytes kind packed (values.Unsigned n) more fits is = let same : word ≡ n = cc in subst (λ (k : ℕ). Packed unsigned (pos k) code bytes) same packed
+unsigned_word argument_types.ULong word code bytes kind packed (values.Unsigned n) more fits is = let same : word ≡ n = cc in subst (λ (k : ℕ). Packed unsigned (pos k) code bytes) same packed
+unsigned_word argument_types.Text word code bytes kind packed (values.Text text) more fits is = let same : word ≡ length text = cc in subst (λ (k : ℕ). Packed unsigned (pos k) code bytes) same packed
+unsigned_word argument_types.Int word code bytes kind packed _ more fits is = cc
+unsigned_word argument_types.Long word code bytes kind packed _ more fits is = cc
+unsigned_word argument_types.Width word code bytes kind packed _ more fits is = cc
+unsigned_word argument_types.Precision word code bytes kind packed _ more fits is = cc
+unsigned_word _ word code bytes kind packed _ more fits is = absurd fits
 
-pub unsigned_word : (type : ArgType) (word : ℕ) (packed : PackedBytes) → kind_of type ≡ unsigned
-    → Packed unsigned (pos word) packed.code (take packed.len packed.bytes) → packed.len ≡ byte_count unsigned packed.code → packed.len ≤ 8 → PacksWord type word packed
-unsigned_word type word packed kind packs len room =
-    record { packs = unsigned_value_packed type word packed.code (take packed.len packed.bytes) kind packs; whole = is_whole unsigned (pos word) packed packs len room }
+-- a packed number has its bytes
+pub has_its_bytes : (kind : Kind) (z : ℤ) (packed : PackedBytes) → Packed kind z packed.code (take packed.len packed.bytes) → packed.len ≡ byte_count kind packed.code → packed.len ≤ 8 → drop packed.len packed.bytes ≡ replicate (8 - packed.len) 0
+    → HasItsBytes packed
+has_its_bytes kind z packed packs len few others =
+    let bytes : List ℕ = packed.bytes in
+    let front : List ℕ = take packed.len bytes in
+    let zeros : List ℕ = replicate (8 - packed.len) 0 in
+    let whole : bytes ≡ front ++ zeros = sym (take-append-drop packed.len bytes) ∙ ap (λ (b : List ℕ). front ++ b) others in
+    let long : length bytes ≡ 8 = ap length whole ∙ omega (arith, length-append front zeros, Packed-length kind z packed.code front packs, length-replicate {A = ℕ} (8 - packed.len) 0) in
+    let are : AreBytes bytes = subst AreBytes (sym whole) (All-append (λ (b : ℕ). b < 256) front zeros (Packed-bytes kind z packed.code front packs) (All-replicate (λ (b : ℕ). b < 256) (8 - packed.len) 0 (omega arith))) in
+    record { few = few; eight = ap (to_le_bytes w64) (from_le_bytes-number bytes long) ∙ ap (λ (n : ℕ). bytes_low_first 0 n (number_of_bytes bytes)) (sym long) ∙ low_first-number_of_bytes bytes are }
+
+-- as many as it says
+pub length-its_bytes : (packed : PackedBytes) → HasItsBytes packed → length (take packed.len packed.bytes) ≡ packed.len
+length-its_bytes packed has =
+    let few = has.few in
+    length-take-le packed.len packed.bytes (omega (arith, ap length has.eight, length-bytes_low_first 0 8 (from_le_bytes w64 packed.bytes)))
 
 -- ---- the argument at a place
 
@@ -93,7 +102,7 @@ words_begin types args place rest fits within is = record {
   is = is ∙ ap (flat_map words_of_argument) (drop_more args place no_value (omega (arith, Fits-length args types fits)));
 }
 
-first_of_words : (value : Value) → words_of_argument value ≡ get_or (words_of_argument value) 0 0 ∷ drop 1 (words_of_argument value)
+pub first_of_words : (value : Value) → words_of_argument value ≡ get_or (words_of_argument value) 0 0 ∷ drop 1 (words_of_argument value)
 first_of_words (values.Signed z) = refl
 first_of_words (values.Unsigned n) = refl
 first_of_words (values.Text bytes) = refl
@@ -103,75 +112,17 @@ some_words (values.Signed z) = omega arith
 some_words (values.Unsigned n) = omega arith
 some_words (values.Text bytes) = omega arith
 
--- ---- words
-
--- The numbers of the arguments in front of a place were packed, and these words are left.
-pub record ArePackedSoFar (types : List ArgType) (args : List Value) (numbers : List PackedBytes) (place : ℕ) (rest : List ℕ) : Type 0 where
-  pub rest_is : rest ≡ flat_map words_of_argument (drop place args)
-  pub packs : PacksArguments (take place types) (take place args) (packed_numbers (take place numbers))
-
-PacksArguments-push : (types : List ArgType) (args : List Value) (numbers : List PackedNumber) (type : ArgType) (arg : Value) (number : PackedNumber) → PacksArguments types args numbers → Packed (kind_of type) (packed_value arg) number.code number.bytes
-    → PacksArguments (types ++ type ∷ []) (args ++ arg ∷ []) (numbers ++ number ∷ [])
-PacksArguments-push [] [] [] type arg number so_far here = (here, tt)
-PacksArguments-push (t ∷ types) (a ∷ args) (n ∷ numbers) type arg number so_far here = (so_far.0, PacksArguments-push types args numbers type arg number so_far.1 here)
-PacksArguments-push _ _ _ type arg number so_far here = absurd (search rules)
-
--- one word more was packed
-pub one_packed : (types : List ArgType) (args : List Value) (numbers : List PackedBytes) (place : ℕ) (rest argument more : List ℕ) (packed : PackedBytes) → Fits args types → ArePackedSoFar types args numbers place rest → place < length types → place < length numbers
-    → argument ≡ words_of_argument (get_or args place no_value) → more ≡ flat_map words_of_argument (drop (place + 1) args) → PacksWord (get_or types place argument_types.Int) (get_or argument 0 0) packed
-    → ArePackedSoFar types args (set numbers place packed) (place + 1) more
-one_packed types args numbers place rest argument more packed fits so_far within room argument_is more_is here =
-    let value : Value = get_or args place no_value in
-    let word = subst (λ (ws : List ℕ). PacksWord (get_or types place argument_types.Int) (get_or ws 0 0) packed) argument_is here in
-    let one = word.packs value (drop 1 (words_of_argument value)) (value_at types args place fits within) (first_of_words value) in
-    let types_more = take_more types place argument_types.Int within in
-    let args_more = take_more args place no_value (omega (arith, Fits-length args types fits)) in
-    let numbers_more : packed_numbers (take (place + 1) (set numbers place packed)) ≡ packed_numbers (take place numbers) ++ packed_number packed ∷ [] =
-    ap packed_numbers (take_more_set numbers place packed room) ∙ map-append packed_number (take place numbers) (packed ∷ []) in
-    record {
-      rest_is = more_is;
-      packs = rw (types_more, args_more, numbers_more) (PacksArguments-push (take place types) (take place args) (packed_numbers (take place numbers)) (get_or types place argument_types.Int) value (packed_number packed) so_far.packs one);
-    }
-
-whole_push : (numbers : List PackedBytes) (packed : PackedBytes) → AllByRecursion HasItsBytes numbers → HasItsBytes packed → AllByRecursion HasItsBytes (numbers ++ packed ∷ [])
-whole_push [] packed all here = (here, tt)
-whole_push (number ∷ numbers) packed all here = (all.0, whole_push numbers packed all.1 here)
-
-pub one_whole : (numbers : List PackedBytes) (place : ℕ) (packed : PackedBytes) → place < length numbers → AllByRecursion HasItsBytes (take place numbers) → HasItsBytes packed → AllByRecursion HasItsBytes (take (place + 1) (set numbers place packed))
-one_whole numbers place packed room all here = rw (take_more_set numbers place packed room) (whole_push (take place numbers) packed all here)
-
--- all words were packed
-pub all_packed : (types : List ArgType) (args : List Value) (numbers : List PackedBytes) (place : ℕ) (rest : List ℕ) → Fits args types → ArePackedSoFar types args numbers place rest → place ≡ length types
-    → PacksArguments types args (packed_numbers (take (length types) numbers))
-all_packed types args numbers place rest fits so_far end =
-    let packs = subst (λ (n : ℕ). PacksArguments (take n types) (take n args) (packed_numbers (take n numbers))) end so_far.packs in
-    rw (take_all (length types) types (omega arith), take_all (length types) args (omega (arith, Fits-length args types fits))) at packs
-
 -- ---- how many
 
 pub id_short : (id code : ℕ) (bytes : List ℕ) → Packed unsigned (pos id) code bytes → id < 65536 → code ≤ 2
 id_short id code bytes (n, is, packs) below = let same : id ≡ n = cc in packs.count.least 2 (omega arith)
 
-as_many_codes : (numbers : List PackedBytes) → length (codes_of (packed_numbers numbers)) ≡ length numbers
-as_many_codes [] = refl
-as_many_codes (number ∷ numbers) = ap suc (as_many_codes numbers)
-
 -- two codes to a byte
-pub codes_room : (numbers : List PackedBytes) → length (code_bytes (codes_of (packed_numbers numbers))) ≡ (length numbers + 1) / 2
-codes_room numbers = omega (arith, length-code_bytes (codes_of (packed_numbers numbers)), as_many_codes numbers)
-
--- ---- what is left
-
--- the value at a place, and the words behind it
-pub begins_at : (types : List ArgType) (args : List Value) (numbers : List PackedBytes) (place : ℕ) (rest : List ℕ) → Fits args types → ArePackedSoFar types args numbers place rest → place < length types
-    → BeginsWithWords (get_or types place argument_types.Int) rest (get_or args place no_value) (flat_map words_of_argument (drop (place + 1) args))
-begins_at types args numbers place rest fits so_far within = words_begin types args place rest fits within so_far.rest_is
+pub codes_room : (types : List ArgType) (args : List Value) (numbers : List PackedNumber) → PacksArguments types args numbers → length (code_bytes (codes_of numbers)) ≡ (length types + 1) / 2
+codes_room types args numbers packs = omega (arith, length-code_bytes (codes_of numbers), numbers_are_as_many types args numbers packs)
 
 -- a text at a place is bytes
 pub bytes_at : (args : List Value) (place : ℕ) → All HoldsBytes args → HoldsBytes (get_or args place no_value)
 bytes_at [] place are = tt
 bytes_at (arg ∷ args) zero are = All-head HoldsBytes arg args are
 bytes_at (arg ∷ args) (suc place) are = bytes_at args place (All-tail HoldsBytes arg args are)
-
-pub taken_few : (n : ℕ) (numbers : List PackedBytes) → length (take n numbers) ≤ n
-taken_few n numbers = omega (arith, length-take n numbers)

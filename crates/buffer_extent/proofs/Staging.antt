@@ -3,7 +3,7 @@ use Rattle.std.proofs.Common.{◌≡◌, ℕ, ◌+◌, ◌-◌, ◌*◌, ◌<◌
 use Rattle.std.specs.Prelude.{replicate}
 use Rattle.std.specs.Int.{bytes_low_first}
 use Rattle.std.specs.List.{flat_map}
-use Rattle.std.proofs.lemmas.List.{length-append, length-take-le, drop_more, drop_all, take_at, drop_at, take_rest}
+use Rattle.std.proofs.lemmas.List.{length-append, length-take-le, drop_more, drop_all, take_at, drop_at, take_rest, nil_from_length}
 use Rattle.std.proofs.lemmas.List.Elements.{All-take, All-drop}
 use Rattle.std.proofs.Math.Seq.{take-append-add}
 use Rattle.printf_grammar.specs.declared.arg_type.ArgType.{ArgType}
@@ -11,6 +11,7 @@ use Rattle.printf_grammar.specs.declared.arg_type.ArgType.TheVariants as argumen
 use Rattle.printf_grammar.specs.declared.argument.Value.{Value}
 use Rattle.printf_grammar.specs.declared.argument.Value.TheVariants as values
 use Rattle.printf_grammar.specs.Types.{FitsType, text_of}
+use Rattle.printf_grammar.proofs.Fitting.{Fits-length}
 use Rattle.arg_records.specs.Frames.{words_of_bytes, words_of_argument, words_of_text, argument_words}
 use Rattle.arg_records.specs.Kinds.{HoldsBytes}
 use Rattle.arg_records.specs.Places.{with_words}
@@ -19,7 +20,7 @@ use Rattle.arg_records.proofs.Lengths.{length-words_of_argument}
 use Rattle.nibble_pack.specs.Bytes.{AreBytes, number_of_bytes, length-bytes_low_first, number_of_bytes-lt, low_first-number_of_bytes, bytes_low_first-zeros}
 use Rattle.arg_records.specs.Reading.{bytes_of_words}
 use Rattle.arg_records.proofs.TextWords.{take_both}
-use Rattle.buffer_extent.specs.Writing.{BeginsWithWords}
+use Rattle.buffer_extent.specs.Writing.{AreWordsOf, BeginsWithWords}
 use Rattle.buffer_extent.proofs.Packing.{no_value}
 
 -- the bytes of a word that at most eight bytes are, and zeros
@@ -147,6 +148,21 @@ pub all_put : (args : List Value) (old body : List ℕ) (at end place : ℕ) (re
 all_put args old body at end place rest so_far past =
     let none : flat_map text_of (drop place args) ≡ [] = ap (flat_map text_of) (drop_all place args past) in
     (sym (no_words body end) ∙ ap (with_words body end) (sym none) ∙ so_far.written, omega (arith, so_far.places, ap length none))
+
+-- an argument has a word, and one for every eight bytes of its text
+text_in_words : (value : Value) → length (text_of value) + 8 ≤ 8 * length (words_of_argument value)
+text_in_words (values.Signed z) = omega arith
+text_in_words (values.Unsigned n) = omega arith
+text_in_words (values.Text bytes) = omega (arith, length-words_of_argument (values.Text bytes))
+
+texts_in_words : (args : List Value) → length (flat_map text_of args) + 8 * length args ≤ 8 * length (flat_map words_of_argument args)
+texts_in_words [] = omega arith
+texts_in_words (arg ∷ args) =
+    omega (arith, text_in_words arg, texts_in_words args, length-append (text_of arg) (flat_map text_of args), length-append (words_of_argument arg) (flat_map words_of_argument args))
+
+-- so no text has a byte where there is one word for each argument
+pub no_texts : (types : List ArgType) (args : List Value) (words : List ℕ) → AreWordsOf types args words → length words ≡ length types → flat_map text_of args ≡ []
+no_texts types args words are same = nil_from_length (flat_map text_of args) (omega (arith, texts_in_words args, ap length are.is, Fits-length args types are.fits))
 
 -- ---- one text
 

@@ -1,5 +1,6 @@
 -- What is asked of a frame whose record is to be written, and the room that the record takes.
-use Rattle.std.specs.Prelude.{◌≡◌, ℕ, ◌+◌, ◌*◌, ◌/◌, ◌<◌, ◌≤◌, List, ◌∷◌, ◌++◌, pos, length, take, map, sum_by, All}
+use Rattle.std.specs.Prelude.{◌≡◌, ℕ, ◌+◌, ◌*◌, ◌/◌, ◌<◌, ◌≤◌, List, ◌∷◌, ◌++◌, pos, length, sum_by, All}
+use Rattle.std.specs.Int.{w64, to_le_bytes, from_le_bytes}
 use Rattle.std.specs.List.{flat_map}
 use Rattle.printf_grammar.specs.declared.arg_type.ArgType.{ArgType}
 use Rattle.printf_grammar.specs.declared.arg_type.ArgType.TheVariants as types
@@ -11,7 +12,9 @@ use Rattle.arg_records.specs.Frames.{words_of_argument, FrameLen, Frame}
 use Rattle.arg_records.specs.Kinds.{HoldsBytes}
 use Rattle.nibble_pack.specs.declared.pack.Packed.{Packed as PackedBytes}
 use Rattle.nibble_pack.specs.Packing.{unsigned, Packed}
-use Rattle.buffer_extent.specs.Records.{PackedNumber, kind_of, packed_value}
+use Rattle.arg_records.specs.Places.{with_words}
+use Rattle.buffer_extent.specs.Records.{PackedNumber, kind_of, packed_value, PacksArguments, code_bytes}
+use Rattle.buffer_extent.specs.RecordLaws.{codes_of, packed_bytes}
 
 -- the words are the frame of a call that was made at this stamp or later, with arguments that fit the types
 pub record IsFrameSince (types : List ArgType) (before : ℕ) (frame : List ℕ) : Type 0 where
@@ -36,23 +39,26 @@ pub record BeginsWithWords (type : ArgType) (words : List ℕ) (value : Value) (
   pub fits : FitsType value type
   pub is : words ≡ words_of_argument value ++ more
 
--- the number that was packed
-abbrev pub packed_number : PackedBytes → PackedNumber
-packed_number packed = record { code = packed.code; bytes = take packed.len packed.bytes }
-
-abbrev pub packed_numbers : List PackedBytes → List PackedNumber
-packed_numbers numbers = map packed_number numbers
-
--- it has as many bytes as it says
+-- it has eight bytes, and no more of them than these
 pub record HasItsBytes (packed : PackedBytes) : Type 0 where
-  pub room : packed.len ≤ 8
-  pub whole : length (take packed.len packed.bytes) ≡ packed.len
+  pub few : packed.len ≤ 8
+  pub eight : to_le_bytes w64 (from_le_bytes w64 packed.bytes) ≡ packed.bytes
 
--- of whatever argument of the type this is the first word, this is the packed number
-pub record PacksWord (type : ArgType) (word : ℕ) (packed : PackedBytes) : Type 0 where
-  pub packs : (value : Value) (more : List ℕ) → FitsType value type → words_of_argument value ≡ word ∷ more
-      → Packed (kind_of type) (packed_value value) packed.code (take packed.len packed.bytes)
-  pub whole : HasItsBytes packed
+-- the bytes of the argument's number were written at a place, and it has this code
+pub record PutsNumber (type : ArgType) (value : Value) (old : List ℕ) (at code : ℕ) (new : List ℕ)
+    (end : ℕ) : Type 0 where
+  pub bytes : List ℕ
+  pub packed : Packed (kind_of type) (packed_value value) code bytes
+  pub written : new ≡ with_words old at bytes
+  pub behind : end ≡ at + length bytes
+
+-- the codes of the arguments' numbers were written at the one place, and their bytes at the other
+pub record PutsNumbers (types : List ArgType) (args : List Value) (old : List ℕ) (place at : ℕ) (new : List ℕ)
+    (end : ℕ) : Type 0 where
+  pub numbers : List PackedNumber
+  pub packed : PacksArguments types args numbers
+  pub written : new ≡ with_words (with_words old place (code_bytes (codes_of numbers))) at (packed_bytes numbers)
+  pub behind : end ≡ at + length (packed_bytes numbers)
 
 -- the bytes of a head, which has the id and the step
 pub record HeadBytes (id step : ℕ) (bytes : List ℕ) : Type 0 where

@@ -2,6 +2,7 @@
 #![tactic(auto)]
 
 mod body;
+mod eight;
 mod fault;
 mod laws;
 mod numbers;

@@ -1,14 +1,17 @@
 //! The words of one argument, as a frame has them.
 
-ghost use Rattle.std.specs.Prelude.{◌≡◌, ℕ, ◌+◌, ◌*◌, ◌≤◌, List, length, take};
+ghost use Rattle.std.specs.Prelude.{◌≡◌, ℕ, ◌+◌, ◌*◌, ◌<◌, ◌≤◌, List, ◌∷◌, length, take};
 ghost use Rattle.printf_grammar.specs.declared.argument.Value.{Value};
 ghost use Rattle.printf_grammar.specs.Types.{FitsType, text_of};
 ghost use Rattle.arg_records.specs.Frames.{words_of_argument};
 ghost use Rattle.arg_records.specs.Kinds.{HoldsBytes};
 ghost use Rattle.arg_records.specs.Places.{with_words};
-ghost use Rattle.buffer_extent.specs.Writing.{BeginsWithWords, PacksWord};
+ghost use Rattle.nibble_pack.specs.Packing as packing;
+ghost use Rattle.buffer_extent.specs.Records.{kind_of, packed_value};
+ghost use Rattle.buffer_extent.specs.Writing.{BeginsWithWords, HasItsBytes, PutsNumber};
 ghost use Rattle.arg_records.specs.Reading.{bytes_of_words};
 
+use crate::eight::{put_front, put_packed};
 use arg_records::text_words;
 use nibble_pack::{Packed, pack_signed, pack_unsigned};
 use printf_grammar::ArgType;
@@ -29,8 +32,11 @@ pub(crate) fn split_argument(kind: ArgType, words: &[u64]) -> (&[u64], &[u64])
 }
 
 /// The number of an argument of the type, whose first word this is.
-pub(crate) fn pack_word(kind: ArgType, word: u64) -> Packed
-    ensures { PacksWord kind word result }
+fn pack_word(kind: ArgType, word: u64) -> Packed
+    ensures packs { (value : Value) (more : List ℕ) → FitsType value kind → words_of_argument value ≡ word ∷ more
+        → packing.Packed (kind_of kind) (packed_value value) result.code (take result.len result.bytes) }
+    ensures code { result.code < 16 }
+    ensures whole { HasItsBytes result }
 {
     match kind {
         ArgType::UInt | ArgType::ULong | ArgType::Text => pack_unsigned(word),
@@ -38,21 +44,31 @@ pub(crate) fn pack_word(kind: ArgType, word: u64) -> Packed
     }
 }
 
-/// Writes bytes, and answers the place behind them.
-pub(crate) fn put_slice(bytes: &[u8], body: &mut [u8], at: usize) -> usize
-    requires { at + length bytes.now ≤ length body.old }
-    ensures written { body.new ≡ with_words body.old at bytes.now }
-    ensures end { result ≡ at + length bytes.now }
+/// Writes the bytes of the number of the argument at the front of words, which is of the type. It answers the code, the
+/// words behind the argument, and the place behind the bytes.
+pub(crate) fn put_number<'a>(
+    kind: ArgType,
+    words: &'a [u64],
+    body: &mut [u8],
+    at: usize,
+) -> (u8, &'a [u64], usize)
+    requires words { (value : Value) × (more : List ℕ) × BeginsWithWords kind words.now value more }
+    requires room { at + 8 ≤ length body.old }
+    ensures written { (value : Value) (more : List ℕ) → BeginsWithWords kind words.now value more
+        → PutsNumber kind value body.old at result.0 body.new result.2 × (result.1.now ≡ more) }
+    ensures code { result.0 < 16 }
+    ensures bound { (at ≤ result.2) × (result.2 ≤ at + 8) }
 {
-    let end = at + bytes.len();
-    body[at..end].copy_from_slice(bytes);
-    end
+    let (argument, more) = split_argument(kind, words);
+    let number = pack_word(kind, argument[0]);
+    let end = put_packed(&number, body, at);
+    (number.code, more, end)
 }
 
 /// Writes the first `len` bytes of words, and answers the place behind them.
 fn put_words(words: &[u64], len: usize, body: &mut [u8], at: usize) -> usize
     requires len { len ≤ 8 * length words.now }
-    requires room { at + len ≤ length body.old }
+    requires room { at + len + 8 ≤ length body.old }
     ensures written { body.new ≡ with_words body.old at (take len (bytes_of_words words.now)) }
     ensures end { result ≡ at + len }
 {
@@ -60,7 +76,7 @@ fn put_words(words: &[u64], len: usize, body: &mut [u8], at: usize) -> usize
     let mut left = len;
     for word in words {
         let count = left.min(WORD_BYTES);
-        end = put_slice(&word.to_le_bytes()[..count], body, end);
+        end = put_front(*word, count, body, end);
         left -= count;
     }
     end
@@ -69,7 +85,7 @@ fn put_words(words: &[u64], len: usize, body: &mut [u8], at: usize) -> usize
 /// Writes the text of the argument whose words these are, and answers the place behind it; nothing for an integer.
 pub(crate) fn put_argument_text(kind: ArgType, words: &[u64], body: &mut [u8], at: usize) -> usize
     requires { (value : Value) × FitsType value kind × HoldsBytes value × (words.now ≡ words_of_argument value)
-        × (at + length (text_of value) ≤ length body.old) }
+        × (at + length (text_of value) + 8 ≤ length body.old) }
     ensures written { (value : Value) → FitsType value kind → HoldsBytes value → words.now ≡ words_of_argument value
         → body.new ≡ with_words body.old at (text_of value) }
     ensures end { (value : Value) → FitsType value kind → words.now ≡ words_of_argument value

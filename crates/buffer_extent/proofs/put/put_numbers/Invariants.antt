@@ -1,11 +1,16 @@
-use Rattle.std.proofs.Common.{◌≡◌, ◌+◌, length, drop}
-use Rattle.arg_records.specs.Places.{with_words}
-use Rattle.buffer_extent.specs.RecordLaws.{packed_bytes}
-use Rattle.buffer_extent.specs.Writing.{packed_numbers}
+use Rattle.std.proofs.Common.{◌+◌, ◌*◌, ◌/◌, ◌≤◌, ℕ, List, length}
+use Rattle.printf_grammar.specs.declared.argument.Value.{Value}
+use Rattle.buffer_extent.specs.Writing.{AreWordsOf}
+use Rattle.buffer_extent.proofs.Writes.{PutsAll}
 use Rattle.buffer_extent.proofs.put.put_numbers.Given as goal
 
-abbrev pub invariant-loop-number : goal.invariant-loop-number
-invariant-loop-number l = record {
-  left : l.end + length (packed_bytes (packed_numbers (drop l.number-index l.numbers))) ≡ l.at + length (packed_bytes (packed_numbers l.numbers));
-  written : with_words l.body l.end (packed_bytes (packed_numbers (drop l.number-index l.numbers))) ≡ with_words l.fn.body l.at (packed_bytes (packed_numbers l.numbers));
+abbrev pub invariant-loop-kinds : goal.invariant-loop-kinds
+invariant-loop-kinds l = record {
+  words : (args : List Value) × AreWordsOf l.kinds args l.rest;
+  before : l.place + (length l.kinds + 1) / 2 ≤ l.end;
+  room : l.end + 8 * length l.kinds ≤ l.at + (length l.types + 1) / 2 + 8 * length l.types;
+  goes_on : (new : List ℕ) (end : ℕ) → PutsAll l.kinds l.rest l.body l.place l.end new end → PutsAll l.types l.words l.fn.body l.at (l.at + (length l.types + 1) / 2) new end;
 }
+
+abbrev pub decreases-loop-kinds : goal.decreases-loop-kinds
+decreases-loop-kinds l = length l.kinds

@@ -1,15 +1,17 @@
-use Rattle.std.proofs.Common.{◌+◌, ◌-◌, ◌<◌, ◌^◌, Fits, w64, ℕ, List, length, take, get_or, sym, ap, subst, ◌∙◌, arith}
-use Rattle.buffer_extent.specs.RecordLaws.{numbers_are_codes}
+use Rattle.std.proofs.Common.{◌+◌, ◌-◌, ◌/◌, ◌<◌, ◌^◌, Fits, w64, ℕ, List, length, get_or, refl, sym, ap, subst, arith}
+use Rattle.arg_records.specs.Places.{with_words}
+use Rattle.buffer_extent.specs.Records.{code_bytes}
+use Rattle.buffer_extent.specs.RecordLaws.{codes_of}
 use Rattle.buffer_extent.specs.Writing.{HeadBytes}
-use Rattle.buffer_extent.proofs.Packing.{codes_room, taken_few}
+use Rattle.buffer_extent.proofs.Packing.{codes_room}
 use Rattle.buffer_extent.proofs.Putting.{is_staged, is_frame, frame_arguments, frame_length, numbers_room, record_short, record_written}
 use Rattle.buffer_extent.proofs.put.put_record.Goals as goal
 
 in_range : (frame : List ℕ) → ((i : ℕ) → Fits w64 (get_or frame i 0)) → (i : ℕ) → get_or frame i 0 < 2 ^ 64
 in_range frame fits i = (fits i).fits
 
-pub pack_words-numbers-requires-clause-words : goal.pack_words-numbers-requires-clause-words
-pack_words-numbers-requires-clause-words c = let since = c.requires.frame in (since.args, frame_arguments c.args.types.now c.args.frame.now since.id since.stamp since.args since.fits since.bytes since.is)
+pub put_numbers-end-requires-clause-words : goal.put_numbers-end-requires-clause-words
+put_numbers-end-requires-clause-words c = let since = c.requires.frame in (since.args, frame_arguments c.args.types.now c.args.frame.now since.id since.stamp since.args since.fits since.bytes since.is)
 
 pub frame_stamp-requires : goal.frame_stamp-requires
 frame_stamp-requires c = is_frame c.args.types.now c.args.before c.args.frame.now c.requires.frame c.requires.few (in_range c.args.frame.now c.type_inv.frame)
@@ -31,33 +33,18 @@ put_head-end-requires-clause-id c =
     let is = c.frame_id.ensures since.id since.stamp since.args staged.0 since.is in
     omega (arith, is, staged.2)
 
-pub put_codes-end-requires-clause-codes : goal.put_codes-end-requires-clause-codes
-put_codes-end-requires-clause-codes c =
-    let since = c.requires.frame in
-    let are = frame_arguments c.args.types.now c.args.frame.now since.id since.stamp since.args since.fits since.bytes since.is in
-    numbers_are_codes c.args.types.now since.args _ (c.pack_words-numbers.ensures.packs since.args are)
-
-pub put_numbers-end-requires-clause-room : goal.put_numbers-end-requires-clause-room
-put_numbers-end-requires-clause-room c =
-    let since = c.requires.frame in
-    let are = frame_arguments c.args.types.now c.args.frame.now since.id since.stamp since.args since.fits since.bytes since.is in
-    let packs = c.pack_words-numbers.ensures.packs since.args are in
-    let room = numbers_room c.args.types.now since.args _ since.fits packs in
-    let short = record_short c.args.types.now since.args since.fits c.requires.few in
-    omega (arith, room, short, taken_few (length c.args.types.now) c.pack_words-numbers.result, since.within, c.put_codes-end.auto.body, c.put_head-end.auto.body, c.put_codes-end.ensures.end, c.put_head-end.ensures.bound, c.requires.few, c.requires.room)
-
 pub put_texts-requires : goal.put_texts-requires
 put_texts-requires c =
     let since = c.requires.frame in
     let are = frame_arguments c.args.types.now c.args.frame.now since.id since.stamp since.args since.fits since.bytes since.is in
-    let packs = c.pack_words-numbers.ensures.packs since.args are in
-    let room = numbers_room c.args.types.now since.args _ since.fits packs in
+    let numbers = c.put_numbers-end.ensures.written since.args are in
+    let room = numbers_room c.args.types.now since.args numbers.numbers since.fits numbers.packed in
     let short = record_short c.args.types.now since.args since.fits c.requires.few in
     record {
       room = (
         since.args,
         are,
-        omega (arith, room, short, taken_few (length c.args.types.now) c.pack_words-numbers.result, since.within, c.put_numbers-end.auto.body, c.put_codes-end.auto.body, c.put_head-end.auto.body, c.put_numbers-end.ensures.end, c.put_codes-end.ensures.end, c.put_head-end.ensures.bound, c.requires.few, c.requires.room),
+        omega (arith, room, short, since.within, numbers.behind, c.put_numbers-end.auto.body, c.put_head-end.auto.body, c.put_head-end.ensures.bound, c.requires.few, c.requires.room),
       );
     }
 
@@ -67,13 +54,13 @@ returns-clause-written c = λ id stamp args fits bytes is.
     let are = frame_arguments c.args.types.now c.args.frame.now id stamp args fits bytes is in
     let id_is = c.frame_id.ensures id stamp args staged.0 is in
     let stamp_is = c.frame_stamp.ensures id stamp args staged.0 is in
-    let packs = c.pack_words-numbers.ensures.packs args are in
+    let numbers = c.put_numbers-end.ensures.written args are in
+    let long = codes_room c.args.types.now args numbers.numbers numbers.packed in
     let (head, head_bytes, head_written, head_end) = c.put_head-end.ensures.written in
     let head_is : HeadBytes id (stamp - c.args.before) head = subst (λ (n : ℕ). HeadBytes n (stamp - c.args.before) head) id_is (subst (λ (s : ℕ). HeadBytes c.frame_id.result (s - c.args.before) head) stamp_is head_bytes) in
-    let codes_end = c.put_codes-end.ensures.end ∙ ap (λ (n : ℕ). c.put_head-end.result + n) (sym (codes_room (take (length c.args.types.now) c.pack_words-numbers.result))) in
-    record_written c.args.types.now id stamp c.args.before args _ head c.args.body.now c.put_head-end.new.body c.put_codes-end.new.body c.put_numbers-end.new.body c.put_texts.new.body c.args.at c.put_head-end.result c.put_codes-end.result c.put_numbers-end.result
-    c.put_texts.result fits packs head_is staged.1 staged.0.stamp_in_range (omega arith) (omega (arith, head_end, c.put_head-end.ensures.bound)) c.requires.few (omega (arith, codes_room (take (length c.args.types.now) c.pack_words-numbers.result), taken_few (length c.args.types.now) c.pack_words-numbers.result)) head_written head_end
-    c.put_codes-end.ensures.written codes_end c.put_numbers-end.ensures.written c.put_numbers-end.ensures.end (c.put_texts.ensures.written args are) (c.put_texts.ensures.end args are)
+    record_written c.args.types.now id stamp c.args.before args numbers.numbers head c.args.body.now c.put_head-end.new.body (with_words c.put_head-end.new.body c.put_head-end.result (code_bytes (codes_of numbers.numbers))) c.put_numbers-end.new.body c.put_texts.new.body
+    c.args.at c.put_head-end.result (c.put_head-end.result + (length c.args.types.now + 1) / 2) c.put_numbers-end.result c.put_texts.result fits numbers.packed head_is staged.1 staged.0.stamp_in_range (omega arith) (omega (arith, head_end, c.put_head-end.ensures.bound)) c.requires.few
+    (omega (arith, long)) head_written head_end refl (ap (λ (n : ℕ). c.put_head-end.result + n) (sym long)) numbers.written numbers.behind (c.put_texts.ensures.written args are) (c.put_texts.ensures.end args are)
 
 pub returns-clause-within : goal.returns-clause-within
 returns-clause-within c =
@@ -82,4 +69,4 @@ returns-clause-within c =
     let whole = returns-clause-written c since.id since.stamp since.args since.fits since.bytes since.is in
     let short = record_short c.args.types.now since.args since.fits c.requires.few in
     let are = frame_arguments c.args.types.now c.args.frame.now since.id since.stamp since.args since.fits since.bytes since.is in
-    (omega (arith, c.put_texts.ensures.end since.args are, c.put_numbers-end.ensures.end, c.put_codes-end.ensures.end, c.put_head-end.ensures.bound), omega (arith, whole.2, whole.4, short, long))
+    (omega (arith, c.put_texts.ensures.end since.args are, (c.put_numbers-end.ensures.written since.args are).behind, c.put_head-end.ensures.bound), omega (arith, whole.2, whole.4, short, long))

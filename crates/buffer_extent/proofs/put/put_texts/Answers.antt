@@ -1,9 +1,11 @@
-use Rattle.std.proofs.Common.{◌+◌, ◌<◌, ◌≤◌, length, get_or, drop, arith}
+use Rattle.std.proofs.Common.{◌+◌, ◌<◌, ◌≤◌, length, get_or, drop, sym, ap, ◌∙◌, arith}
 use Rattle.std.specs.List.{flat_map}
 use Rattle.printf_grammar.proofs.Fitting.{Fits-length}
 use Rattle.arg_records.specs.Frames.{words_of_argument}
+use Rattle.arg_records.specs.Places.{with_words}
+use Rattle.arg_records.proofs.Places.{no_words}
 use Rattle.buffer_extent.proofs.Packing.{no_value, value_at, words_begin, bytes_at}
-use Rattle.buffer_extent.proofs.Staging.{text_room, one_put, all_put}
+use Rattle.buffer_extent.proofs.Staging.{no_texts, text_room, one_put, all_put}
 use Rattle.buffer_extent.proofs.put.put_texts.Goals as goal
 
 pub split_argument-requires : goal.split_argument-requires
@@ -47,3 +49,10 @@ returns-clause-written c = λ args are.
 pub returns-clause-end : goal.returns-clause-end
 returns-clause-end c = λ args are.
     (all_put args c.args.body.now c.loop-kind.body c.args.at c.loop-kind.end c.loop-kind.kind-index c.loop-kind.rest.now (c.loop-kind.invariant args are) (omega (arith, Fits-length args c.args.types.now are.fits, c.loop-kind-test.false))).1
+
+pub returns-then-words-types-clause-written : goal.returns-then-words-types-clause-written
+returns-then-words-types-clause-written c = λ args are.
+    sym (ap (with_words c.args.body.now c.args.at) (no_texts c.args.types.now args c.args.words.now are c.if-words-types.true) ∙ no_words c.args.body.now c.args.at)
+
+pub returns-then-words-types-clause-end : goal.returns-then-words-types-clause-end
+returns-then-words-types-clause-end c = λ args are. omega (arith, ap length (no_texts c.args.types.now args c.args.words.now are c.if-words-types.true))
