@@ -1,5 +1,5 @@
 -- Fields of lines, and what stands behind a front.
-use Rattle.std.specs.Prelude.{◌≡◌, ◌≢◌, ℕ, ◌+◌, List, [], ◌∷◌, ◌++◌, take, drop, All, position, Option, None, Some, ◌==◌, if◌then◌else◌}
+use Rattle.std.specs.Prelude.{◌≡◌, ◌≢◌, ℕ, ◌+◌, Bool, true, List, [], ◌∷◌, ◌++◌, take, drop, All, position, Option, None, Some, ◌==◌, if◌then◌else◌}
 use Rattle.std.specs.Option.{option_map}
 
 -- what follows from a part that was found
@@ -32,3 +32,16 @@ put_front b parts = (b ∷ parts.0, parts.1)
 abbrev pub first_field : List ℕ → List ℕ × List ℕ
 first_field [] = ([], [])
 first_field (b ∷ bytes) = if b == 32 then ([], b ∷ bytes) else put_front b (first_field bytes)
+
+-- a field ends before these bytes: before none, or before a space and more
+abbrev pub ends_field : List ℕ → Bool
+ends_field [] = true
+ends_field (byte ∷ bytes) = byte == 32
+
+-- what was read, and the rest, where a field ends before the rest
+abbrev pub if_ends : {A : Type 0} → A → List ℕ → Option (A × List ℕ)
+if_ends x rest = if ends_field rest then Some (x, rest) else None
+
+-- what is read of the first field, and the rest behind the field
+abbrev pub of_first_field : {A : Type 0} → (List ℕ → Option A) → List ℕ → Option (A × List ℕ)
+of_first_field read bytes = option_map (λ x. (x, (first_field bytes).1)) (read (first_field bytes).0)

@@ -16,6 +16,11 @@ unfoldable pub number_from : ℕ → List ℕ → Option ℕ
 number_from n [] = Some n
 number_from n (d ∷ digits) = if is_digit d then number_from (n * 10 + (d - 48)) digits else None
 
+-- the number that the digits which stand first spell behind the digits of n, and the bytes behind them
+unfoldable pub digits_from : ℕ → List ℕ → ℕ × List ℕ
+digits_from n [] = (n, [])
+digits_from n (d ∷ digits) = if is_digit d then digits_from (n * 10 + (d - 48)) digits else (n, d ∷ digits)
+
 -- the number of any size that decimal digits without a zero in front spell; 0 is `0`
 abbrev pub natural_of : List ℕ → Option ℕ
 natural_of [] = None

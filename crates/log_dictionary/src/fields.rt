@@ -2,7 +2,7 @@
 
 ghost use Rattle.std.specs.Prelude.{◌≡◌, ◌≢◌, ℕ, ◌<◌, ◌≤◌, length, slice_index, All, IfSome, IfNone};
 ghost use Rattle.std.specs.Option.{option_map};
-ghost use Rattle.log_dictionary.specs.Fields.{IsFirstSplit, split_at_first, first_field};
+ghost use Rattle.log_dictionary.specs.Fields.{IsFirstSplit, split_at_first, first_field, ends_field};
 
 use bstr::ByteSlice;
 
@@ -41,4 +41,14 @@ pub fn first_field(bytes: &[u8]) -> (&[u8], &[u8])
     ensures { (result.0.now, result.1.now) ≡ first_field bytes.now }
 {
     bytes.split_at(field_len(bytes))
+}
+
+/// Whether a field ends before these bytes: before none, or before a space and more.
+pub fn ends_field(rest: &[u8]) -> bool
+    ensures { result ≡ ends_field rest.now }
+{
+    match rest {
+        [] => true,
+        [byte, ..] => *byte == b' ',
+    }
 }

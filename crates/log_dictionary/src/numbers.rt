@@ -1,15 +1,21 @@
 //! Numbers as they are spelled in a trace.
 
-ghost use Rattle.std.specs.Prelude.{◌≡◌, ◌<◌, ◌+◌, ◌-◌, ◌*◌, ◌^◌, IfSome, IfNone, FitsSigned, ℤ, pos, ℕ, Option, if◌then◌else◌};
+ghost use Rattle.std.specs.Prelude.{◌≡◌, ◌<◌, ◌+◌, ◌-◌, ◌*◌, ◌^◌, IfSome, IfNone, FitsSigned, ℤ, pos, ℕ, Option, Some, None, if◌then◌else◌};
 ghost use Rattle.std.specs.Int.{w64};
 ghost use Rattle.std.specs.Fmt.{decimal, signed_decimal};
 ghost use Rattle.std.specs.Option.{option_map, SomeIff};
-ghost use Rattle.log_dictionary.specs.Numbers.{is_digit, natural_of, natural_read, number_from, integer_of, integer_read, negated, if_signed, if_small};
+ghost use Rattle.log_dictionary.specs.Numbers.{is_digit, natural_of, natural_read, number_from, digits_from, integer_of, integer_read, negated, if_signed, if_small};
+ghost use Rattle.log_dictionary.specs.Fields.{if_ends, of_first_field};
+
+use crate::fields::ends_field;
 
 /// A tenth of the greatest `u64`, and the digit that may follow it.
 const TENTH: u64 = 1_844_674_407_370_955_161;
 
 const LAST: u8 = 5;
+
+/// A number of so many digits is below 2^64.
+const SHORT: usize = 19;
 
 /// A number of any size.
 #[derive(Clone, Copy)]
@@ -53,26 +59,61 @@ fn with_digit(number: u64, digit: u8) -> Option<u64>
     }
 }
 
+// The bytes behind the digits that stand first.
+fn behind_digits(bytes: &[u8]) -> &[u8]
+    ensures { result.now ≡ (digits_from 0 bytes.now).1 }
+{
+    for end in 0..bytes.len() {
+        let Some(_) = digit_of(bytes[end]) else {
+            return &bytes[end..];
+        };
+    }
+    &bytes[bytes.len()..]
+}
+
+// The number that the digits which stand first spell behind those of a number, and the bytes behind them.
+fn more_digits(first: u64, bytes: &[u8]) -> (Natural, &[u8])
+    ensures number { result.0 ≡ natural_read (digits_from first bytes.now).0 }
+    ensures rest { result.1.now ≡ (digits_from first bytes.now).1 }
+{
+    let mut number = first;
+    for end in 0..bytes.len() {
+        let Some(digit) = digit_of(bytes[end]) else {
+            return (Natural::Small(number), &bytes[end..]);
+        };
+        let Some(longer) = with_digit(number, digit) else {
+            return (Natural::Large, behind_digits(&bytes[end..]));
+        };
+        number = longer;
+    }
+    (Natural::Small(number), &bytes[bytes.len()..])
+}
+
+// The number that the digits spell which stand first, and the bytes behind them.
+#[inline(always)]
+fn split_digits(bytes: &[u8]) -> (Natural, &[u8])
+    ensures number { result.0 ≡ natural_read (digits_from 0 bytes.now).0 }
+    ensures rest { result.1.now ≡ (digits_from 0 bytes.now).1 }
+{
+    let mut number = 0;
+    let short = bytes.len().min(SHORT);
+    for end in 0..short {
+        let Some(digit) = digit_of(bytes[end]) else {
+            return (Natural::Small(number), &bytes[end..]);
+        };
+        number = number * 10 + u64::from(digit);
+    }
+    more_digits(number, &bytes[short..])
+}
+
 // The number that the digits spell, also where a zero stands in front.
 fn value_of(digits: &[u8]) -> Option<Natural>
     ensures { result ≡ option_map natural_read (number_from 0 digits.now) }
 {
-    let mut number = 0;
-    let mut is_large = false;
-    for byte in digits {
-        let Some(digit) = digit_of(*byte) else {
-            return None;
-        };
-        match with_digit(number, digit) {
-            Some(longer) => number = longer,
-            None => is_large = true,
-        }
+    match split_digits(digits) {
+        (value, []) => Some(value),
+        _ => None,
     }
-    Some(if is_large {
-        Natural::Large
-    } else {
-        Natural::Small(number)
-    })
 }
 
 /// The number of any size that the digits spell, with no zero in front, or `0`.
@@ -83,6 +124,33 @@ pub(crate) fn read_natural(digits: &[u8]) -> Option<Natural>
         [] => None,
         [b'0', _, ..] => None,
         _ => value_of(digits),
+    }
+}
+
+// The number and the rest, where a field ends before the rest.
+fn if_ends(number: Natural, rest: &[u8]) -> Option<(Natural, &[u8])>
+    ensures { option_map (λ found. (found.0, found.1.now)) result ≡ if_ends number rest.now }
+{
+    if ends_field(rest) {
+        Some((number, rest))
+    } else {
+        None
+    }
+}
+
+// The number of any size that the first field spells, and the rest behind the field.
+#[inline(always)]
+fn split_natural(bytes: &[u8]) -> Option<(Natural, &[u8])>
+    ensures { option_map (λ found. (found.0, found.1.now)) result
+        ≡ of_first_field (λ field. option_map natural_read (natural_of field)) bytes.now }
+{
+    match bytes {
+        [] | [b' ', ..] => None,
+        [b'0', rest @ ..] => if_ends(Natural::Small(0), rest),
+        _ => {
+            let (number, rest) = split_digits(bytes);
+            if_ends(number, rest)
+        }
     }
 }
 
@@ -123,6 +191,34 @@ pub fn read_integer(field: &[u8]) -> Option<Integer>
         [] => None,
         [b'-', digits @ ..] => below_zero(read_natural(digits)),
         _ => from_zero(read_natural(field)),
+    }
+}
+
+/// The number of any size that the first field spells, as `read_integer` reads it, and the rest behind the field.
+pub fn split_integer(bytes: &[u8]) -> Option<(Integer, &[u8])>
+    ensures { option_map (λ found. (found.0, found.1.now)) result
+        ≡ of_first_field (λ field. option_map integer_read (integer_of field)) bytes.now }
+{
+    match bytes {
+        [b'-', digits @ ..] => {
+            let (size, rest) = split_natural(digits)?;
+            Some((below_zero(Some(size))?, rest))
+        }
+        _ => {
+            let (size, rest) = split_natural(bytes)?;
+            Some((from_zero(Some(size))?, rest))
+        }
+    }
+}
+
+/// The number below 2^64 that the first field spells, as `read_number` reads it, and the rest behind the field.
+pub fn split_number(bytes: &[u8]) -> Option<(u64, &[u8])>
+    ensures { option_map (λ found. (found.0, found.1.now)) result
+        ≡ of_first_field (λ field. if_small (natural_of field)) bytes.now }
+{
+    match split_natural(bytes) {
+        Some((Natural::Small(number), rest)) => Some((number, rest)),
+        _ => None,
     }
 }
 

@@ -5,7 +5,7 @@ use Rattle.std.specs.Int.{w32, w64}
 use Rattle.std.specs.Fmt.{signed_decimal}
 use Rattle.std.specs.List.{AllByRecursion, list_any}
 use Rattle.std.specs.Option.{option_map, ok_or}
-use Rattle.std.proofs.lemmas.Bool.{eqb-true, ne_eqb, and_parts, leb-true, le-leb, ltb-true, lt-ltb, cond-true}
+use Rattle.std.proofs.lemmas.Bool.{eqb-true, eqb-false, ne_eqb, and_parts, leb-true, le-leb, ltb-true, lt-ltb, cond-true}
 use Rattle.std.proofs.lemmas.Bool.Decides.{nat_tests}
 use Rattle.std.proofs.lemmas.Fmt.{decimal_nonempty}
 use Rattle.std.proofs.lemmas.Option.{some_pair_parts}
@@ -38,15 +38,16 @@ first_read (byte ∷ field) rest none ends = rw (ne_eqb byte 32 none.0) (ap (put
 -- the first field and the rest are the bytes
 pub record IsParted (bytes field rest : List ℕ) : Type 0 where
   pub joined : bytes ≡ field ++ rest
+  pub none : AllByRecursion (λ byte. byte ≢ 32) field
   pub ends : ends_field rest ≡ true
 
 pub first_taken : (bytes : List ℕ) → IsParted bytes (first_field bytes).0 (first_field bytes).1
-first_taken [] = record { joined = refl; ends = refl }
+first_taken [] = record { joined = refl; none = tt; ends = refl }
 first_taken (byte ∷ bytes) = at_test (eqb byte 32) refl (first_taken bytes)
   where
     at_test : (b : Bool) → eqb byte 32 ≡ b → IsParted bytes (first_field bytes).0 (first_field bytes).1 → let parts : List ℕ × List ℕ = cond b ([], byte ∷ bytes) (put_front byte (first_field bytes)) in IsParted (byte ∷ bytes) parts.0 parts.1
-    at_test true e others = record { joined = refl; ends = e }
-    at_test false e others = record { joined = ap (λ l. byte ∷ l) others.joined; ends = others.ends }
+    at_test true e others = record { joined = refl; none = tt; ends = e }
+    at_test false e others = record { joined = ap (λ l. byte ∷ l) others.joined; none = (eqb-false byte 32 e, others.none); ends = others.ends }
 
 -- ---- the bytes of numbers
 

@@ -7,6 +7,7 @@ pub mod LastStamps
 pub mod OneLines
 pub mod CallPlaces
 pub mod HeadLines
+pub mod HeadNumbers
 pub mod TextReads
 pub mod DecimalBytes
 pub mod ArgumentLines

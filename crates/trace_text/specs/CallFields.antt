@@ -1,5 +1,5 @@
 -- The arguments of a call's line as they are read.
-use Rattle.std.specs.Prelude.{◌≡◌, ℕ, List, [], ◌∷◌, ⊤, Result, Ok, Err}
+use Rattle.std.specs.Prelude.{ℕ, List, [], ◌∷◌, Result, Ok, Err}
 use Rattle.std.specs.Option.{ok_or}
 use Rattle.printf_grammar.specs.declared.arg_type.ArgType.{ArgType}
 use Rattle.printf_grammar.specs.declared.argument.Value.{Value}
@@ -8,9 +8,7 @@ use Rattle.trace_text.specs.declared.cause.TraceCause.{TraceCause}
 use Rattle.trace_text.specs.declared.cause.TraceCause.TheVariants.{ArgCount, ArgKind}
 use Rattle.trace_text.specs.declared.call_fields.CallField.{CallField}
 use Rattle.trace_text.specs.declared.call_fields.CallField.TheVariants as fields
-use Rattle.trace_text.specs.declared.call_line.CallFault.{CallFault}
-use Rattle.trace_text.specs.declared.call_line.CallFault.TheVariants.{Refused, NoMemory}
-use Rattle.trace_text.specs.CallReading.{◌>>=◌, item_at, argument_of, arguments_at}
+use Rattle.trace_text.specs.CallReading.{◌>>=◌, item_at, argument_of}
 
 -- an argument without where its text lies
 abbrev pub field_value : CallField → Value
@@ -34,9 +32,3 @@ item_argument type bytes = do
 abbrev pub spaced_argument : ArgType → List ℕ → Result (Value × List ℕ) TraceCause
 spaced_argument type [] = Err ArgCount
 spaced_argument type (space ∷ bytes) = item_argument type bytes
-
--- the values are the arguments, or are refused so; want of memory says nothing of them
-abbrev pub ReadsArguments : List ArgType → List ℕ → Result (List Value) CallFault → Type 0
-ReadsArguments types bytes (Ok args) = arguments_at types bytes ≡ Ok args
-ReadsArguments types bytes (Err (Refused cause)) = arguments_at types bytes ≡ Err cause
-ReadsArguments types bytes (Err NoMemory) = ⊤

@@ -1,5 +1,5 @@
 -- What a line of a call says in a run, or why it is refused.
-use Rattle.std.specs.Prelude.{ℕ, zero, suc, ◌++◌, ◌^◌, ℤ, pos, negsuc, int_le, Bool, true, ◌==◌, ◌&&◌, nat_le, nat_lt, List, [], ◌∷◌, length, codes, Option, None, Some, Result, Ok, Err, slice_get, sum_by, if◌then◌else◌}
+use Rattle.std.specs.Prelude.{ℕ, zero, suc, ◌++◌, ◌^◌, ℤ, pos, negsuc, int_le, Bool, ◌&&◌, nat_le, nat_lt, List, [], ◌∷◌, length, codes, Option, None, Some, Result, Ok, Err, slice_get, sum_by, if◌then◌else◌}
 use Rattle.std.specs.Option.{option_map, ok_or}
 use Rattle.printf_grammar.specs.declared.arg_type.ArgType.{ArgType}
 use Rattle.printf_grammar.specs.declared.arg_type.ArgType.TheVariants as types
@@ -8,6 +8,7 @@ use Rattle.printf_grammar.specs.declared.argument.Value.TheVariants as values
 use Rattle.printf_grammar.specs.declared.limits.TheConstants.{MAX_TEXT}
 use Rattle.printf_grammar.specs.Types.{Types}
 use Rattle.log_dictionary.specs.Fields.{first_field}
+pub use Rattle.log_dictionary.specs.Fields.{ends_field}
 use Rattle.log_dictionary.specs.Numbers.{integer_of}
 use Rattle.log_dictionary.specs.Texts.{text_at, has_nul}
 use Rattle.arg_records.specs.declared.call.Call.{Call}
@@ -37,11 +38,6 @@ refused_if test cause = if test then Err cause else Ok tt
 pub data Item : Type 0 where
   number : ℤ → Item
   text : List ℕ → Item
-
--- the rest of a line behind a field: nothing, or a space and more
-abbrev pub ends_field : List ℕ → Bool
-ends_field [] = true
-ends_field (byte ∷ bytes) = byte == 32
 
 -- a number up to the next space, and what follows it
 abbrev pub number_item : List ℕ → Option (Item × List ℕ)

@@ -15,6 +15,13 @@ begins_with front line = is_some (after front line)
 abbrev pub field_number : List ℕ → Option ℕ
 field_number field = if_small (natural_of field)
 
+-- the number that is in front of the first space, and what follows the space
+abbrev pub number_before : List ℕ → Option (ℕ × List ℕ)
+number_before fields = do
+  parts ← split_at_first 32 fields
+  number ← field_number parts.0
+  Some (number, parts.1)
+
 -- the tick, the nanoseconds and the rate of a clock, which ticks
 abbrev pub clock_of : List ℕ → Option Clock
 clock_of fields = do

@@ -1,18 +1,17 @@
 //! The arguments of a call's line.
 
-ghost use Rattle.std.specs.Prelude.{◌≡◌, ◌+◌, ◌≤◌, ℤ, IfOk, length, Some, None, List, ℕ, OnOk, IfErr, ◌<◌, ◌++◌, ◌∷◌, []};
+ghost use Rattle.std.specs.Prelude.{◌≡◌, ◌≢◌, ◌+◌, ◌≤◌, ℤ, IfOk, IfSome, length, Ok, Some, List, ◌<◌, ◌++◌, ◌∷◌, []};
+ghost use Rattle.printf_grammar.specs.declared.argument.Value.{Value as ArgValue};
 ghost use Rattle.printf_grammar.specs.declared.limits.TheConstants.{MAX_ARGUMENTS};
 ghost use Rattle.log_dictionary.specs.Numbers.{integer_read, if_signed};
 ghost use Rattle.arg_records.specs.Frames.{FrameLen, IsShort, argument_words};
-ghost use Rattle.trace_text.specs.CallReading.{ends_field, signed_within, unsigned_below, argument_of, arguments_at};
-ghost use Rattle.trace_text.specs.CallReading.Item.{number, text};
-ghost use Rattle.trace_text.specs.CallFields.{field_value, result_as, item_argument, spaced_argument, ReadsArguments};
-ghost use Rattle.log_dictionary.specs.Texts.{text_at};
+ghost use Rattle.trace_text.specs.CallReading.{signed_within, unsigned_below, checked_text, argument_of, arguments_at};
+ghost use Rattle.trace_text.specs.CallReading.Item.{number};
+ghost use Rattle.trace_text.specs.CallFields.{field_value, result_as, item_argument, spaced_argument};
 
-use crate::call_line::CallFault;
 use crate::cause::TraceCause;
 use arg_records::text_words;
-use log_dictionary::{Integer, SpelledText, first_field, read_integer, split_text};
+use log_dictionary::{Integer, SpelledText, ends_field, split_integer, split_text};
 use printf_grammar::{ArgType, MAX_ARGUMENTS, MAX_SIZE, MAX_TEXT, Value, Values};
 use std::alloc::{AllocError, Global};
 
@@ -74,13 +73,10 @@ fn number_field<'a>(kind: ArgType, integer: Integer) -> Result<CallField<'a>, Tr
     }
 }
 
-fn text_field(kind: ArgType, spelled: SpelledText<'_>) -> Result<CallField<'_>, TraceCause>
-    ensures value { result_as field_value result ≡ argument_of kind (text spelled.entry) }
+fn text_field(spelled: SpelledText<'_>) -> Result<CallField<'_>, TraceCause>
+    ensures value { result_as field_value result ≡ checked_text spelled.entry }
     ensures short { IfOk result (λ field. IsShort (field_value field)) }
 {
-    if kind != ArgType::Text {
-        return Err(TraceCause::ArgKind);
-    }
     if spelled.has_nul() {
         return Err(TraceCause::NulInText);
     }
@@ -90,23 +86,13 @@ fn text_field(kind: ArgType, spelled: SpelledText<'_>) -> Result<CallField<'_>, 
     Ok(CallField::Text(spelled))
 }
 
-fn ends_field(rest: &[u8]) -> bool
-    ensures { result ≡ ends_field rest.now }
-{
-    match rest {
-        [] => true,
-        [byte, ..] => *byte == b' ',
-    }
-}
-
 // A number up to the next space, and the bytes from that space on.
 fn read_number_field(kind: ArgType, bytes: &[u8]) -> Result<(CallField<'_>, &[u8]), TraceCause>
     ensures short { IfOk result (λ found. IsShort (field_value found.0)) }
-    ensures value { text_at bytes.now ≡ None
+    ensures value { kind ≢ ArgType.Text
         → result_as (λ found. (field_value found.0, found.1.now)) result ≡ item_argument kind bytes.now }
 {
-    let (field, rest) = first_field(bytes);
-    let Some(integer) = read_integer(field) else {
+    let Some((integer, rest)) = split_integer(bytes) else {
         return Err(TraceCause::ArgKind);
     };
     match number_field(kind, integer) {
@@ -116,19 +102,18 @@ fn read_number_field(kind: ArgType, bytes: &[u8]) -> Result<(CallField<'_>, &[u8
 }
 
 // A text and the bytes behind it.
-fn read_text_field<'a>(
-    kind: ArgType,
-    text: SpelledText<'a>,
-    rest: &'a [u8],
-) -> Result<(CallField<'a>, &'a [u8]), TraceCause>
+fn read_text_field(bytes: &[u8]) -> Result<(CallField<'_>, &[u8]), TraceCause>
     ensures short { IfOk result (λ found. IsShort (field_value found.0)) }
-    ensures value { (bytes : List ℕ) → text_at bytes ≡ Some (text.entry, rest.now)
-        → result_as (λ found. (field_value found.0, found.1.now)) result ≡ item_argument kind bytes }
+    ensures value { result_as (λ found. (field_value found.0, found.1.now)) result
+        ≡ item_argument ArgType.Text bytes.now }
 {
+    let Some((text, rest)) = split_text(bytes) else {
+        return Err(TraceCause::ArgKind);
+    };
     if !ends_field(rest) {
         return Err(TraceCause::ArgKind);
     }
-    match text_field(kind, text) {
+    match text_field(text) {
         Ok(field) => Ok((field, rest)),
         Err(cause) => Err(cause),
     }
@@ -138,9 +123,9 @@ fn read_item(kind: ArgType, bytes: &[u8]) -> Result<(CallField<'_>, &[u8]), Trac
     ensures short { IfOk result (λ found. IsShort (field_value found.0)) }
     ensures value { result_as (λ found. (field_value found.0, found.1.now)) result ≡ item_argument kind bytes.now }
 {
-    match split_text(bytes) {
-        Some((text, rest)) => read_text_field(kind, text, rest),
-        None => read_number_field(kind, bytes),
+    match kind {
+        ArgType::Text => read_text_field(bytes),
+        _ => read_number_field(kind, bytes),
     }
 }
 
@@ -166,7 +151,7 @@ fn field_words(field: &CallField) -> u64
     }
 }
 
-fn kept(alloc: Global, field: CallField) -> Result<Value, AllocError>
+fn kept_value(alloc: Global, field: CallField) -> Result<Value, AllocError>
     ensures { IfOk result (λ value. value ≡ field_value field.entry) }
 {
     match field {
@@ -176,32 +161,37 @@ fn kept(alloc: Global, field: CallField) -> Result<Value, AllocError>
     }
 }
 
-fn push_field(alloc: Global, values: &mut Values, field: CallField) -> Result<(), CallFault>
-    requires { length values.old < MAX_ARGUMENTS }
-    ensures ok { OnOk result (values.new ≡ values.old ++ field_value field.entry ∷ []) }
-    ensures err { IfErr result (λ fault. fault ≡ CallFault.NoMemory) }
+// The arguments so far, with one more. There are none where memory lacked.
+fn with_field(alloc: Global, kept: Option<Values>, field: CallField) -> Option<Values>
+    requires { IfSome kept (λ values. length values < MAX_ARGUMENTS) }
+    ensures { (args : List ArgValue) → IfSome kept (λ values. values ≡ args)
+        → IfSome result (λ values. values ≡ args ++ field_value field.entry ∷ []) }
 {
-    let Ok(value) = kept(alloc, field) else {
-        return Err(CallFault::NoMemory);
-    };
-    match values.push(value) {
-        Ok(()) => Ok(()),
-        Err(_) => Err(CallFault::NoMemory),
-    }
+    let mut values = kept?;
+    let value = kept_value(alloc, field).ok()?;
+    values.push(value).ok()?;
+    Some(values)
 }
 
-/// How many words the frame of a call has whose arguments, of these types, the bytes spell. It
-/// takes no memory.
-pub(crate) fn frame_len_of(types: &[ArgType], bytes: &[u8]) -> Result<u64, TraceCause>
+/// The arguments of these types that the bytes spell, where there is memory for them, and how many
+/// words the frame of their call has.
+pub(crate) fn read_arguments(
+    alloc: Global,
+    types: &[ArgType],
+    bytes: &[u8],
+) -> Result<(Option<Values>, u64), TraceCause>
     requires { length types.now ≤ MAX_ARGUMENTS }
-    ensures { result ≡ result_as FrameLen (arguments_at types.now bytes.now) }
+    ensures words { result_as (λ read. read.1) result ≡ result_as FrameLen (arguments_at types.now bytes.now) }
+    ensures values { IfOk result (λ read. IfSome read.0 (λ values. arguments_at types.now bytes.now ≡ Ok values)) }
 {
+    let mut kept = Values::with_capacity(alloc, types.len()).ok();
     let mut words = 2;
     let mut rest = bytes;
     for kind in types {
         match read_field(*kind, rest) {
             Ok((field, after)) => {
                 words += field_words(&field);
+                kept = with_field(alloc, kept, field);
                 rest = after;
             }
             Err(cause) => return Err(cause),
@@ -210,33 +200,5 @@ pub(crate) fn frame_len_of(types: &[ArgType], bytes: &[u8]) -> Result<u64, Trace
     if !rest.is_empty() {
         return Err(TraceCause::ArgCount);
     }
-    Ok(words)
-}
-
-/// The arguments of these types that the bytes spell.
-pub(crate) fn read_arguments(
-    alloc: Global,
-    types: &[ArgType],
-    bytes: &[u8],
-) -> Result<Values, CallFault>
-    requires { length types.now ≤ MAX_ARGUMENTS }
-    ensures { ReadsArguments types.now bytes.now result }
-{
-    let Ok(mut values) = Values::with_capacity(alloc, types.len()) else {
-        return Err(CallFault::NoMemory);
-    };
-    let mut rest = bytes;
-    for kind in types {
-        match read_field(*kind, rest) {
-            Ok((field, after)) => {
-                push_field(alloc, &mut values, field)?;
-                rest = after;
-            }
-            Err(cause) => return Err(CallFault::Refused(cause)),
-        }
-    }
-    if !rest.is_empty() {
-        return Err(CallFault::Refused(TraceCause::ArgCount));
-    }
-    Ok(values)
+    Ok((kept, words))
 }

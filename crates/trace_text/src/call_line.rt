@@ -3,16 +3,16 @@
 ghost use Rattle.std.specs.Prelude.{◌≡◌, ◌<◌, length, sum_by, slice_get, Err, IfOk, IfErr, IsOk, OnSome};
 ghost use Rattle.std.specs.Option.{option_copied, option_map};
 ghost use Rattle.log_dictionary.specs.declared.dictionary.TheConstants.{MAX_MESSAGES};
-ghost use Rattle.trace_text.specs.LineFields.{head_of, head_at};
+ghost use Rattle.trace_text.specs.LineFields.{number_before, head_of};
 ghost use Rattle.trace_text.specs.CallReading.{last_stamp, call_at};
 ghost use Rattle.trace_text.specs.CallAnswers.{ReadsCall};
 ghost use Rattle.trace_text.specs.CallPlaces.{head_view, begun_call};
 
-use crate::call_fields::{frame_len_of, read_arguments};
+use crate::call_fields::read_arguments;
 use crate::cause::TraceCause;
 use crate::trace::{MAX_CALLS, Trace};
 use arg_records::{Call, Calls, MAX_FRAME_WORDS};
-use log_dictionary::{Dictionary, Message, first_field, read_number, split_at_byte};
+use log_dictionary::{Dictionary, Message, split_number};
 use std::alloc::Global;
 
 /// Why a line gave no call.
@@ -41,28 +41,30 @@ struct BegunCall<'a> {
     fields: &'a [u8],
 }
 
+// A number and a space, and what follows the space.
+fn number_before(bytes: &[u8]) -> Option<(u64, &[u8])>
+    ensures { option_map (λ found. (found.0, found.1.now)) result ≡ number_before bytes.now }
+{
+    match split_number(bytes) {
+        None => None,
+        Some((_, [])) => None,
+        Some((number, [_, rest @ ..])) => Some((number, rest)),
+    }
+}
+
 // A writer, a stamp and an id, and what follows them.
 fn head_of(fields: &[u8]) -> Option<CallLineHead<'_>>
     ensures { option_map head_view result ≡ head_of fields.now }
 {
-    let (writer, rest) = split_at_byte(fields, b' ')?;
-    let writer = read_number(writer)?;
-    let (stamp, rest) = split_at_byte(rest, b' ')?;
-    let stamp = read_number(stamp)?;
-    let (id, fields) = first_field(rest);
-    let id = read_number(id)?;
+    let (writer, rest) = number_before(fields)?;
+    let (stamp, rest) = number_before(rest)?;
+    let (id, fields) = split_number(rest)?;
     Some(CallLineHead {
         writer,
         stamp,
         id,
         fields,
     })
-}
-
-fn head_at(line: &[u8]) -> Option<CallLineHead<'_>>
-    ensures { option_map head_view result ≡ head_at line.now }
-{
-    head_of(line.strip_prefix(b"call ")?)
 }
 
 fn last_stamp(least: u64, calls: &Calls) -> u64
@@ -90,10 +92,13 @@ fn begin_call<'a>(run: &'a Trace, calls: usize, line: &'a [u8]) -> Result<BegunC
     ensures ok { IfOk result (λ begun. call_at run.now line.now ≡ begun_call begun) }
     ensures err { IfErr result (λ cause. call_at run.now line.now ≡ Err cause) }
 {
-    if line.starts_with(b"call ") && calls >= MAX_CALLS {
+    let Some(fields) = line.strip_prefix(b"call ") else {
+        return Err(TraceCause::CallForm);
+    };
+    if calls >= MAX_CALLS {
         return Err(TraceCause::TooMany);
     }
-    let Some(head) = head_at(line) else {
+    let Some(head) = head_of(fields) else {
         return Err(TraceCause::CallForm);
     };
     let Some(made) = run.writers.get(head.writer as usize) else {
@@ -135,14 +140,16 @@ pub(crate) fn read_call(
         Err(cause) => return Err(CallFault::Refused(cause)),
     };
     let types = begun.message.format.types();
-    match frame_len_of(types, begun.fields) {
-        Ok(words) if words > MAX_FRAME_WORDS as u64 => {
-            return Err(CallFault::Refused(TraceCause::TooLong));
-        }
-        Ok(_) => {}
+    let (kept, words) = match read_arguments(alloc, types, begun.fields) {
+        Ok(read) => read,
         Err(cause) => return Err(CallFault::Refused(cause)),
+    };
+    if words > MAX_FRAME_WORDS as u64 {
+        return Err(CallFault::Refused(TraceCause::TooLong));
     }
-    let args = read_arguments(alloc, types, begun.fields)?;
+    let Some(args) = kept else {
+        return Err(CallFault::NoMemory);
+    };
     let call = Call {
         stamp: begun.stamp,
         id: begun.id,

@@ -1,11 +1,21 @@
-use Rattle.std.proofs.Common.{arith}
+use Rattle.std.proofs.Common.{◌++◌, ◌∷◌, [], sym, ap, arith}
 use Rattle.printf_grammar.specs.declared.arg_type.ArgType.TheVariants.{Int}
-use Rattle.trace_text.specs.CallFields.{field_value}
-use Rattle.trace_text.proofs.CallFieldLemmas.{one_read, one_refused}
+use Rattle.arg_records.specs.Frames.{FrameLen}
+use Rattle.trace_text.specs.CallFields.{field_value, result_as}
+use Rattle.trace_text.proofs.CallFieldLemmas.{one_read, one_refused, frame_more}
 use Rattle.trace_text.proofs.call_fields.read_arguments.Goals as goal
 
-pub returns-in-Err : goal.returns-in-Err
-returns-in-Err c = one_refused c.args.types.now c.args.bytes.now c.loop-kind.kind-index c.loop-kind.rest.now c.loop-kind.values Int c.in-Err.cause c.loop-kind.invariant (omega arith) c.in-Err.ensures.value
+pub returns-in-Err-clause-words : goal.returns-in-Err-clause-words
+returns-in-Err-clause-words c = sym (ap (result_as FrameLen) (one_refused c.args.types.now c.args.bytes.now c.loop-kind.kind-index c.loop-kind.rest.now c.loop-kind.invariant.args Int c.in-Err.cause c.loop-kind.invariant.read (omega arith) c.in-Err.ensures.value))
 
 pub loop-kind-preserved : goal.loop-kind-preserved
-loop-kind-preserved c = rw c.in_ok-push_field-in-Ok-read_field.ensures.ok (one_read c.args.types.now c.args.bytes.now c.loop-kind.kind-index c.loop-kind.rest.now c.loop-kind.values Int (field_value c.in-Ok-read_field.field) c.in-Ok-read_field.after.now c.loop-kind.invariant (omega arith) c.in-Ok-read_field.ensures.value)
+loop-kind-preserved c =
+    let args = c.loop-kind.invariant.args in
+    let value = field_value c.in-Ok.field in
+    record {
+      args = args ++ value ∷ [];
+      read = one_read c.args.types.now c.args.bytes.now c.loop-kind.kind-index c.loop-kind.rest.now args Int value c.in-Ok.after.now c.loop-kind.invariant.read (omega arith) c.in-Ok.ensures.value;
+      are_kept = c.with_field-kept.ensures args c.loop-kind.invariant.are_kept;
+      words_are = omega (arith, frame_more args value, c.loop-kind.invariant.words_are, c.field_words-words.ensures.value);
+      few = omega (arith, c.loop-kind.invariant.few, c.field_words-words.ensures.bound);
+    }
