@@ -1,8 +1,7 @@
-//! Formats: what they are made of, which arguments they take, and the texts that they write.
+//! Formats: what they are made of, and which arguments they take.
 
-use crate::tables::{check_rows, cut, text_of, values_of};
-use direct_printf::render;
-use printf_grammar::{FormatCause, ParseFault, fits, parse};
+use crate::tables::{check_rows, text_of};
+use printf_grammar::{Format, FormatCause, ParseFault, parse};
 use std::alloc::{AllocError, Global};
 use std::test::Fail;
 
@@ -16,11 +15,15 @@ width: Star, precision: Star, length: HH, conversion: UpperX })]
 %04095.0004095ld|[Long] [Field(Spec { minus: false, plus: false, space: false, sharp: false, zero: true, \
 width: Given(4095), precision: Given(4095), length: L, conversion: D })]";
 
-fn pieces_of(alloc: Global, format: &str) -> Result<String, Fail> {
-    let format = parse(alloc, format.as_bytes())?;
+fn pieces_shown(alloc: Global, format: &Format) -> Result<String, Fail> {
     let types = format.types();
     let pieces = format.pieces();
     Ok(format!(in alloc; "{types:?} {pieces:?}")?)
+}
+
+fn pieces_of(alloc: Global, format: &str) -> Result<String, Fail> {
+    let format = parse(alloc, format.as_bytes())?;
+    pieces_shown(alloc, &format)
 }
 
 /// Formats, and how many pieces and arguments they have, or why and where they break.
@@ -30,18 +33,20 @@ const COUNTS: &str = "\
 64*a text that stands before each of its numbers: %lu|128 and 64;;%5%|BadPercent at 2;;%1$d|Unknown at 2
 64*a text of about sixty bytes which is there at most: %-5.3x|128 and 64;;%4096d|TooWide at 4";
 
+fn counts_shown(alloc: Global, pieces: usize, types: usize) -> Result<String, Fail> {
+    Ok(format!(in alloc; "{pieces} and {types}")?)
+}
+
+fn break_shown(alloc: Global, cause: FormatCause, place: usize) -> Result<String, Fail> {
+    let name = cause.name();
+    Ok(format!(in alloc; "{name} at {place}")?)
+}
+
 fn counts_of(alloc: Global, word: &str) -> Result<String, Fail> {
     let text = text_of(alloc, word)?;
     match parse(alloc, text.as_bytes()) {
-        Ok(format) => {
-            let types = format.types().len();
-            let pieces = format.pieces().len();
-            Ok(format!(in alloc; "{pieces} and {types}")?)
-        }
-        Err(ParseFault::Bad { cause, place }) => {
-            let name = cause.name();
-            Ok(format!(in alloc; "{name} at {place}")?)
-        }
+        Ok(format) => counts_shown(alloc, format.pieces().len(), format.types().len()),
+        Err(ParseFault::Bad { cause, place }) => break_shown(alloc, cause, place),
         Err(ParseFault::NoMemory) => Err("no memory".into()),
     }
 }
@@ -80,24 +85,33 @@ fn answer(alloc: Global, text: &[u8]) -> &'static str {
     }
 }
 
+/// Whether the byte is answered so behind a front.
+fn is_answered(alloc: Global, front: &str, byte: u8, name: &str) -> Result<bool, AllocError> {
+    let mut text = Vec::from_slice(alloc, front.as_bytes())?;
+    text.push(byte)?;
+    Ok(answer(alloc, &text) == name)
+}
+
 /// The bytes that are answered so behind a front.
 fn bytes_answered(alloc: Global, front: &str, name: &str) -> Result<Vec<u8>, AllocError> {
     let mut bytes = Vec::new(alloc);
     for byte in 0..=255u8 {
-        let mut text = Vec::from_slice(alloc, front.as_bytes())?;
-        text.push(byte)?;
-        if answer(alloc, &text) == name {
+        if is_answered(alloc, front, byte, name)? {
             bytes.push(byte)?;
         }
     }
     Ok(bytes)
 }
 
+fn answers_shown(alloc: Global, front: &str, name: &str) -> Result<String, AllocError> {
+    let bytes = bytes_answered(alloc, front, name)?;
+    format!(in alloc; "{name}[{}]", bytes.escape_ascii())
+}
+
 fn answers_behind(alloc: Global, front: &str) -> Result<String, Fail> {
     let mut text = String::new(alloc);
     for name in ANSWERS.split(' ') {
-        let bytes = bytes_answered(alloc, front, name)?;
-        text.push_str(&format!(in alloc; "{name}[{}]", bytes.escape_ascii())?)?;
+        text.push_str(&answers_shown(alloc, front, name)?)?;
     }
     Ok(text)
 }
@@ -107,31 +121,4 @@ fn formats_are_parsed(rt: HostRuntime) -> Result<(), Fail> {
     check_rows(&rt, PIECES, pieces_of)?;
     check_rows(&rt, COUNTS, counts_of)?;
     check_rows(&rt, BYTES_BEHIND.trim_start(), answers_behind)
-}
-
-/// Formats, arguments, and the text that is written; `none` where they don't fit, and the length of a long one.
-const FITTING: &str = "\
-%d|i-2147483648|-2147483648;;%d|i2147483648|none;;%d|u0|none;;%u|u4294967295|4294967295;;%u|u4294967296|none
-%ld|i-9223372036854775808|-9223372036854775808;;%lu|u18446744073709551615|18446744073709551615;;%*d|i-4096,i0|none
-%*d|i-4095,i0|4095 bytes;;%.*d|i-2147483648,i0|0;;%.*d|i4096,i0|none;;%s|t4000*a|4000 bytes;;%s|t4001*a|none
-%s|ta\0|none;;%*s|i-6,tabc|abc   ;;%d|i-6,tabc|none;;%d||none;;%8p/%-8p|u0,u255|   (nil)/0xff    ;;%d%%|i2147483647|2147483647%";
-
-fn text_written(alloc: Global, row: &str) -> Result<String, Fail> {
-    let (format, words) = cut(row)?;
-    let format = parse(alloc, text_of(alloc, format)?.as_bytes())?;
-    let values = values_of(alloc, words)?;
-    if !fits(format.types(), values.as_slice()) {
-        return Ok(String::from_str(alloc, "none")?);
-    }
-    let mut out = Vec::new(alloc);
-    render(&format, values.as_slice(), &mut out)?;
-    if out.len() > 300 {
-        return Ok(format!(in alloc; "{} bytes", out.len())?);
-    }
-    Ok(String::from_utf8(out)?)
-}
-
-#[test]
-fn texts_are_written(rt: HostRuntime) -> Result<(), Fail> {
-    check_rows(&rt, FITTING, text_written)
 }

@@ -2,9 +2,9 @@
 
 ghost use Rattle.std.specs.Prelude.{◌≤◌, length, IfSome};
 
-use crate::tables::{check_rows, cut, text_of, times, values_of};
+use crate::tables::{check_rows, cut, text_of, times, truth_of, values_of};
 use arg_records::{FrameFault, frame_id, frame_stamp, frame_words, read_frame};
-use printf_grammar::{ArgType, Value, Values, fits, parse};
+use printf_grammar::{ArgType, Format, Value, Values, fits, parse};
 use std::alloc::{AllocError, Global};
 use std::test::Fail;
 
@@ -87,26 +87,55 @@ pub(crate) fn framed(
     frame_words(id, stamp, args, words).ok()
 }
 
-fn frame_written(alloc: Global, row: &str) -> Result<String, Fail> {
-    let (id, rest) = cut(row)?;
-    let (stamp, rest) = cut(rest)?;
-    let (format, args) = cut(rest)?;
-    let format = parse(alloc, text_of(alloc, format)?.as_bytes())?;
-    let values = values_of(alloc, args)?;
-    let types = format.types();
-    if types.len() > 64 {
-        return Err("too many types".into());
-    }
-    let id = id.parse::<u32>()?;
-    let stamp = stamp.parse::<u64>()?;
+/// The words of the frame, if that is read as the same call.
+fn frame_shown(
+    alloc: Global,
+    types: &[ArgType],
+    id: u32,
+    stamp: u64,
+    values: &Values,
+) -> Result<String, Fail>
+    requires few { length types.now ≤ 64 }
+{
     let mut words = [77; 512];
     let Some(len) = framed(id, stamp, types, values.as_slice(), &mut words) else {
         return Ok(String::from_str(alloc, "too long")?);
     };
-    if !is_frame_of(alloc, types, &words, len, (id, stamp, &values))? {
+    if !is_frame_of(alloc, types, &words, len, (id, stamp, values))? {
         return Err("another frame is read".into());
     }
     Ok(words_shown(alloc, &words[..len])?)
+}
+
+/// The words of the frame of a call with arguments of these types.
+fn frame_of(
+    alloc: Global,
+    types: &[ArgType],
+    id: u32,
+    stamp: u64,
+    args: &str,
+) -> Result<String, Fail> {
+    if types.len() > 64 {
+        return Err("too many types".into());
+    }
+    let values = values_of(alloc, args)?;
+    frame_shown(alloc, types, id, stamp, &values)
+}
+
+/// The format that a word spells.
+fn format_of(alloc: Global, word: &str) -> Result<Format, Fail> {
+    let text = text_of(alloc, word)?;
+    Ok(parse(alloc, text.as_bytes())?)
+}
+
+fn frame_written(alloc: Global, row: &str) -> Result<String, Fail> {
+    let (id, rest) = cut(row)?;
+    let (stamp, rest) = cut(rest)?;
+    let (format, args) = cut(rest)?;
+    let id = id.parse::<u32>()?;
+    let stamp = stamp.parse::<u64>()?;
+    let format = format_of(alloc, format)?;
+    frame_of(alloc, format.types(), id, stamp, args)
 }
 
 /// Formats and words that are the frame of no arguments of theirs.
@@ -121,13 +150,8 @@ const BROKEN: &str = "\
 %s%s|201 9 fa0 500*6161616161616161 48 9*6262626262626262|true;;%s%s|1f9 9 fa8 501*6161616161616161 0|true
 %s%s|200 9 fa0 500*6161616161616161 40 8*6262626262626262|false";
 
-fn frame_broken(alloc: Global, row: &str) -> Result<String, Fail> {
-    let (format, words) = cut(row)?;
-    let format = parse(alloc, format.as_bytes())?;
-    let types = format.types();
-    if types.len() > 64 {
-        return Err("too many types".into());
-    }
+/// The words that are spelled in hexadecimal.
+fn words_of(alloc: Global, words: &str) -> Result<Vec<u64>, Fail> {
     let mut frame = Vec::new(alloc);
     for word in words.split_ascii_whitespace() {
         let (count, word) = times(word);
@@ -136,7 +160,21 @@ fn frame_broken(alloc: Global, row: &str) -> Result<String, Fail> {
             frame.push(word)?;
         }
     }
-    Ok(format!(in alloc; "{}", is_broken(alloc, types, &frame))?)
+    Ok(frame)
+}
+
+fn broken_shown(alloc: Global, types: &[ArgType], words: &[u64]) -> Result<String, Fail> {
+    if types.len() > 64 {
+        return Err("too many types".into());
+    }
+    truth_of(alloc, is_broken(alloc, types, words))
+}
+
+fn frame_broken(alloc: Global, row: &str) -> Result<String, Fail> {
+    let (format, words) = cut(row)?;
+    let frame = words_of(alloc, words)?;
+    let format = format_of(alloc, format)?;
+    broken_shown(alloc, format.types(), &frame)
 }
 
 #[test]

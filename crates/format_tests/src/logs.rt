@@ -1,14 +1,14 @@
-//! Logs: their parts, the most that they may hold, and the lines of many writers.
+//! Logs: their parts, and the most that they may hold.
 
 ghost use Rattle.std.specs.Prelude.{None};
 
-use crate::tables::{bytes_of, text_of};
+use crate::messages::one_message;
+use crate::tables::{bytes_of, check_rows, text_of};
 use checkpoint_io::{
     BlockFault, Header, Reader, append_close, append_extent, append_fragment, append_header,
 };
-use decompressor::decompress;
 use log_dictionary::{Clock, Dictionary};
-use nl_io::{Failed, MemSink, MemSource, Source};
+use nl_io::{Failed, MemSource, Source};
 use std::alloc::{AllocError, Global};
 use std::test::Fail;
 
@@ -28,30 +28,29 @@ const HEADER: Header = Header {
     },
 };
 
-/// The front of that log, up to its extent, for so many writers.
-fn front(alloc: Global, writers: u32) -> Result<Vec<u8>, Fail> {
-    let mut dictionary = Dictionary::make(alloc);
-    dictionary.read_line(b"message 0 NOTICE 12 \"srv.cc\" \"x=%d\"")?;
-    if dictionary.len() != 1 || writers < 1 || writers > 64 {
-        return Err("there is one message, and 1 to 64 writers".into());
+/// The log, as it is appended part by part.
+fn log_appended(alloc: Global, dictionary: &Dictionary) -> Result<Vec<u8>, Fail> {
+    if dictionary.len() != 1 {
+        return Err("there is one message".into());
     }
     let mut log = Vec::new(alloc);
-    append_header(&Header { writers, ..HEADER }, &mut log)?;
-    append_fragment(&dictionary, 0, 1, &mut log)?;
-    Ok(log)
-}
-
-/// The log, as it is appended part by part.
-fn log_appended(alloc: Global) -> Result<Vec<u8>, Fail> {
-    let mut log = front(alloc, 1)?;
+    append_header(&HEADER, &mut log)?;
+    append_fragment(dictionary, 0, 1, &mut log)?;
     append_extent(0, &[0x10, 3, 1, 7], &mut log)?;
     append_close(0, &mut log)?;
     Ok(log)
 }
 
+/// Whether the log of one message is that log.
+fn is_log(alloc: Global, line: &str) -> Result<bool, Fail> {
+    let wanted = bytes_of(alloc, LOG)?;
+    let dictionary = one_message(alloc, line)?;
+    Ok(log_appended(alloc, &dictionary)? == wanted)
+}
+
 #[test]
 fn parts_are_appended(rt: HostRuntime) -> Result<(), Fail> {
-    assert_eq!(rt; log_appended(rt.alloc())?, bytes_of(rt.alloc(), LOG)?);
+    assert!(rt; is_log(rt.alloc(), "message 0 NOTICE 12 \"srv.cc\" \"x=%d\"")?);
     Ok(())
 }
 
@@ -72,12 +71,12 @@ fn ending(
     }
 }
 
-/// How a source is read to its end or to a fault.
-fn read_all<S: Source>(alloc: Global, source: &mut S) -> Result<String, AllocError> {
-    let mut reader = match Reader::start(alloc, source) {
-        Ok(reader) => reader,
-        Err(fault) => return ending(alloc, 0, 0, fault),
-    };
+/// How the blocks of a source are read, to its end or to a fault.
+fn read_blocks<S: Source>(
+    alloc: Global,
+    reader: &mut Reader,
+    source: &mut S,
+) -> Result<String, AllocError> {
     for count in 0..10_000u64 {
         if reader.failed() {
             break;
@@ -89,6 +88,14 @@ fn read_all<S: Source>(alloc: Global, source: &mut S) -> Result<String, AllocErr
         }
     }
     String::from_str(alloc, "on and on")
+}
+
+/// How a source is read to its end or to a fault.
+fn read_all<S: Source>(alloc: Global, source: &mut S) -> Result<String, AllocError> {
+    match Reader::start(alloc, source) {
+        Ok(mut reader) => read_blocks(alloc, &mut reader, source),
+        Err(fault) => ending(alloc, 0, 0, fault),
+    }
 }
 
 /// The bytes of so many fragments of 16 messages, each of which has its id as its line.
@@ -182,64 +189,34 @@ fn long_log(alloc: Global) -> Result<LongLog, Fail> {
     })
 }
 
-/// How a log is read that has so many fragments of 16 messages and one message more.
-fn messages_read(alloc: Global, fragments: u16) -> Result<String, Fail> {
+/// The bytes of so many fragments of 16 messages and one message more.
+fn one_message_more(alloc: Global, fragments: u16) -> Result<Vec<u8>, AllocError> {
     let mut log = full_fragments(alloc, fragments)?;
     let first = 16 * u32::from(fragments);
     log.push(1)?;
     log.extend_from_slice(&first.to_le_bytes())?;
     log.extend_from_slice(&[1, 0, 1, 0, 0, 0, 0, 1, 0, b'g', 0, 0])?;
+    Ok(log)
+}
+
+/// How a log is read that has so many fragments of 16 messages and one message more.
+fn messages_read(alloc: Global, fragments: &str) -> Result<String, Fail> {
+    let log = one_message_more(alloc, fragments.parse()?)?;
     let mut source = MemSource::make(alloc, &log, 65_536, &[])?;
     Ok(read_all(alloc, &mut source)?)
 }
 
+/// How many fragments, and how the log is read.
+const FRAGMENTS: &str = "4095|4096 to 683912;;4096|4096 to 684062: 10 BadLength";
+
 #[test]
 fn a_log_has_65_536_messages_at_most(rt: HostRuntime) -> Result<(), Fail> {
-    let alloc = rt.alloc();
-    assert_eq!(rt; messages_read(alloc, 4095)?.as_str(), "4096 to 683912");
-    let told = messages_read(alloc, 4096)?;
-    assert_eq!(rt; told.as_str(), "4096 to 684062: 10 BadLength");
-    Ok(())
+    check_rows(&rt, FRAGMENTS, messages_read)
 }
 
 #[test]
 fn a_log_has_134_217_728_bytes_at_most(rt: HostRuntime) -> Result<(), Fail> {
     let told = read_all(rt.alloc(), &mut long_log(rt.alloc())?)?;
     assert_eq!(rt; told.as_str(), "2049 to 134217728: 20 TooLarge");
-    Ok(())
-}
-
-/// What is printed of a log of 64 writers, of which the greatest number stands first, and each has a record of one stamp.
-fn many_writers(alloc: Global) -> Result<String, Fail> {
-    let mut log = front(alloc, 64)?;
-    for writer in (0..64u8).rev() {
-        log.extend_from_slice(&[2, writer, 4, 0, 0, 0, 0x10, 3, 1, 7])?;
-    }
-    let mut source = MemSource::make(alloc, &log, 100, &[])?;
-    let mut out = MemSink::make(alloc, 100, &[])?;
-    let report = decompress(alloc, &mut source, &mut out)?;
-    let text = String::from_utf8(out.bytes().to_vec(alloc)?)?;
-    Ok(format!(in alloc;
-        "{text}{} lines, {} open",
-        report.lines,
-        report.unclosed.len()
-    )?)
-}
-
-/// What is wanted of it.
-fn many_lines(alloc: Global) -> Result<String, AllocError> {
-    let mut lines = String::new(alloc);
-    for writer in 0..64u64 {
-        lines.push_str(&format!(in alloc;
-            "1514764800.000000001 srv.cc:12 NOTICE[{writer}]: x=7\n"
-        )?)?;
-    }
-    lines.push_str("64 lines, 64 open")?;
-    Ok(lines)
-}
-
-#[test]
-fn lines_of_one_stamp_come_by_writer(rt: HostRuntime) -> Result<(), Fail> {
-    assert_eq!(rt; many_writers(rt.alloc())?, many_lines(rt.alloc())?);
     Ok(())
 }

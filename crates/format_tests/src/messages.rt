@@ -1,9 +1,9 @@
 //! Messages as lines and as entries, and the dictionaries that they make.
 
-use crate::tables::{bytes_of, check_rows, cut, hexadecimal, text_of, values_of};
+use crate::tables::{bytes_of, check_rows, cut, hexadecimal, text_of, truth_of, values_of};
 use log_dictionary::{
-    AddFault, Added, Dictionary, EntryFault, LineFault, Message, entry_len, first_field, put_entry,
-    read_entry, read_integer, read_number, read_signed, split_at_byte, split_text,
+    Added, Dictionary, EntryFault, LineFault, Message, SpelledText, entry_len, first_field,
+    put_entry, read_entry, read_integer, read_number, read_signed, split_at_byte, split_text,
 };
 use std::alloc::Global;
 use std::test::Fail;
@@ -21,6 +21,13 @@ pub(crate) fn one_message(alloc: Global, line: &str) -> Result<Dictionary, LineF
     Ok(dictionary)
 }
 
+/// The dictionary with one message of the format.
+pub(crate) fn one_format(alloc: Global, format: &str) -> Result<Dictionary, Fail> {
+    let format = text_of(alloc, format)?;
+    let line = format!(in alloc; "message 0 NOTICE 12 \"srv.cc\" \"{format}\"")?;
+    Ok(one_message(alloc, &line)?)
+}
+
 fn written(alloc: Global, line: &str) -> Result<String, Fail> {
     let mut out = Vec::new(alloc);
     one_message(alloc, line)?.write_text(&mut out)?;
@@ -36,26 +43,40 @@ message 0 ERROR 0 "a" ""| 01 00 00 00 00 01 00 61 00 00
 message 0 WARNING 4294967295 "a b.h" "%d of 100%%"| 02 ff ff ff ff 05 00 61 20 62 2e 68 0b 00 25 64 20 6f 66 20 31 30 30 25 25
 message 0 DEBUG 65536 "b.h" "plain"| 04 00 00 01 00 03 00 62 2e 68 05 00 70 6c 61 69 6e"#;
 
+/// Whether an entry is read as that message.
+fn is_entry_of(alloc: Global, bytes: &[u8], message: &Message) -> Result<bool, Fail> {
+    let (again, len) = read_entry(alloc, bytes)?;
+    Ok(len == bytes.len() && again == *message)
+}
+
+/// Whether each front of an entry is cut.
+fn are_fronts_cut(alloc: Global, bytes: &[u8]) -> bool {
+    for end in 0..bytes.len() {
+        if !matches!(read_entry(alloc, &bytes[..end]), Err(EntryFault::Cut)) {
+            return false;
+        }
+    }
+    true
+}
+
 /// The entry of a message, if it is read as that message again, and cut nowhere.
 fn entry_of(alloc: Global, message: &Message) -> Result<Vec<u8>, Fail> {
     let mut bytes = vec![in alloc; 0xee; entry_len(message)]?;
     put_entry(message, &mut bytes);
-    let (again, len) = read_entry(alloc, &bytes)?;
-    if len != bytes.len() || again != *message {
+    if !is_entry_of(alloc, &bytes, message)? || !are_fronts_cut(alloc, &bytes) {
         return Err("another message is read".into());
-    }
-    for end in 0..len {
-        if !matches!(read_entry(alloc, &bytes[..end]), Err(EntryFault::Cut)) {
-            return Err("a cut entry is read".into());
-        }
     }
     Ok(bytes)
 }
 
-fn entry_written(alloc: Global, line: &str) -> Result<String, Fail> {
-    let dictionary = one_message(alloc, line)?;
+fn entry_shown(alloc: Global, dictionary: &Dictionary) -> Result<String, Fail> {
     let entry = entry_of(alloc, dictionary.get(0).ok_or("no message")?)?;
     Ok(hexadecimal(alloc, &entry)?)
+}
+
+fn entry_written(alloc: Global, line: &str) -> Result<String, Fail> {
+    let dictionary = one_message(alloc, line)?;
+    entry_shown(alloc, &dictionary)
 }
 
 /// Names, formats, and how long the entry of such a message is.
@@ -109,15 +130,21 @@ fn line_answer(alloc: Global, line: &str) -> Result<String, Fail> {
     Ok(format!(in alloc; "{answer:?}")?)
 }
 
-/// Ids and arguments, and whether a call of a dictionary with `%d` alone may have them.
-const CALLS: &str = "0|i7|true;;0|i2147483648|false;;0|u7|false;;1|i7|false;;0||false";
+/// Formats, ids and arguments, and whether a dictionary with one message of the format takes such a call.
+const CALLS: &str = "\
+%d|0|i7|true;;%d|0|i2147483647|true;;%d|0|i2147483648|false;;%d|0|i-2147483648|true;;%d|0|i-2147483649|false
+%d|0|u7|false;;%d|0|u0|false;;%d|1|i7|false;;%d|0||false;;%d|0|i-6,tabc|false;;%d%%|0|i2147483647|true
+%u|0|u4294967295|true;;%u|0|u4294967296|false;;%8p/%-8p|0|u0,u255|true;;%lu|0|u18446744073709551615|true
+%ld|0|i-9223372036854775808|true;;%*d|0|i-4096,i0|false;;%*d|0|i-4095,i0|true;;%*s|0|i-6,tabc|true
+%.*d|0|i-2147483648,i0|true;;%.*d|0|i4096,i0|false;;%s|0|t4000*a|true;;%s|0|t4001*a|false;;%s|0|ta\0|false";
 
 fn takes(alloc: Global, row: &str) -> Result<String, Fail> {
-    let (id, words) = cut(row)?;
-    let dictionary = one_message(alloc, "message 0 NOTICE 12 \"srv.cc\" \"x=%d\"")?;
+    let (format, rest) = cut(row)?;
+    let (id, words) = cut(rest)?;
+    let id = id.parse::<u32>()?;
     let values = values_of(alloc, words)?;
-    let takes = dictionary.takes(id.parse()?, values.as_slice());
-    Ok(format!(in alloc; "{takes}")?)
+    let dictionary = one_format(alloc, format)?;
+    truth_of(alloc, dictionary.takes(id, values.as_slice()))
 }
 
 #[test]
@@ -133,14 +160,19 @@ const TEXTS: &str = r#"
 "a\\"b"|2 false 61 5c >b";;plain|none;;'a'|none;;"|none;;"a|none;;"a\"|none;;"\a"|none;;"\x"|none;;"\x4"|none
 "\x4g"|none;;"\xg4"|none;;"\X41"|none;;"\|none;;"line␊here"|none"#;
 
+fn text_shown(alloc: Global, text: SpelledText<'_>, after: &[u8]) -> Result<String, Fail> {
+    let bytes = text.to_bytes(alloc)?;
+    let words = hexadecimal(alloc, bytes.as_slice())?;
+    let after = str::from_utf8(after)?;
+    Ok(format!(in alloc; "{} {}{words} >{after}", text.len(), text.has_nul())?)
+}
+
 fn split(alloc: Global, line: &str) -> Result<String, Fail> {
     let line = text_of(alloc, line)?;
-    let Some((text, after)) = split_text(line.as_bytes()) else {
-        return Ok(String::from_str(alloc, "none")?);
-    };
-    let words = hexadecimal(alloc, text.to_bytes(alloc)?.as_slice())?;
-    let after = String::from_utf8(after.to_vec(alloc)?)?;
-    Ok(format!(in alloc; "{} {}{words} >{after}", text.len(), text.has_nul())?)
+    match split_text(line.as_bytes()) {
+        Some((text, after)) => text_shown(alloc, text, after),
+        None => Ok(String::from_str(alloc, "none")?),
+    }
 }
 
 /// A field, and what it is as a number of any size, below 2^64, and from -2^63 to 2^63-1.
@@ -195,32 +227,54 @@ fn numbered(alloc: Global, number: u32) -> Result<Message, Fail> {
     Ok(message)
 }
 
+/// Adds the message of an id, by a line or by a call.
+fn add_message(alloc: Global, dictionary: &mut Dictionary, id: u32) -> Result<(), Fail> {
+    if id % 2 == 0 {
+        let line = format!(in alloc; "message {id} NOTICE {id} \"srv.cc\" \"x=%d\"")?;
+        return Ok(dictionary.read_line(line.as_bytes())?);
+    }
+    if dictionary.add(numbered(alloc, id)?) != Ok(Added::New(id)) {
+        return Err("it isn't new".into());
+    }
+    Ok(())
+}
+
 /// The dictionary with so many messages, which come by lines and by calls in turn.
 fn many_messages(alloc: Global, count: u32) -> Result<Dictionary, Fail> {
     let mut dictionary = Dictionary::make(alloc);
     for id in 0..count {
-        if id % 2 == 0 {
-            let line = format!(in alloc; "message {id} NOTICE {id} \"srv.cc\" \"x=%d\"")?;
-            dictionary.read_line(line.as_bytes())?;
-        } else if dictionary.add(numbered(alloc, id)?) != Ok(Added::New(id)) {
-            return Err("it isn't new".into());
-        }
+        add_message(alloc, &mut dictionary, id)?;
     }
     Ok(dictionary)
 }
 
+/// How a message is answered that is added by a call.
+fn addition_shown(alloc: Global, dictionary: &mut Dictionary, id: u32) -> Result<String, Fail> {
+    let added = dictionary.add(numbered(alloc, id)?);
+    Ok(format!(in alloc; "{added:?} ")?)
+}
+
+/// How a full dictionary answers messages that it has, and others.
+fn additions_shown(alloc: Global, dictionary: &mut Dictionary) -> Result<String, Fail> {
+    let mut text = String::new(alloc);
+    for id in [0, 1, 40_000, 65_535, 65_536] {
+        text.push_str(&addition_shown(alloc, dictionary, id)?)?;
+    }
+    let line = dictionary.read_line(b"message 0 NOTICE 0 \"srv.cc\" \"x=%d\"");
+    text.push_str(&format!(in alloc; "{line:?}")?)?;
+    Ok(text)
+}
+
+fn filled(alloc: Global, count: &str) -> Result<String, Fail> {
+    let mut dictionary = many_messages(alloc, count.parse()?)?;
+    additions_shown(alloc, &mut dictionary)
+}
+
+/// How many messages a dictionary has, and how it answers more of them.
+const FULL: &str =
+    "65536|Ok(Old(0)) Ok(Old(1)) Ok(Old(40000)) Ok(Old(65535)) Err(TooMany) Err(TooMany)";
+
 #[test]
 fn a_dictionary_is_filled(rt: HostRuntime) -> Result<(), Fail> {
-    let alloc = rt.alloc();
-    let mut dictionary = many_messages(alloc, 65_536)?;
-    for id in [0, 1, 40_000, 65_535] {
-        assert_eq!(rt; dictionary.add(numbered(alloc, id)?), Ok(Added::Old(id)));
-    }
-    let line = b"message 0 NOTICE 0 \"srv.cc\" \"x=%d\"";
-    assert_eq!(rt; dictionary.read_line(line), Err(LineFault::TooMany));
-    assert_eq!(rt;
-        dictionary.add(numbered(alloc, 65_536)?),
-        Err(AddFault::TooMany)
-    );
-    Ok(())
+    check_rows(&rt, FULL, filled)
 }

@@ -4,7 +4,7 @@ use crate::tables::{bytes_of, check_rows, cut, hexadecimal};
 use nibble_pack::{
     pack_signed, pack_unsigned, signed_len, unpack_signed, unpack_unsigned, unsigned_len,
 };
-use std::alloc::Global;
+use std::alloc::{AllocError, Global};
 use std::test::Fail;
 
 /// Unsigned numbers on both sides of each change of the count of bytes: the code, and the bytes in hexadecimal.
@@ -56,19 +56,27 @@ fn packed_signed(alloc: Global, number: &str) -> Result<String, Fail> {
     Ok(format!(in alloc; "{}{words}", packed.code)?)
 }
 
+fn unsigned_read(alloc: Global, code: u8, bytes: &[u8]) -> Result<String, AllocError> {
+    let number = unpack_unsigned(code, bytes);
+    format!(in alloc; "{:?} {number:?}", unsigned_len(code))
+}
+
+fn signed_read(alloc: Global, code: u8, bytes: &[u8]) -> Result<String, AllocError> {
+    let number = unpack_signed(code, bytes);
+    format!(in alloc; "{:?} {number:?}", signed_len(code))
+}
+
 /// How many bytes a code has, and the number that is read.
 fn unpacked(alloc: Global, row: &str) -> Result<String, Fail> {
     let (kind, rest) = cut(row)?;
     let (code, words) = cut(rest)?;
     let code = code.parse::<u8>()?;
     let bytes = bytes_of(alloc, words)?;
-    if kind == "u" {
-        let number = unpack_unsigned(code, &bytes);
-        Ok(format!(in alloc; "{:?} {number:?}", unsigned_len(code))?)
-    } else {
-        let number = unpack_signed(code, &bytes);
-        Ok(format!(in alloc; "{:?} {number:?}", signed_len(code))?)
-    }
+    let told = match kind {
+        "u" => unsigned_read(alloc, code, &bytes)?,
+        _ => signed_read(alloc, code, &bytes)?,
+    };
+    Ok(told)
 }
 
 #[test]

@@ -3,12 +3,12 @@
 ghost use Rattle.std.specs.Prelude.{◌≤◌, length, IfOk};
 
 use crate::frames::framed;
-use crate::messages::one_message;
+use crate::messages::one_format;
 use crate::tables::{bytes_of, check_rows, cut, hexadecimal, text_of, values_of};
 use arg_records::{Call, Calls, FrameFault, frame_stamp, read_frame};
-use buffer_extent::{put_record, read_body};
+use buffer_extent::{BodyFault, put_record, read_body};
 use log_dictionary::Dictionary;
-use printf_grammar::ArgType;
+use printf_grammar::{ArgType, Value, Values};
 use std::alloc::Global;
 use std::test::Fail;
 
@@ -41,8 +41,18 @@ fn put_frame(
     Ok(put_record(frame, types, before, body, 3))
 }
 
-/// Whether a body is read as the one call, and no part of its front is read.
-fn is_body_of(
+/// Whether a part of the body's front is read as a body.
+fn is_front_read(alloc: Global, dictionary: &Dictionary, body: &[u8], before: u64) -> bool {
+    for end in 1..body.len() {
+        if read_body(alloc, &body[..end], dictionary, before, before).is_ok() {
+            return true;
+        }
+    }
+    false
+}
+
+/// Whether a body is read as the one call.
+fn is_read(
     alloc: Global,
     dictionary: &Dictionary,
     body: &[u8],
@@ -52,19 +62,50 @@ fn is_body_of(
     let mut calls = Calls::make(alloc);
     calls.push(call)?;
     let again = read_body(alloc, body, dictionary, before, before)?;
-    for end in 1..body.len() {
-        if read_body(alloc, &body[..end], dictionary, before, before).is_ok() {
-            return Ok(false);
-        }
-    }
     Ok(format!(in alloc; "{again:?}")? == format!(in alloc; "{calls:?}")?)
 }
 
-/// The dictionary with one message of the format.
-fn one_format(alloc: Global, format: &str) -> Result<Dictionary, Fail> {
-    let format = text_of(alloc, format)?;
-    let line = format!(in alloc; "message 0 NOTICE 12 \"srv.cc\" \"{format}\"")?;
-    Ok(one_message(alloc, &line)?)
+/// Writes the record of a call, and answers the place behind it.
+fn put_call(
+    alloc: Global,
+    types: &[ArgType],
+    stamp: u64,
+    args: &[Value],
+    before: u64,
+    body: &mut [u8; 8200],
+) -> Result<usize, Fail>
+    ensures { IfOk result (λ end. (3 ≤ end) × (end ≤ 8200)) }
+{
+    if types.len() > 64 {
+        return Err("too many types".into());
+    }
+    let mut words = [0; 512];
+    let len = framed(0, stamp, types, args, &mut words).ok_or("no frame")?;
+    Ok(put_frame(alloc, types, &words[..len], before, body)?)
+}
+
+/// The bytes of the record, if they are read as the same call, and no part of their front is read.
+fn record_shown(
+    alloc: Global,
+    dictionary: &Dictionary,
+    before: u64,
+    stamp: u64,
+    args: Values,
+) -> Result<String, Fail> {
+    let types = dictionary.get(0).ok_or("no message")?.format.types();
+    let mut body = [77; 8200];
+    let end = put_call(alloc, types, stamp, args.as_slice(), before, &mut body)?;
+    if body[..3] != [77; 3] || body[end..].iter().any(|byte| *byte != 77) {
+        return Err("other bytes are written".into());
+    }
+    let record = &body[3..end];
+    let call = Call { stamp, id: 0, args };
+    if !is_read(alloc, dictionary, record, before, call)?
+        || is_front_read(alloc, dictionary, record, before)
+    {
+        return Err("another call is read".into());
+    }
+    Ok(hexadecimal(alloc, record)?)
 }
 
 fn record_written(alloc: Global, row: &str) -> Result<String, Fail> {
@@ -73,24 +114,9 @@ fn record_written(alloc: Global, row: &str) -> Result<String, Fail> {
     let (stamp, words) = cut(rest)?;
     let before = before.parse::<u64>()?;
     let stamp = stamp.parse::<u64>()?;
-    let dictionary = one_format(alloc, format)?;
-    let types = dictionary.get(0).ok_or("no message")?.format.types();
-    if types.len() > 64 {
-        return Err("too many types".into());
-    }
     let args = values_of(alloc, words)?;
-    let mut words = [0; 512];
-    let len = framed(0, stamp, types, args.as_slice(), &mut words).ok_or("no frame")?;
-    let mut body = [77; 8200];
-    let end = put_frame(alloc, types, &words[..len], before, &mut body)?;
-    if body[..3] != [77; 3] || body[end..].iter().any(|byte| *byte != 77) {
-        return Err("other bytes are written".into());
-    }
-    let call = Call { stamp, id: 0, args };
-    if !is_body_of(alloc, &dictionary, &body[3..end], before, call)? {
-        return Err("another call is read".into());
-    }
-    Ok(hexadecimal(alloc, &body[3..end])?)
+    let dictionary = one_format(alloc, format)?;
+    record_shown(alloc, &dictionary, before, stamp, args)
 }
 
 /// A format, the clock's tick, the writer's last stamp, and the bytes of a body: how many records it has and the last
@@ -110,19 +136,43 @@ x=%u|0|0|00 05 00 00 00 00 01|Damaged(Body);;%*d|0|0|00 12 00 10 01|Damaged(Body
 %s|0|0|00 09|Damaged(Body);;%s%s|5|5|00 12 a0 0f 40 4000*61 64*62|1 Some(5)
 %s%s|5|5|00 12 a0 0f 41 4000*61 65*62|Damaged(Body);;%s%s|5|5|00 12 a1 0f 01 4001*61 62|Damaged(Body)";
 
+fn calls_shown(alloc: Global, calls: &Calls) -> Result<String, Fail> {
+    let last = calls.last().map(|call| call.stamp);
+    Ok(format!(in alloc; "{} {last:?}", calls.len())?)
+}
+
+fn fault_shown(alloc: Global, fault: BodyFault) -> Result<String, Fail> {
+    Ok(format!(in alloc; "{fault:?}")?)
+}
+
+fn body_shown(
+    alloc: Global,
+    dictionary: &Dictionary,
+    body: &[u8],
+    base: u64,
+    last: u64,
+) -> Result<String, Fail> {
+    match read_body(alloc, body, dictionary, base, last) {
+        Ok(calls) => calls_shown(alloc, &calls),
+        Err(fault) => fault_shown(alloc, fault),
+    }
+}
+
+/// The bytes of a body, which may be the same ones many times.
+fn body_of(alloc: Global, words: &str) -> Result<Vec<u8>, Fail> {
+    let words = text_of(alloc, words)?;
+    bytes_of(alloc, &words)
+}
+
 fn body_read(alloc: Global, row: &str) -> Result<String, Fail> {
     let (format, rest) = cut(row)?;
     let (base, rest) = cut(rest)?;
     let (last, words) = cut(rest)?;
+    let base = base.parse::<u64>()?;
+    let last = last.parse::<u64>()?;
+    let body = body_of(alloc, words)?;
     let dictionary = one_format(alloc, format)?;
-    let body = bytes_of(alloc, text_of(alloc, words)?.as_str())?;
-    match read_body(alloc, &body, &dictionary, base.parse()?, last.parse()?) {
-        Ok(records) => {
-            let last = records.last().map(|record| record.stamp);
-            Ok(format!(in alloc; "{} {last:?}", records.len())?)
-        }
-        Err(fault) => Ok(format!(in alloc; "{fault:?}")?),
-    }
+    body_shown(alloc, &dictionary, &body, base, last)
 }
 
 #[test]

@@ -4,7 +4,7 @@ use crate::tables::{check_rows, text_of};
 use preprocessor::{MAX_SOURCE, Numbering, push_refusal};
 use source_scan::{Found, literal_bytes, scan};
 use source_tokens::{TokenList, parts, tokens};
-use std::alloc::Global;
+use std::alloc::{AllocError, Global};
 use std::test::Fail;
 
 /// The kinds of tokens and their ends, where each begins at the end of the one before.
@@ -87,19 +87,30 @@ fn escapes_told(alloc: Global, body: &str) -> Result<String, Fail> {
     }
 }
 
+/// Where a statement begins and ends.
+fn place_shown(alloc: Global, found: &Found) -> Result<String, AllocError> {
+    match found {
+        Found::Statement(good) => format!(in alloc; "{} to {}", good.start, good.end),
+        _ => Ok(String::new(alloc)),
+    }
+}
+
 /// Where the statements of a source begin and end.
+fn places_shown(alloc: Global, all: &[Found]) -> Result<String, Fail> {
+    let mut text = String::new(alloc);
+    for found in all {
+        text.push_str(&place_shown(alloc, found)?)?;
+    }
+    Ok(text)
+}
+
 fn places_told(alloc: Global, row: &str) -> Result<String, Fail> {
     let source = text_of(alloc, row)?;
     if source.len() > MAX_SOURCE {
         return Err("the source is too large".into());
     }
-    let mut text = String::new(alloc);
-    for found in &scan(alloc, b"t.cc", source.as_bytes())? {
-        if let Found::Statement(good) = found {
-            text.push_str(&format!(in alloc; "{} to {}", good.start, good.end)?)?;
-        }
-    }
-    Ok(text)
+    let found = scan(alloc, b"t.cc", source.as_bytes())?;
+    places_shown(alloc, &found)
 }
 
 #[test]
@@ -125,17 +136,28 @@ fn refusals_told(alloc: Global, numbering: &Numbering) -> Result<String, Fail> {
     Ok(String::from_utf8(out)?)
 }
 
-fn files_told(alloc: Global, row: &str) -> Result<String, Fail> {
-    let mut numbering = Numbering::make(alloc);
-    for file in row.split('§') {
-        numbering = match file.split_once('=') {
-            Some((name, source)) => {
-                let source = text_of(alloc, source)?;
-                numbering.add_source(alloc, name.as_bytes(), source.as_bytes())?
-            }
-            None => numbering.add_too_large(alloc, file.as_bytes())?,
-        };
+/// The numbering with one file more.
+fn with_file(alloc: Global, numbering: Numbering, file: &str) -> Result<Numbering, AllocError> {
+    match file.split_once('=') {
+        Some((name, source)) => {
+            let source = text_of(alloc, source)?;
+            numbering.add_source(alloc, name.as_bytes(), source.as_bytes())
+        }
+        None => numbering.add_too_large(alloc, file.as_bytes()),
     }
+}
+
+/// The numbering of all files.
+fn with_files(alloc: Global, files: &str) -> Result<Numbering, AllocError> {
+    let mut numbering = Numbering::make(alloc);
+    for file in files.split('§') {
+        numbering = with_file(alloc, numbering, file)?;
+    }
+    Ok(numbering)
+}
+
+fn files_told(alloc: Global, row: &str) -> Result<String, Fail> {
+    let numbering = with_files(alloc, row)?;
     refusals_told(alloc, &numbering)
 }
 

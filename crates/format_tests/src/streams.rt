@@ -20,25 +20,23 @@ const SINKS: &str = "\
 1|99|Ok(()) Ok(1) hello1 0;;2|99|Ok(()) Ok(2) hello12 0;;100|99|Ok(()) Ok(5) hello12345 0
 2|0|Err(Failed) Ok(2) 12 0;;2|1|Err(Failed) Ok(2) he12 0;;2|2|Err(Failed) Ok(2) hell12 0";
 
-/// The two numbers of a row, the first of which is above 0.
-fn numbers(row: &str) -> Result<(usize, u64), Fail>
-    ensures { IfOk result (λ pair. 1 ≤ pair.0) }
-{
+/// The two numbers of a row.
+fn numbers(row: &str) -> Result<(usize, u64), Fail> {
     let (piece, failing) = cut(row)?;
-    let piece = piece.parse::<usize>()?;
-    if piece < 1 {
-        return Err("nothing moves".into());
-    }
-    Ok((piece, failing.parse()?))
+    Ok((piece.parse()?, failing.parse()?))
+}
+
+fn sink_shown(alloc: Global, sink: &mut MemSink) -> Result<String, Fail> {
+    let first = write_all(sink, b"hello");
+    let second = sink.write(b"12345");
+    let out = sink.bytes().escape_ascii();
+    Ok(format!(in alloc; "{first:?} {second:?} {out} {}", sink.starved())?)
 }
 
 fn sink_told(alloc: Global, row: &str) -> Result<String, Fail> {
     let (piece, failing) = numbers(row)?;
-    let mut sink = MemSink::make(alloc, piece, &[failing])?;
-    let first = write_all(&mut sink, b"hello");
-    let second = sink.write(b"12345");
-    let out = sink.bytes().escape_ascii();
-    Ok(format!(in alloc; "{first:?} {second:?} {out} {}", sink.starved())?)
+    let mut sink = MemSink::make(alloc, piece.max(1), &[failing])?;
+    sink_shown(alloc, &mut sink)
 }
 
 /// Which call of the sink fails, and what is put behind `hello`: what a writer answers to that text and at the end, and
@@ -48,15 +46,20 @@ const WRITERS: &str = "\
 99|16380*x|Ok(()) Ok(()) 16385;;0|16380*x|Err(Failed) Ok(()) 0;;1|16380*x|Ok(()) Err(Failed) 5
 99|20000*x|Ok(()) Ok(()) 20005;;1|20000*x|Err(Failed) Ok(()) 5";
 
+fn writer_shown(alloc: Global, sink: &mut MemSink, text: &[u8]) -> Result<String, Fail> {
+    let mut writer = TextWriter::make();
+    writer.put_pieces(sink, &["he", "llo"])?;
+    let put = writer.put(sink, text);
+    let ended = writer.flush(sink);
+    Ok(format!(in alloc; "{put:?} {ended:?} {}", sink.bytes().len())?)
+}
+
 fn writer_told(alloc: Global, row: &str) -> Result<String, Fail> {
     let (failing, word) = cut(row)?;
+    let failing = failing.parse::<u64>()?;
     let text = text_of(alloc, word)?;
-    let mut sink = MemSink::make(alloc, 100_000, &[failing.parse()?])?;
-    let mut writer = TextWriter::make();
-    writer.put_pieces(&mut sink, &["he", "llo"])?;
-    let put = writer.put(&mut sink, text.as_bytes());
-    let ended = writer.flush(&mut sink);
-    Ok(format!(in alloc; "{put:?} {ended:?} {}", sink.bytes().len())?)
+    let mut sink = MemSink::make(alloc, 100_000, &[failing])?;
+    writer_shown(alloc, &mut sink, text.as_bytes())
 }
 
 /// The name, opened, as a source.
@@ -93,17 +96,42 @@ const SOURCES: &str = "\
 100|100|1|Ok(3) Failed,lo.;;100|100|2|Ok(3) Failed,.;;100|100|3|Ok(3) lo,Failed.;;3|2|99|Ok(2) llo,.
 1|2|99|Ok(2) TooLarge,o.;;2|2|99|Ok(2) TooLarge,.";
 
+/// What is told of a file that holds `hello`. Its first call opens it.
+fn file_source_told(
+    alloc: Global,
+    limit: usize,
+    piece: usize,
+    failing: u64,
+) -> Result<String, Fail> {
+    let mut files = MemFiles::make(alloc, piece.max(1), &[failing.saturating_add(1)])?;
+    files.put_file("a", b"hello")?;
+    match source(&mut files, "a") {
+        Some(mut file) => source_told(alloc, &mut file, limit),
+        None => Err("it isn't there".into()),
+    }
+}
+
+/// What is told of `hello` in memory, which wants no memory more.
+fn memory_source_told(
+    alloc: Global,
+    limit: usize,
+    piece: usize,
+    failing: u64,
+) -> Result<String, Fail> {
+    let mut memory = MemSource::make(alloc, b"hello", piece.max(1), &[failing])?;
+    let told = source_told(alloc, &mut memory, limit)?;
+    if memory.starved() > 0 {
+        return Err("memory is wanting".into());
+    }
+    Ok(told)
+}
+
 fn sources_told(alloc: Global, row: &str) -> Result<String, Fail> {
     let (limit, rest) = cut(row)?;
     let limit = limit.parse::<usize>()?;
     let (piece, failing) = numbers(rest)?;
-    let mut memory = MemSource::make(alloc, b"hello", piece, &[failing])?;
-    let told = source_told(alloc, &mut memory, limit)?;
-    // The first call opens the file.
-    let mut files = MemFiles::make(alloc, piece, &[failing.saturating_add(1)])?;
-    files.put_file("a", b"hello")?;
-    let mut file = source(&mut files, "a").ok_or("it isn't there")?;
-    if source_told(alloc, &mut file, limit)? != told || memory.starved() > 0 {
+    let told = memory_source_told(alloc, limit, piece, failing)?;
+    if file_source_told(alloc, limit, piece, failing)? != told {
         return Err("a file is read otherwise".into());
     }
     Ok(told)
@@ -156,18 +184,24 @@ fn held(alloc: Global, files: &MemFiles) -> Result<String, AllocError> {
     }
 }
 
+/// The answer to writing a file, and what it holds then.
+fn writing_told(alloc: Global, files: &mut MemFiles, bytes: &[u8]) -> Result<String, Fail> {
+    let wrote = write_file(files, "a", bytes);
+    let held = held(alloc, files)?;
+    Ok(format!(in alloc; "{wrote:?} {held}")?)
+}
+
+fn files_shown(alloc: Global, files: &mut MemFiles) -> Result<String, Fail> {
+    let first = writing_told(alloc, files, b"hello")?;
+    let read = read_file(alloc, files, "a")?;
+    let second = writing_told(alloc, files, b"you")?;
+    Ok(format!(in alloc; "{first} {read}. {second} {}", files.starved())?)
+}
+
 fn files_told(alloc: Global, row: &str) -> Result<String, Fail> {
     let (piece, failing) = numbers(row)?;
-    let mut files = MemFiles::make(alloc, piece, &[failing])?;
-    let wrote = write_file(&mut files, "a", b"hello");
-    let first = held(alloc, &files)?;
-    let read = read_file(alloc, &mut files, "a")?;
-    let again = write_file(&mut files, "a", b"you");
-    let second = held(alloc, &files)?;
-    Ok(format!(in alloc;
-        "{wrote:?} {first} {read}. {again:?} {second} {}",
-        files.starved()
-    )?)
+    let mut files = MemFiles::make(alloc, piece.max(1), &[failing])?;
+    files_shown(alloc, &mut files)
 }
 
 /// Opens a name so many times, and tells how many of the ids are new.
@@ -189,19 +223,26 @@ fn opened<F: Files>(
 }
 
 /// How many of 40 ids are new, whether a name that isn't there is opened, and the id after one was left.
-fn ids_told(alloc: Global, text: &str) -> Result<String, Fail> {
-    let mut files = MemFiles::make(alloc, 100_000, &[])?;
-    let long = text_of(alloc, text)?;
-    let wrote = write_file(&mut files, "a", long.as_bytes());
-    let is_same = read_file(alloc, &mut files, "a")? == long;
-    let count = opened(alloc, &mut files, "a", 40)?;
+fn ids_shown(alloc: Global, files: &mut MemFiles) -> Result<String, Fail> {
+    let count = opened(alloc, files, "a", 40)?;
     let absent = files.open_read("b");
     files.leave(7);
     let again = files.open_read("a");
-    Ok(format!(in alloc;
-        "{wrote:?} {is_same} {count} {absent:?} {again:?} {}",
-        files.starved()
-    )?)
+    Ok(format!(in alloc; "{count} {absent:?} {again:?} {}", files.starved())?)
+}
+
+/// The answer to writing a text, and whether it is read again.
+fn long_file_told(alloc: Global, files: &mut MemFiles, text: &str) -> Result<String, Fail> {
+    let wrote = write_file(files, "a", text.as_bytes());
+    let is_same = read_file(alloc, files, "a")?.as_str() == text;
+    let ids = ids_shown(alloc, files)?;
+    Ok(format!(in alloc; "{wrote:?} {is_same} {ids}")?)
+}
+
+fn ids_told(alloc: Global, word: &str) -> Result<String, Fail> {
+    let text = text_of(alloc, word)?;
+    let mut files = MemFiles::make(alloc, 100_000, &[])?;
+    long_file_told(alloc, &mut files, &text)
 }
 
 #[test]
@@ -260,10 +301,7 @@ const FAKES: &str = "\
 0|3|Ok(3) Ok(3);;2|3|Ok(3) Ok(3);;64|3|Ok(3) Ok(3);;65|3|Err(Failed) Err(Failed);;0|0|Err(Failed) Ok(0)
 0|none|Err(Failed) Err(Failed)";
 
-fn fakes_told(alloc: Global, row: &str) -> Result<String, Fail> {
-    let (interruptions, most) = cut(row)?;
-    let interruptions = interruptions.parse::<u32>()?;
-    let most = most.parse::<usize>().ok();
+fn fakes_shown(alloc: Global, interruptions: u32, most: Option<usize>) -> Result<String, Fail> {
     let wrote = StdSink::make(Fake {
         interruptions,
         most,
@@ -276,6 +314,12 @@ fn fakes_told(alloc: Global, row: &str) -> Result<String, Fail> {
     })
     .read(&mut into);
     Ok(format!(in alloc; "{wrote:?} {read:?}")?)
+}
+
+fn fakes_told(alloc: Global, row: &str) -> Result<String, Fail> {
+    let (interruptions, most) = cut(row)?;
+    let interruptions = interruptions.parse::<u32>()?;
+    fakes_shown(alloc, interruptions, most.parse::<usize>().ok())
 }
 
 /// What goes through a slice and a vector of std.
@@ -308,18 +352,23 @@ fn file_told<F: Files>(alloc: Global, files: &mut F, name: &str) -> Result<Strin
     Ok(format!(in alloc; "{wrote:?} {read} {}", opened(alloc, files, name, 40)?)?)
 }
 
+/// What is told of files of the system, and of one that was removed again.
+fn system_told(rt: &HostRuntime) -> Result<String, Fail> {
+    let alloc = rt.alloc();
+    let mut files = StdFiles::make(rt, alloc);
+    let refusals = refusals_told(alloc, &mut files)?;
+    let told = file_told(alloc, &mut files, "written_by_a_test")?;
+    fs::remove_file(rt, "written_by_a_test")?;
+    let removed = files.open_read("written_by_a_test");
+    Ok(format!(in alloc; "{refusals}, {told}, {removed:?}")?)
+}
+
 #[test]
 fn files_of_the_system(rt: HostRuntime) -> Result<(), Fail> {
-    let alloc = rt.alloc();
-    let mut files = StdFiles::make(&rt, alloc);
-    let refusals = refusals_told(alloc, &mut files)?;
+    let told = system_told(&rt)?;
     assert_eq!(rt;
-        refusals.as_str(),
-        "Ok(None) Err(Failed) Failed Err(Failed)"
+        told.as_str(),
+        "Ok(None) Err(Failed) Failed Err(Failed), Ok(()) hello 40, Ok(None)"
     );
-    let told = file_told(alloc, &mut files, "written_by_a_test")?;
-    fs::remove_file(&rt, "written_by_a_test")?;
-    assert_eq!(rt; told.as_str(), "Ok(()) hello 40");
-    assert_eq!(rt; files.open_read("written_by_a_test"), Ok(None));
     Ok(())
 }

@@ -5,6 +5,18 @@ use std::alloc::{AllocError, Global};
 use std::process::Abort;
 use std::test::Fail;
 
+/// Asserts that this is told of a row, the text of its last column.
+pub(crate) fn check_told<R: Abort + AllocGlobal>(
+    rt: &R,
+    row: &str,
+    found: &str,
+    want: &str,
+) -> Result<(), Fail> {
+    let want = text_of(rt.alloc(), want)?;
+    assert_eq!(rt; found, want.as_str(), "{row}");
+    Ok(())
+}
+
 /// Asserts that the last column of a row is what is told of the others.
 fn check_row<R: Abort + AllocGlobal, F: Fn(Global, &str) -> Result<String, Fail>>(
     rt: &R,
@@ -15,8 +27,7 @@ fn check_row<R: Abort + AllocGlobal, F: Fn(Global, &str) -> Result<String, Fail>
 {
     let (given, want) = row.rsplit_once('|').ok_or("a row of one column")?;
     let found = told(rt.alloc(), given)?;
-    assert_eq!(rt; found, text_of(rt.alloc(), want)?, "{row}");
-    Ok(())
+    check_told(rt, row, &found, want)
 }
 
 /// Asserts so of each row. Rows stand in lines, and between `;;`.
@@ -33,6 +44,11 @@ pub(crate) fn check_rows<R: Abort + AllocGlobal, F: Fn(Global, &str) -> Result<S
         }
     }
     Ok(())
+}
+
+/// What is told of a question.
+pub(crate) fn truth_of(alloc: Global, holds: bool) -> Result<String, Fail> {
+    Ok(String::from_str(alloc, if holds { "true" } else { "false" })?)
 }
 
 /// The first column of a row, and the others.
@@ -99,13 +115,19 @@ pub(crate) fn hexadecimal(alloc: Global, bytes: &[u8]) -> Result<String, AllocEr
     Ok(words)
 }
 
+/// The text that a word spells, as an argument.
+fn text_value_of(alloc: Global, word: &str) -> Result<Value, Fail> {
+    let text = text_of(alloc, word)?;
+    Ok(Value::Text(Bytes::from_slice(alloc, text.as_bytes())?))
+}
+
 /// The argument that a word spells: a signed number behind `i`, an unsigned one behind `u`, a text behind `t`.
 fn value_of(alloc: Global, word: &str) -> Result<Value, Fail> {
     let (kind, rest) = word.split_at_checked(1).ok_or("an empty word")?;
     match kind {
         "i" => Ok(Value::Signed(rest.parse()?)),
         "u" => Ok(Value::Unsigned(rest.parse()?)),
-        _ => Ok(Value::Text(Bytes::from_slice(alloc, text_of(alloc, rest)?.as_bytes())?)),
+        _ => text_value_of(alloc, rest),
     }
 }
 

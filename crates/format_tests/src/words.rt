@@ -1,8 +1,9 @@
 //! The words of command lines, and what they ask for.
 
-use crate::tables::{check_rows, joined};
+use crate::tables::{check_rows, check_told, joined};
 use cli_words::{Command, command_of};
-use std::alloc::Global;
+use session_options::Options;
+use std::alloc::{AllocError, Global};
 use std::test::Fail;
 
 /// Words between single spaces, and the command; of `replay` its names and options.
@@ -28,37 +29,57 @@ preprocess d m.cc m.cc|Preprocess { dictionary: "d", sources: ["m.cc", "m.cc"] }
 preprocess d -- -m.cc|Preprocess { dictionary: "d", sources: ["-m.cc"] }
 preprocess -- -d --|Preprocess { dictionary: "-d", sources: ["--"] };;preprocess d§1024* m.cc|1024 sources;;preprocess d§1025* m.cc|none"#;
 
-fn command_told(alloc: Global, line: &str) -> Result<String, Fail> {
-    let line = joined(alloc, line)?;
+fn replay_shown(
+    alloc: Global,
+    trace: &str,
+    log: &str,
+    options: &Options,
+) -> Result<String, AllocError> {
+    let ring = options.ring;
+    let batch = options.batch;
+    let policy = options.policy;
+    let level = options.level;
+    format!(in alloc; "{trace} {log} {ring} {batch} {policy:?} {level:?}")
+}
+
+fn command_shown(alloc: Global, command: &Command<'_>) -> Result<String, AllocError> {
+    match command {
+        Command::Replay {
+            trace,
+            log,
+            options,
+        } => replay_shown(alloc, trace, log, options),
+        Command::Preprocess { sources, .. } if sources.len() > 9 => {
+            format!(in alloc; "{} sources", sources.len())
+        }
+        _ => format!(in alloc; "{command:?}"),
+    }
+}
+
+/// The command that words ask for.
+fn command_asked(alloc: Global, words: &[String]) -> Result<String, AllocError> {
+    match command_of(alloc, words)? {
+        Some(command) => command_shown(alloc, &command),
+        None => String::from_str(alloc, "none"),
+    }
+}
+
+fn words_of(alloc: Global, line: &str) -> Result<Vec<String>, AllocError> {
     let mut words = Vec::new(alloc);
     for word in line.split(' ') {
         words.push(String::from_str(alloc, word)?)?;
     }
-    match command_of(alloc, words.as_slice())? {
-        None => Ok(String::from_str(alloc, "none")?),
-        Some(
-            Command::Replay {
-                trace,
-                log,
-                options,
-            },
-        ) => {
-            let policy = options.policy;
-            let level = options.level;
-            Ok(format!(in alloc;
-                "{trace} {log} {} {} {policy:?} {level:?}",
-                options.ring, options.batch
-            )?)
-        }
-        Some(Command::Preprocess { sources, .. }) if sources.len() > 9 => {
-            Ok(format!(in alloc; "{} sources", sources.len())?)
-        }
-        Some(command) => Ok(format!(in alloc; "{command:?}")?),
-    }
+    Ok(words)
+}
+
+fn command_told(alloc: Global, line: &str) -> Result<String, Fail> {
+    let line = joined(alloc, line)?;
+    let words = words_of(alloc, &line)?;
+    Ok(command_asked(alloc, &words)?)
 }
 
 #[test]
 fn lines_ask_for_commands(rt: HostRuntime) -> Result<(), Fail> {
-    assert!(rt; command_of(rt.alloc(), &[])?.is_none());
+    check_told(&rt, "no words", &command_asked(rt.alloc(), &[])?, "none")?;
     check_rows(&rt, LINES.trim_start(), command_told)
 }
