@@ -1,7 +1,8 @@
-//! Formats: what they are made of, and which arguments they take.
+//! Formats: what they are made of, and the texts that they write.
 
-use crate::tables::{check_rows, text_of};
-use printf_grammar::{Format, FormatCause, ParseFault, parse};
+use crate::tables::{check_rows, cut, text_of, values_of};
+use direct_printf::render;
+use printf_grammar::{Format, FormatCause, ParseFault, Value, fits, parse};
 use std::alloc::{AllocError, Global};
 use std::test::Fail;
 
@@ -121,4 +122,29 @@ fn formats_are_parsed(rt: HostRuntime) -> Result<(), Fail> {
     check_rows(&rt, PIECES, pieces_of)?;
     check_rows(&rt, COUNTS, counts_of)?;
     check_rows(&rt, BYTES_BEHIND.trim_start(), answers_behind)
+}
+
+/// Formats, arguments that fit them, and the text that is written.
+const TEXTS: &str = "\
+%d%%|i2147483647|2147483647%;;%8p/%-8p|u0,u255|   (nil)/0xff    ;;%*s|i-6,tabc|abc   ;;%.*d|i-1,i0|0;;no||no";
+
+fn rendered(alloc: Global, format: &Format, args: &[Value]) -> Result<String, Fail> {
+    if !fits(format.types(), args) {
+        return Err("they don't fit".into());
+    }
+    let mut out = Vec::new(alloc);
+    render(format, args, &mut out)?;
+    Ok(String::from_utf8(out)?)
+}
+
+fn text_written(alloc: Global, row: &str) -> Result<String, Fail> {
+    let (format, words) = cut(row)?;
+    let values = values_of(alloc, words)?;
+    let format = parse(alloc, format.as_bytes())?;
+    rendered(alloc, &format, values.as_slice())
+}
+
+#[test]
+fn texts_are_written(rt: HostRuntime) -> Result<(), Fail> {
+    check_rows(&rt, TEXTS, text_written)
 }

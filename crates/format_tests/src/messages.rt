@@ -2,8 +2,9 @@
 
 use crate::tables::{bytes_of, check_rows, cut, hexadecimal, text_of, truth_of, values_of};
 use log_dictionary::{
-    Added, Dictionary, EntryFault, LineFault, Message, SpelledText, entry_len, first_field,
-    put_entry, read_entry, read_integer, read_number, read_signed, split_at_byte, split_text,
+    Added, Dictionary, EntryFault, LineFault, Message, SpelledText, ends_field, entry_len,
+    first_field, put_entry, read_entry, read_integer, read_number, read_signed, split_at_byte,
+    split_integer, split_number, split_text,
 };
 use std::alloc::Global;
 use std::test::Fail;
@@ -211,12 +212,32 @@ fn fields(alloc: Global, line: &str) -> Result<String, Fail> {
     Ok(format!(in alloc; "{lens:?} {sides:?}")?)
 }
 
+/// A line, its first field as a number of any size and as one below 2^64, each with how many bytes stand behind the
+/// field, and whether a field ends before the line.
+const FIRST_NUMBERS: &str = "\
+12 a|Some((Unsigned(12), 2)) Some((12, 2)) false;;-1|Some((Signed(-1), 0)) None false;;00 1|None None false
+18446744073709551616 7|Some((Beyond, 2)) None false;;12a|None None false;; 1|None None true;;|None None true";
+
+fn first_numbers(alloc: Global, line: &str) -> Result<String, Fail> {
+    let bytes = line.as_bytes();
+    let integer = match split_integer(bytes) {
+        Some((integer, rest)) => Some((integer, rest.len())),
+        None => None,
+    };
+    let number = match split_number(bytes) {
+        Some((number, rest)) => Some((number, rest.len())),
+        None => None,
+    };
+    Ok(format!(in alloc; "{integer:?} {number:?} {}", ends_field(bytes))?)
+}
+
 #[test]
 fn parts_of_lines_are_read(rt: HostRuntime) -> Result<(), Fail> {
     check_rows(&rt, TEXTS.trim_start(), split)?;
     check_rows(&rt, "\"del\x7fete\"|none", split)?;
     check_rows(&rt, NUMBERS, numbers_read)?;
-    check_rows(&rt, FIELDS, fields)
+    check_rows(&rt, FIELDS, fields)?;
+    check_rows(&rt, FIRST_NUMBERS, first_numbers)
 }
 
 /// The message with its number as its line.
