@@ -4,6 +4,7 @@ ghost use Rattle.printf_grammar.specs.declared.limits.TheConstants.{MAX_ARGUMENT
 
 use crate::bytes::Bytes;
 use crate::limits::MAX_ARGUMENTS;
+use smallvec::SmallVec;
 use std::alloc::{AllocError, Global};
 use std::marker::Model;
 
@@ -34,10 +35,24 @@ pub enum Value {
     Text(Bytes),
 }
 
+impl Default for Value {
+    ghost use Rattle.std.specs.Prelude.{◌≡◌, pos};
+    ghost use Rattle.printf_grammar.specs.declared.argument.Value.TheVariants.{Signed};
+
+    ghost is_default = { λ value. value ≡ Signed (pos 0) };
+
+    fn default() -> Self {
+        Value::Signed(0)
+    }
+}
+
+/// How many arguments need no memory of their own.
+const FEW: usize = 2;
+
 /// The arguments of one call, at most [`MAX_ARGUMENTS`].
 #[derive(Debug, Drop)]
 pub struct Values {
-    items: Vec<Value>,
+    items: SmallVec<Value, FEW>,
 }
 
 impl Model for Values {
@@ -93,7 +108,7 @@ impl Values {
         ensures { result ≡ [] }
     {
         Values {
-            items: Vec::new(alloc),
+            items: SmallVec::new(alloc),
         }
     }
 
@@ -102,7 +117,7 @@ impl Values {
         ensures { IfOk result (λ values. values ≡ []) }
     {
         Ok(Values {
-            items: Vec::with_capacity(alloc, n)?,
+            items: SmallVec::with_capacity(alloc, n)?,
         })
     }
 
