@@ -43,7 +43,7 @@ impl LateIn {
         if words < MIN_RING || words > MAX_RING || frame > MAX_FRAME_WORDS {
             return None;
         }
-        let need = need(at, frame as u64, words);
+        let need = need(at % words, frame as u64, words);
         let room = words.checked_sub(at - self.known)?;
         if room < need {
             Some(Full { need, room })

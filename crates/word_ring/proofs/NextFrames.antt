@@ -41,10 +41,10 @@ module _ (s : Inside) (h : IsWordRoamer s) (word : ℕ)
     pub mark_read : read_by (having_read v word) ≡ skipped v.size (read_by v)
     mark_read = walk-push v.size v.roamer.stream word ∙ onward-skipped v.size (read_by v) word ((λ i. is_wrap_mark (h.whole i) (zero i)))
 
-    pub lap_at : (skipped v.size (read_by v)).at ≡ s.at + (s.size - s.at % s.size)
-    lap_at = λ i. h.at i + (h.told i - h.at i % h.told i)
+    pub lap_at : (skipped v.size (read_by v)).at ≡ s.at + (s.size - s.place)
+    lap_at = (λ i. h.at i + (h.told i - h.at i % h.told i)) ∙ ap (λ (n : ℕ). s.at + (s.size - n)) (sym h.place)
 
-    pub lap_within : s.at + (s.size - s.at % s.size) ≤ s.loaded
+    pub lap_within : s.at + (s.size - s.place) ≤ s.loaded
     lap_within = let inside = mark.1 in omega (arith, lap_at, inside, h.loaded)
 
     pub mark_place : 1 ≤ s.at % s.size
@@ -85,8 +85,8 @@ module _ (s : Inside) (h : IsWordRoamer s) (word : ℕ)
           subst (λ (k : Known). IsBegun k.size k.roamer.loaded (read_by now)) (sym is)
           (subst (IsBegun v.size v.roamer.loaded) (sym read_is) (record { begin = (read_by v).at; at_is = refl; short = omega (arith, least); inside = inside; room = room }))
 
-      pub place : s.at % s.size ≡ ((read_by now).at - 1) % now.size
+      pub place : s.place ≡ ((read_by now).at - 1) % now.size
       place =
           let back : s.at ≡ (read_by now).at - 1 = omega (arith, now_at) in
           let long : s.size ≡ now.size = sym (ap (λ (k : Known). k.size) is ∙ h.told) in
-          λ i. back i % long i
+          h.place ∙ (λ i. back i % long i)

@@ -37,7 +37,10 @@ module _ (s : Inside) (h : IsWordRoamer s) (word : ℕ)
 
   module _ (zero : word ≡ 0) where
     abbrev behind_mark : Inside
-    behind_mark = record s { seat = seat; at = s.at + (s.size - s.at % s.size) }
+    behind_mark = record s { seat = seat; at = s.at + (s.size - s.place); place = 0 }
+
+    begins_lap : (s.at + (s.size - s.place)) % s.size ≡ 0
+    begins_lap = ap (λ (n : ℕ). (s.at + (s.size - n)) % s.size) h.place ∙ lap_begins s.at s.size (omega (arith, h.size.least))
 
     walk_is : read_by (view seat) ≡ record { at = next_lap (roamer_knows s).size (read_by (roamer_knows s)).at; frames = (read_by (roamer_knows s)).frames; part = (read_by (roamer_knows s)).part }
     walk_is = ap read_by knows ∙ mark_read s h word fits zero
@@ -50,6 +53,7 @@ module _ (s : Inside) (h : IsWordRoamer s) (word : ℕ)
       reads = ap (λ (v : Known). v.reads) knows ∙ h.reads;
       whole = ap (λ (w : Walk). w.part) walk_is ∙ h.whole;
       at = ap (λ (w : Walk). w.at) walk_is ∙ lap_at s h word fits zero;
+      place = sym begins_lap;
       loaded = ap (λ (v : Known). v.roamer.loaded) knows ∙ h.loaded;
       learnt = ap (λ (v : Known). v.roamer.learnt) knows ∙ h.learnt;
       within = lap_within s h word fits zero;
@@ -67,7 +71,7 @@ module _ (s : Inside) (h : IsWordRoamer s) (word : ℕ)
         plan = plan_in (knows i);
         words = s.size;
         got = (walk_is i).frames;
-        at = s.at + (s.size - s.at % s.size);
+        at = s.at + (s.size - s.place);
         released = (knows i).roamer.released;
         loaded = s.loaded;
         learnt = s.learnt;
@@ -76,7 +80,7 @@ module _ (s : Inside) (h : IsWordRoamer s) (word : ℕ)
         steps = (view seat).roamer.steps;
       };
       mark = mark_place s h word fits zero;
-      beginning = lap_begins s.at s.size (omega (arith, h.size.least));
+      beginning = begins_lap;
       steps = (one_more _ _ (ap (λ (v : Known). v.roamer.steps) knows)).rises h.steps;
     })
 
@@ -102,9 +106,10 @@ module _ (s : Inside) (h : IsWordRoamer s) (word : ℕ)
         (others : view frame_seat ≡ having_gone_on (view seat) (view frame_seat).roamer.stream (view frame_seat).roamer.steps)
         (read : read_by (view frame_seat) ≡ record { at = (read_by (view seat)).at + (len - 1); frames = (read_by (view seat)).frames ++ take len into ∷ []; part = [] })
         (released : view last_seat ≡ having_released (view frame_seat))
-        (counts : CountsSteps (len - 1) (view seat).roamer.steps (view frame_seat).roamer.steps) where
+        (counts : CountsSteps (len - 1) (view seat).roamer.steps (view frame_seat).roamer.steps)
+        (place : ℕ) (place_is : place ≡ (s.at + len) % s.size) where
       abbrev behind_frame : Inside
-      behind_frame = record s { seat = last_seat; at = s.at + len; frames = s.frames + 1 }
+      behind_frame = record s { seat = last_seat; at = s.at + len; place = place; frames = s.frames + 1 }
 
       frames_are : (read_by (view last_seat)).frames ≡ (read_by (roamer_knows s)).frames ++ take len into ∷ []
       frames_are =
@@ -128,6 +133,7 @@ module _ (s : Inside) (h : IsWordRoamer s) (word : ℕ)
             reads = ap (λ (v : Known). v.reads) released ∙ ap (λ (v : Known). v.reads) others ∙ ap (λ (v : Known). v.reads) knows ∙ h.reads;
             whole = ap (λ (v : Known). (read_by v).part) released ∙ ap (λ (w : Walk). w.part) read;
             at = ap (λ (v : Known). (read_by v).at) released ∙ sym (frame_at into frame_seat read);
+            place = place_is;
             loaded = ap (λ (v : Known). v.roamer.loaded) released ∙ ap (λ (v : Known). v.roamer.loaded) others ∙ ap (λ (v : Known). v.roamer.loaded) knows ∙ h.loaded;
             learnt = ap (λ (v : Known). v.roamer.learnt) released ∙ ap (λ (v : Known). v.roamer.learnt) others ∙ ap (λ (v : Known). v.roamer.learnt) knows ∙ h.learnt;
             within = omega (arith, reach, len_is, h.at, h.loaded);

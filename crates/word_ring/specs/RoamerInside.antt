@@ -1,5 +1,5 @@
 -- How a roamer's end keeps what it is.
-use Rattle.std.specs.Prelude.{◌≡◌, ◌<◌, ◌≤◌, ◌^◌, true, [], length}
+use Rattle.std.specs.Prelude.{◌≡◌, ◌%◌, ◌<◌, ◌≤◌, ◌^◌, true, [], length}
 use Rattle.std.specs.Arc.{arc_value}
 use Rattle.word_ring.specs.declared.known.Known.{Known}
 use Rattle.word_ring.specs.declared.word_out.WordOut.TheInside.{Inside}
@@ -37,6 +37,7 @@ pub record IsWordRoamer (s : Inside) : Type 0 where
   pub reads : (roamer_knows s).reads ≡ true
   pub whole : (read_by (roamer_knows s)).part ≡ []
   pub at : (read_by (roamer_knows s)).at ≡ s.at
+  pub place : s.place ≡ s.at % s.size
   pub loaded : (roamer_knows s).roamer.loaded ≡ s.loaded
   pub learnt : (roamer_knows s).roamer.learnt ≡ s.learnt
   pub within : s.at ≤ s.loaded

@@ -1,5 +1,5 @@
 -- How a writer's end keeps what it is.
-use Rattle.std.specs.Prelude.{◌≡◌, ◌-◌, ◌≤◌, true, false, []}
+use Rattle.std.specs.Prelude.{◌≡◌, ◌-◌, ◌%◌, ◌≤◌, true, false, []}
 use Rattle.std.specs.Arc.{arc_value}
 use Rattle.ring_core.specs.declared.limits.TheConstants.{MAX_POSITION}
 use Rattle.word_ring.specs.declared.known.Known.{Known}
@@ -36,6 +36,7 @@ pub record IsWordWriter (s : Inside) : Type 0 where
   pub writes : (writer_knows s).writes ≡ true
   pub whole : (written_by (writer_knows s)).part ≡ []
   pub at : (written_by (writer_knows s)).at ≡ s.at
+  pub place : s.place ≡ s.at % s.size
   pub published : (writer_knows s).writer.closed ≡ false → (writer_knows s).writer.published ≡ s.at
   pub seen : (writer_knows s).writer.seen ≤ s.at
   pub position : s.at ≤ MAX_POSITION

@@ -32,13 +32,13 @@ pub fn put_frame(table: &WordTable, seat: &mut WordSeat, place: usize, frame: &[
     }
 }
 
-/// The writer stores a frame, behind a wrap mark where it would cross the ring's end. It has come to the position `at`.
-pub fn put_next(table: &WordTable, seat: &mut WordSeat, at: u64, frame: &[u64], size: u64)
+/// The writer stores a frame from this place on, behind a wrap mark where it would cross the ring's end.
+pub fn put_next(table: &WordTable, seat: &mut WordSeat, place: u64, frame: &[u64], size: u64)
     requires seat { IsSeatOf (view seat.old).size table.now seat.old }
     requires writes { (view seat.old).writes ≡ true }
     requires size { IsTableSize size }
     requires not_closed { (view seat.old).writer.closed ≡ false }
-    requires told { (size ≡ (view seat.old).size) × (at ≡ (written_by (view seat.old)).at) }
+    requires told { (size ≡ (view seat.old).size) × (place ≡ (written_by (view seat.old)).at % size) }
     requires may { MayPut (view seat.old) frame.now }
     ensures same { IsSameSeat seat.old seat.new }
     ensures written { written_by (view seat.new) ≡ with_next size (written_by (view seat.old)) frame.now }
@@ -46,7 +46,7 @@ pub fn put_next(table: &WordTable, seat: &mut WordSeat, at: u64, frame: &[u64], 
         (view seat.new).writer.steps }
     ensures steps { CountsSteps (length frame.now + 1) (view seat.old).writer.steps (view seat.new).writer.steps }
 {
-    let place = (at % size) as usize;
+    let place = place as usize;
     if place + frame.len() <= size as usize {
         put_frame(table, seat, place, frame);
         return;

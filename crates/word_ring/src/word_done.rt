@@ -44,12 +44,14 @@ impl WordDone {
             mut seat,
             size: _,
             at: _,
+            place: _,
         } = writer;
         let WordOut {
             ring: _,
             seat: theirs,
             size: _,
             at: _,
+            place: _,
             loaded: _,
             learnt: _,
             ended,

@@ -13,6 +13,7 @@ ghost use Rattle.word_ring.specs.Rule.{plan_in, known};
 ghost use Rattle.word_ring.specs.Seats.{view, IsSeatOf};
 
 use crate::frames::put_next;
+use crate::places::places_on;
 use crate::steps::{WordSeat, WordTable, close, look, publish};
 use ring_core::{Full, StageIn, need};
 use std::alloc::Global;
@@ -26,6 +27,8 @@ pub struct WordIn {
     pub(crate) seat: WordSeat,
     pub(crate) size: u64,
     pub(crate) at: u64,
+    /// The place of `at`.
+    pub(crate) place: u64,
 }
 
 impl Model for WordIn {
@@ -63,6 +66,7 @@ impl WordIn {
             seat,
             size,
             at: 0,
+            place: 0,
         }
     }
 
@@ -81,14 +85,15 @@ impl WordIn {
         ensures within { seen_by self.new ≤ self.old.at }
     {
         let table: &WordTable = &self.ring;
-        let need = need(self.at, frame.len() as u64, self.size);
+        let need = need(self.place, frame.len() as u64, self.size);
         let released = look(table, &mut self.seat);
         let room = self.size - (self.at - released);
         if need > room {
             return Err(Full { need, room });
         }
-        put_next(table, &mut self.seat, self.at, frame, self.size);
+        put_next(table, &mut self.seat, self.place, frame, self.size);
         self.at += need;
+        self.place = places_on(self.place, need, self.size);
         publish(table, &mut self.seat, self.at);
         Ok(())
     }

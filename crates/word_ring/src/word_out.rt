@@ -12,6 +12,7 @@ ghost use Rattle.word_ring.specs.Rule.{plan_in, known};
 ghost use Rattle.word_ring.specs.Seats.{view, IsSeatOf};
 
 use crate::frames::read_frame;
+use crate::places::places_on;
 use crate::steps::{WordSeat, WordTable, load, read, release};
 use arg_records::MAX_FRAME_WORDS;
 use ring_core::{StageOut, Taken};
@@ -26,6 +27,8 @@ pub struct WordOut {
     pub(crate) seat: WordSeat,
     pub(crate) size: u64,
     pub(crate) at: u64,
+    /// The place of `at`.
+    pub(crate) place: u64,
     pub(crate) loaded: u64,
     pub(crate) learnt: bool,
     pub(crate) ended: bool,
@@ -69,6 +72,7 @@ impl WordOut {
             seat,
             size,
             at: 0,
+            place: 0,
             loaded: 0,
             learnt: false,
             ended: false,
@@ -105,14 +109,16 @@ impl WordOut {
             (λ n. (n ≤ MAX_FRAME_WORDS) × TakesLoaded self.old (take n into.new) self.new) }
     {
         let table: &WordTable = &self.ring;
-        let place = self.at % self.size;
-        let word = read(table, &mut self.seat, place as usize);
+        let place = self.place as usize;
+        let word = read(table, &mut self.seat, place);
         if word == 0 {
-            self.at += self.size - place;
+            self.at += self.size - self.place;
+            self.place = 0;
             return None;
         }
-        let len = read_frame(table, &mut self.seat, place as usize, word, into);
+        let len = read_frame(table, &mut self.seat, place, word, into);
         self.at += len as u64;
+        self.place = places_on(self.place, len as u64, self.size);
         self.frames += 1;
         release(table, &mut self.seat, self.at);
         Some(len)

@@ -8,8 +8,8 @@ use Rattle.word_ring.proofs.Putting.{mark_fits, mark_lawful, place_begins, may_s
 use Rattle.word_ring.proofs.frames.put_next.Goals as goal
 
 -- the frame would cross the ring's end
-beyond : (v : Known) (at size n : ℕ) → (size ≡ v.size) × (at ≡ (written_by v).at) → size < at % size + n → v.size < (written_by v).at % v.size + n
-beyond v at size n told test = subst (λ (x : ℕ × ℕ). x.0 < x.1 % x.0 + n) (λ i. (told.0 i, told.1 i)) test
+beyond : (v : Known) (place size n : ℕ) → (size ≡ v.size) × (place ≡ (written_by v).at % size) → size < place + n → v.size < (written_by v).at % v.size + n
+beyond v place size n told test = subst (λ (x : ℕ × ℕ). x.0 < x.1 + n) (λ i. (told.0 i, (told.1 ∙ ap (λ (m : ℕ). (written_by v).at % m) told.0) i)) test
 
 size_of : (v : Known) (size : ℕ) → size ≡ v.size → IsTableSize size → IsTableSize v.size
 size_of v size is h = subst IsTableSize is h
@@ -18,26 +18,26 @@ pub put-requires-clause-fits : goal.put-requires-clause-fits
 put-requires-clause-fits c =
     let v = view c.args.seat.now in
     let r = c.requires in
-    mark_fits v c.args.frame.now (size_of v c.args.size r.told.0 r.size) r.may (beyond v c.args.at c.args.size (length c.args.frame.now) r.told c.if-place-frame.false)
+    mark_fits v c.args.frame.now (size_of v c.args.size r.told.0 r.size) r.may (beyond v c.args.place c.args.size (length c.args.frame.now) r.told c.if-place-frame.false)
 
 pub put-requires-clause-lawful : goal.put-requires-clause-lawful
 put-requires-clause-lawful c =
     let v = view c.args.seat.now in
     let r = c.requires in
-    mark_lawful v c.args.frame.now (size_of v c.args.size r.told.0 r.size) r.may (beyond v c.args.at c.args.size (length c.args.frame.now) r.told c.if-place-frame.false)
+    mark_lawful v c.args.frame.now (size_of v c.args.size r.told.0 r.size) r.may (beyond v c.args.place c.args.size (length c.args.frame.now) r.told c.if-place-frame.false)
 
 pub put_frame-requires-2-clause-place : goal.put_frame-requires-2-clause-place
 put_frame-requires-2-clause-place c =
     let v = view c.args.seat.now in
     let r = c.requires in
-    place_begins v c.args.frame.now (size_of v c.args.size r.told.0 r.size) r.may (beyond v c.args.at c.args.size (length c.args.frame.now) r.told c.if-place-frame.false)
+    place_begins v c.args.frame.now (size_of v c.args.size r.told.0 r.size) r.may (beyond v c.args.place c.args.size (length c.args.frame.now) r.told c.if-place-frame.false)
     (view c.put.new.seat) c.put.ensures.knows
 
 pub put_frame-requires-2-clause-may : goal.put_frame-requires-2-clause-may
 put_frame-requires-2-clause-may c =
     let v = view c.args.seat.now in
     let r = c.requires in
-    may_store_behind v c.args.frame.now (size_of v c.args.size r.told.0 r.size) r.may (beyond v c.args.at c.args.size (length c.args.frame.now) r.told c.if-place-frame.false)
+    may_store_behind v c.args.frame.now (size_of v c.args.size r.told.0 r.size) r.may (beyond v c.args.place c.args.size (length c.args.frame.now) r.told c.if-place-frame.false)
     (view c.put.new.seat) c.put.ensures.knows
 
 pub returns-clause-written : goal.returns-clause-written
@@ -46,5 +46,5 @@ returns-clause-written c =
     let r = c.requires in
     let frame = c.args.frame.now in
     c.put_frame-2.ensures.written
-    ∙ stored_behind v frame (size_of v c.args.size r.told.0 r.size) r.may (beyond v c.args.at c.args.size (length frame) r.told c.if-place-frame.false) (view c.put.new.seat) c.put.ensures.knows
+    ∙ stored_behind v frame (size_of v c.args.size r.told.0 r.size) r.may (beyond v c.args.place c.args.size (length frame) r.told c.if-place-frame.false) (view c.put.new.seat) c.put.ensures.knows
     ∙ ap (λ (n : ℕ). with_next n (written_by v) frame) (sym r.told.0)

@@ -1,7 +1,7 @@
 use Rattle.std.proofs.Common.{◌≡◌, ℕ, ◌+◌, ◌≤◌, List, length, refl, sym, ap, ◌∙◌, arith}
 use Rattle.nl_io.specs.Count.{counted}
 use Rattle.ring_core.specs.declared.limits.TheConstants.{MAX_POSITION}
-use Rattle.ring_core.specs.Positions.{Need}
+use Rattle.ring_core.specs.Positions.{need_from, Need}
 use Rattle.ring_core.proofs.Needs.{Need-most}
 use Rattle.ring_machine.specs.Streams.{Walk}
 use Rattle.word_ring.specs.declared.known.Known.{Known}
@@ -20,18 +20,22 @@ use Rattle.word_ring.proofs.word_in.WordIn.offer.Goals as goal
 pub need-need-requires-clause-frame : goal.need-need-requires-clause-frame
 need-need-requires-clause-frame c = (lawful_head c.args.self.now.plan c.args.self.now.sent c.args.frame.now c.requires.lawful).most
 
+-- how many places the frame takes from the position on
+needed : (s : Inside) (need : ℕ) (frame : List ℕ) → IsWordWriter s → need ≡ need_from s.place (length frame) s.size → need ≡ Need s.at (length frame) s.size
+needed s need frame h is = is ∙ ap (λ (place : ℕ). need_from place (length frame) s.size) h.place
+
 -- the position behind the frame
 behind : (s : Inside) (looked put : RingSeat) (found need : ℕ) (frame : List ℕ) → IsWordWriter s → view looked ≡ having_looked (writer_knows s) found
-    → written_by (view put) ≡ with_next s.size (written_by (view looked)) frame → need ≡ Need s.at (length frame) s.size → s.at + need ≡ (written_by (view put)).at
+    → written_by (view put) ≡ with_next s.size (written_by (view looked)) frame → need ≡ need_from s.place (length frame) s.size → s.at + need ≡ (written_by (view put)).at
 behind s looked put found need frame h knows written is =
     let here : (written_by (view looked)).at ≡ s.at = ap (λ (v : Known). (written_by v).at) knows ∙ h.at in
-    ap (λ (n : ℕ). s.at + n) is ∙ (λ i. sym here i + Need (sym here i) (length frame) s.size) ∙ ap (λ (w : Walk). w.at) (sym written)
+    ap (λ (n : ℕ). s.at + n) (needed s need frame h is) ∙ (λ i. sym here i + Need (sym here i) (length frame) s.size) ∙ ap (λ (w : Walk). w.at) (sym written)
 
 -- it lies within what a position may be
-within_reach : (s : Inside) (e : WordWriterEnd) (need : ℕ) (frame : List ℕ) → IsWordWriter s → s.at ≡ e.at → e.at + 1024 ≤ MAX_POSITION → length frame ≤ 512 → need ≡ Need s.at (length frame) s.size
+within_reach : (s : Inside) (e : WordWriterEnd) (need : ℕ) (frame : List ℕ) → IsWordWriter s → s.at ≡ e.at → e.at + 1024 ≤ MAX_POSITION → length frame ≤ 512 → need ≡ need_from s.place (length frame) s.size
     → s.at + need ≤ MAX_POSITION
 within_reach s e need frame h is low few need_is =
-    omega (arith, is, low, need_is, Need-most s.at (length frame) s.size (omega (arith, h.size.least)) few)
+    omega (arith, is, low, needed s need frame h need_is, Need-most s.at (length frame) s.size (omega (arith, h.size.least)) few)
 
 pub publish-requires-clause-at : goal.publish-requires-clause-at
 publish-requires-clause-at c =
@@ -70,6 +74,7 @@ invariant_of-self-2 c =
       writes = ap (λ (v : Known). v.writes) publish.knows ∙ ap (λ (v : Known). v.writes) put.knows ∙ ap (λ (v : Known). v.writes) look.knows ∙ h.writes;
       whole = ap (λ (v : Known). (written_by v).part) publish.knows ∙ ap (λ (w : Walk). w.part) put.written;
       at = ap (λ (v : Known). (written_by v).at) publish.knows ∙ sym position;
+      place = c.places_on-self-inside.ensures s.at h.place;
       published = λ _. ap (λ (v : Known). v.writer.published) publish.knows ∙ sym position;
       seen = omega (arith, seen, look.within, h.at);
       looks = omega (arith, looks, (one_step (writer_knows s).writer.looks).range h.looks);

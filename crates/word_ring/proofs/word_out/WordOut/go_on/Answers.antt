@@ -51,6 +51,7 @@ invariant_of-self-2 c =
     let r = c.release.ensures in
     framed c.self.inside c.self.invariant c.read-word.result e.fits c.read-word.new.seat e.same e.knows (open_inside c.self.inside c.args.self.now c.self.view_is c.requires.not_ended)
     c.if-word-eq0.false c.read_frame-len.result f.len c.read_frame-len.new.into c.read_frame-len.new.seat c.release.new.seat c.read_frame-len.array_long f.same r.same f.others f.read r.knows f.steps
+    c.places_on-self-inside.result (c.places_on-self-inside.ensures c.self.inside.at c.self.invariant.place)
 
 pub returns : goal.returns
 returns c =
@@ -60,5 +61,6 @@ returns c =
     let r = c.release.ensures in
     let not_ended = open_inside s c.args.self.now c.self.view_is c.requires.not_ended in
     let took = takes s c.self.invariant c.read-word.result e.fits c.read-word.new.seat e.same e.knows not_ended
-    c.if-word-eq0.false c.read_frame-len.result f.len c.read_frame-len.new.into c.read_frame-len.new.seat c.release.new.seat c.read_frame-len.array_long f.same r.same f.others f.read r.knows f.steps c.args.self.now c.self.view_is f.lawful in
+    c.if-word-eq0.false c.read_frame-len.result f.len c.read_frame-len.new.into c.read_frame-len.new.seat c.release.new.seat c.read_frame-len.array_long f.same r.same f.others f.read r.knows f.steps
+    c.places_on-self-inside.result (c.places_on-self-inside.ensures s.at c.self.invariant.place) c.args.self.now c.self.view_is f.lawful in
     (len_within s c.self.invariant c.read-word.result e.fits c.read-word.new.seat e.same e.knows not_ended c.if-word-eq0.false c.read_frame-len.result f.len, took)
