@@ -139,14 +139,14 @@ fn is_frame(frame: &[u64], types: &[ArgType]) -> bool
 fn copy_text(alloc: Global, words: &[u64], len: usize) -> Result<Bytes, AllocError>
     ensures { IfOk result (λ text. text ≡ take len (bytes_of_words words.now)) }
 {
-    let mut text = Vec::with_capacity(alloc, len)?;
+    let mut text = Bytes::with_capacity(alloc, len)?;
     let mut left = len;
     for word in words {
         let count = left.min(WORD_BYTES);
         text.extend_from_slice(&word.to_le_bytes()[..count])?;
         left -= count;
     }
-    Ok(Bytes::from_vec(text))
+    Ok(text)
 }
 
 /// The text that words begin with, and the words behind it.

@@ -132,11 +132,11 @@ fn split_escaped_run(bytes: &[u8]) -> Option<(u8, &[u8], &[u8])>
 }
 
 // The bytes that a text's spelling stands for, of which there are so many.
-fn unescape(alloc: Global, spelled: &[u8], len: usize) -> Result<Vec<u8>, AllocError>
+fn unescape(alloc: Global, spelled: &[u8], len: usize) -> Result<Bytes, AllocError>
     requires { text_from outside (spelled.now ++ 34 ∷ []) ≡ Some (unescaped spelled.now, []) }
-    ensures { IfOk result (λ bytes. bytes.items ≡ unescaped spelled.now) }
+    ensures { IfOk result (λ bytes. bytes ≡ unescaped spelled.now) }
 {
-    let mut bytes = Vec::with_capacity(alloc, len)?;
+    let mut bytes = Bytes::with_capacity(alloc, len)?;
     let Some((run, mut rest)) = split_run(spelled) else {
         return Ok(bytes);
     };
@@ -202,7 +202,6 @@ impl SpelledText<'_> {
     pub fn to_bytes(&self, alloc: Global) -> Result<Bytes, AllocError>
         ensures { IfOk result (λ bytes. bytes ≡ self.now) }
     {
-        let bytes = unescape(alloc, self.spelled, self.len)?;
-        Ok(Bytes::from_vec(bytes))
+        unescape(alloc, self.spelled, self.len)
     }
 }

@@ -1,6 +1,6 @@
 //! The format of a statement, as the items of its argument.
 
-ghost use Rattle.std.specs.Prelude.{◌≡◌, IfOk};
+ghost use Rattle.std.specs.Prelude.{◌≡◌, ◌++◌, IfOk, OnOk};
 ghost use Rattle.std.specs.List.{list_any};
 ghost use Rattle.source_scan.specs.Texts.{unspliced};
 ghost use Rattle.source_scan.specs.PriWords.{pri_bytes};
@@ -66,6 +66,13 @@ fn is_prefix(source: &[u8], token: &Token, behind: &[Token]) -> bool
     }
 }
 
+/// Appends what an item stands for.
+fn push_item(bytes: &mut Vec<u8>, item: Bytes) -> Result<(), AllocError>
+    ensures { OnOk result (bytes.new.items ≡ bytes.old.items ++ item) }
+{
+    bytes.extend_from_slice(item.as_slice())
+}
+
 /// What items stand for, joined, if all of the tokens are items.
 fn items_bytes(alloc: Global, source: &[u8], tokens: &[Token]) -> Result<Option<Bytes>, AllocError>
     ensures { IfOk result (λ found. found ≡ items_bytes source.now tokens.now) }
@@ -80,7 +87,7 @@ fn items_bytes(alloc: Global, source: &[u8], tokens: &[Token]) -> Result<Option<
         let Some(item) = item_bytes(alloc, source, token)? else {
             return Ok(None);
         };
-        bytes.extend_from_slice(item.as_slice())?;
+        push_item(&mut bytes, item)?;
     }
     Ok(Some(Bytes::from_vec(bytes)))
 }

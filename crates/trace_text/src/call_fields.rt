@@ -1,6 +1,6 @@
 //! The arguments of a call's line.
 
-ghost use Rattle.std.specs.Prelude.{◌≡◌, ◌≢◌, ◌+◌, ◌≤◌, ℤ, IfOk, IfSome, length, Ok, Some, List, ◌<◌, ◌++◌, ◌∷◌, []};
+ghost use Rattle.std.specs.Prelude.{◌≡◌, ◌≢◌, ◌+◌, ◌≤◌, ℤ, IfOk, IfSome, OnOk, length, Ok, Some, List, ◌<◌, ◌++◌, ◌∷◌, []};
 ghost use Rattle.printf_grammar.specs.declared.argument.Value.{Value as ArgValue};
 ghost use Rattle.printf_grammar.specs.declared.limits.TheConstants.{MAX_ARGUMENTS};
 ghost use Rattle.log_dictionary.specs.Numbers.{integer_read, if_signed};
@@ -161,16 +161,26 @@ fn kept_value(alloc: Global, field: CallField) -> Result<Value, AllocError>
     }
 }
 
-// The arguments so far, with one more. There are none where memory lacked.
-fn with_field(alloc: Global, kept: Option<Values>, field: CallField) -> Option<Values>
-    requires { IfSome kept (λ values. length values < MAX_ARGUMENTS) }
-    ensures { (args : List ArgValue) → IfSome kept (λ values. values ≡ args)
-        → IfSome result (λ values. values ≡ args ++ field_value field.entry ∷ []) }
+fn push_field(alloc: Global, values: &mut Values, field: CallField) -> Result<(), AllocError>
+    requires { length values.old < MAX_ARGUMENTS }
+    ensures { OnOk result (values.new ≡ values.old ++ field_value field.entry ∷ []) }
 {
-    let mut values = kept?;
-    let value = kept_value(alloc, field).ok()?;
-    values.push(value).ok()?;
-    Some(values)
+    let value = kept_value(alloc, field)?;
+    values.push(value)
+}
+
+// Adds an argument to those so far. There are none once memory lacked.
+fn keep_field(alloc: Global, kept: &mut Option<Values>, field: CallField)
+    requires { IfSome kept.old (λ values. length values < MAX_ARGUMENTS) }
+    ensures { (args : List ArgValue) → IfSome kept.old (λ values. values ≡ args)
+        → IfSome kept.new (λ values. values ≡ args ++ field_value field.entry ∷ []) }
+{
+    let Some(values) = kept else {
+        return;
+    };
+    if push_field(alloc, values, field).is_err() {
+        *kept = None;
+    }
 }
 
 /// The arguments of these types that the bytes spell, where there is memory for them, and how many
@@ -184,14 +194,14 @@ pub(crate) fn read_arguments(
     ensures words { result_as (λ read. read.1) result ≡ result_as FrameLen (arguments_at types.now bytes.now) }
     ensures values { IfOk result (λ read. IfSome read.0 (λ values. arguments_at types.now bytes.now ≡ Ok values)) }
 {
-    let mut kept = Values::with_capacity(alloc, types.len()).ok();
+    let mut kept = Some(Values::make(alloc));
     let mut words = 2;
     let mut rest = bytes;
     for kind in types {
         match read_field(*kind, rest) {
             Ok((field, after)) => {
                 words += field_words(&field);
-                kept = with_field(alloc, kept, field);
+                keep_field(alloc, &mut kept, field);
                 rest = after;
             }
             Err(cause) => return Err(cause),

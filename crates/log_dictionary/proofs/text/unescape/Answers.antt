@@ -5,7 +5,7 @@ use Rattle.log_dictionary.proofs.text.unescape.Goals as goal
 
 pub loop-byte-init : goal.loop-byte-init
 loop-byte-init c = record {
-  walked = rw (c.in_ok-extend_from_slice.ensures.items, c.in_ok-bytes.ensures.items)
+  walked = rw (c.in_ok-extend_from_slice.ensures, c.in_ok-bytes.ensures)
       (walk_run c.args.spelled.now c.args.spelled.now c.in-Some.run'.now c.in-Some.rest.now [] (walk_begins c.args.spelled.now) c.in-Some.ensures.some);
   ended = c.in-Some.ensures.some.ended;
 }
@@ -16,11 +16,11 @@ loop-byte-smaller c =
 
 pub loop-byte-preserved : goal.loop-byte-preserved
 loop-byte-preserved c = record {
-  walked = rw (c.in_ok-extend_from_slice-2.ensures.items, c.in_ok-push.ensures.items)
-      (walk_escaped_run c.args.spelled.now c.loop-byte.rest.now c.in-Some-split_escaped_run.run'.now c.in-Some-split_escaped_run.after.now c.loop-byte.bytes.items c.in-Some-split_escaped_run.byte
+  walked = rw (c.in_ok-extend_from_slice-2.ensures, c.in_ok-push.ensures)
+      (walk_escaped_run c.args.spelled.now c.loop-byte.rest.now c.in-Some-split_escaped_run.run'.now c.in-Some-split_escaped_run.after.now c.loop-byte.bytes c.in-Some-split_escaped_run.byte
       c.loop-byte.invariant.walked c.in-Some-split_escaped_run.ensures.some);
   ended = c.in-Some-split_escaped_run.ensures.some.follows.ended;
 }
 
 pub returns : goal.returns
-returns c = read_ends c.args.spelled.now c.loop-byte.rest.now c.loop-byte.bytes.items c.requires c.loop-byte.invariant.walked c.in_default-split_escaped_run.ensures.none
+returns c = read_ends c.args.spelled.now c.loop-byte.rest.now c.loop-byte.bytes c.requires c.loop-byte.invariant.walked c.in_default-split_escaped_run.ensures.none

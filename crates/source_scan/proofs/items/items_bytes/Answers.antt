@@ -13,7 +13,7 @@ returns-in_default-2 c =
 
 pub loop-rest-preserved : goal.loop-rest-preserved
 loop-rest-preserved c =
-    rw (c.in_ok-extend_from_slice.ensures.items, c.as_slice.ensures)
+    rw c.in_ok-push_item.ensures
     (items-item c.args.source.now c.loop-rest.bytes.items c.in-Some.item c.args.tokens.now c.loop-rest.rest.now _ c.in-len1-up.len_at_least c.loop-rest.invariant (sym c.is_prefix.ensures ∙ c.if-is_prefix.false) (sym c.in_ok-item.ensures ∙ c.in-Some.is))
 
 pub returns : goal.returns

@@ -15,7 +15,7 @@ loop-kind-preserved c =
     record {
       args = args ++ value ∷ [];
       read = one_read c.args.types.now c.args.bytes.now c.loop-kind.kind-index c.loop-kind.rest.now args Int value c.in-Ok.after.now c.loop-kind.invariant.read (omega arith) c.in-Ok.ensures.value;
-      are_kept = c.with_field-kept.ensures args c.loop-kind.invariant.are_kept;
+      are_kept = c.keep_field.ensures args c.loop-kind.invariant.are_kept;
       words_are = omega (arith, frame_more args value, c.loop-kind.invariant.words_are, c.field_words-words.ensures.value);
       few = omega (arith, c.loop-kind.invariant.few, c.field_words-words.ensures.bound);
     }
