@@ -7,6 +7,7 @@ ghost use Rattle.printf_grammar.specs.declared.piece.Piece.{Piece};
 ghost use Rattle.printf_grammar.specs.Spelling.{Spells};
 ghost use Rattle.log_dictionary.specs.declared.message.Message.{Message};
 ghost use Rattle.log_dictionary.specs.Messages.{SpellsMessage, HasMessage};
+ghost use Rattle.log_dictionary.specs.Places.{IsPlace};
 ghost use Rattle.log_dictionary.specs.Calls.{Takes};
 ghost use Rattle.log_dictionary.specs.Additions.{IsAdded, SpellsNone, StopsMessage, ReadsLine};
 ghost use Rattle.log_dictionary.specs.MessageLines.{IsMessageLine};
@@ -157,6 +158,13 @@ impl Dictionary {
         ensures { slice_get self.now id ≡ Some result.now }
     {
         &self.messages.as_slice()[id as usize]
+    }
+
+    /// The id of the message that equals this one, if the dictionary has one.
+    pub fn id_of(&self, message: &Message) -> Option<u32>
+        ensures { IsPlace self.now message.now result }
+    {
+        self.messages.place_of(message)
     }
 
     /// The messages, in the order of their ids.
