@@ -7,9 +7,11 @@ pub mod Digits
 pub mod Spans
 pub mod FoundLists
 pub mod Fronts
+pub mod Heads
 pub mod ItemLists
 pub mod LineBounds
 pub mod Moving
+pub mod Order
 pub mod Parts
 pub mod Rises
 pub mod SomeChanges

@@ -104,9 +104,10 @@ with_format source reading severity bytes pieces file names has spells =
           format = record { bytes = bytes; pieces = pieces };
           args = reading.args;
           start = reading.start;
+          head = reading.head;
           end = reading.end;
         }),
-        record { named = file; severity = names; format = has; spells = spells; enough = enough; file = refl; line = refl; args = refl; start = refl; end = refl },
+        record { named = file; severity = names; format = has; spells = spells; enough = enough; file = refl; line = refl; args = refl; start = refl; head = refl; end = refl },
       )
     ]
 

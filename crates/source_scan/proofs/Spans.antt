@@ -22,7 +22,7 @@ use Rattle.source_scan.proofs.Unique.{statements_find}
 -- ---- what stands in front of a closing parenthesis
 
 -- the place of a parenthesis that closes is one of the tokens
-closing_within : (depth : ℕ) (tokens : List Token) (place : ℕ) → closing_from depth tokens ≡ Some place → place < length tokens
+pub closing_within : (depth : ℕ) (tokens : List Token) (place : ℕ) → closing_from depth tokens ≡ Some place → place < length tokens
 unfolding closing_from
 closing_within depth [] place closes = cc
 closing_within depth (token ∷ tokens) place closes = by_test (is_bare 41 depth token) (closing_from (depth_behind depth token) tokens) (closing_within (depth_behind depth token) tokens) closes
@@ -33,7 +33,7 @@ closing_within depth (token ∷ tokens) place closes = by_test (is_bare 41 depth
     by_test false (Some n) within closes = let next : suc n ≡ place = cc in omega (arith, next, within n refl)
 
 -- of two tokens the first begins no later
-rise_order : (start end i j : ℕ) (tokens : List Token) (d : Token) → i ≤ j → j < length tokens → RiseFrom start tokens end → (get_or tokens i d).start ≤ (get_or tokens j d).start
+pub rise_order : (start end i j : ℕ) (tokens : List Token) (d : Token) → i ≤ j → j < length tokens → RiseFrom start tokens end → (get_or tokens i d).start ≤ (get_or tokens j d).start
 unfolding RiseFrom
 rise_order start end i j [] d order within rise = absurd (omega (arith, within))
 rise_order start end zero zero (token ∷ tokens) d order within rise = omega arith
@@ -42,7 +42,7 @@ rise_order start end (suc i) zero (token ∷ tokens) d order within rise = absur
 rise_order start end (suc i) (suc j) (token ∷ tokens) d order within rise = rise_order token.end end i j tokens d (omega (arith, order)) (omega (arith, within)) rise.2
 
 -- those behind a token rise from where it ends
-rise_behind : (start end i : ℕ) (tokens : List Token) (d : Token) → i < length tokens → RiseFrom start tokens end → RiseFrom (suc (get_or tokens i d).start) (drop (suc i) tokens) end
+pub rise_behind : (start end i : ℕ) (tokens : List Token) (d : Token) → i < length tokens → RiseFrom start tokens end → RiseFrom (suc (get_or tokens i d).start) (drop (suc i) tokens) end
 unfolding RiseFrom
 rise_behind start end i [] d within rise = absurd (omega (arith, within))
 rise_behind start end zero (token ∷ tokens) d within rise = rise-wider token.end (suc token.start) end end tokens (omega (arith, rise.1)) (omega arith) rise.2

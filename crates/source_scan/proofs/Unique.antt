@@ -136,10 +136,10 @@ bad_same : (file other : List ℕ) (line number : ℕ) (cause because : Statemen
     → (let a : BadStatement = record { file = file; line = line; cause = cause } in let b : BadStatement = record { file = other; line = number; cause = because } in a ≡ b)
 bad_same file other line number cause because f l c = cc
 
-statement_same : (file name : List ℕ) (line number : ℕ) (severity : Severity) (format : Parsed) (args count start from end to : ℕ) → file ≡ name → line ≡ number → args ≡ count → start ≡ from → end ≡ to
-    → (let a : Statement = record { file = file; line = line; severity = severity; format = format; args = args; start = start; end = end } in
-    let b : Statement = record { file = name; line = number; severity = severity; format = format; args = count; start = from; end = to } in a ≡ b)
-statement_same file name line number severity format args count start from end to f l a s e = cc
+statement_same : (file name : List ℕ) (line number : ℕ) (severity : Severity) (format : Parsed) (args count start from head comma end to : ℕ) → file ≡ name → line ≡ number → args ≡ count → start ≡ from → head ≡ comma → end ≡ to
+    → (let a : Statement = record { file = file; line = line; severity = severity; format = format; args = args; start = start; head = head; end = end } in
+    let b : Statement = record { file = name; line = number; severity = severity; format = format; args = count; start = from; head = comma; end = to } in a ≡ b)
+statement_same file name line number severity format args count start from head comma end to f l a s h e = cc
 
 -- the statement that stands there, with this severity and format
 said : Parted → Severity → Parsed → Statement
@@ -150,12 +150,13 @@ said reading severity format = record {
   format = format;
   args = reading.args;
   start = reading.start;
+  head = reading.head;
   end = reading.end;
 }
 
 said_is : (source : List ℕ) (reading : Parted) (statement : Statement) → IsGood source reading statement → statement ≡ said reading statement.severity statement.format
 unfolding said
-said_is source reading statement good = statement_same statement.file reading.file statement.line reading.line statement.severity statement.format statement.args reading.args statement.start reading.start statement.end reading.end good.file good.line good.args good.start good.end
+said_is source reading statement good = statement_same statement.file reading.file statement.line reading.line statement.severity statement.format statement.args reading.args statement.start reading.start statement.head reading.head statement.end reading.end good.file good.line good.args good.start good.head good.end
 
 good_once : (source : List ℕ) (reading : Parted) (statement other : Statement) → IsGood source reading statement → IsGood source reading other → statement ≡ other
 good_once source reading statement other here there =

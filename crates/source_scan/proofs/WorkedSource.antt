@@ -200,6 +200,7 @@ finds = (
     line = refl;
     args = refl;
     start = refl;
+    head = refl;
     end = refl;
   },
   (

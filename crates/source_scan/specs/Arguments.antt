@@ -1,5 +1,5 @@
 -- The parentheses of a statement, and its arguments. A depth is the number of parentheses that are open.
-use Rattle.std.specs.Prelude.{ℕ, suc, ◌-◌, ◌≤◌, Bool, false, ◌&&◌, ◌==◌, if◌then◌else◌, List, [], ◌∷◌, take, count_by}
+use Rattle.std.specs.Prelude.{ℕ, suc, ◌+◌, ◌-◌, ◌≤◌, Bool, false, ◌&&◌, ◌==◌, if◌then◌else◌, List, [], ◌∷◌, length, take, count_by}
 use Rattle.std.specs.Prelude.{Option, Some, None}
 use Rattle.std.specs.Option.{option_map}
 use Rattle.source_tokens.specs.declared.kind.TokenKind.{TokenKind}
@@ -50,6 +50,13 @@ parted_from depth [] = [] ∷ []
 parted_from depth (token ∷ tokens) =
     if is_bare 44 depth token then [] ∷ parted_from 0 tokens
     else onto_first token (parted_from (depth_behind depth token) tokens)
+
+-- how many tokens stand in front of the comma behind the second of these arguments; where there is no such comma, how
+-- many there are
+abbrev pub head_length : List (List Token) → ℕ
+head_length [] = 0
+head_length (first ∷ []) = length first
+head_length (first ∷ second ∷ others) = suc (length first + length second)
 
 -- the first of these lists, or no tokens
 abbrev pub first_argument : List (List Token) → List Token

@@ -27,6 +27,7 @@ pub record Parted : Type 0 where
   pub format : List Token
   pub args : ℕ
   pub start : ℕ
+  pub head : ℕ
   pub end : ℕ
 
 -- the same as code holds it
@@ -38,6 +39,7 @@ parted_of reading = record {
   format = reading.format.now;
   args = reading.args;
   start = reading.start;
+  head = reading.head;
   end = reading.end;
 }
 
@@ -83,6 +85,7 @@ pub record IsGood (source : List ℕ) (reading : Parted) (statement : Statement)
   pub line : statement.line ≡ reading.line
   pub args : statement.args ≡ reading.args
   pub start : statement.start ≡ reading.start
+  pub head : statement.head ≡ reading.head
   pub end : statement.end ≡ reading.end
 
 -- the statement is refused, from some cause
@@ -111,6 +114,7 @@ pub record IsStated (reading : Parted) (severity : Severity) (format : Parsed) (
   pub line : statement.line ≡ reading.line
   pub args : statement.args ≡ reading.args
   pub start : statement.start ≡ reading.start
+  pub head : statement.head ≡ reading.head
   pub end : statement.end ≡ reading.end
 
 -- the answer for this severity and format

@@ -63,6 +63,7 @@ worked_statement = record {
   format = literal_at 19 23 ∷ [];
   args = 1;
   start = 3;
+  head = 23;
   end = 30;
 }
 
@@ -110,6 +111,7 @@ reading_with file severity format = record {
   format = format;
   args = 0;
   start = 0;
+  head = 16;
   end = 17;
 }
 
@@ -139,6 +141,7 @@ worked_good = found.Statement (record {
   format = record { bytes = codes "%d"; pieces = Field plain_d ∷ [] };
   args = 1;
   start = 57;
+  head = 76;
   end = 84;
 })
 

@@ -38,6 +38,14 @@ span_of word inside = record {
   end = option_map (λ place. suc (slice_index_or inside place word).start) (closing_from 0 inside);
 }
 
+-- the good statements that are found stand one behind the other between two places, each head in its statement
+abbrev pub StandFrom : ℕ → List Found → ℕ → Type 0
+StandFrom from [] to = from ≤ to
+StandFrom from (found.Statement statement ∷ found) to =
+    (from ≤ statement.start) × (statement.start < statement.head) × (statement.head < statement.end)
+    × StandFrom statement.end found to
+StandFrom from (found.Bad bad ∷ found) to = StandFrom from found to
+
 -- ---- statements and their spans
 
 abbrev pub file_of : Found → List ℕ

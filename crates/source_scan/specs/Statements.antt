@@ -10,7 +10,7 @@ use Rattle.source_scan.specs.declared.found.StatementCause.TheVariants as causes
 use Rattle.source_scan.specs.declared.found.BadStatement.{BadStatement}
 use Rattle.source_scan.specs.declared.statement.ScanInput.{ScanInput}
 use Rattle.source_scan.specs.Texts.{is_word, significant}
-use Rattle.source_scan.specs.Arguments.{opens_parenthesis, closing_from, parted_from, first_argument}
+use Rattle.source_scan.specs.Arguments.{opens_parenthesis, closing_from, parted_from, head_length, first_argument}
 use Rattle.source_scan.specs.Readings.{Parted, IsRead}
 use Rattle.source_scan.specs.Positions.{InForce, Changes, in_force_at, line_number_at}
 
@@ -52,6 +52,7 @@ reading_of name line token inside place =
       format = first_argument (drop 1 arguments);
       args = length (drop 2 arguments);
       start = token.start;
+      head = (slice_index_or inside (head_length arguments) token).start;
       end = suc (slice_index_or inside place token).start;
     }
 

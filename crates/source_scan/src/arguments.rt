@@ -3,7 +3,7 @@
 ghost use Rattle.std.specs.Prelude.{◌≡◌, ◌+◌, ◌<◌, ◌^◌, [], ◌∷◌, length, drop};
 ghost use Rattle.std.specs.Prelude.{IfSome, MatchOption};
 ghost use Rattle.source_scan.specs.Arguments.{is_mark, is_bare, depth_behind};
-ghost use Rattle.source_scan.specs.Arguments.{closing_from, parted_from, first_argument};
+ghost use Rattle.source_scan.specs.Arguments.{closing_from, parted_from, head_length, first_argument};
 
 use source_tokens::{Token, TokenKind};
 
@@ -91,6 +91,8 @@ pub struct Arguments<'a> {
     pub first: &'a [Token],
     pub second: &'a [Token],
     pub others: usize,
+    /// How many tokens stand in front of the others and their comma.
+    pub head: usize,
 }
 
 /// The arguments that the tokens are.
@@ -98,6 +100,7 @@ pub fn arguments_of(tokens: &[Token]) -> Arguments<'_>
     ensures first { result.first.now ≡ first_argument (parted_from 0 tokens.now) }
     ensures second { result.second.now ≡ first_argument (drop 1 (parted_from 0 tokens.now)) }
     ensures others { result.others ≡ length (drop 2 (parted_from 0 tokens.now)) }
+    ensures head { result.head ≡ head_length (parted_from 0 tokens.now) }
 {
     let (first, behind) = split_argument(tokens);
     let Some(behind) = behind else {
@@ -105,9 +108,11 @@ pub fn arguments_of(tokens: &[Token]) -> Arguments<'_>
             first,
             second: tokens.split_at(0).0,
             others: 0,
+            head: first.len(),
         };
     };
     let (second, behind) = split_argument(behind);
+    let head = first.len() + 1 + second.len();
     let others = match behind {
         Some(behind) => count_arguments(behind),
         None => 0,
@@ -116,5 +121,6 @@ pub fn arguments_of(tokens: &[Token]) -> Arguments<'_>
         first,
         second,
         others,
+        head,
     }
 }

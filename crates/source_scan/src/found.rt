@@ -33,6 +33,8 @@ pub struct Statement {
     pub args: u32,
     /// Where it begins in the source.
     pub start: usize,
+    /// The place of the comma behind its format or, where no argument follows, of its closing parenthesis.
+    pub head: usize,
     /// Where it ends: the place behind its closing parenthesis.
     pub end: usize,
 }

@@ -1,8 +1,8 @@
 //! Laws and worked examples of the definitions. The functions answer nothing: what they ensure is
 //! proved of the definitions.
 
-ghost use Rattle.std.specs.Prelude.{◌≡◌, ℕ, suc, ◌+◌, ◌≤◌, List, [], ◌∷◌, length, Some, None};
-ghost use Rattle.std.specs.Prelude.{take, drop, map, replicate, codes};
+ghost use Rattle.std.specs.Prelude.{◌≡◌, ℕ, suc, ◌+◌, ◌<◌, ◌≤◌, true, List, [], ◌∷◌, length, Some, None};
+ghost use Rattle.std.specs.Prelude.{take, drop, slice_index_or, map, replicate, codes};
 ghost use Rattle.printf_grammar.specs.declared.fault.FormatCause.TheVariants.{Store};
 ghost use Rattle.source_tokens.specs.declared.token.Token.{Token};
 ghost use Rattle.source_tokens.specs.Tokens.{Tokens};
@@ -18,7 +18,7 @@ ghost use Rattle.source_scan.specs.Escapes.{unescaped_literal};
 ghost use Rattle.source_scan.specs.PriWords.{pri_bytes};
 ghost use Rattle.source_scan.specs.Items.{items_bytes};
 ghost use Rattle.source_scan.specs.Severities.{last_name};
-ghost use Rattle.source_scan.specs.Arguments.{closing_from, parted_from, IsOpenTo};
+ghost use Rattle.source_scan.specs.Arguments.{is_mark, closing_from, parted_from, head_length, IsOpenTo};
 ghost use Rattle.source_scan.specs.LineChanges.{directive_change};
 ghost use Rattle.source_scan.specs.Positions.{Changes, in_force_at, at_front, line_number_at};
 ghost use Rattle.source_scan.specs.Rising.{RiseFrom};
@@ -28,7 +28,7 @@ ghost use Rattle.source_scan.specs.Rows.{worked_source, worked_found};
 ghost use Rattle.source_scan.specs.Rows.{pri_words, letters, long_letters};
 ghost use Rattle.source_scan.specs.Rows.{worked_words, word, error, integer, store, IsToldOf};
 ghost use Rattle.source_scan.specs.Statements.{reading_of, IsFoundIn, Statements};
-ghost use Rattle.source_scan.specs.Spans.{AreAll};
+ghost use Rattle.source_scan.specs.Spans.{StandFrom, AreAll};
 
 /// A source has one list of statements under each name of its file.
 pub fn one_list()
@@ -43,6 +43,21 @@ pub fn all_statements()
     ensures { (file source : List ℕ) (parts : List Token) (changes : List PlacedChange) (found : List Found)
         → Parts source parts → Changes source parts changes → Statements file source found
         → AreAll (record { file = file; bytes = source; changes = changes }) (significant parts) found }
+{}
+
+/// The good statements stand one behind the other in the source, and the head of each is between its start and its end.
+pub fn statements_in_order()
+    ensures { (file source : List ℕ) (found : List Found) → Statements file source found
+        → StandFrom 0 found (length source) }
+{}
+
+/// The head of a statement is the place of the comma behind its second argument; where nothing follows that, it is the
+/// place of the parenthesis that closes the statement.
+pub fn heads()
+    ensures comma { (tokens : List Token) (d : Token) → 2 < length (parted_from 0 tokens)
+        → is_mark 44 (slice_index_or tokens (head_length (parted_from 0 tokens)) d) ≡ true }
+    ensures close { (tokens : List Token) → length (parted_from 0 tokens) ≤ 2
+        → head_length (parted_from 0 tokens) ≡ length tokens }
 {}
 
 /// The parenthesis that closes a statement is the first with which more are closed than opened behind its `(`.

@@ -21,6 +21,7 @@ pub struct StatementReading<'a> {
     /// How many arguments follow the format.
     pub args: u32,
     pub start: usize,
+    pub head: usize,
     pub end: usize,
 }
 
@@ -62,6 +63,7 @@ impl StatementReading<'_> {
             format,
             args: self.args,
             start: self.start,
+            head: self.head,
             end: self.end,
         }))
     }

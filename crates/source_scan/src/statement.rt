@@ -41,6 +41,7 @@ fn begins(source: &[u8], token: &Token, behind: &[Token]) -> bool
 }
 
 /// The statement that begins with the token and whose parenthesis closes at the place.
+#[tactic(auto, using(crate::proofs::Heads::head_within))]
 fn reading_of<'a>(
     here: SourcePosition<'a>,
     token: &Token,
@@ -59,6 +60,7 @@ fn reading_of<'a>(
         format: arguments.second,
         args: arguments.others as u32,
         start: token.start,
+        head: inside[arguments.head].start,
         end: inside[place].start + 1,
     }
 }

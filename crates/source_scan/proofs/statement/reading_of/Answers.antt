@@ -1,8 +1,11 @@
+use Rattle.std.proofs.lemmas.List.{get_or_default}
 use Rattle.std.proofs.Common.{◌≡◌, ℕ, ◌+◌, ◌<◌, Fits, w64, List, length, take, drop, get_or, ap, ◌∙◌, arith}
+use Rattle.source_tokens.specs.declared.kind.TokenKind.TheVariants.{Space}
 use Rattle.source_tokens.specs.declared.token.Token.{Token}
 use Rattle.source_scan.specs.declared.statement.TheConstants.{MAX_SOURCE}
 use Rattle.source_scan.specs.Arguments.{parted_from}
 use Rattle.source_scan.specs.Rising.{RiseFrom}
+use Rattle.source_scan.proofs.Heads.{head_within}
 use Rattle.source_scan.proofs.Rises.{rise-at, others-below}
 use Rattle.source_scan.proofs.statement.reading_of.Goals as goal
 
@@ -19,3 +22,13 @@ overflow_cast-result c =
 
 pub overflow_add-result : goal.overflow_add-result
 overflow_add-result c = begin-fits c.args.inside.now c.args.place _ c.requires.place c.requires.rise
+
+pub returns : goal.returns
+returns c =
+    let inside = c.args.inside.now in
+    let arguments = c.arguments_of-arguments in
+    let near : arguments.result.head < length inside = grind (arith, head_within, arguments.ensures.head, c.split_at.ensures, c.requires.place) in
+    let none : Token = record { kind = Space; start = 0; end = 0 } in
+    let head = get_or_default inside arguments.result.head none c.args.token.now near in
+    let end = get_or_default inside c.args.place none c.args.token.now c.requires.place in
+    rw (← c.split_at.ensures.front, ← arguments.ensures.first, ← arguments.ensures.second, ← arguments.ensures.others, ← arguments.ensures.head, ← head, ← end) (grind arith)

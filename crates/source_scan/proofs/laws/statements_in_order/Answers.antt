@@ -1,0 +1,5 @@
+use Rattle.source_scan.proofs.Order.{statements_stand}
+use Rattle.source_scan.proofs.laws.statements_in_order.Goals as goal
+
+pub returns : goal.returns
+returns c = statements_stand
