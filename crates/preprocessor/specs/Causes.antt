@@ -22,6 +22,7 @@ abbrev pub cause_number : RefusalCause → ℕ
 cause_number (causes.Statement cause) = statement_number cause
 cause_number causes.TooLarge = 7
 cause_number causes.TooMany = 8
+cause_number causes.NotInDictionary = 9
 
 abbrev pub statement_name : StatementCause → List ℕ
 statement_name statements.Severity = codes "Severity"
@@ -36,6 +37,7 @@ abbrev pub cause_name : RefusalCause → List ℕ
 cause_name (causes.Statement cause) = statement_name cause
 cause_name causes.TooLarge = codes "TooLarge"
 cause_name causes.TooMany = codes "TooMany"
+cause_name causes.NotInDictionary = codes "NotInDictionary"
 
 -- ---- words
 

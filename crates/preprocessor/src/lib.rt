@@ -7,7 +7,7 @@ mod numbering;
 mod refusal;
 mod words;
 
-pub use numbering::Numbering;
+pub use numbering::{Numbering, message_of};
 pub use refusal::{RefusalCause, SourceRefusal};
 pub use source_scan::MAX_SOURCE;
 pub use words::push_refusal;

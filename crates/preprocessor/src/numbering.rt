@@ -35,8 +35,8 @@ fn is_too_large(source: &[u8]) -> bool
     source.len() > MAX_SOURCE
 }
 
-// The message of a statement.
-fn message_of(statement: Statement) -> Message
+/// The message of a statement.
+pub fn message_of(statement: Statement) -> Message
     requires { IsFileName statement.file }
     ensures { IsMessageOf statement result }
 {

@@ -15,6 +15,8 @@ pub enum RefusalCause {
     TooLarge,
     /// The message of the statement would be one more than 65,536.
     TooMany,
+    /// The dictionary has no message of the statement.
+    NotInDictionary,
 }
 
 /// What is refused.
@@ -41,6 +43,7 @@ impl RefusalCause {
             RefusalCause::Statement(StatementCause::FileName) => 6,
             RefusalCause::TooLarge => 7,
             RefusalCause::TooMany => 8,
+            RefusalCause::NotInDictionary => 9,
         }
     }
 
@@ -57,6 +60,7 @@ impl RefusalCause {
             RefusalCause::Statement(StatementCause::FileName) => "FileName",
             RefusalCause::TooLarge => "TooLarge",
             RefusalCause::TooMany => "TooMany",
+            RefusalCause::NotInDictionary => "NotInDictionary",
         }
     }
 }
