@@ -111,11 +111,11 @@ restored f n (calls ∷ writers) found =
 
 -- ---- the lines
 
-abbrev lines_of : ℕ → List Message → List (List ℕ)
+abbrev pub lines_of : ℕ → List Message → List (List ℕ)
 lines_of n [] = []
 lines_of n (message ∷ messages) = message_line n message ∷ lines_of (n + 1) messages
 
-message_lines_are : (n : ℕ) (messages : List Message) → flat_map message_text (enumerate_from n messages) ≡ text_of_lines (lines_of n messages)
+pub message_lines_are : (n : ℕ) (messages : List Message) → flat_map message_text (enumerate_from n messages) ≡ text_of_lines (lines_of n messages)
 message_lines_are n [] = refl
 message_lines_are n (message ∷ messages) =
     append_assoc (message_line n message) (10 ∷ []) (flat_map message_text (enumerate_from (n + 1) messages))
@@ -125,7 +125,7 @@ call_lines_are : (calls : List WriterCall) → flat_map call_text calls ≡ text
 call_lines_are [] = refl
 call_lines_are (made ∷ calls) = append_assoc (call_line made) (10 ∷ []) (flat_map call_text calls) ∙ ap (λ (bytes : List ℕ). call_line made ++ 10 ∷ bytes) (call_lines_are calls)
 
-lines_follow : (a b : List (List ℕ)) → text_of_lines (a ++ b) ≡ text_of_lines a ++ text_of_lines b
+pub lines_follow : (a b : List (List ℕ)) → text_of_lines (a ++ b) ≡ text_of_lines a ++ text_of_lines b
 lines_follow [] b = refl
 lines_follow (line ∷ a) b = ap (λ (bytes : List ℕ). line ++ 10 ∷ bytes) (lines_follow a b) ∙ sym (append_assoc line (10 ∷ text_of_lines a) (text_of_lines b))
 
@@ -143,7 +143,7 @@ whole_text run =
 
 -- ---- what the lines spell
 
-spells_messages : (n : ℕ) (messages : List Message) → n + length messages ≤ MAX_MESSAGES → AllByRecursion HasLine messages → SpellsMessages n (lines_of n messages) messages
+pub spells_messages : (n : ℕ) (messages : List Message) → n + length messages ≤ MAX_MESSAGES → AllByRecursion HasLine messages → SpellsMessages n (lines_of n messages) messages
 spells_messages n [] few all = tt
 spells_messages n (message ∷ messages) few all = (written_message n message (omega (arith, few)) all.0, spells_messages (n + 1) messages (omega (arith, few)) all.1)
 

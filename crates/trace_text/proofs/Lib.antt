@@ -5,6 +5,12 @@ pub mod CallRuns
 pub mod CallFieldLemmas
 pub mod LastStamps
 pub mod OneLines
+pub mod OneDictionary
+pub mod DictionaryReads
+pub mod DictionaryLaws
+pub mod DictionaryWorked
+pub mod NextMessages
+pub mod OnlyAnswers
 pub mod CallPlaces
 pub mod HeadLines
 pub mod HeadNumbers

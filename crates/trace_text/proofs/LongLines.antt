@@ -36,7 +36,7 @@ use Rattle.trace_text.proofs.ArgumentLines.{arguments_read}
 use Rattle.trace_text.proofs.CallLines.{head_read, call_read}
 use Rattle.trace_text.proofs.Arguments.{with_value, with_item}
 use Rattle.trace_text.proofs.CallSteps.{with_args, with_head}
-use Rattle.trace_text.proofs.TextReads.{message_begins}
+use Rattle.trace_text.proofs.NextMessages.{message_begins}
 
 -- ---- long texts
 

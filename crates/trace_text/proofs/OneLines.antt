@@ -17,7 +17,7 @@ use Rattle.trace_text.specs.Lines.{first_line, last_line, clock_line, writers_li
 use Rattle.trace_text.specs.Reading.{IsOneLine}
 use Rattle.trace_text.proofs.DecimalBytes.{decimal_all}
 
-joined : (front back : List ℕ) → IsOneLine front → IsOneLine back → IsOneLine (front ++ back)
+pub joined : (front back : List ℕ) → IsOneLine front → IsOneLine back → IsOneLine (front ++ back)
 joined [] back first second = second
 joined (byte ∷ front) back first second = (first.0, joined front back first.1 second)
 

@@ -11,11 +11,11 @@ use Rattle.log_dictionary.proofs.LineMessages.{one_message}
 
 -- ---- one way to cut
 
-feed_inside : (line rest : List ℕ) → ¬ (IsOneLine (line ++ 10 ∷ rest))
+pub feed_inside : (line rest : List ℕ) → ¬ (IsOneLine (line ++ 10 ∷ rest))
 feed_inside [] rest none = none.0 refl
 feed_inside (byte ∷ line) rest none = feed_inside line rest none.1
 
-same_first : (a b x y : List ℕ) → IsOneLine a → IsOneLine b → a ++ 10 ∷ x ≡ b ++ 10 ∷ y → (a ≡ b) × (x ≡ y)
+pub same_first : (a b x y : List ℕ) → IsOneLine a → IsOneLine b → a ++ 10 ∷ x ≡ b ++ 10 ∷ y → (a ≡ b) × (x ≡ y)
 same_first [] [] x y none other same = (refl, cc)
 same_first [] (byte ∷ b) x y none other same = absurd (other.0 cc)
 same_first (byte ∷ a) [] x y none other same = absurd (none.0 cc)
@@ -62,7 +62,7 @@ one_next (parts.calls run) line next other (inr first) (inr second) =
     first.1.2 ∙ ap (λ (made : WriterCall). parts.calls (with_call run made)) same ∙ sym second.1.2
 one_next (parts.ended run) line next other first second = absurd first
 
-one_cause : (part : TracePart) (line : List ℕ) (cause other : TraceCause) → Breaks part line cause → Breaks part line other → cause ≡ other
+pub one_cause : (part : TracePart) (line : List ℕ) (cause other : TraceCause) → Breaks part line cause → Breaks part line other → cause ≡ other
 one_cause parts.opening line cause other first second = first.1 ∙ sym second.1
 one_cause (parts.messages before) line cause other (inl (_, inl first)) (inl (_, inl second)) = first.1 ∙ sym second.1
 one_cause (parts.messages before) line cause other (inl (_, inl first)) (inl (_, inr second)) = absurd (omega (arith, first.0, second.0))

@@ -27,7 +27,7 @@ use Rattle.log_dictionary.proofs.Distinct.{there_from_test, none_from_test}
 abbrev Judged : TracePart → List ℕ → Type 0
 Judged part line = ((next : TracePart) × Follows part line next) ⊎ ((cause : TraceCause) × Breaks part line cause)
 
-same_or_other : (line other : List ℕ) → (line ≡ other) ⊎ (line ≢ other)
+pub same_or_other : (line other : List ℕ) → (line ≡ other) ⊎ (line ≢ other)
 same_or_other line other = told (pointwise eqb line other) refl
   where
     told : (b : Bool) → pointwise eqb line other ≡ b → (line ≡ other) ⊎ (line ≢ other)
@@ -46,7 +46,7 @@ there_or_not messages message = told (list_any (is_same message) messages) refl
     told false e = inr (none_from_test messages message e)
 
 -- a message that is new, with the next id, or none
-some_new : (before : List Message) (line : List ℕ) → ((message : Message) × SpellsNew before line (length before) message) ⊎ ((message : Message) → ¬ (SpellsNew before line (length before) message))
+pub some_new : (before : List Message) (line : List ℕ) → ((message : Message) × SpellsNew before line (length before) message) ⊎ ((message : Message) → ¬ (SpellsNew before line (length before) message))
 some_new before line = elim (message_or_not line) [
   | inl found ↦ with_id found.0 found.1 found.2 (eqb found.0 (length before)) refl
   | inr none ↦ inr (λ message new. none (length before) message new.spelled)

@@ -50,7 +50,7 @@ spelled_bytes spelled (b ∷ bytes) (unit, rest, joined, byte, others) =
 spelled_message : (line : List ℕ) (id : ℕ) (message : Message) → SpellsMessage line id message → HasLine message
 spelled_message line id message spells = record { file = spelled_bytes _ _ spells.file; bytes = spelled_bytes _ _ spells.bytes; formed = spells.formed; line_fits = spells.line_fits }
 
-spelled_messages : (n : ℕ) (lines : List (List ℕ)) (messages : List Message) → SpellsMessages n lines messages → AllByRecursion HasLine messages
+pub spelled_messages : (n : ℕ) (lines : List (List ℕ)) (messages : List Message) → SpellsMessages n lines messages → AllByRecursion HasLine messages
 spelled_messages n [] [] spells = tt
 spelled_messages n (line ∷ lines) (message ∷ messages) spells = (spelled_message line n message spells.0, spelled_messages (n + 1) lines messages spells.1)
 spelled_messages n [] (message ∷ messages) spells = absurd spells

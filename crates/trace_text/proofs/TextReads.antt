@@ -1,21 +1,19 @@
 -- A text of a run, read line by line, gives that run.
-use Rattle.std.proofs.Common.{◌≡◌, ◌≢◌, ℕ, ◌+◌, ◌<◌, ◌≤◌, true, List, [], ◌∷◌, ◌++◌, length, get_or, Result, Ok, Err, refl, ap, sym, ◌∙◌, subst, append_assoc, inl, inr, arith}
-use Rattle.std.specs.Prelude.{codes, Some, slice_get}
+use Rattle.std.proofs.Common.{◌≡◌, ◌≢◌, ℕ, ◌+◌, ◌<◌, ◌≤◌, List, [], ◌∷◌, ◌++◌, length, get_or, Result, Ok, Err, refl, ap, sym, ◌∙◌, subst, append_assoc, inl, inr}
+use Rattle.std.specs.Prelude.{Some, slice_get}
 use Rattle.std.specs.List.{AllByRecursion}
-use Rattle.std.proofs.lemmas.List.{append-nil, length-append, length-replicate}
+use Rattle.std.proofs.lemmas.List.{append-nil, length-replicate}
 use Rattle.std.proofs.lemmas.Option.{slice_get-get_or}
 use Rattle.log_dictionary.specs.declared.message.Message.{Message}
 use Rattle.log_dictionary.specs.declared.dictionary.TheConstants.{MAX_MESSAGES}
-use Rattle.log_dictionary.specs.Messages.{SpellsMessage, AreDistinct}
-use Rattle.log_dictionary.proofs.Distinct.{is_new}
 use Rattle.arg_records.specs.declared.call.Call.{Call}
 use Rattle.trace_text.specs.declared.cause.TraceCause.TheVariants.{CallForm}
 use Rattle.trace_text.specs.Recordings.{Recording, IsRecording}
 use Rattle.trace_text.specs.Lines.{WriterCall, first_line, last_line, clock_line, writers_line, SpellsMessages, SpellsCalls, text_of_lines}
-use Rattle.trace_text.specs.LineFields.{begins_with}
 use Rattle.trace_text.specs.Traces.{TraceText}
 use Rattle.trace_text.specs.CallReading.{call_at, with_call_of, with_call}
 use Rattle.trace_text.specs.Reading.{opening, messages, clock, calls, ended, Broken, IsOneLine, ReadsLines, Gives}
+use Rattle.trace_text.proofs.NextMessages.{message_begins, NextMessages, next_messages}
 use Rattle.trace_text.proofs.OneLines.{first_is_line, last_is_line, clock_is_line, writers_is_line, message_is_line, call_is_line}
 use Rattle.trace_text.proofs.HeadLines.{clock_read, writers_read}
 use Rattle.trace_text.proofs.CallRuns.{writers_with, with_calls, writers_are, recorded_before, length-with_call_of}
@@ -42,26 +40,20 @@ calls_are_lines (line ∷ lines) [] spells = absurd spells
 
 -- ---- messages
 
-pub message_begins : (line : List ℕ) (id : ℕ) (message : Message) → SpellsMessage line id message → begins_with (codes "message ") line ≡ true
-message_begins line id message spells = subst (λ text. begins_with (codes "message ") text ≡ true) (sym spells.spelled) refl
-
 module _ (rest : List ℕ) (outcome : Result Recording Broken) where
   -- lines of messages lead from the messages before them to all messages
-  messages_read : (before : List Message) (lines : List (List ℕ)) (dictionary : List Message) (behind : List (List ℕ)) (n : ℕ) → SpellsMessages (length before) lines dictionary → AreDistinct (before ++ dictionary) → length (before ++ dictionary) ≤ MAX_MESSAGES
+  messages_read : (before : List Message) (lines : List (List ℕ)) (dictionary : List Message) (behind : List (List ℕ)) (n : ℕ) → NextMessages before lines dictionary
       → ((m : ℕ) → ReadsLines (messages (before ++ dictionary)) m behind rest outcome) → ReadsLines (messages before) n (lines ++ behind) rest outcome
-  messages_read before [] [] behind n spells distinct few then = subst (λ all. ReadsLines (messages all) n behind rest outcome) (append-nil before) (then n)
-  messages_read before (line ∷ lines) (message ∷ dictionary) behind n spells distinct few then =
+  messages_read before [] [] behind n next then = subst (λ all. ReadsLines (messages all) n behind rest outcome) (append-nil before) (then n)
+  messages_read before (line ∷ lines) (message ∷ dictionary) behind n next then =
       let one : (before ++ message ∷ []) ++ dictionary ≡ before ++ message ∷ dictionary = append_assoc before (message ∷ []) dictionary in
-      let next = before ++ message ∷ [] in
-      let count : length before + 1 ≡ length next = sym (length-append before (message ∷ [])) in
-      let room : length before < MAX_MESSAGES = omega (arith, few, length-append before (message ∷ dictionary)) in
       inl (
-        messages next,
-        inl (message_begins line (length before) message spells.0, room, (message, record { spelled = spells.0; new = is_new before dictionary message distinct }, refl)),
-        messages_read next lines dictionary behind (n + 1) (subst (λ id. SpellsMessages id lines dictionary) count spells.1) (subst AreDistinct (sym one) distinct) (subst (λ all. length all ≤ MAX_MESSAGES) (sym one) few) (λ m. subst (λ all. ReadsLines (messages all) m behind rest outcome) (sym one) (then m)),
+        messages (before ++ message ∷ []),
+        inl (message_begins line (length before) message next.0.new.spelled, next.0.room, (message, next.0.new, refl)),
+        messages_read (before ++ message ∷ []) lines dictionary behind (n + 1) next.1 (λ m. subst (λ all. ReadsLines (messages all) m behind rest outcome) (sym one) (then m)),
       )
-  messages_read before [] (message ∷ dictionary) behind n spells distinct few then = absurd spells
-  messages_read before (line ∷ lines) [] behind n spells distinct few then = absurd spells
+  messages_read before [] (message ∷ dictionary) behind n next then = absurd next
+  messages_read before (line ∷ lines) [] behind n next then = absurd next
 
 -- ---- calls
 
@@ -126,5 +118,5 @@ text_reads bytes run text =
       lines = first_line ∷ text.message_lines ++ clocked;
       rest = [];
       cut = record { joined = text.whole ∙ sym (append-nil (text_of_lines (first_line ∷ text.message_lines ++ clocked))); whole = (first_is_line, other_lines); unended = tt };
-      reads = inl (messages [], (refl, refl), messages_read [] (Ok run) [] text.message_lines run.dictionary clocked 2 text.messages_spelled text.distinct text.few_messages from_clock);
+      reads = inl (messages [], (refl, refl), messages_read [] (Ok run) [] text.message_lines run.dictionary clocked 2 (next_messages [] text.message_lines run.dictionary text.messages_spelled text.distinct text.few_messages) from_clock);
     }

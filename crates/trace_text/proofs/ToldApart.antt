@@ -1,21 +1,21 @@
 -- A text is that of one run, or it is refused at one line from one cause.
-use Rattle.std.proofs.Common.{◌≡◌, ◌⊎◌, ℕ, ◌≤◌, Bool, true, false, ltb, List, length, Some, None, Result, Ok, Err, MatchResult, refl, sym, ap, subst, ◌∙◌, inl, inr, arith}
+use Rattle.std.proofs.Common.{◌≡◌, ◌⊎◌, ℕ, ◌≤◌, Bool, true, false, ltb, List, length, Some, None, Result, Ok, Err, refl, sym, ap, subst, ◌∙◌, inl, inr, arith}
 use Rattle.std.proofs.lemmas.Bool.{ltb-true, ltb-false}
 use Rattle.trace_text.specs.declared.cause.TraceCause.{TraceCause}
 use Rattle.trace_text.specs.declared.cause.TraceCause.TheVariants.{TooLarge}
 use Rattle.trace_text.specs.declared.reading.TraceFault.{TraceFault}
-use Rattle.trace_text.specs.declared.reading.TraceFault.TheVariants.{ReadFault, Refused, NoMemory}
 use Rattle.trace_text.specs.declared.trace.TheConstants.{MAX_TRACE}
 use Rattle.trace_text.specs.Recordings.{Recording}
 use Rattle.trace_text.specs.Traces.{TraceText}
 use Rattle.trace_text.specs.Reading.{Broken, opening, Gives, TraceBreak}
-use Rattle.trace_text.specs.TraceReading.{IsAnswer, IsNoAnswer, IsOnlyAnswer}
+use Rattle.trace_text.specs.TraceReading.{IsAnswer, IsOnlyAnswer}
 use Rattle.nl_io.specs.Content.{Told}
 use Rattle.std.specs.Option.{IfSome}
 use Rattle.trace_text.proofs.TextReads.{text_reads}
 use Rattle.trace_text.proofs.ReadTexts.{read_spells}
 use Rattle.trace_text.proofs.OneOutcome.{one_outcome}
 use Rattle.trace_text.proofs.SomeOutcome.{some_outcome}
+use Rattle.trace_text.proofs.OnlyAnswers.{only_one}
 
 abbrev pub ok_of : Recording → Result Recording Broken
 ok_of run = Ok run
@@ -64,24 +64,8 @@ one_holds bytes = told_at bytes (ltb MAX_TRACE (length bytes)) refl
 
 -- ---- answers
 
--- where the text is that of a run, the answer is that run
-only_run : (text : List ℕ) (r : Result Recording TraceFault) → IsAnswer text r → (run : Recording) → TraceText text run → MatchResult r (λ found. found ≡ run) IsNoAnswer
-only_run text (Ok found) answer run is = one_run text found run answer is
-only_run text (Err (Refused line cause)) answer run is = not_broken text run line cause is answer
-only_run text (Err ReadFault) answer run is = tt
-only_run text (Err NoMemory) answer run is = tt
-
--- where the text is refused, the answer is that refusal
-only_refusal : (text : List ℕ) (r : Result Recording TraceFault) → IsAnswer text r → (line : ℕ) (cause : TraceCause) → TraceBreak text line cause → MatchResult r (λ _. ⊥) (λ fault. (fault ≡ Refused line cause) ⊎ IsNoAnswer fault)
-only_refusal text (Ok found) answer line cause breaks = not_broken text found line cause answer breaks
-only_refusal text (Err (Refused i a)) answer line cause breaks =
-    let same = one_break text i line a cause answer breaks in
-    inl (ap (λ (n : ℕ). Refused n a) same.0 ∙ ap (Refused line) same.1)
-only_refusal text (Err ReadFault) answer line cause breaks = inr tt
-only_refusal text (Err NoMemory) answer line cause breaks = inr tt
-
 pub only_answer : (text : List ℕ) (r : Result Recording TraceFault) → IsAnswer text r → IsOnlyAnswer text r
-only_answer text r answer = record { run = only_run text r answer; refusal = only_refusal text r answer }
+only_answer text r answer = only_one (TraceText text) (TraceBreak text) (record { one_value = one_run text; not_both = not_broken text; one_refusal = one_break text }) r answer
 
 -- the same of what a source had left, where that is told
 pub only_told : (told : Told) (items text : List ℕ) (r : Result Recording TraceFault) → IfSome told (λ left. items ≡ left) → text ≡ items → IsAnswer text r → IfSome told (λ left. IsOnlyAnswer left r)

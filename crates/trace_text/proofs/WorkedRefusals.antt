@@ -22,7 +22,7 @@ use Rattle.trace_text.specs.Recordings.{Recording}
 use Rattle.trace_text.specs.Lines.{first_line}
 use Rattle.trace_text.specs.Reading.{opening, messages, clock, calls, ended, Broken, ReadsLines, IsOneLine, TraceBreak}
 
-is_line : (line : List ℕ) → list_all (λ byte. not (eqb byte 10)) line ≡ true → IsOneLine line
+pub is_line : (line : List ℕ) → list_all (λ byte. not (eqb byte 10)) line ≡ true → IsOneLine line
 is_line line e = none_by_test 10 line e
 
 abbrev small_clock : Clock
@@ -83,7 +83,7 @@ second_spelled : SpellsMessage (codes "message 1 DEBUG 1 \"a\" \"b\"") 1 second_
 second_spelled = subst (λ (line : List ℕ). SpellsMessage line 1 second_message) second_written (written_message 1 second_message (lit< tt) (record { file = All-from_recursion (λ (b : ℕ). b < 256) (codes "a") (lit< tt, tt); bytes = All-from_recursion (λ (b : ℕ). b < 256) (codes "b") (lit< tt, tt); formed = second_formed; line_fits = lit< tt }))
 
 -- the id of the first message is 0
-no_message : (message : Message) → ¬ (SpellsNew [] (codes "message 1 DEBUG 1 \"a\" \"b\"") 0 message)
+pub no_message : (message : Message) → ¬ (SpellsNew [] (codes "message 1 DEBUG 1 \"a\" \"b\"") 0 message)
 no_message message new = omega (arith, (one_message _ 0 1 message second_message new.spelled second_spelled).0)
 
 pub other_id : TraceBreak (codes "nanolog-trace 1\nmessage 1 DEBUG 1 \"a\" \"b\"\n") 2 causes.Message

@@ -7,6 +7,7 @@ pub mod CallFields
 pub mod CallPlaces
 pub mod Reading
 pub mod Traces
+pub mod Dictionaries
 pub mod TraceReading
 pub mod Progress
 pub mod CallAnswers

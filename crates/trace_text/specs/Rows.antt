@@ -30,6 +30,10 @@ three_writers_text =
     ++ codes "call 1 1003 0 3\n"
     ++ codes "end\n"
 
+-- the text of the dictionary of that run
+abbrev pub dictionary_row : List ℕ
+dictionary_row = codes "nanolog-trace 1\n" ++ codes "message 0 NOTICE 12 \"srv.cc\" \"x=%d\"\n"
+
 -- three writers with calls of two messages; the second writer's first call is at the clock's tick
 abbrev pub two_messages : Recording
 two_messages = record three_writers_run {

@@ -1,4 +1,4 @@
--- What the answer of a reader says of the text of a trace.
+-- What the answer of a reader says of a text.
 use Rattle.std.specs.Prelude.{◌≡◌, ◌⊎◌, ℕ, List, Result, Ok, Err, MatchResult, ⊤}
 use Rattle.trace_text.specs.declared.reading.TraceFault.{TraceFault}
 use Rattle.trace_text.specs.declared.reading.TraceFault.TheVariants.{ReadFault, Refused, NoMemory}
@@ -7,12 +7,14 @@ use Rattle.trace_text.specs.Recordings.{Recording}
 use Rattle.trace_text.specs.Traces.{TraceText}
 use Rattle.trace_text.specs.Reading.{TraceBreak}
 
--- the text is that of the run, or is refused at the line from the cause; the other answers say nothing of it
-abbrev pub IsAnswer : List ℕ → Result Recording TraceFault → Type 0
-IsAnswer bytes (Ok run) = TraceText bytes run
-IsAnswer bytes (Err (Refused line cause)) = TraceBreak bytes line cause
-IsAnswer bytes (Err ReadFault) = ⊤
-IsAnswer bytes (Err NoMemory) = ⊤
+-- ---- any text, by what is right of it, and where it is refused and why
+
+-- this value is right, or the text is refused at the line from the cause; the other answers say nothing of it
+abbrev pub IsAnswerTo : {A : Type 0} → (A → Type 0) → (ℕ → TraceCause → Type 0) → Result A TraceFault → Type 0
+IsAnswerTo IsRight IsRefused (Ok value) = IsRight value
+IsAnswerTo IsRight IsRefused (Err (Refused line cause)) = IsRefused line cause
+IsAnswerTo IsRight IsRefused (Err ReadFault) = ⊤
+IsAnswerTo IsRight IsRefused (Err NoMemory) = ⊤
 
 -- the fault says nothing of a text
 abbrev pub IsNoAnswer : TraceFault → Type 0
@@ -20,9 +22,18 @@ IsNoAnswer (Refused line cause) = ⊥
 IsNoAnswer ReadFault = ⊤
 IsNoAnswer NoMemory = ⊤
 
--- where the text is that of a run the answer is the run, and where it is refused the answer is the refusal, unless the
+-- where a value is right the answer is that value, and where the text is refused the answer is the refusal, unless the
 -- answer says nothing of it
-pub record IsOnlyAnswer (text : List ℕ) (answer : Result Recording TraceFault) : Type 0 where
-  pub run : (run : Recording) → TraceText text run → MatchResult answer (λ found. found ≡ run) IsNoAnswer
-  pub refusal : (line : ℕ) (cause : TraceCause) → TraceBreak text line cause
+pub record IsOnlyAnswerTo {A : Type 0} (IsRight : A → Type 0) (IsRefused : ℕ → TraceCause → Type 0)
+    (answer : Result A TraceFault) : Type 0 where
+  pub right : (value : A) → IsRight value → MatchResult answer (λ found. found ≡ value) IsNoAnswer
+  pub refusal : (line : ℕ) (cause : TraceCause) → IsRefused line cause
       → MatchResult answer (λ _. ⊥) (λ fault. (fault ≡ Refused line cause) ⊎ IsNoAnswer fault)
+
+-- ---- the text of a trace
+
+abbrev pub IsAnswer : List ℕ → Result Recording TraceFault → Type 0
+IsAnswer bytes = IsAnswerTo (TraceText bytes) (TraceBreak bytes)
+
+abbrev pub IsOnlyAnswer : List ℕ → Result Recording TraceFault → Type 0
+IsOnlyAnswer bytes = IsOnlyAnswerTo (TraceText bytes) (TraceBreak bytes)

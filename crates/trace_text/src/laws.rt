@@ -14,9 +14,12 @@ ghost use Rattle.log_dictionary.specs.declared.message.Message.{Message as Messa
 ghost use Rattle.trace_text.specs.Reading as parts;
 ghost use Rattle.trace_text.specs.Reading.{TracePart, Broken, IsOneLine, Follows, Breaks, Gives, opening, TraceBreak};
 ghost use Rattle.trace_text.specs.Traces.{TraceText};
-ghost use Rattle.trace_text.specs.Canonical.{call_line, Canonical, HasText};
+ghost use Rattle.log_dictionary.specs.Canonical.{dictionary_text};
+ghost use Rattle.log_dictionary.specs.Rows.{row_message};
+ghost use Rattle.trace_text.specs.Canonical.{call_line, Canonical, HasText, HaveMessageLines};
+ghost use Rattle.trace_text.specs.Dictionaries.{SpellsDictionary, DictionaryText, DictionaryBreak};
 ghost use Rattle.trace_text.specs.Lines.{SpellsCall, text_of_lines};
-ghost use Rattle.trace_text.specs.Rows.{three_writers_run, three_writers_text, two_messages, text_call, text_call_line, begun_run, refused, texts_line, texts_made, many_calls, three_writers_canonical, one_text_run, one_text_call};
+ghost use Rattle.trace_text.specs.Rows.{three_writers_run, three_writers_text, two_messages, text_call, text_call_line, begun_run, refused, texts_line, texts_made, many_calls, three_writers_canonical, one_text_run, one_text_call, dictionary_row};
 ghost use Rattle.trace_text.specs.CallReading.{call_at};
 ghost use Rattle.trace_text.specs.declared.cause.TraceCause.{TraceCause};
 ghost use Rattle.trace_text.specs.declared.cause.TraceCause.TheVariants.{TooLarge, NoEnd, Header, Message, Clock, Writers, CallForm, Writer, BeforeClock, StampFalls, Id, ArgCount, ArgKind, ArgRange, NulInText, TooLong, AfterEnd, TooMany};
@@ -214,6 +217,55 @@ pub fn texts_are_told_apart()
         → (outcome : Result Recording Broken) × Gives part n bytes outcome }
     ensures one_outcome { (part : TracePart) (n : ℕ) (bytes : List ℕ) (a b : Result Recording Broken)
         → Gives part n bytes a → Gives part n bytes b → a ≡ b }
+{}
+
+/// Texts of dictionaries, and texts that are refused, at which line and from which cause. A line that isn't ended is
+/// refused as the line that it is.
+pub fn worked_dictionaries()
+    ensures no_message { DictionaryText (codes "nanolog-trace 1\n") [] }
+    ensures one_message { DictionaryText dictionary_row (row_message ∷ []) }
+    ensures too_large { (bytes : List ℕ) → 67108864 < length bytes → DictionaryBreak bytes 0 TooLarge }
+    ensures empty { DictionaryBreak [] 1 Header }
+    ensures no_line_feed { DictionaryBreak (codes "nanolog-trace 1") 1 Header }
+    ensures other_version { DictionaryBreak (codes "nanolog-trace 2\n") 1 Header }
+    ensures other_id { DictionaryBreak (codes "nanolog-trace 1\nmessage 1 DEBUG 1 \"a\" \"b\"\n") 2 Message }
+    ensures other_line { DictionaryBreak (dictionary_row ++ codes "clock 1 2 3\n") 3 Message }
+    ensures last_line_cut { DictionaryBreak (codes "nanolog-trace 1\nmessage 0 NOTICE 12 \"srv.cc\" \"x=%d\"") 2 Message }
+{}
+
+/// Behind 65,536 messages the line of one more is refused as one too many, whatever stands behind its first word.
+pub fn full_dictionaries_take_no_more()
+    ensures { (front fields behind : List ℕ) (messages : List MessageValue) → SpellsDictionary front messages
+        → length messages ≡ 65536 → IsOneLine fields
+        → length (front ++ (codes "message " ++ fields ++ 10 ∷ behind)) ≤ 67108864
+        → DictionaryBreak (front ++ (codes "message " ++ fields ++ 10 ∷ behind)) 65538 TooMany }
+{}
+
+/// A text is that of one dictionary, or it is refused at one line from one cause: one of the two holds, and only one.
+pub fn dictionaries_are_told_apart()
+    ensures one_holds { (bytes : List ℕ) → ((messages : List MessageValue) × DictionaryText bytes messages)
+        ⊎ ((line : ℕ) × (cause : TraceCause) × DictionaryBreak bytes line cause) }
+    ensures not_both { (bytes : List ℕ) (messages : List MessageValue) (line : ℕ) (cause : TraceCause)
+        → DictionaryText bytes messages → ¬ (DictionaryBreak bytes line cause) }
+    ensures one_dictionary { (bytes : List ℕ) (a b : List MessageValue)
+        → DictionaryText bytes a → DictionaryText bytes b → a ≡ b }
+    ensures one_break { (bytes : List ℕ) (i j : ℕ) (a b : TraceCause)
+        → DictionaryBreak bytes i a → DictionaryBreak bytes j b → (i ≡ j) × (a ≡ b) }
+{}
+
+/// What is written of messages that have lines is the text of their dictionary, where it is within the limit: reading
+/// it gives the messages again. Messages that are read have lines.
+pub fn dictionaries_are_written()
+    ensures again { (messages : List MessageValue) → HaveMessageLines messages
+        → length (dictionary_text messages) ≤ 67108864 → DictionaryText (dictionary_text messages) messages }
+    ensures lines { (bytes : List ℕ) (messages : List MessageValue) → DictionaryText bytes messages
+        → HaveMessageLines messages }
+{}
+
+/// A trace begins with the text of its dictionary.
+pub fn traces_begin_with_dictionaries()
+    ensures { (bytes : List ℕ) (run : Recording) → TraceText bytes run
+        → (front : List ℕ) × (rest : List ℕ) × (bytes ≡ front ++ rest) × DictionaryText front run.dictionary }
 {}
 
 /// Runs, their parts and faults go from thread to thread, and threads share them.

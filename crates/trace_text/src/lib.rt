@@ -4,6 +4,7 @@
 mod call_fields;
 mod call_line;
 mod cause;
+mod dictionaries;
 mod head_lines;
 pub mod laws;
 mod lines;
@@ -15,6 +16,7 @@ mod writing;
 
 pub use arg_records::{Call, Calls};
 pub use cause::TraceCause;
+pub use dictionaries::read_dictionary;
 pub use order::{CallPlace, call_count, places_in_order};
 pub use reading::{TraceFault, read_text, read_trace};
 pub use trace::{MAX_CALLS, MAX_TRACE, Trace};

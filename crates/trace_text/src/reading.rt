@@ -20,7 +20,7 @@ use nl_io::{ReadAllFault, Source, read_to_limit};
 use std::alloc::Global;
 
 /// The first line of a trace.
-const FIRST_LINE: &[u8] = b"nanolog-trace 1";
+pub(crate) const FIRST_LINE: &[u8] = b"nanolog-trace 1";
 
 /// The last line of a trace.
 const LAST_LINE: &[u8] = b"end";
@@ -36,7 +36,7 @@ pub enum TraceFault {
 }
 
 /// A text that is too large is refused as a whole.
-const TOO_LARGE: TraceFault = TraceFault::Refused {
+pub(crate) const TOO_LARGE: TraceFault = TraceFault::Refused {
     line: 0,
     cause: TraceCause::TooLarge,
 };
@@ -55,7 +55,7 @@ fn read_header(lines: Lines<'_>) -> Result<Lines<'_>, TraceFault>
 }
 
 // Why a message line is refused.
-fn message_fault(lines: Lines<'_>, fault: LineFault) -> TraceFault
+pub(crate) fn message_fault(lines: Lines<'_>, fault: LineFault) -> TraceFault
     ensures { result ≡ message_fault lines.entry.number fault }
 {
     match fault {
