@@ -15,8 +15,8 @@ ghost use Rattle.code_inject.specs.Pieces.{DiffersInHeads};
 ghost use Rattle.code_inject.specs.Rows.{worked_source, worked_found, worked_dictionary, worked_text};
 ghost use Rattle.code_inject.specs.Rows.{header_dictionary, worked_header};
 
-/// A rewritten source is the source but for the heads of its statements, piece by piece: so no byte of a comment, of an
-/// argument behind the format, or between statements differs.
+/// A rewritten source is the source but for the heads of its statements, piece by piece: the arguments behind a format
+/// stay, and what stands between statements, as a comment.
 pub fn heads_differ()
     ensures { (file source text : List ℕ) (found : List Found) (dictionary : List Message)
         → Statements file source found → Injected source found dictionary text
