@@ -8,6 +8,8 @@ mod formats;
 #[cfg(test)]
 mod frames;
 #[cfg(test)]
+mod injections;
+#[cfg(test)]
 mod logs;
 #[cfg(test)]
 mod messages;

@@ -87,15 +87,23 @@ fn escapes_told(alloc: Global, body: &str) -> Result<String, Fail> {
     }
 }
 
-/// Where a statement begins and ends.
+/// Sources of one statement, and where it stands.
+const PLACES: &str = r#"
+a; NANO_LOG(DEBUG, "b")\␊;|3 to 22 and 23;;NANO_LOG(DEBUG, "b" , f(1, 2))|0 to 20 and 30
+NANO_LOG(DEBUG, "b" /*,*/ "," ,)|0 to 30 and 32;;NANO_LOG(DEBUG,"b"␊)|0 to 19 and 20"#;
+
+/// Where a statement begins, where its head ends, and where it ends itself.
 fn place_shown(alloc: Global, found: &Found) -> Result<String, AllocError> {
     match found {
-        Found::Statement(good) => format!(in alloc; "{} to {}", good.start, good.end),
+        Found::Statement(good) => format!(in alloc;
+            "{} to {} and {}",
+            good.start, good.head, good.end
+        ),
         _ => Ok(String::new(alloc)),
     }
 }
 
-/// Where the statements of a source begin and end.
+/// The same of the statements of a source.
 fn places_shown(alloc: Global, all: &[Found]) -> Result<String, Fail> {
     let mut text = String::new(alloc);
     for found in all {
@@ -116,7 +124,7 @@ fn places_told(alloc: Global, row: &str) -> Result<String, Fail> {
 #[test]
 fn statements_are_found(rt: HostRuntime) -> Result<(), Fail> {
     check_rows(&rt, ESCAPES.trim_start(), escapes_told)?;
-    check_rows(&rt, "a; NANO_LOG(DEBUG, \"b\")\\␊;|3 to 23", places_told)
+    check_rows(&rt, PLACES.trim_start(), places_told)
 }
 
 /// Files, each with its name in front of `=`, and what of them is refused. Of a file without `=` it is known that it is
