@@ -17,15 +17,15 @@ use Rattle.stamp_merge.specs.declared.merge.MergeKey.{MergeKey}
 use Rattle.stamp_merge.specs.Merging.{list_keys, keys_of, key_cmp, stamp_before, merged, merge_order}
 use Rattle.stamp_merge.proofs.Comparing.{then_equal}
 use Rattle.stamp_merge.proofs.Ordering.{in_order_by-permutation, in_order_by-rises}
-use Rattle.stamp_merge.proofs.Sorted.{sorted-in_order}
+use Rattle.stamp_merge.proofs.Sorted.{sorted-in_order, same_counts}
 
-key_total : IsTotalOrder key_cmp
+pub key_total : IsTotalOrder key_cmp
 key_total = then_total (on_total (λ key. key.stamp) nat_cmp_total) (on_total (λ key. key.list) nat_cmp_total)
 
-abbrev key_at : ℕ → ℕ → MergeKey
+abbrev pub key_at : ℕ → ℕ → MergeKey
 key_at stamp list = record { stamp = stamp; list = list }
 
-key_exact : CmpEqualImpliesEq key_cmp
+pub key_exact : CmpEqualImpliesEq key_cmp
 key_exact a b same =
     let parts = then_equal (nat_cmp a.stamp b.stamp) (nat_cmp a.list b.list) same in
     let stamps : key_at a.stamp a.list ≡ key_at b.stamp a.list = ap (λ s. key_at s a.list) (exact_unsigned a.stamp b.stamp parts.0) in
@@ -35,6 +35,11 @@ key_exact a b same =
 
 pub merged-rises : (lists : List (List ℕ)) → IsSortedBy stamp_before (merged lists)
 merged-rises lists = in_order_by-rises stamp_before (ranks_by key_total (λ key. key)) (keys_of lists)
+
+-- sorted stamps that are the same are one list
+pub keys_same : (keys others : List MergeKey) → IsSortedBy stamp_before keys → IsSortedBy stamp_before others
+    → ((f : MergeKey → ℕ) → sum_by f keys ≡ sum_by f others) → keys ≡ others
+keys_same keys others first second same = same_counts key_cmp key_total key_exact keys others first second same
 
 pub keys_sorted : (lists : List (List ℕ)) (sorted : List MergeKey) → IsPermutation (keys_of lists) sorted → IsSorted key_cmp sorted → sorted ≡ merged lists
 keys_sorted lists sorted moved up = sorted-in_order key_cmp key_total key_exact (keys_of lists) sorted moved up

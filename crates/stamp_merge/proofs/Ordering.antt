@@ -16,7 +16,7 @@ module _ {X : Type 0} (before : X → X → Bool) where
       IsPermutation-trans (x ∷ y ∷ ys) (y ∷ x ∷ ys) (y ∷ insert_by before x ys) (IsPermutation-middle (x ∷ []) y ys) (IsPermutation-cons y (x ∷ ys) (insert_by before x ys) h)
   inserted x y ys false h = IsPermutation-refl (x ∷ y ∷ ys)
 
-  insert_by-permutation : (x : X) (ys : List X) → IsPermutation (x ∷ ys) (insert_by before x ys)
+  pub insert_by-permutation : (x : X) (ys : List X) → IsPermutation (x ∷ ys) (insert_by before x ys)
   unfolding insert_by
   insert_by-permutation x [] = IsPermutation-refl (x ∷ [])
   insert_by-permutation x (y ∷ ys) = inserted x y ys (before y x) (insert_by-permutation x ys)
@@ -31,12 +31,12 @@ module _ {X : Type 0} (before : X → X → Bool) where
   -- ---- in order
 
   -- the first of the elements, if there is one, does not come before this one
-  abbrev IsNotAfter : X → List X → Type 0
+  abbrev pub IsNotAfter : X → List X → Type 0
   IsNotAfter x [] = Unit {0}
   IsNotAfter x (y ∷ ys) = before y x ≡ false
 
   -- no element comes before the one that stands in front of it
-  abbrev IsInOrder : List X → Type 0
+  abbrev pub IsInOrder : List X → Type 0
   IsInOrder [] = Unit {0}
   IsInOrder (x ∷ xs) = IsNotAfter x xs × IsInOrder xs
 
@@ -80,12 +80,12 @@ module _ {X : Type 0} (before : X → X → Bool) where
       let next : suc k + 1 ≡ suc (k + 1) = omega arith in
       subst (λ j. before (get_or (x ∷ xs) j d) (get_or xs k d) ≡ false) next (sorted (suc k) d (omega arith) (omega (arith, within)))
 
-  in_order_from : (xs : List X) → IsSortedBy before xs → IsInOrder xs
+  pub in_order_from : (xs : List X) → IsSortedBy before xs → IsInOrder xs
   in_order_from [] sorted = tt
   in_order_from (x ∷ []) sorted = (tt, tt)
   in_order_from (x ∷ y ∷ ys) sorted = (sorted 0 x (omega arith) (omega arith), in_order_from (y ∷ ys) (sorted_rest x (y ∷ ys) sorted))
 
-  insert_by-front : (x : X) (xs : List X) → IsNotAfter x xs → insert_by before x xs ≡ x ∷ xs
+  pub insert_by-front : (x : X) (xs : List X) → IsNotAfter x xs → insert_by before x xs ≡ x ∷ xs
   unfolding insert_by
   insert_by-front x [] h = refl
   insert_by-front x (y ∷ ys) h = rw h

@@ -7,9 +7,9 @@ use std::alloc::{AllocError, Global};
 
 /// A stamp and the number of its list.
 #[derive(Clone, Copy, Debug, PartialEq, Eq, PartialOrd, Ord)]
-struct MergeKey {
-    stamp: u64,
-    list: u32,
+pub(crate) struct MergeKey {
+    pub(crate) stamp: u64,
+    pub(crate) list: u32,
 }
 
 /// Appends the stamps of a list, each with the list's number.
