@@ -5,4 +5,5 @@ pub mod Finding
 pub mod Firsts
 pub mod Holding
 pub mod Once
+pub mod RefusalLines
 pub mod Told

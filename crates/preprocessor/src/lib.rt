@@ -10,4 +10,4 @@ mod words;
 pub use numbering::{Numbering, message_of};
 pub use refusal::{RefusalCause, SourceRefusal};
 pub use source_scan::MAX_SOURCE;
-pub use words::push_refusal;
+pub use words::{push_refusal, refusal_lines};

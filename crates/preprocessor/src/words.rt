@@ -1,12 +1,13 @@
 //! The words on what is refused.
 
-ghost use Rattle.std.specs.Prelude.{◌≡◌, ◌++◌, OnOk, OnErr, take, vec_len};
+ghost use Rattle.std.specs.Prelude.{◌≡◌, ◌++◌, IfOk, OnOk, OnErr, take, vec_len};
+ghost use Rattle.std.specs.List.{flat_map};
 ghost use Rattle.preprocessor.specs.Causes.{cause_place, refusal_fields, refusal_line};
 
 use crate::refusal::{RefusalCause, SourceRefusal};
 use itoa::Buffer;
 use source_scan::StatementCause;
-use std::alloc::AllocError;
+use std::alloc::{AllocError, Global};
 
 // Where and why a format is broken. After an error a part may stand behind what was there, here
 // and below.
@@ -60,4 +61,15 @@ pub fn push_refusal(out: &mut Vec<u8>, refusal: &SourceRefusal) -> Result<(), Al
         out.truncate(before);
     }
     pushed
+}
+
+/// The lines that say what is refused, one for each.
+pub fn refusal_lines(alloc: Global, refusals: &[SourceRefusal]) -> Result<Vec<u8>, AllocError>
+    ensures { IfOk result (λ lines. lines.items ≡ flat_map refusal_line refusals.now) }
+{
+    let mut lines = Vec::new(alloc);
+    for refusal in refusals {
+        push_refusal(&mut lines, refusal)?;
+    }
+    Ok(lines)
 }

@@ -269,20 +269,3 @@ all_taken names old new numbering numbered none = (
 pub lacks_behind_last : (names : List (List ℕ)) (old new : Desk) → AreTaken old names → new ≡ old → GiveNothing names old new NoMemory
 lacks_behind_last names old new taken same =
     inl (record { sources = taken.sources; unread = []; read = taken.read; there = λ name others is. absurd cc; same = same })
-
--- ---- the lines on what is refused
-
--- one line more
-pub lines_more : (refusals : List SourceRefusal) (i : ℕ) (refusal : SourceRefusal) (before after : List ℕ) → i < length refusals → refusal ≡ get_or refusals i refusal
-    → before ≡ flat_map refusal_line (take i refusals) → after ≡ before ++ refusal_line refusal → after ≡ flat_map refusal_line (take (i + 1) refusals)
-lines_more refusals i refusal before after within is so_far more =
-    more
-    ∙ ap (λ (r : SourceRefusal). before ++ refusal_line r) is
-    ∙ ap (λ (lines : List ℕ). lines ++ refusal_line (get_or refusals i refusal)) so_far
-    ∙ ap (λ (lines : List ℕ). flat_map refusal_line (take i refusals) ++ lines) (sym (append-nil (refusal_line (get_or refusals i refusal))))
-    ∙ sym (flat_map-append refusal_line (take i refusals) (get_or refusals i refusal ∷ []))
-    ∙ ap (flat_map refusal_line) (sym (take_more refusals i refusal within))
-
--- all lines
-pub lines_all : (refusals : List SourceRefusal) (i : ℕ) (lines : List ℕ) → length refusals ≤ i → lines ≡ flat_map refusal_line (take i refusals) → lines ≡ flat_map refusal_line refusals
-lines_all refusals i lines past so_far = so_far ∙ ap (flat_map refusal_line) (take_all i refusals past)

@@ -1,9 +1,7 @@
 //! The command `preprocess`.
 
 ghost use Rattle.std.specs.Prelude.{◌≡◌, ◌≢◌, IfOk};
-ghost use Rattle.std.specs.List.{flat_map};
 ghost use Rattle.log_dictionary.specs.Canonical.{dictionary_text};
-ghost use Rattle.preprocessor.specs.Causes.{refusal_line};
 ghost use Rattle.command_base.specs.Endings.{ending_of, NoMemory as WantsMemory};
 ghost use Rattle.command_base.specs.Effects.{CommandEffect};
 ghost use Rattle.command_base.specs.Printing.{Prints};
@@ -16,19 +14,8 @@ use command_base::{Refusal, print_pieces, save};
 use itoa::Buffer;
 use log_dictionary::Dictionary;
 use nl_io::{Files, Sink};
-use preprocessor::push_refusal;
+use preprocessor::refusal_lines;
 use std::alloc::{AllocError, Global};
-
-/// The lines on all that is refused.
-fn lines_of(alloc: Global, refusals: &[preprocessor::SourceRefusal]) -> Result<Vec<u8>, AllocError>
-    ensures { IfOk result (λ lines. lines.items ≡ flat_map refusal_line refusals.now) }
-{
-    let mut lines = Vec::new(alloc);
-    for refusal in refusals {
-        push_refusal(&mut lines, refusal)?;
-    }
-    Ok(lines)
-}
 
 /// The text of the dictionary.
 fn text_of(alloc: Global, dictionary: &Dictionary) -> Result<Vec<u8>, AllocError>
@@ -77,7 +64,7 @@ pub fn preprocess<'a, F: Files, O: Sink>(
 {
     let numbering = number_sources(alloc, files, sources)?;
     if !numbering.refusals.is_empty() {
-        let lines = lines_of(alloc, &numbering.refusals)?;
+        let lines = refusal_lines(alloc, &numbering.refusals)?;
         return Err(Refusal::RefusedSources { lines });
     }
     let messages = &numbering.dictionary;

@@ -1,7 +1,7 @@
 use Rattle.std.proofs.Common.{◌≡◌, take}
 use Rattle.std.specs.List.{flat_map}
 use Rattle.preprocessor.specs.Causes.{refusal_line}
-use Rattle.source_commands.proofs.preprocessing.lines_of.Given as goal
+use Rattle.preprocessor.proofs.words.refusal_lines.Given as goal
 
 -- the lines on the refusals so far
 abbrev pub invariant-loop-refusal : goal.invariant-loop-refusal

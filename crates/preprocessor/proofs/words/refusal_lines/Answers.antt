@@ -1,5 +1,5 @@
-use Rattle.source_commands.proofs.SourceLemmas.{lines_more, lines_all}
-use Rattle.source_commands.proofs.preprocessing.lines_of.Goals as goal
+use Rattle.preprocessor.proofs.RefusalLines.{lines_more, lines_all}
+use Rattle.preprocessor.proofs.words.refusal_lines.Goals as goal
 
 pub loop-refusal-preserved : goal.loop-refusal-preserved
 loop-refusal-preserved c = lines_more _ _ c.refusal-item.result _ _ c.loop-refusal-test.true c.refusal-item.is c.loop-refusal.invariant c.in_ok-push_refusal.ensures.ok
