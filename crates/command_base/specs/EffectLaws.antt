@@ -1,6 +1,6 @@
 -- From what a command did to what its answer says.
 use Rattle.std.proofs.Common.{◌≡◌, ◌≢◌, ℕ, List, [], ◌∷◌, Some, None, Result, Ok, Err, refl, sym, ap, subst, inl, inr, arith}
-use Rattle.std.specs.Prelude.{◌⊎◌, OnOk, OnErr, Contains, ⊤}
+use Rattle.std.specs.Prelude.{◌⊎◌, ◌≤◌, length, take, Option, OnOk, OnErr, Contains, ⊤}
 use Rattle.std.specs.Result.{IsErrAnd}
 use Rattle.std.proofs.lemmas.List.{append-nil}
 use Rattle.nl_io.specs.Count.{Rose}
@@ -11,12 +11,12 @@ use Rattle.nl_io.specs.declared.failed.Failed.{Failed}
 use Rattle.command_base.specs.declared.note.Note.{Note}
 use Rattle.command_base.specs.declared.refusal.Refusal.{Refusal}
 use Rattle.command_base.specs.declared.refusal.Refusal.TheVariants as refusals
-use Rattle.command_base.specs.Endings.{Ending, Done, StillOpen, Usage, Absent, ReadFault, Refused, RefusedSources, Damaged, WriteFault, NoMemory, refusal_ending, ending_of, answer_ending}
-use Rattle.command_base.specs.HeldFiles.{IsHeld, IsThere}
+use Rattle.command_base.specs.Endings.{ToldCause, Ending, Done, StillOpen, Usage, Absent, ReadFault, Refused, RefusedSources, Damaged, WriteFault, NoMemory, refusal_ending, ending_of, answer_ending}
+use Rattle.command_base.specs.HeldFiles.{IsHeld, HoldsFront, IsThere}
 use Rattle.command_base.specs.Scenes.{Scene, scene}
 use Rattle.command_base.specs.Printing.{Prints, printed_ending}
 use Rattle.command_base.specs.Tasks.{Product, nothing, Course, WhileReading, UntilBegun, WhilePrinting, Streaming, Task}
-use Rattle.command_base.specs.Readings.{Form, Begun, GivesNoBytes, ReadsFile}
+use Rattle.command_base.specs.Readings.{Form, OnlyRefused, Begun, never, GivesNoBytes, ReadsFile}
 use Rattle.command_base.specs.Effects.{IsMade, Completes, StopsReading, StopsPrinting, IsPrinted, WantsMemory, CommandEffect}
 use Rattle.command_base.specs.Soundness.{IsSound}
 use Rattle.command_base.specs.SoundTasks.{the_one}
@@ -73,6 +73,21 @@ no_bytes input form begun old new (Absent name) gives = (gives, refl)
 no_bytes input form begun old new (ReadFault name) gives = (gives, inl refl)
 no_bytes input form begun old new NoMemory gives = (gives, refl)
 no_bytes input form begun old new ending gives = absurd gives
+
+-- A file that gave nothing, or is refused, gives nothing to a command that wants more of it.
+pub none_given : (input : List ℕ) (IsRefused : Desk → Product → List ℕ → Option ℕ → ToldCause → Type 0) (form : Form)
+    (old new : Desk) (ending : Ending)
+    → ((name : List ℕ) (line : Option ℕ) (cause : ToldCause) → IsRefused old nothing name line cause
+    → form old nothing (Refused name line cause))
+    → ReadsFile input (OnlyRefused IsRefused) never old new nothing ending
+    → ReadsFile input form never old new nothing ending
+none_given input IsRefused form old new (Absent name) of none = none
+none_given input IsRefused form old new (ReadFault name) of none = none
+none_given input IsRefused form old new (Refused name line cause) of none = (none.0, none.1, of name line cause none.2)
+none_given input IsRefused form old new NoMemory of none = none
+none_given input IsRefused form old new (Usage lines) of none = absurd none
+none_given input IsRefused form old new (WriteFault name) of none = absurd none
+none_given input IsRefused form old new ending of none = absurd none.2
 
 -- memory was wanting while the inputs were read, whatever the course
 wants_reading : (course : Course) (task : Task) (old new : Scene) → StopsReading task old new
@@ -261,3 +276,29 @@ lost task old desk name bytes output leaves holds only failed = inr (record {
   unprinted = refl;
   counted = refl;
 })
+
+-- ---- an output that is saved, and then the text is printed
+
+-- The output was saved, and then the text was printed.
+pub saved : (task : Task) (old : Scene) (desk : Desk) (product : Product) (name bytes : List ℕ) (ending : Ending)
+    (put : Told) (faults : ℕ) → task.output ≡ Some name → product.made ≡ Some bytes
+    → task.reads old.desk old.desk product Done → IsHeld desk name bytes → OnlyName name old.desk desk
+    → desk.write_faults ≡ old.desk.write_faults → Prints product.text old.put put old.faults faults ending
+    → ending ≢ NoMemory → CommandEffect task old (scene desk put faults) ending
+saved task old desk product name bytes ending put faults output is_made reading held only counted prints memory =
+    let made : IsMade product.made task.output old.desk desk =
+    subst (λ (o : Option (List ℕ)). IsMade product.made o old.desk desk) (sym output)
+    (subst (λ (m : Option (List ℕ)). IsMade m (Some name) old.desk desk) (sym is_made) (held, only, counted)) in
+    printed_done task old desk product ending put faults (record { read = old.desk; reading = reading; made = made })
+    prints memory
+
+-- The output couldn't be saved whole.
+pub unsaved : (task : Task) (old : Scene) (desk : Desk) (name bytes : List ℕ) → task.output ≡ Some name
+    → ((n : ℕ) → n ≤ length bytes → task.leaves old.desk (take n bytes))
+    → (found_in desk name ≡ found_in old.desk name) ⊎ HoldsFront desk name bytes → OnlyName name old.desk desk
+    → Rose old.desk.write_faults desk.write_faults
+    → CommandEffect task old (scene desk old.put old.faults) (WriteFault name)
+unsaved task old desk name bytes output part holds only failed = elim holds [
+  | inl same ↦ lost task old desk name (take 0 bytes) output (part 0 (omega arith)) (inl same) only failed
+  | inr front ↦ lost task old desk name (take front.0 bytes) output (part front.0 front.1) (inr front.2) only failed
+]

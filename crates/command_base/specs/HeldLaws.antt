@@ -31,6 +31,16 @@ there_of (Some h) name such (bytes, is, so) = λ none. absurd cc
 pub such_there : (desk : Desk) (name : List ℕ) (such : List ℕ → Type 0) → HoldsSuch desk name such → IsThere desk name
 such_there desk name such holds = there_of desk.held name such holds
 
+such_of : (held : Option Held) (name bytes : List ℕ) (such : List ℕ → Type 0) → IfSome held (λ h. map.get h name ≡ Some bytes)
+    → such bytes → IfSome held (λ h. (found : List ℕ) × (map.get h name ≡ Some found) × such found)
+such_of None name bytes such is so = tt
+such_of (Some h) name bytes such is so = (bytes, is, so)
+
+-- a name that holds bytes of which this is so holds such bytes
+pub held_such : (desk : Desk) (name bytes : List ℕ) (such : List ℕ → Type 0) → IsHeld desk name bytes → such bytes
+    → HoldsSuch desk name such
+held_such desk name bytes such is so = such_of desk.held name bytes such is so
+
 -- ---- where it is told what names hold
 
 is_of : (told : Option Held) (held : Held) (name bytes : List ℕ) (such : List ℕ → Type 0) → told ≡ Some held

@@ -1,10 +1,10 @@
--- How the reading of inputs ends, for commands that read one file or none.
+-- How the reading of inputs ends, for commands that read two files, one or none.
 use Rattle.std.specs.Prelude.{◌≡◌, ◌⊎◌, ℕ, List, [], ◌∷◌, Option, None, ⊤}
 use Rattle.nl_io.specs.Count.{Rose}
 use Rattle.nl_io.specs.Desk.{Desk, OnlyReadFaults, IsAbsent}
-use Rattle.command_base.specs.Endings.{Ending, IsDone, Done, Absent, ReadFault, WriteFault, NoMemory, Usage}
+use Rattle.command_base.specs.Endings.{ToldCause, Ending, IsDone, Done, Absent, ReadFault, Refused, WriteFault, NoMemory, Usage}
 use Rattle.command_base.specs.HeldFiles.{IsThere, Holds}
-use Rattle.command_base.specs.Tasks.{Product, nothing, Course, Streaming, Task}
+use Rattle.command_base.specs.Tasks.{Product, nothing, IsFrontMade, Course, WhileReading, Streaming, Task}
 
 -- ---- one input
 
@@ -21,6 +21,11 @@ GivesNoBytes input old new ending = ⊥
 -- since real files tell no bytes.
 abbrev pub Form : Type 1
 Form = Desk → Product → Ending → Type 0
+
+-- The file is refused so, by what is said of the name, the line and the cause, and nothing else is said.
+abbrev pub OnlyRefused : (Desk → Product → List ℕ → Option ℕ → ToldCause → Type 0) → Form
+OnlyRefused IsRefused old product (Refused name line cause) = IsRefused old product name line cause
+OnlyRefused IsRefused old product ending = ⊥
 
 -- the texts that may be printed where a read failed in the middle, by the files
 abbrev pub Begun : Type 1
@@ -77,6 +82,41 @@ pub record IsFormed (input : List ℕ) (course : Course) (form : Form) (begun : 
       → IsDone ending
   pub streams : (desk : Desk) (text : List ℕ) → begun desk text → course ≡ Streaming
   pub there : (desk : Desk) (bytes : List ℕ) → leaves desk bytes → IsThere desk input
+
+-- ---- two inputs
+
+-- The first file gave nothing, or is refused; or it gives a value, and then the second file is read, and what it holds
+-- says by that value how the command ends.
+abbrev pub ReadsPair : {V : Type 0} → List ℕ → List ℕ → Form → (Desk → V → Type 0) → (V → Form)
+    → Desk → Desk → Product → Ending → Type 0
+ReadsPair {V = V} first second refuses has form old new product ending =
+    ReadsFile first refuses never old new product ending
+    ⊎ ((value : V) × has old value × ReadsFile second (form value) never old new product ending)
+
+-- A command that reads one file and then another, and may make a file of them.
+abbrev pub pair_task : {V : Type 0} → List ℕ → List ℕ → Form → (Desk → V → Type 0) → (V → Form) → Option (List ℕ)
+    → (Desk → Type 0) → Task
+pair_task {V = V} first second refuses has form output right = record {
+  inputs = first ∷ second ∷ [];
+  output = output;
+  course = WhileReading;
+  reads = ReadsPair first second refuses has form;
+  leaves = λ desk bytes.
+      (value : V) × has desk value × ((product : Product) × form value desk product Done × IsFrontMade product.made bytes);
+  right = right;
+  hides = λ old new ending. ⊥;
+}
+
+-- What is asked of such a command. A first file that gives a value is there. Where both files are right they are there,
+-- the first isn't refused, and what the second gives is done.
+pub record ArePaired {V : Type 0} (first second : List ℕ) (refuses : Form) (has : Desk → V → Type 0) (form : V → Form)
+    (right : Desk → Type 0) : Type 0 where
+  pub there : (desk : Desk) (value : V) → has desk value → IsThere desk first
+  pub first_there : (desk : Desk) → right desk → ¬ (IsAbsent desk first)
+  pub second_there : (desk : Desk) → right desk → ¬ (IsAbsent desk second)
+  pub accepted : (desk : Desk) (product : Product) (ending : Ending) → right desk → ¬ (refuses desk product ending)
+  pub done : (desk : Desk) (value : V) (product : Product) (ending : Ending) → right desk → has desk value
+      → form value desk product ending → IsDone ending
 
 -- ---- no input
 

@@ -1,15 +1,15 @@
--- Commands that read one file or none are sound.
+-- Commands that read two files, one or none are sound.
 use Rattle.std.proofs.Common.{◌≡◌, ◌≢◌, ℕ, List, [], ◌∷◌, get_or, Option, Some, None, refl, sym, ap, subst, ◌∙◌, inl, inr, arith}
 use Rattle.std.specs.Prelude.{◌⊎◌, Contains}
 use Rattle.std.specs.FinMap as map
 use Rattle.nl_io.specs.Count.{Rose}
-use Rattle.nl_io.specs.Desk.{Desk, Held}
+use Rattle.nl_io.specs.Desk.{Desk, Held, OnlyReadFaults, IsAbsent}
 use Rattle.command_base.specs.Endings.{Ending, IsDone, Done, StillOpen, Usage, Absent, ReadFault, Refused, RefusedSources, Damaged, WriteFault, NoMemory}
-use Rattle.command_base.specs.HeldFiles.{IsThere, Holds}
+use Rattle.command_base.specs.HeldFiles.{IsThere}
 use Rattle.command_base.specs.HeldLaws.{none_there, holds_there}
-use Rattle.command_base.specs.Tasks.{Product, nothing, Course, WhileReading, UntilBegun, WhilePrinting, Streaming}
+use Rattle.command_base.specs.Tasks.{Product, nothing, Course, WhileReading, UntilBegun, WhilePrinting, Streaming, Task}
 use Rattle.command_base.specs.Effects.{IsPrinted}
-use Rattle.command_base.specs.Readings.{Form, Begun, ReadsFile, HidesRead, file_task, IsFormed, ReadsNone, free_task}
+use Rattle.command_base.specs.Readings.{Form, Begun, never, HasBegun, ReadsFile, HidesRead, file_task, IsFormed, pair_task, ArePaired, ReadsNone, free_task}
 use Rattle.command_base.specs.Soundness.{FailsToRead, IsSound}
 
 -- ---- names
@@ -20,19 +20,72 @@ the_one input name (k, within, is) =
     let first : k ≡ 0 = omega (arith, within) in
     sym (ap (λ (i : ℕ). get_or (input ∷ []) i name) first) ∙ is
 
-pub has_one : (input : List ℕ) → Contains (input ∷ []) input
-has_one input = (0, omega arith, refl)
+pub has_first : (first : List ℕ) (others : List (List ℕ)) → Contains (first ∷ others) first
+has_first first others = (0, omega arith, refl)
 
-first_is : (input name : List ℕ) (others : List (List ℕ)) → input ∷ [] ≡ name ∷ others → input ≡ name
-first_is input name others is = cc
+pub has_second : (first second : List ℕ) → Contains (first ∷ second ∷ []) second
+has_second first second = (1, omega arith, refl)
+
+first_is : (input : List ℕ) (more : List (List ℕ)) (name : List ℕ) (others : List (List ℕ)) → input ∷ more ≡ name ∷ others
+    → input ≡ name
+first_is input more name others is = cc
+
+-- ---- what the reading of an input comes to
+
+-- It changes nothing, or fails, which is told.
+pub read_changes : (input : List ℕ) (form : Form) (begun : Begun) (old new : Desk) (product : Product) (ending : Ending)
+    → ReadsFile input form begun old new product ending
+    → (new ≡ old) ⊎ (OnlyReadFaults old new × HasBegun begun old product × (ending ≡ ReadFault input))
+read_changes input form begun old new product Done reads = inl reads.0
+read_changes input form begun old new product (StillOpen name numbers) reads = inl reads.0
+read_changes input form begun old new product (Usage lines) reads = absurd reads
+read_changes input form begun old new product (Absent name) reads = inl reads.0.1
+read_changes input form begun old new product (ReadFault name) reads =
+    inr (reads.0.1, reads.1, ap ReadFault reads.0.0)
+read_changes input form begun old new product (Refused name line cause) reads = inl reads.0
+read_changes input form begun old new product (RefusedSources lines) reads = inl reads.0
+read_changes input form begun old new product (Damaged name offset cause) reads = inl reads.0
+read_changes input form begun old new product (WriteFault name) reads = absurd reads
+read_changes input form begun old new product NoMemory reads = inl reads.0.0
+
+-- Where the input isn't absent, and what it gives is done, the end is that.
+pub read_done : (input : List ℕ) (form : Form) (begun : Begun) (old new : Desk) (product : Product) (ending : Ending)
+    → ReadsFile input form begun old new product ending → ¬ (IsAbsent old input)
+    → (form old product ending → IsDone ending) → ¬ (Rose old.read_faults new.read_faults)
+    → IsDone ending ⊎ (ending ≡ NoMemory)
+read_done input form begun old new product Done reads there right r = inl refl
+read_done input form begun old new product (StillOpen name numbers) reads there right r = inl refl
+read_done input form begun old new product (Usage lines) reads there right r = absurd reads
+read_done input form begun old new product (Absent name) reads there right r = absurd (there reads.0.2)
+read_done input form begun old new product (ReadFault name) reads there right r = absurd (r reads.0.2)
+read_done input form begun old new product (Refused name line cause) reads there right r = inl (right reads.2)
+read_done input form begun old new product (RefusedSources lines) reads there right r = inl (right reads.2)
+read_done input form begun old new product (Damaged name offset cause) reads there right r = inl (right reads.2)
+read_done input form begun old new product (WriteFault name) reads there right r = absurd reads
+read_done input form begun old new product NoMemory reads there right r = inr refl
+
+-- Where the input isn't there that is told.
+pub read_absent : (input : List ℕ) (form : Form) (begun : Begun) (old new : Desk) (product : Product) (ending : Ending)
+    → ReadsFile input form begun old new product ending → ¬ (IsThere old input)
+    → ¬ (Rose old.read_faults new.read_faults) → (ending ≡ Absent input) × (product ≡ nothing)
+read_absent input form begun old new product Done reads lacks r = absurd (lacks reads.1)
+read_absent input form begun old new product (StillOpen said numbers) reads lacks r = absurd (lacks reads.1)
+read_absent input form begun old new product (Usage lines) reads lacks r = absurd reads
+read_absent input form begun old new product (Absent found) reads lacks r = (ap Absent reads.0.0, reads.1)
+read_absent input form begun old new product (ReadFault found) reads lacks r = absurd (r reads.0.2)
+read_absent input form begun old new product (Refused found line cause) reads lacks r = absurd (lacks reads.1)
+read_absent input form begun old new product (RefusedSources lines) reads lacks r = absurd (lacks reads.1)
+read_absent input form begun old new product (Damaged found offset cause) reads lacks r = absurd (lacks reads.1)
+read_absent input form begun old new product (WriteFault found) reads lacks r = absurd reads
+read_absent input form begun old new product NoMemory reads lacks r = absurd (lacks reads.0.1)
 
 -- ---- one input
 
--- the input isn't there
-lacks_input : (input name : List ℕ) (others : List (List ℕ)) (desk : Desk) (held : Held) → input ∷ [] ≡ name ∷ others
-    → desk.held ≡ Some held → map.get held name ≡ None → ¬ (IsThere desk input)
-lacks_input input name others desk held first told none there =
-    none_there desk.held held input told (ap (map.get held) (first_is input name others first) ∙ none) there
+-- the first of the inputs isn't there
+lacks_input : (input : List ℕ) (more : List (List ℕ)) (name : List ℕ) (others : List (List ℕ)) (desk : Desk) (held : Held)
+    → input ∷ more ≡ name ∷ others → desk.held ≡ Some held → map.get held name ≡ None → ¬ (IsThere desk input)
+lacks_input input more name others desk held first told none there =
+    none_there desk.held held input told (ap (map.get held) (first_is input more name others first) ∙ none) there
 
 -- a command that streams, and stops at a failed read
 stopped_read : (course : Course) (name : List ℕ) → IsPrinted (ReadFault name) course → HidesRead course NoMemory
@@ -45,67 +98,20 @@ changes : (input : List ℕ) (course : Course) (form : Form) (begun : Begun) (is
     (output : Option (List ℕ)) (leaves : Desk → List ℕ → Type 0) → IsFormed input course form begun is_right leaves
     → (old new : Desk) (product : Product) (ending : Ending) → ReadsFile input form begun old new product ending
     → (new ≡ old) ⊎ FailsToRead (file_task input course form begun is_right output leaves) old new product ending
-changes input course form begun is_right output leaves formed old new product Done reads = inl reads.0
-changes input course form begun is_right output leaves formed old new product (StillOpen name numbers) reads = inl reads.0
-changes input course form begun is_right output leaves formed old new product (Usage lines) reads = absurd reads
-changes input course form begun is_right output leaves formed old new product (Absent name) reads = inl reads.0.1
-changes input course form begun is_right output leaves formed old new product (ReadFault name) reads = inr (record {
-  only = reads.0.1;
-  unmade = elim reads.1 [ inl none ↦ ap (λ (p : Product). p.made) none | inr part ↦ part.0 ];
-  told = inl (name, subst (Contains (input ∷ [])) (sym reads.0.0) (has_one input), refl);
-  cut_off = λ some other. elim reads.1 [
-    | inl none ↦ absurd (some (ap (λ (p : Product). p.text) none))
-    | inr part ↦ subst (λ (c : Course). HidesRead c (WriteFault other)) (sym (formed.streams old product.text part.1)) tt
-  ];
-  stopped = λ is. stopped_read course name is;
-})
-changes input course form begun is_right output leaves formed old new product (Refused name line cause) reads = inl reads.0
-changes input course form begun is_right output leaves formed old new product (RefusedSources lines) reads = inl reads.0
-changes input course form begun is_right output leaves formed old new product (Damaged name offset cause) reads = inl reads.0
-changes input course form begun is_right output leaves formed old new product (WriteFault name) reads = absurd reads
-changes input course form begun is_right output leaves formed old new product NoMemory reads = inl reads.0.0
-
-done : (input : List ℕ) (form : Form) (begun : Begun) (is_right : List ℕ → Type 0)
-    → ((desk : Desk) (product : Product) (ending : Ending) → Holds desk input is_right → form desk product ending → IsDone ending)
-    → (old new : Desk) (product : Product) (ending : Ending) → ReadsFile input form begun old new product ending
-    → Holds old input is_right → ¬ (Rose old.read_faults new.read_faults) → IsDone ending ⊎ (ending ≡ NoMemory)
-done input form begun is_right right old new product Done reads holds r = inl refl
-done input form begun is_right right old new product (StillOpen name numbers) reads holds r = inl refl
-done input form begun is_right right old new product (Usage lines) reads holds r = absurd reads
-done input form begun is_right right old new product (Absent name) reads holds r =
-    absurd (holds_there old input is_right holds reads.0.2)
-done input form begun is_right right old new product (ReadFault name) reads holds r = absurd (r reads.0.2)
-done input form begun is_right right old new product (Refused name line cause) reads holds r =
-    inl (right old product (Refused name line cause) holds reads.2)
-done input form begun is_right right old new product (RefusedSources lines) reads holds r =
-    inl (right old product (RefusedSources lines) holds reads.2)
-done input form begun is_right right old new product (Damaged name offset cause) reads holds r =
-    inl (right old product (Damaged name offset cause) holds reads.2)
-done input form begun is_right right old new product (WriteFault name) reads holds r = absurd reads
-done input form begun is_right right old new product NoMemory reads holds r = inr refl
-
-absent : (input name : List ℕ) (others : List (List ℕ)) (held : Held) (form : Form) (begun : Begun) (old new : Desk)
-    (product : Product) (ending : Ending) → ReadsFile input form begun old new product ending
-    → input ∷ [] ≡ name ∷ others → old.held ≡ Some held → map.get held name ≡ None
-    → ¬ (Rose old.read_faults new.read_faults) → (ending ≡ Absent name) × (product ≡ nothing)
-absent input name others held form begun old new product Done reads first told none r =
-    absurd (lacks_input input name others old held first told none reads.1)
-absent input name others held form begun old new product (StillOpen said numbers) reads first told none r =
-    absurd (lacks_input input name others old held first told none reads.1)
-absent input name others held form begun old new product (Usage lines) reads first told none r = absurd reads
-absent input name others held form begun old new product (Absent found) reads first told none r =
-    (ap Absent (reads.0.0 ∙ first_is input name others first), reads.1)
-absent input name others held form begun old new product (ReadFault found) reads first told none r =
-    absurd (r reads.0.2)
-absent input name others held form begun old new product (Refused found line cause) reads first told none r =
-    absurd (lacks_input input name others old held first told none reads.1)
-absent input name others held form begun old new product (RefusedSources lines) reads first told none r =
-    absurd (lacks_input input name others old held first told none reads.1)
-absent input name others held form begun old new product (Damaged found offset cause) reads first told none r =
-    absurd (lacks_input input name others old held first told none reads.1)
-absent input name others held form begun old new product (WriteFault found) reads first told none r = absurd reads
-absent input name others held form begun old new product NoMemory reads first told none r =
-    absurd (lacks_input input name others old held first told none reads.0.1)
+changes input course form begun is_right output leaves formed old new product ending reads =
+    elim (read_changes input form begun old new product ending reads) [
+      | inl same ↦ inl same
+      | inr fails ↦ inr (record {
+        only = fails.0;
+        unmade = elim fails.1 [ inl none ↦ ap (λ (p : Product). p.made) none | inr part ↦ part.0 ];
+        told = inl (input, has_first input [], fails.2);
+        cut_off = λ some other. elim fails.1 [
+          | inl none ↦ absurd (some (ap (λ (p : Product). p.text) none))
+          | inr part ↦ subst (λ (c : Course). HidesRead c (WriteFault other)) (sym (formed.streams old product.text part.1)) tt
+        ];
+        stopped = λ is. stopped_read course input (subst (λ (e : Ending). IsPrinted e course) fails.2 is);
+      })
+    ]
 
 -- a command that reads one file is sound where it has its form
 pub file_sound : (input : List ℕ) (course : Course) (form : Form) (begun : Begun) (is_right : List ℕ → Type 0)
@@ -117,14 +123,89 @@ file_sound input course form begun is_right output leaves formed = record {
   writes_nothing = λ old new product name reads. reads;
   has_words = λ old new product lines reads. reads;
   done = λ old new product ending reads right r.
-      done input form begun is_right formed.done old new product ending reads right r;
+      read_done input form begun old new product ending reads (holds_there old input is_right right)
+      (formed.done old product ending right) r;
   absent = λ old new product ending name reads lacks r.
-      absent input name lacks.others lacks.held form begun old new product ending reads lacks.first lacks.told
-      lacks.none r;
+      let first = first_is input [] name lacks.others lacks.first in
+      let told = read_absent input form begun old new product ending reads
+      (lacks_input input [] name lacks.others old lacks.held lacks.first lacks.told lacks.none) r in
+      (told.0 ∙ ap Absent first, told.1);
   there = λ old bytes name left lacks.
-      lacks_input input name lacks.others old lacks.held lacks.first lacks.told lacks.none
+      lacks_input input [] name lacks.others old lacks.held lacks.first lacks.told lacks.none
       (formed.there old bytes left);
 }
+
+-- ---- two inputs
+
+module _ {V : Type 0} (first second : List ℕ) (refuses : Form) (has : Desk → V → Type 0) (form : V → Form)
+    (output : Option (List ℕ)) (right : Desk → Type 0) (formed : ArePaired first second refuses has form right) where
+  abbrev pair : Task
+  pair = pair_task first second refuses has form output right
+
+  pair_fails : (input : List ℕ) → Contains (first ∷ second ∷ []) input → (old new : Desk) (product : Product) (ending : Ending)
+      → OnlyReadFaults old new × HasBegun never old product × (ending ≡ ReadFault input)
+      → FailsToRead pair old new product ending
+  pair_fails input among old new product ending fails =
+      let none : product ≡ nothing = elim fails.1 [ inl same ↦ same | inr part ↦ absurd part.1 ] in
+      record {
+        only = fails.0;
+        unmade = ap (λ (p : Product). p.made) none;
+        told = inl (input, among, fails.2);
+        cut_off = λ some other. absurd (some (ap (λ (p : Product). p.text) none));
+        stopped = λ is. subst (λ (e : Ending). IsPrinted e WhileReading) fails.2 is;
+      }
+
+  pair_changes : (old new : Desk) (product : Product) (ending : Ending) → pair.reads old new product ending
+      → (new ≡ old) ⊎ FailsToRead pair old new product ending
+  pair_changes old new product ending (inl reads) = elim (read_changes first refuses never old new product ending reads) [
+    | inl same ↦ inl same
+    | inr fails ↦ inr (pair_fails first (has_first first (second ∷ [])) old new product ending fails)
+  ]
+  pair_changes old new product ending (inr (value, found, reads)) =
+      elim (read_changes second (form value) never old new product ending reads) [
+        | inl same ↦ inl same
+        | inr fails ↦ inr (pair_fails second (has_second first second) old new product ending fails)
+      ]
+
+  pair_done : (old new : Desk) (product : Product) (ending : Ending) → pair.reads old new product ending → right old
+      → ¬ (Rose old.read_faults new.read_faults) → IsDone ending ⊎ (ending ≡ NoMemory)
+  pair_done old new product ending (inl reads) is r =
+      read_done first refuses never old new product ending reads (formed.first_there old is)
+      (λ refused. absurd (formed.accepted old product ending is refused)) r
+  pair_done old new product ending (inr (value, found, reads)) is r =
+      read_done second (form value) never old new product ending reads (formed.second_there old is)
+      (formed.done old value product ending is found) r
+
+  pair_absent : (old new : Desk) (product : Product) (ending : Ending) → pair.reads old new product ending
+      → ¬ (IsThere old first) → ¬ (Rose old.read_faults new.read_faults) → (ending ≡ Absent first) × (product ≡ nothing)
+  pair_absent old new product ending (inl reads) lacks r =
+      read_absent first refuses never old new product ending reads lacks r
+  pair_absent old new product ending (inr (value, found, reads)) lacks r = absurd (lacks (formed.there old value found))
+
+  no_pair_writing : (old new : Desk) (product : Product) (name : List ℕ) → ¬ (pair.reads old new product (WriteFault name))
+  no_pair_writing old new product name (inl reads) = reads
+  no_pair_writing old new product name (inr (value, found, reads)) = reads
+
+  no_pair_words : (old new : Desk) (product : Product) (lines : List ℕ) → ¬ (pair.reads old new product (Usage lines))
+  no_pair_words old new product lines (inl reads) = reads
+  no_pair_words old new product lines (inr (value, found, reads)) = reads
+
+  -- a command that reads one file and then another is sound where it has its form
+  pub pair_sound : IsSound pair
+  pair_sound = record {
+    changes = pair_changes;
+    writes_nothing = no_pair_writing;
+    has_words = no_pair_words;
+    done = pair_done;
+    absent = λ old new product ending name reads lacks r.
+        let same = first_is first (second ∷ []) name lacks.others lacks.first in
+        let told = pair_absent old new product ending reads
+        (lacks_input first (second ∷ []) name lacks.others old lacks.held lacks.first lacks.told lacks.none) r in
+        (told.0 ∙ ap Absent same, told.1);
+    there = λ old bytes name left lacks.
+        lacks_input first (second ∷ []) name lacks.others old lacks.held lacks.first lacks.told lacks.none
+        (formed.there old left.0 left.1);
+  }
 
 -- ---- no input
 

@@ -1,5 +1,5 @@
 -- What a command does: which files it reads, which one it makes, and what it makes and prints of what they hold.
-use Rattle.std.specs.Prelude.{ℕ, List, [], Option, None}
+use Rattle.std.specs.Prelude.{◌≡◌, ℕ, ◌≤◌, List, [], length, take, Option, Some, None}
 use Rattle.nl_io.specs.Desk.{Desk}
 use Rattle.command_base.specs.Endings.{Ending}
 
@@ -15,6 +15,11 @@ nothing = record { made = None; text = [] }
 -- this text is printed, and nothing made
 abbrev pub text_alone : List ℕ → Product
 text_alone text = record { made = None; text = text }
+
+-- these are bytes of a part of what is made, from its front
+abbrev pub IsFrontMade : Option (List ℕ) → List ℕ → Type 0
+IsFrontMade None bytes = ⊥
+IsFrontMade (Some made) bytes = (n : ℕ) × (n ≤ length made) × (bytes ≡ take n made)
 
 -- How long memory may be wanting.
 pub data Course : Type 0 where

@@ -12,7 +12,7 @@ use Rattle.log_dictionary.specs.Canonical.{dictionary_text}
 use Rattle.preprocessor.specs.Numbering.{Numbered}
 use Rattle.command_base.specs.declared.refusal.Refusal.{Refusal}
 use Rattle.command_base.specs.Endings.{Ending, Done, StillOpen, Usage, Absent, ReadFault, Refused, RefusedSources, Damaged, WriteFault, NoMemory, ending_of, refusal_ending}
-use Rattle.command_base.specs.EffectLaws.{ended_as, nothing_came, printed_done, lost}
+use Rattle.command_base.specs.EffectLaws.{ended_as, nothing_came, saved, unsaved}
 use Rattle.command_base.specs.Effects.{CommandEffect}
 use Rattle.command_base.specs.HeldFiles.{IsHeld, HoldsFront}
 use Rattle.command_base.specs.Printing.{Prints}
@@ -51,21 +51,16 @@ pub dictionary_written : (dictionary : List ℕ) (names : List (List ℕ)) (old 
     → (taken : AreTaken old.desk names) × Numbered taken.sources messages statements → IsHeld desk dictionary (dictionary_text messages) → OnlyName dictionary old.desk desk → desk.write_faults ≡ old.desk.write_faults
     → Prints (counts_text (length messages) statements) old.put put old.faults faults ending → ending ≢ NoMemory → CommandEffect (preprocess_task dictionary names) old (scene desk put faults) ending
 dictionary_written dictionary names old desk messages statements ending put faults taken held only counted prints memory =
-    printed_done (preprocess_task dictionary names) old desk (dictionary_of messages statements) ending put faults
-    (record { read = old.desk; reading = (refl, (taken.0, (messages, statements, taken.1, refl))); made = (held, only, counted) }) prints memory
+    saved (preprocess_task dictionary names) old desk (dictionary_of messages statements) dictionary (dictionary_text messages) ending put faults refl refl
+    (refl, (taken.0, (messages, statements, taken.1, refl))) held only counted prints memory
 
 -- the dictionary couldn't be written whole
 pub dictionary_lost : (dictionary : List ℕ) (names : List (List ℕ)) (old : Scene) (desk : Desk) (messages : List Message) (statements : ℕ) → (taken : AreTaken old.desk names) × Numbered taken.sources messages statements
     → (found_in desk dictionary ≡ found_in old.desk dictionary) ⊎ HoldsFront desk dictionary (dictionary_text messages) → OnlyName dictionary old.desk desk → Rose old.desk.write_faults desk.write_faults
     → CommandEffect (preprocess_task dictionary names) old (scene desk old.put old.faults) (WriteFault dictionary)
 dictionary_lost dictionary names old desk messages statements taken holds only failed =
-    let text = dictionary_text messages in
-    let part : (n : ℕ) → n ≤ length text → (preprocess_task dictionary names).leaves old.desk (take n text) =
-    λ n few. (taken.0, dictionary_of messages statements, (messages, statements, taken.1, refl), (n, few, refl)) in
-    elim holds [
-      | inl same ↦ lost (preprocess_task dictionary names) old desk dictionary (take 0 text) refl (part 0 (omega arith)) (inl same) only failed
-      | inr front ↦ lost (preprocess_task dictionary names) old desk dictionary (take front.0 text) refl (part front.0 front.1) (inr front.2) only failed
-    ]
+    unsaved (preprocess_task dictionary names) old desk dictionary (dictionary_text messages) refl
+    (λ n few. (taken.0, dictionary_of messages statements, (messages, statements, taken.1, refl), (n, few, refl))) holds only failed
 
 -- ---- the line on the numbers
 

@@ -12,7 +12,7 @@ use Rattle.preprocessor.specs.declared.numbering.Numbering.{Numbering}
 use Rattle.preprocessor.specs.Numbering.{numbered, IsFullAt, Refusals, NumbersSources}
 use Rattle.command_base.specs.Endings.{Ending, Done, Absent, ReadFault, RefusedSources, NoMemory}
 use Rattle.command_base.specs.HeldFiles.{IsHeld, IsThere}
-use Rattle.command_base.specs.Tasks.{Product, nothing, WhileReading, Task}
+use Rattle.command_base.specs.Tasks.{Product, nothing, IsFrontMade, WhileReading, Task}
 
 -- ---- the sources
 
@@ -120,11 +120,6 @@ GiveNothing names old new NoMemory = LackMemory names old new ⊎ ((lines : List
 GiveNothing names old new ending = ⊥
 
 -- ---- commands over sources
-
--- these are bytes of a part of what is made, from its front
-abbrev pub IsFrontMade : Option (List ℕ) → List ℕ → Type 0
-IsFrontMade None bytes = ⊥
-IsFrontMade (Some made) bytes = (n : ℕ) × (n ≤ length made) × (bytes ≡ take n made)
 
 -- The sources were all read, and nothing of them is refused: what they give is done; or they gave nothing.
 abbrev pub ReadsSources : List (List ℕ) → (List SourceFile → Product → Type 0) → Desk → Desk → Product → Ending → Type 0
