@@ -17,14 +17,13 @@ use Rattle.trace_session.specs.Sessions.{AreCounted, IsSession}
 use Rattle.decompressor.proofs.TextLaws.{log_is_text}
 use Rattle.command_base.specs.Endings.{Ending, WriteFault, NoMemory}
 use Rattle.command_base.specs.Effects.{CommandEffect}
-use Rattle.command_base.specs.EffectLaws.{put_nothing, nothing_came, printed_done, lost}
+use Rattle.command_base.specs.EffectLaws.{put_nothing, nothing_came, none_given, printed_done, lost}
 use Rattle.command_base.specs.HeldFiles.{IsHeld}
 use Rattle.command_base.specs.HeldLaws.{such_there, holds_written}
 use Rattle.command_base.specs.Printing.{Prints}
 use Rattle.command_base.specs.Scenes.{Scene, scene}
 use Rattle.command_base.specs.Tasks.{Product}
-use Rattle.trace_commands.specs.Traces.{TraceRead, GivesNoTrace}
-use Rattle.trace_commands.proofs.Traces.{none_given}
+use Rattle.trace_commands.specs.Traces.{TraceRead, IsRefusedAt, GivesNoTrace}
 use Rattle.session_commands.specs.Headline.{outcome_text, accepted_count, filtered_count, told_text}
 use Rattle.session_commands.specs.Replays.{ReplayGives, GivesNoLog, run_fault_ending, replay_task}
 use Rattle.session_commands.proofs.Soundness.{replay_sound}
@@ -96,7 +95,7 @@ pub replay_unread : (trace log : List ℕ) (options : Options) (old : Scene) (de
     → CommandEffect (replay_task trace log options) old (scene desk old.put old.faults) ending
 replay_unread trace log options old desk ending none =
     nothing_came (replay_task trace log options) old desk ending (replay_sound trace log options)
-    (none_given trace (ReplayGives trace options) _ _ _ (λ name line cause refused. refused) none)
+    (none_given trace (IsRefusedAt trace) (ReplayGives trace options) _ _ _ (λ name line cause refused. refused) none)
 
 -- memory was wanting behind the trace
 pub replay_lacked : (trace log : List ℕ) (options : Options) (old : Scene) (desk : Desk) (run : Recording)

@@ -1,4 +1,4 @@
-//! The commands over traces, and the reading of a trace from a file.
+//! The commands over traces, and the reading of a trace, or of the text of a dictionary, from a file.
 #![tactic(auto)]
 
 mod directing;
@@ -9,4 +9,4 @@ mod reading;
 
 pub use directing::direct;
 pub use generating::generate;
-pub use reading::trace_of_file;
+pub use reading::{dictionary_of_file, trace_of_file};

@@ -1,13 +1,13 @@
 use Rattle.std.proofs.Common.{refl, sym, subst}
 use Rattle.command_base.specs.Endings.{Ending}
 use Rattle.command_base.specs.Effects.{CommandEffect}
-use Rattle.command_base.specs.EffectLaws.{ended_as, nothing_came, streamed_done, only_there}
+use Rattle.command_base.specs.EffectLaws.{ended_as, nothing_came, none_given, streamed_done, only_there}
 use Rattle.command_base.specs.HeldLaws.{such_there}
 use Rattle.command_base.specs.Scenes.{Scene, scene}
 use Rattle.command_base.specs.Tasks.{text_alone}
+use Rattle.trace_commands.specs.Traces.{IsRefusedAt}
 use Rattle.trace_commands.specs.Texts.{direct_text}
 use Rattle.trace_commands.specs.Tasks.{GivesLines, direct_task}
-use Rattle.trace_commands.proofs.Traces.{none_given}
 use Rattle.trace_commands.proofs.Soundness.{direct_sound}
 use Rattle.trace_commands.proofs.directing.direct.Goals as goal
 
@@ -18,7 +18,7 @@ returns-in_err-run-clause-ends g c =
     subst (λ (ending : Ending). CommandEffect (direct_task c.args.trace.now) old (scene desk old.put old.faults) ending)
     (sym (ended_as _ c.in_err-run.field-0.0 c.from_residual.ensures.1))
     (nothing_came (direct_task c.args.trace.now) old desk _ (direct_sound c.args.trace.now)
-    (none_given c.args.trace.now (GivesLines c.args.trace.now) _ _ _ (λ name line cause refused. refused) c.in_err-run.ensures.unread))
+    (none_given c.args.trace.now (IsRefusedAt c.args.trace.now) (GivesLines c.args.trace.now) _ _ _ (λ name line cause refused. refused) c.in_err-run.ensures.unread))
 
 pub returns-clause-ends : goal.returns-clause-ends
 returns-clause-ends g c =
