@@ -1,13 +1,12 @@
 -- Each command that is asked for is lawful.
-use Rattle.std.proofs.Common.{◌≡◌, ◌∙◌, ◌≢◌, ◌<◌, ◌≤◌, Bool, true, false, List, [], ◌∷◌, length}
-use Rattle.std.proofs.Common.{ℕ, get_or, Option, Some, None, refl, sym, codes, arith}
+use Rattle.std.proofs.Common.{◌≡◌, ◌∙◌, ◌≢◌, ◌<◌, ◌≤◌, Bool, true, false, not, List, [], ◌∷◌, ◌++◌, length, append_assoc, append-nil}
+use Rattle.std.proofs.Common.{ℕ, get_or, Option, Some, None, refl, sym, ap, subst, codes, arith}
 use Rattle.std.specs.Prelude.{if◌then◌else◌, nat_le, nat_lt, option_map, option_and_then, find, IfOk, IfSome, Result, Ok, Err}
-use Rattle.std.specs.List.{All, list_all}
+use Rattle.std.specs.List.{All, AllByRecursion, list_all}
 use Rattle.std.proofs.lemmas.Bool.{true≢false, leb-true, ltb-true}
 use Rattle.std.proofs.lemmas.List.Sums.{AllPass-from_list_all}
 use Rattle.std.specs.Str.{bytes_eq}
 use Rattle.std.proofs.lemmas.Slice.Eq.{bytes_eq-Decides}
-use Rattle.std.proofs.lemmas.Bool.Decides.{not_from_Decides}
 use Rattle.log_dictionary.specs.declared.severity.Severity.{Severity}
 use Rattle.session_options.specs.Bounds.{AreInBounds}
 use Rattle.session_options.specs.Defaults.{default_options}
@@ -17,9 +16,9 @@ use Rattle.session_options.specs.declared.options.Policy.{Policy}
 use Rattle.cli_words.specs.Commands.{WordBytes, Given, is_among}
 use Rattle.cli_words.specs.Commands.{given_of, options_of, options_with, said_by}
 use Rattle.cli_words.specs.Commands.{values_given, options_by, ring_by, batch_by, policy_by, level_by}
-use Rattle.cli_words.specs.Commands.{OperandValue, File, Sources, Number, Seed, is_name, is_other, are_sources, value_at}
-use Rattle.cli_words.specs.Commands.{words_behind, and_values, values_from, first_word, operand_values, number_within}
-use Rattle.cli_words.specs.Commands.{Command, Preprocess, Direct, Replay, Decompress, Aggregate, Generate, Selftest}
+use Rattle.cli_words.specs.Commands.{OperandValue, File, Sources, Number, Seed, is_name, is_file, is_other, are_sources, value_at}
+use Rattle.cli_words.specs.Commands.{words_behind, values_from, operand_values, number_within}
+use Rattle.cli_words.specs.Commands.{Command}
 use Rattle.cli_words.specs.Commands.{made, asked, command_of}
 use Rattle.cli_words.specs.CommandViews.{command_is}
 use Rattle.cli_words.specs.declared.command.Command.{Command as Asked}
@@ -33,35 +32,55 @@ use Rattle.cli_words.specs.declared.table.OperandKind.{OperandKind}
 use Rattle.cli_words.specs.declared.table.OperandKind.TheVariants as kind
 use Rattle.cli_words.proofs.Spelled.{LiesIn, number_lies}
 
-other_fits : (first source : WordBytes) → is_other first source ≡ true
-    → (is_name source ≡ true) × (source ≢ first)
-other_fits first source passes = go (is_name source) refl (bytes_eq source first) refl
-  where
-    go : (a : Bool) → is_name source ≡ a → (b : Bool) → bytes_eq source first ≡ b
-        → (is_name source ≡ true) × (source ≢ first)
-    go false e b f = absurd (true≢false (sym (rw e at passes)))
-    go true e true f = absurd (true≢false (sym (rw (e, f) at passes)))
-    go true e false f = (e, not_from_Decides (bytes_eq source first) (bytes_eq-Decides source first) f)
+-- a name that is another one than those of the files which are given
+abbrev IsApart : List OperandValue → WordBytes → Type 0
+IsApart given name = AllByRecursion (λ value. value ≢ File name) given
 
-sources_fit : (first : WordBytes) (sources : List WordBytes) → are_sources first sources ≡ true
+no_file : (name : WordBytes) (value : OperandValue) → is_file name value ≡ false → value ≢ File name
+no_file name (File other) e same =
+    let is : other ≡ name = cc in
+    true≢false (sym ((bytes_eq-Decides other name).1 is) ∙ e)
+no_file name (Sources names) e same = cc
+no_file name (Number number) e same = cc
+no_file name (Seed seed) e same = cc
+
+apart_fits : (given : List OperandValue) (name : WordBytes) → list_all (λ value. not (is_file name value)) given ≡ true
+    → IsApart given name
+apart_fits [] name passes = tt
+apart_fits (value ∷ given) name passes = go (is_file name value) refl (apart_fits given name)
+  where
+    go : (b : Bool) → is_file name value ≡ b
+        → (list_all (λ other. not (is_file name other)) given ≡ true → IsApart given name) → IsApart (value ∷ given) name
+    go true e rest = absurd (true≢false (sym (rw e at passes)))
+    go false e rest = (no_file name value e, rest (rw e at passes))
+
+other_fits : (given : List OperandValue) (name : WordBytes) → is_other given name ≡ true
+    → (is_name name ≡ true) × IsApart given name
+other_fits given name passes = go (is_name name) refl
+  where
+    go : (a : Bool) → is_name name ≡ a → (is_name name ≡ true) × IsApart given name
+    go false e = absurd (true≢false (sym (rw e at passes)))
+    go true e = (e, apart_fits given name (rw e at passes))
+
+sources_fit : (given : List OperandValue) (sources : List WordBytes) → are_sources given sources ≡ true
     → (0 < length sources) × (length sources ≤ MAX_SOURCES)
-    × All (λ source. (is_name source ≡ true) × (source ≢ first)) sources
-sources_fit first sources fit =
+    × All (λ source. (is_name source ≡ true) × IsApart given source) sources
+sources_fit given sources fit =
     go (nat_lt 0 (length sources)) refl (nat_le (length sources) MAX_SOURCES) refl
-    (list_all (is_other first) sources) refl
+    (list_all (is_other given) sources) refl
   where
     go : (a : Bool) → nat_lt 0 (length sources) ≡ a → (b : Bool) → nat_le (length sources) MAX_SOURCES ≡ b
-        → (c : Bool) → list_all (is_other first) sources ≡ c
+        → (c : Bool) → list_all (is_other given) sources ≡ c
         → (0 < length sources) × (length sources ≤ MAX_SOURCES)
-        × All (λ source. (is_name source ≡ true) × (source ≢ first)) sources
+        × All (λ source. (is_name source ≡ true) × IsApart given source) sources
     go false e b f c g = absurd (true≢false (sym (rw e at fit)))
     go true e false f c g = absurd (true≢false (sym (rw (e, f) at fit)))
     go true e true f false g = absurd (true≢false (sym (rw (e, f, g) at fit)))
     go true e true f true g = (
       ltb-true 0 (length sources) e,
       leb-true (length sources) MAX_SOURCES f,
-      λ k d below. other_fits first (get_or sources k d)
-          (AllPass-from_list_all (is_other first) sources g k d below),
+      λ k d below. other_fits given (get_or sources k d)
+          (AllPass-from_list_all (is_other given) sources g k d below),
     )
 
 -- what is true of a value, if there is one
@@ -69,87 +88,77 @@ abbrev IfThere : {A : Type 0} → (A → Type 0) → Option A → Type 0
 IfThere P None = Unit {0}
 IfThere P (Some x) = P x
 
--- the value fits an operand of this kind
-abbrev Fits : WordBytes → OperandKind → OperandValue → Type 0
-Fits first kind.File (File name) = is_name name ≡ true
-Fits first kind.OtherFile (File name) = (is_name name ≡ true) × (name ≢ first)
-Fits first kind.Sources (Sources names) =
-    (0 < length names) × (length names ≤ MAX_SOURCES) × All (λ name. (is_name name ≡ true) × (name ≢ first)) names
-Fits first (kind.Number least most) (Number number) = (least ≤ number) × (number ≤ most)
-Fits first kind.Seed (Seed seed) = seed ≤ MAX_SEED
+-- the value fits an operand of this kind, behind what is given before
+abbrev Fits : List OperandValue → OperandKind → OperandValue → Type 0
+Fits given kind.File (File name) = is_name name ≡ true
+Fits given kind.OtherFile (File name) = (is_name name ≡ true) × IsApart given name
+Fits given kind.Sources (Sources names) =
+    (0 < length names) × (length names ≤ MAX_SOURCES) × All (λ name. (is_name name ≡ true) × IsApart given name) names
+Fits given (kind.Number least most) (Number number) = (least ≤ number) × (number ≤ most)
+Fits given kind.Seed (Seed seed) = seed ≤ MAX_SEED
 Fits _ _ _ = ⊥
 
 -- each value fits its operand
-abbrev AllFit : WordBytes → List Operand → List OperandValue → Type 0
-AllFit first [] [] = Unit {0}
-AllFit first (operand ∷ operands) (value ∷ values) = Fits first operand.kind value × AllFit first operands values
+abbrev AllFit : List OperandValue → List Operand → List OperandValue → Type 0
+AllFit given [] [] = Unit {0}
+AllFit given (operand ∷ operands) (value ∷ values) =
+    Fits given operand.kind value × AllFit (given ++ value ∷ []) operands values
 AllFit _ _ _ = ⊥
 
--- a name is the first of the words
-abbrev IsFirst : List WordBytes → OperandValue → Type 0
-IsFirst words (File name) = name ≡ first_word words
-IsFirst words _ = Unit {0}
+number_fits : (given : List OperandValue) (least most : ℕ) (found : Option ℕ) → LiesIn least most found
+    → IfThere (Fits given (kind.Number least most)) (option_map Number found)
+number_fits given least most None lies = tt
+number_fits given least most (Some number) lies = lies
 
-abbrev Begins : List WordBytes → List OperandValue → Type 0
-Begins words [] = Unit {0}
-Begins words (value ∷ values) = IsFirst words value
-
--- what is true of a value by these words
-abbrev ValueIs : WordBytes → OperandKind → List WordBytes → OperandValue → Type 0
-ValueIs first kind words value = Fits first kind value × IsFirst words value
-
-number_fits : (first : WordBytes) (least most : ℕ) (words : List WordBytes) (found : Option ℕ) → LiesIn least most found
-    → IfThere (ValueIs first (kind.Number least most) words) (option_map Number found)
-number_fits first least most words None lies = tt
-number_fits first least most words (Some number) lies = (lies, tt)
-
-seed_fits : (first : WordBytes) (words : List WordBytes) (found : Option ℕ) → LiesIn 0 MAX_SEED found
-    → IfThere (ValueIs first kind.Seed words) (option_map Seed found)
-seed_fits first words None lies = tt
-seed_fits first words (Some seed) lies = (lies.1, tt)
+seed_fits : (given : List OperandValue) (found : Option ℕ) → LiesIn 0 MAX_SEED found
+    → IfThere (Fits given kind.Seed) (option_map Seed found)
+seed_fits given None lies = tt
+seed_fits given (Some seed) lies = lies.1
 
 if_true : {A : Type 0} (P : A → Type 0) (x : A) (b : Bool) → (b ≡ true → P x) → IfThere P (if b then Some x else None)
 if_true P x false fits = tt
 if_true P x true fits = fits refl
 
-value_fits : (first : WordBytes) (operand : OperandKind) (words : List WordBytes)
-    → IfThere (ValueIs first operand words) (value_at first operand words)
-value_fits first kind.Sources words =
-    if_true (ValueIs first kind.Sources words) (Sources words) (are_sources first words)
-    (λ e. (sources_fit first words e, tt))
-value_fits first kind.File [] = tt
-value_fits first kind.OtherFile [] = tt
-value_fits first (kind.Number least most) [] = tt
-value_fits first kind.Seed [] = tt
-value_fits first kind.File (word ∷ words) =
-    if_true (ValueIs first kind.File (word ∷ words)) (File word) (is_name word) (λ e. (e, refl))
-value_fits first kind.OtherFile (word ∷ words) =
-    if_true (ValueIs first kind.OtherFile (word ∷ words)) (File word) (is_other first word)
-    (λ e. (other_fits first word e, refl))
-value_fits first (kind.Number least most) (word ∷ words) =
-    number_fits first least most (word ∷ words) (number_within least most word) (number_lies least most word)
-value_fits first kind.Seed (word ∷ words) =
-    seed_fits first (word ∷ words) (number_within 0 MAX_SEED word) (number_lies 0 MAX_SEED word)
+value_fits : (given : List OperandValue) (operand : OperandKind) (words : List WordBytes)
+    → IfThere (Fits given operand) (value_at given operand words)
+value_fits given kind.Sources words =
+    if_true (Fits given kind.Sources) (Sources words) (are_sources given words) (sources_fit given words)
+value_fits given kind.File [] = tt
+value_fits given kind.OtherFile [] = tt
+value_fits given (kind.Number least most) [] = tt
+value_fits given kind.Seed [] = tt
+value_fits given kind.File (word ∷ words) = if_true (Fits given kind.File) (File word) (is_name word) (λ e. e)
+value_fits given kind.OtherFile (word ∷ words) =
+    if_true (Fits given kind.OtherFile) (File word) (is_other given word) (other_fits given word)
+value_fits given (kind.Number least most) (word ∷ words) =
+    number_fits given least most (number_within least most word) (number_lies least most word)
+value_fits given kind.Seed (word ∷ words) =
+    seed_fits given (number_within 0 MAX_SEED word) (number_lies 0 MAX_SEED word)
 
--- what is true of values by these words
-abbrev ValuesAre : WordBytes → List Operand → List WordBytes → List OperandValue → Type 0
-ValuesAre first operands words values = AllFit first operands values × Begins words values
+-- behind what was given stand values that fit
+abbrev GoesOn : List OperandValue → List Operand → List OperandValue → Type 0
+GoesOn given operands all = (values : List OperandValue) × (all ≡ given ++ values) × AllFit given operands values
 
-values_fit : (first : WordBytes) (operands : List Operand) (words : List WordBytes)
-    → IfThere (ValuesAre first operands words) (values_from first operands words)
-values_fit first [] [] = (tt, tt)
-values_fit first [] (word ∷ words) = tt
-values_fit first (operand ∷ operands) words =
-    go (value_at first operand.kind words) (value_fits first operand.kind words)
-    (values_from first operands (words_behind operand.kind words))
-    (values_fit first operands (words_behind operand.kind words))
+one_more : (given : List OperandValue) (operand : Operand) (operands : List Operand) (value : OperandValue) → Fits given operand.kind value
+    → (found : Option (List OperandValue)) → IfThere (GoesOn (given ++ value ∷ []) operands) found → IfThere (GoesOn given (operand ∷ operands)) found
+one_more given operand operands value fit None fits = tt
+one_more given operand operands value fit (Some all) (values, is, fits) =
+    (value ∷ values, is ∙ append_assoc given (value ∷ []) values, (fit, fits))
+
+values_fit : (given : List OperandValue) (operands : List Operand) (words : List WordBytes)
+    → IfThere (GoesOn given operands) (values_from given operands words)
+values_fit given [] [] = ([], sym (append-nil given), tt)
+values_fit given [] (word ∷ words) = tt
+values_fit given (operand ∷ operands) words =
+    go (value_at given operand.kind words) (value_fits given operand.kind words)
+    (λ value. values_fit (given ++ value ∷ []) operands (words_behind operand.kind words))
   where
-    go : (value : Option OperandValue) → IfThere (ValueIs first operand.kind words) value → (values : Option (List OperandValue))
-        → IfThere (ValuesAre first operands (words_behind operand.kind words)) values
-        → IfThere (ValuesAre first (operand ∷ operands) words) (and_values value values)
-    go None fit values fits = tt
-    go (Some value) fit None fits = tt
-    go (Some value) fit (Some values) fits = ((fit.0, fits.0), fit.1)
+    go : (found : Option OperandValue) → IfThere (Fits given operand.kind) found
+        → ((value : OperandValue) → IfThere (GoesOn (given ++ value ∷ []) operands) (values_from (given ++ value ∷ []) operands (words_behind operand.kind words)))
+        → IfThere (GoesOn given (operand ∷ operands))
+        (option_and_then (λ (value : OperandValue). values_from (given ++ value ∷ []) operands (words_behind operand.kind words)) found)
+    go None fit later = tt
+    go (Some value) fit later = one_more given operand operands value fit _ (later value)
 
 -- the options that are set lie in their bounds
 abbrev AreOptions : Option Options → Type 0
@@ -185,44 +194,64 @@ set_lie names options =
 
 -- what a row asks for is lawful, where its operands are given what fits them
 abbrev AsksLawful : CommandForm → List Operand → Type 0
-AsksLawful form operands = (words : List WordBytes) (values : List OperandValue) (options : Options)
-    → AllFit (first_word words) operands values → Begins words values → AreInBounds options
-    → IfThere IsLawful (made form values options)
+AsksLawful form operands = (values : List OperandValue) (options : Options) → AllFit [] operands values
+    → AreInBounds options → IfThere IsLawful (made form values options)
+
+-- another name than that of the file before it
+other_name : (a b : WordBytes) → File a ≢ File b → a ≢ b
+other_name a b apart same = apart (ap File same)
 
 preprocess_lawful : AsksLawful forms.Preprocess (called (codes "DICT") kind.File ∷ called (codes "FILE..") kind.Sources ∷ [])
-preprocess_lawful words (File dictionary ∷ Sources sources ∷ []) options fit first bounds =
-    (fit.0, fit.1.0.0, fit.1.0.1, rw first fit.1.0.2)
-preprocess_lawful words _ options fit first bounds = tt
+preprocess_lawful (File dictionary ∷ Sources sources ∷ []) options fit bounds = (
+  fit.0,
+  fit.1.0.0,
+  fit.1.0.1,
+  λ k d below.
+      let source = fit.1.0.2 k d below in
+      (source.0, λ same. source.1.0 (ap File (sym same))),
+)
+preprocess_lawful _ options fit bounds = tt
 
 replay_lawful : AsksLawful forms.Replay (called (codes "TRACE") kind.File ∷ called (codes "LOG") kind.OtherFile ∷ [])
-replay_lawful words (File trace ∷ File log ∷ []) options fit first bounds =
-    (fit.0, fit.1.0.0, λ same. fit.1.0.1 (sym same ∙ first), bounds)
-replay_lawful words _ options fit first bounds = tt
+replay_lawful (File trace ∷ File log ∷ []) options fit bounds =
+    (fit.0, fit.1.0.0, other_name trace log fit.1.0.1.0, bounds)
+replay_lawful _ options fit bounds = tt
 
 decompress_lawful : AsksLawful forms.Decompress (called (codes "LOG") kind.File ∷ [])
-decompress_lawful words (File log ∷ []) options fit first bounds = fit.0
-decompress_lawful words _ options fit first bounds = tt
+decompress_lawful (File log ∷ []) options fit bounds = fit.0
+decompress_lawful _ options fit bounds = tt
 
 aggregate_lawful : AsksLawful forms.Aggregate (
     called (codes "LOG") kind.File ∷ called (codes "ID") (kind.Number 0 MAX_ID)
     ∷ called (codes "NTH") (kind.Number 0 MAX_ID) ∷ [])
-aggregate_lawful words (File log ∷ Number id ∷ Number nth ∷ []) options fit first bounds =
-    (fit.0, fit.1.0.1, fit.1.1.0.1)
-aggregate_lawful words _ options fit first bounds = tt
+aggregate_lawful (File log ∷ Number id ∷ Number nth ∷ []) options fit bounds = (fit.0, fit.1.0.1, fit.1.1.0.1)
+aggregate_lawful _ options fit bounds = tt
 
 direct_lawful : AsksLawful forms.Direct (called (codes "TRACE") kind.File ∷ [])
-direct_lawful words (File trace ∷ []) options fit first bounds = fit.0
-direct_lawful words _ options fit first bounds = tt
+direct_lawful (File trace ∷ []) options fit bounds = fit.0
+direct_lawful _ options fit bounds = tt
 
 generate_lawful : AsksLawful forms.Generate generated_operands
-generate_lawful words (Seed seed ∷ Number calls ∷ Number writers ∷ []) options fit first bounds =
+generate_lawful (Seed seed ∷ Number calls ∷ Number writers ∷ []) options fit bounds =
     (fit.0, fit.1.0.1, fit.1.1.0.0, fit.1.1.0.1)
-generate_lawful words _ options fit first bounds = tt
+generate_lawful _ options fit bounds = tt
 
 selftest_lawful : AsksLawful forms.Selftest generated_operands
-selftest_lawful words (Seed seed ∷ Number calls ∷ Number writers ∷ []) options fit first bounds =
+selftest_lawful (Seed seed ∷ Number calls ∷ Number writers ∷ []) options fit bounds =
     (fit.0, fit.1.0.1, fit.1.1.0.0, fit.1.1.0.1)
-selftest_lawful words _ options fit first bounds = tt
+selftest_lawful _ options fit bounds = tt
+
+inject_lawful : AsksLawful forms.Inject (
+    called (codes "DICT") kind.File ∷ called (codes "FILE") kind.File ∷ called (codes "OUT") kind.OtherFile ∷ [])
+inject_lawful (File dictionary ∷ File source ∷ File output ∷ []) options fit bounds =
+    let apart = fit.1.1.0.1 in
+    (fit.0, fit.1.0, fit.1.1.0.0, other_name dictionary output apart.0, other_name source output apart.1.0)
+inject_lawful _ options fit bounds = tt
+
+header_lawful : AsksLawful forms.Header (called (codes "DICT") kind.File ∷ called (codes "OUT") kind.OtherFile ∷ [])
+header_lawful (File dictionary ∷ File output ∷ []) options fit bounds =
+    (fit.0, fit.1.0.0, other_name dictionary output fit.1.0.1.0)
+header_lawful _ options fit bounds = tt
 
 abbrev AllLawful : List CommandRow → Type 0
 AllLawful [] = Unit {0}
@@ -243,7 +272,7 @@ all_lawful = (
             generate_lawful,
             (
               selftest_lawful,
-              (λ words values options fit first bounds. tt, tt),
+              ((λ values options fit bounds. tt), (inject_lawful, (header_lawful, tt))),
             ),
           ),
         ),
@@ -267,15 +296,16 @@ row_lawful word (row ∷ rows) all = go (bytes_eq row.word word) (row_lawful wor
 asked_lawful : (row : CommandRow) (given : Given) → AsksLawful row.form row.operands → IfThere IsLawful (asked row given)
 asked_lawful row given lawful =
     go (options_of (options_taken row) given.options) (set_lie (options_taken row) given.options)
-    (operand_values row.operands given.names) (values_fit (first_word given.names) row.operands given.names)
+    (operand_values row.operands given.names) (values_fit [] row.operands given.names)
   where
     go : (options : Option Options) → AreOptions options → (values : Option (List OperandValue))
-        → IfThere (ValuesAre (first_word given.names) row.operands given.names) values
+        → IfThere (GoesOn [] row.operands) values
         → IfThere IsLawful
         (option_and_then (λ (o : Options). option_and_then (λ (v : List OperandValue). made row.form v o) values) options)
     go None lie values fit = tt
     go (Some options) lie None fit = tt
-    go (Some options) lie (Some values) fit = lawful given.names values options fit.0 fit.1 lie
+    go (Some options) lie (Some values) (found, is, fit) =
+        lawful values options (subst (AllFit [] row.operands) (sym is) fit) lie
 
 words_lawful : (words : List WordBytes) → IfThere IsLawful (command_of words)
 words_lawful [] = tt

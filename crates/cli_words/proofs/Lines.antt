@@ -1,8 +1,8 @@
 -- The laws of lines.
-use Rattle.std.proofs.Common.{◌≡◌, ◌∙◌, ◌≢◌, ◌<◌, ◌≤◌, ◌++◌, Bool, true, false, List, [], ◌∷◌, length}
+use Rattle.std.proofs.Common.{◌≡◌, ◌∙◌, ◌≢◌, ◌<◌, ◌≤◌, ◌++◌, Bool, true, false, not, List, [], ◌∷◌, length}
 use Rattle.std.proofs.Common.{ℕ, get_or, map, Option, Some, None, refl, sym, ap, ap₂, ◌&&◌, codes, arith}
 use Rattle.std.specs.Prelude.{◌==◌, if◌then◌else◌}
-use Rattle.std.specs.List.{All, list_all, list_any, before_first, after_first}
+use Rattle.std.specs.List.{All, AllByRecursion, list_all, list_any, before_first, after_first}
 use Rattle.std.proofs.Math.Numerals.{add-one, one-add}
 use Rattle.std.proofs.Math.Bool.{or-true}
 use Rattle.std.proofs.lemmas.Bool.{true≢false, le-leb, lt-ltb}
@@ -19,15 +19,13 @@ use Rattle.session_options.specs.declared.options.Options.{Options}
 use Rattle.cli_words.specs.Commands.{WordBytes, Given, Name, Awaits, Sets, Unknown, word_of, after_dashes, is_equals, is_among}
 use Rattle.cli_words.specs.Commands.{with_name, with_option, given_of, given_from, options_of, said_by}
 use Rattle.cli_words.specs.Commands.{values_given, policy_named, severity_named}
-use Rattle.cli_words.specs.Commands.{is_name, is_other, are_sources}
+use Rattle.cli_words.specs.Commands.{OperandValue, File, is_name, is_file, is_other, are_sources}
 use Rattle.cli_words.specs.Commands.{number_within}
-use Rattle.cli_words.specs.Commands.{Command, Preprocess, Direct, Replay, Decompress, Aggregate, Generate, Selftest}
+use Rattle.cli_words.specs.Commands.{Command, Preprocess, Direct, Replay, Decompress, Aggregate, Generate, Selftest, Inject, Header}
 use Rattle.cli_words.specs.Commands.{command_of}
 use Rattle.cli_words.specs.Rows.{AreGenerated, IsLawful, words_for}
 use Rattle.cli_words.specs.declared.numbers.TheConstants.{MAX_ID, MAX_SEED}
 use Rattle.cli_words.specs.declared.operands.TheConstants.{MAX_SOURCES}
-use Rattle.cli_words.specs.declared.table.CommandForm.TheVariants as forms
-use Rattle.cli_words.specs.declared.table.OperandKind.TheVariants as kind
 use Rattle.cli_words.proofs.Spelled.{number_spelled, policy_is, named_severity}
 
 moved_name : (name option value : WordBytes) (given : Option Given)
@@ -154,29 +152,48 @@ differ trace log apart = go (bytes_eq trace log) refl
     go true e = absurd (apart ((bytes_eq-Decides trace log).0 e))
     go false e = refl
 
-other_passes : (first source : WordBytes) → is_name source ≡ true → source ≢ first
-    → is_other first source ≡ true
-other_passes first source named apart = rw (named, differ source first apart) refl
+-- a name that is another one than those of the files which are given
+abbrev IsApart : List OperandValue → WordBytes → Type 0
+IsApart given name = AllByRecursion (λ value. is_file name value ≡ false) given
 
-sources_pass : (first : WordBytes) (sources : List WordBytes) → 0 < length sources → length sources ≤ MAX_SOURCES
-    → All (λ source. (is_name source ≡ true) × (source ≢ first)) sources → are_sources first sources ≡ true
-sources_pass first sources some few all =
-    let all_pass : list_all (is_other first) sources ≡ true =
-    list_all-from_AllPass (is_other first) sources
-    (λ k d below. other_passes first (get_or sources k d) (all k d below).0 (all k d below).1) in
+apart_passes : (given : List OperandValue) (name : WordBytes) → IsApart given name
+    → list_all (λ value. not (is_file name value)) given ≡ true
+apart_passes [] name apart = refl
+apart_passes (value ∷ given) name apart = rw (apart.0, apart_passes given name apart.1) refl
+
+other_passes : (given : List OperandValue) (name : WordBytes) → is_name name ≡ true → IsApart given name
+    → is_other given name ≡ true
+other_passes given name named apart = rw (named, apart_passes given name apart) refl
+
+sources_pass : (dictionary : WordBytes) (sources : List WordBytes) → 0 < length sources → length sources ≤ MAX_SOURCES
+    → All (λ source. (is_name source ≡ true) × (source ≢ dictionary)) sources
+    → are_sources (File dictionary ∷ []) sources ≡ true
+sources_pass dictionary sources some few all =
+    let given = File dictionary ∷ [] in
+    let all_pass : list_all (is_other given) sources ≡ true =
+    list_all-from_AllPass (is_other given) sources
+    (λ k d below.
+    let source = get_or sources k d in
+    other_passes given source (all k d below).0 (differ dictionary source (λ same. (all k d below).1 (sym same)), tt)) in
     rw (lt-ltb 0 (length sources) some, le-leb (length sources) MAX_SOURCES few, all_pass) refl
 
--- the same of names that were looked at one by one
-pub sources_told : {A : Type 0} (text : A → WordBytes) (first : WordBytes) (sources : List A) (empty passed : Bool)
+-- the same of a name and of names that were looked at one by one
+pub other_told : {A : Type 0} (text : A → OperandValue) (given : List A) (name : WordBytes) (passed : Bool)
+    → is_name name ≡ true → passed ≡ list_all (λ value. not (is_file name (text value))) given
+    → passed ≡ is_other (map text given) name
+other_told text given name passed named all =
+    rw (named, list_all-map (λ (value : OperandValue). not (is_file name value)) text given) all
+
+pub sources_told : {A : Type 0} (text : A → WordBytes) (given : List OperandValue) (sources : List A) (empty passed : Bool)
     → empty ≡ (length sources == 0) → empty ≡ false → length sources ≤ MAX_SOURCES
-    → passed ≡ list_all (λ source. is_other first (text source)) sources
-    → passed ≡ are_sources first (map text sources)
-sources_told text first sources empty passed is full few all =
+    → passed ≡ list_all (λ source. is_other given (text source)) sources
+    → passed ≡ are_sources given (map text sources)
+sources_told text given sources empty passed is full few all =
     let same = length-map sources text in
     let some : 0 < length sources = grind (arith, nat_tests) in
     let some_is = lt-ltb 0 (length (map text sources)) (omega (arith, some, same)) in
     let few_is = le-leb (length (map text sources)) MAX_SOURCES (omega (arith, few, same)) in
-    let all_is = list_all-map (is_other first) text sources in
+    let all_is = list_all-map (is_other given) text sources in
     rw (some_is, few_is, all_is) all
 
 -- ---- each command has a line
@@ -215,5 +232,8 @@ line_asks (Replay trace log options) lawful =
       named_severity options.level,
       lawful.0,
       lawful.1,
-      differ log trace (λ same. lawful.2 (sym same)),
+      differ trace log lawful.2,
     ) refl
+line_asks (Inject dictionary source output) lawful =
+    rw (lawful.0, lawful.1, lawful.2, differ dictionary output lawful.3, differ source output lawful.4) refl
+line_asks (Header dictionary output) lawful = rw (lawful.0, lawful.1, differ dictionary output lawful.2) refl

@@ -1,5 +1,5 @@
 -- What the words of a command line ask for.
-use Rattle.std.specs.Prelude.{ℕ, Bool, false, true, not, ◌&&◌, ◌==◌, List, [], ◌∷◌, map, find, Option, Some, None}
+use Rattle.std.specs.Prelude.{ℕ, Bool, false, true, not, ◌&&◌, ◌==◌, List, [], ◌∷◌, ◌++◌, map, find, Option, Some, None}
 use Rattle.std.specs.Prelude.{codes, if◌then◌else◌, String, length, nat_le, nat_lt}
 use Rattle.std.specs.Prelude.{option_map, option_and_then, drop}
 use Rattle.std.specs.List.{list_all, list_any, before_first, after_first}
@@ -39,6 +39,8 @@ pub data Command : Type 0 where
   Aggregate : (log : WordBytes) (id nth : ℕ) → Command
   Generate : (seed calls writers : ℕ) → Command
   Selftest : (seed calls writers : ℕ) → Command
+  Inject : (dictionary source output : WordBytes) → Command
+  Header : (dictionary output : WordBytes) → Command
 
 -- ---- what a word is
 
@@ -193,49 +195,47 @@ abbrev pub is_name : WordBytes → Bool
 is_name [] = false
 is_name (byte ∷ bytes) = true
 
--- a name that is another word than the first operand
-abbrev pub is_other : WordBytes → WordBytes → Bool
-is_other first name = is_name name && not (bytes_eq name first)
+-- the operand is given the file of this name
+abbrev pub is_file : WordBytes → OperandValue → Bool
+is_file name (File other) = bytes_eq other name
+is_file name _ = false
 
--- the names of sources: there is one at least, there are not too many, and none is the first operand
-abbrev pub are_sources : WordBytes → List WordBytes → Bool
-are_sources first names =
-    nat_lt 0 (length names) && nat_le (length names) MAX_SOURCES && list_all (is_other first) names
+-- a name that is another word than that of each file which is given before
+abbrev pub is_other : List OperandValue → WordBytes → Bool
+is_other given name = is_name name && list_all (λ value. not (is_file name value)) given
 
--- what an operand of this kind is given by the words that are left, where the first of them fits, or all do
-abbrev pub value_at : WordBytes → OperandKind → List WordBytes → Option OperandValue
-value_at first kind.Sources words = if are_sources first words then Some (Sources words) else None
-value_at first _ [] = None
-value_at first kind.File (word ∷ words) = if is_name word then Some (File word) else None
-value_at first kind.OtherFile (word ∷ words) = if is_other first word then Some (File word) else None
-value_at first (kind.Number least most) (word ∷ words) = option_map Number (number_within least most word)
-value_at first kind.Seed (word ∷ words) = option_map Seed (number_within 0 MAX_SEED word)
+-- the names of sources: there is one at least, there are not too many, and none is that of a file which is given before
+abbrev pub are_sources : List OperandValue → List WordBytes → Bool
+are_sources given names =
+    nat_lt 0 (length names) && nat_le (length names) MAX_SOURCES && list_all (is_other given) names
+
+-- what an operand of this kind is given by the words that are left, where the first of them fits, or all do; these are
+-- given before
+abbrev pub value_at : List OperandValue → OperandKind → List WordBytes → Option OperandValue
+value_at given kind.Sources words = if are_sources given words then Some (Sources words) else None
+value_at given _ [] = None
+value_at given kind.File (word ∷ words) = if is_name word then Some (File word) else None
+value_at given kind.OtherFile (word ∷ words) = if is_other given word then Some (File word) else None
+value_at given (kind.Number least most) (word ∷ words) = option_map Number (number_within least most word)
+value_at given kind.Seed (word ∷ words) = option_map Seed (number_within 0 MAX_SEED word)
 
 -- the words that are left behind it
 abbrev pub words_behind : OperandKind → List WordBytes → List WordBytes
 words_behind kind.Sources words = []
 words_behind _ words = drop 1 words
 
--- one value more, in front
-abbrev pub and_values : Option OperandValue → Option (List OperandValue) → Option (List OperandValue)
-and_values (Some value) (Some values) = Some (value ∷ values)
-and_values _ _ = None
-
--- what operands are given by the words that are left, where each fits and none is left over
-abbrev pub values_from : WordBytes → List Operand → List WordBytes → Option (List OperandValue)
-values_from first [] [] = Some []
-values_from first [] (word ∷ words) = None
-values_from first (operand ∷ operands) words =
-    and_values (value_at first operand.kind words) (values_from first operands (words_behind operand.kind words))
-
--- the first word, if there is one
-abbrev pub first_word : List WordBytes → WordBytes
-first_word [] = []
-first_word (word ∷ words) = word
+-- what operands are given by the words that are left, where each fits and none is left over, behind what is given before
+abbrev pub values_from : List OperandValue → List Operand → List WordBytes → Option (List OperandValue)
+values_from given [] [] = Some given
+values_from given [] (word ∷ words) = None
+values_from given (operand ∷ operands) words =
+    option_and_then
+    (λ value. values_from (given ++ value ∷ []) operands (words_behind operand.kind words))
+    (value_at given operand.kind words)
 
 -- what operands are given by these words
 abbrev pub operand_values : List Operand → List WordBytes → Option (List OperandValue)
-operand_values operands words = values_from (first_word words) operands words
+operand_values operands words = values_from [] operands words
 
 -- ---- the command
 
@@ -248,6 +248,8 @@ made form.Aggregate (File log ∷ Number id ∷ Number nth ∷ []) options = Som
 made form.Direct (File trace ∷ []) options = Some (Direct trace)
 made form.Generate (Seed seed ∷ Number calls ∷ Number writers ∷ []) options = Some (Generate seed calls writers)
 made form.Selftest (Seed seed ∷ Number calls ∷ Number writers ∷ []) options = Some (Selftest seed calls writers)
+made form.Inject (File dictionary ∷ File source ∷ File output ∷ []) options = Some (Inject dictionary source output)
+made form.Header (File dictionary ∷ File output ∷ []) options = Some (Header dictionary output)
 made _ _ options = None
 
 -- the command of a row with these names and options

@@ -3,7 +3,7 @@ use Rattle.std.specs.Prelude.{◌≡◌, ◌≢◌, ◌==◌, ◌<◌, ◌≤◌
 use Rattle.std.specs.Fmt.{decimal}
 use Rattle.std.specs.List.{All, slice_split}
 use Rattle.cli_words.specs.Commands.{WordBytes, Command, Preprocess, Direct, Replay, Decompress}
-use Rattle.cli_words.specs.Commands.{Aggregate, Generate, Selftest}
+use Rattle.cli_words.specs.Commands.{Aggregate, Generate, Selftest, Inject, Header}
 use Rattle.cli_words.specs.Commands.{command_of, is_name}
 use Rattle.cli_words.specs.declared.operands.TheConstants.{MAX_SOURCES}
 use Rattle.cli_words.specs.declared.numbers.TheConstants.{MAX_ID, MAX_SEED}
@@ -32,8 +32,8 @@ abbrev pub AreGenerated : ℕ → ℕ → ℕ → Type 0
 AreGenerated seed calls writers =
     (seed ≤ MAX_SEED) × (calls ≤ MAX_GENERATED) × (1 ≤ writers) × (writers ≤ MAX_WRITERS)
 
--- the names of the command aren't empty, its trace isn't its log, its numbers lie in their bounds, and its dictionary
--- is none of its sources, of which there are enough and not too many
+-- the names of the command aren't empty, what it makes is another name than what it reads, its numbers lie in their
+-- bounds, and there are enough sources and not too many
 abbrev pub IsLawful : Command → Type 0
 IsLawful (Preprocess dictionary sources) =
     (is_name dictionary ≡ true) × (0 < length sources) × (length sources ≤ MAX_SOURCES)
@@ -45,6 +45,10 @@ IsLawful (Decompress log) = is_name log ≡ true
 IsLawful (Aggregate log id nth) = (is_name log ≡ true) × (id ≤ MAX_ID) × (nth ≤ MAX_ID)
 IsLawful (Generate seed calls writers) = AreGenerated seed calls writers
 IsLawful (Selftest seed calls writers) = AreGenerated seed calls writers
+IsLawful (Inject dictionary source output) =
+    (is_name dictionary ≡ true) × (is_name source ≡ true) × (is_name output ≡ true)
+    × (dictionary ≢ output) × (source ≢ output)
+IsLawful (Header dictionary output) = (is_name dictionary ≡ true) × (is_name output ≡ true) × (dictionary ≢ output)
 
 -- the name of what becomes of calls for which there is no room
 abbrev pub policy_name : Policy → WordBytes
@@ -65,3 +69,5 @@ words_for (Generate seed calls writers) =
     codes "generate" ∷ codes "--" ∷ decimal seed ∷ decimal calls ∷ decimal writers ∷ []
 words_for (Selftest seed calls writers) =
     codes "selftest" ∷ codes "--" ∷ decimal seed ∷ decimal calls ∷ decimal writers ∷ []
+words_for (Inject dictionary source output) = codes "inject" ∷ codes "--" ∷ dictionary ∷ source ∷ output ∷ []
+words_for (Header dictionary output) = codes "header" ∷ codes "--" ∷ dictionary ∷ output ∷ []

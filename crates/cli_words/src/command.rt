@@ -57,6 +57,17 @@ pub enum Command<'a> {
         calls: u32,
         writers: u32,
     },
+    /// To write a source with calls by number in place of its log statements.
+    Inject {
+        dictionary: &'a str,
+        source: &'a str,
+        output: &'a str,
+    },
+    /// To write the header that goes with the messages of a dictionary.
+    Header {
+        dictionary: &'a str,
+        output: &'a str,
+    },
 }
 
 /// The command `preprocess`, if these are its operands.
@@ -172,6 +183,39 @@ fn selftest_of<'a>(values: &[OperandValue<'_, 'a>]) -> Option<Command<'a>>
     }
 }
 
+/// The command `inject`, if these are its operands.
+fn inject_of<'a>(values: &[OperandValue<'_, 'a>]) -> Option<Command<'a>>
+    ensures { (options : Options) →
+        option_map command_is result ≡ made forms.Inject (map value_is values.now) options }
+{
+    match values {
+        [
+            OperandValue::File(dictionary),
+            OperandValue::File(source),
+            OperandValue::File(output),
+        ] => Some(Command::Inject {
+            dictionary,
+            source,
+            output,
+        }),
+        _ => None,
+    }
+}
+
+/// The command `header`, if these are its operands.
+fn header_of<'a>(values: &[OperandValue<'_, 'a>]) -> Option<Command<'a>>
+    ensures { (options : Options) →
+        option_map command_is result ≡ made forms.Header (map value_is values.now) options }
+{
+    match values {
+        [OperandValue::File(dictionary), OperandValue::File(output)] => Some(Command::Header {
+            dictionary,
+            output,
+        }),
+        _ => None,
+    }
+}
+
 /// The command of this form with what its operands are given.
 fn made<'a>(
     alloc: Global,
@@ -190,6 +234,8 @@ fn made<'a>(
         CommandForm::Generate => Ok(generate_of(values)),
         CommandForm::Selftest => Ok(selftest_of(values)),
         CommandForm::Schedule => Ok(None),
+        CommandForm::Inject => Ok(inject_of(values)),
+        CommandForm::Header => Ok(header_of(values)),
     }
 }
 

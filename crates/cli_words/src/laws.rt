@@ -4,7 +4,7 @@
 ghost use Rattle.std.specs.Prelude.{◌≡◌, Some, None, List, [], ◌∷◌, ◌++◌, codes};
 ghost use Rattle.cli_words.specs.Commands.{WordBytes, Name, Awaits, word_of, given_of, options_of, command_of};
 ghost use Rattle.cli_words.specs.Commands.{Command, Preprocess, Direct, Replay, Decompress};
-ghost use Rattle.cli_words.specs.Commands.{Aggregate, Generate, Selftest};
+ghost use Rattle.cli_words.specs.Commands.{Aggregate, Generate, Selftest, Inject, Header};
 ghost use Rattle.cli_words.specs.declared.operands.TheConstants.{MAX_SOURCES};
 ghost use Rattle.cli_words.specs.Rows.{meaning, replays, IsLawful, words_for};
 ghost use Rattle.cli_words.specs.Usage.{usage_text};
@@ -92,6 +92,27 @@ pub fn dictionaries_have_sources()
     ensures empty { meaning (codes "preprocess d m ") ≡ None }
     ensures letter { meaning (codes "preprocess d -m") ≡ None }
     ensures option { meaning (codes "preprocess d m --level ERROR") ≡ None }
+{}
+
+/// `inject` and `header` have a dictionary, and what they make is another name than those that they read. The source of
+/// `inject` may be the dictionary.
+pub fn outputs_are_other_files()
+    ensures inject { meaning (codes "inject d m.cc o.cc")
+        ≡ Some (Inject (codes "d") (codes "m.cc") (codes "o.cc")) }
+    ensures header { meaning (codes "header d h") ≡ Some (Header (codes "d") (codes "h")) }
+    ensures same { meaning (codes "inject d d o") ≡ Some (Inject (codes "d") (codes "d") (codes "o")) }
+    ensures dash { meaning (codes "header -- -d -h") ≡ Some (Header (codes "-d") (codes "-h")) }
+    ensures onto_dictionary { meaning (codes "inject d m d") ≡ None }
+    ensures onto_source { meaning (codes "inject d m m") ≡ None }
+    ensures header_onto_dictionary { meaning (codes "header d d") ≡ None }
+    ensures no_output { meaning (codes "inject d m") ≡ None }
+    ensures two_outputs { meaning (codes "inject d m o p") ≡ None }
+    ensures no_header { meaning (codes "header d") ≡ None }
+    ensures two_headers { meaning (codes "header d h i") ≡ None }
+    ensures no_source { meaning (codes "inject d  o") ≡ None }
+    ensures no_name { meaning (codes "inject d m ") ≡ None }
+    ensures no_dictionary { meaning (codes "header  h") ≡ None }
+    ensures option { meaning (codes "inject d m o --level ERROR") ≡ None }
 {}
 
 /// An option is one of the command's own, spelled whole, and is given once, with its value.
@@ -205,8 +226,8 @@ pub fn commands_have_lines()
     ensures { (command : Command) → IsLawful command → command_of (words_for command) ≡ Some command }
 {}
 
-/// The names of a command aren't empty, the log of `replay` isn't its trace, its numbers lie in their bounds, and the
-/// dictionary of `preprocess` is none of its sources, of which there are enough and not too many.
+/// The names of a command aren't empty, what it makes is another name than what it reads, its numbers lie in their
+/// bounds, and `preprocess` has enough sources and not too many.
 pub fn commands_are_lawful()
     ensures { (words : List WordBytes) (command : Command) → command_of words ≡ Some command → IsLawful command }
 {}
@@ -221,5 +242,7 @@ pub fn the_usage_text_has_these_lines()
         ++ codes "  nanolog direct TRACE\n"
         ++ codes "  nanolog generate SEED CALLS WRITERS\n"
         ++ codes "  nanolog selftest SEED CALLS WRITERS\n"
-        ++ codes "  nanolog schedule FILE\n" }
+        ++ codes "  nanolog schedule FILE\n"
+        ++ codes "  nanolog inject DICT FILE OUT\n"
+        ++ codes "  nanolog header DICT OUT\n" }
 {}

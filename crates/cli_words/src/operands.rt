@@ -1,7 +1,7 @@
 //! What the operands of a command are given.
 
 ghost use Rattle.std.specs.Prelude.{◌≡◌, IfOk, map, option_map};
-ghost use Rattle.cli_words.specs.Commands.{is_name, is_other, are_sources, value_at, words_behind, first_word, operand_values};
+ghost use Rattle.cli_words.specs.Commands.{is_name, is_file, is_other, are_sources, value_at, words_behind, operand_values};
 ghost use Rattle.cli_words.specs.CommandViews.{value_is};
 ghost use Rattle.cli_words.specs.TableViews.{operand_is};
 
@@ -28,37 +28,49 @@ fn is_name(word: &str) -> bool
     !word.is_empty()
 }
 
-/// Whether it can be a name, and isn't the first operand.
-fn is_other(first: &str, word: &str) -> bool
-    ensures { result ≡ is_other first.now word.now }
+/// Whether the operand is given the file of this name.
+fn is_file(word: &str, value: &OperandValue<'_, '_>) -> bool
+    ensures { result ≡ is_file word.now (value_is value.now) }
 {
-    is_name(word) && word != first
+    match value {
+        OperandValue::File(name) => *name == word,
+        _ => false,
+    }
 }
 
-/// Whether these can be the names of sources: there is one at least, there are not too many, and none is the first
-/// operand.
-fn are_sources(first: &str, words: &[&str]) -> bool
-    ensures { result ≡ are_sources first.now (map (λ word. word.now) words.now) }
+/// Whether it can be a name, and is another one than those of the files that are given before.
+fn is_other(given: &[OperandValue<'_, '_>], word: &str) -> bool
+    ensures { result ≡ is_other (map value_is given.now) word.now }
+{
+    is_name(word) && given.iter().all(|value| !is_file(word, value))
+}
+
+/// Whether these can be the names of sources: there is one at least, there are not too many, and none is that of a file
+/// which is given before.
+fn are_sources(given: &[OperandValue<'_, '_>], words: &[&str]) -> bool
+    ensures { result ≡ are_sources (map value_is given.now) (map (λ word. word.now) words.now) }
 {
     !words.is_empty()
         && words.len() <= MAX_SOURCES
-        && words.iter().all(|word| is_other(first, word))
+        && words.iter().all(|word| is_other(given, word))
 }
 
-/// What an operand of this kind is given by the words that are left, where the first of them fits, or all do.
+/// What an operand of this kind is given by the words that are left, where the first of them fits, or all do. The other
+/// values are given before.
 fn read_value<'w, 'a>(
     kind: OperandKind,
-    first: &str,
+    given: &[OperandValue<'w, 'a>],
     words: &'w [&'a str],
 ) -> Option<OperandValue<'w, 'a>>
-    ensures { option_map value_is result ≡ value_at first.now kind (map (λ word. word.now) words.now) }
+    ensures { option_map value_is result
+        ≡ value_at (map value_is given.now) kind (map (λ word. word.now) words.now) }
 {
     match (kind, words) {
-        (OperandKind::Sources, _) if are_sources(first, words) => Some(OperandValue::Sources(
+        (OperandKind::Sources, _) if are_sources(given, words) => Some(OperandValue::Sources(
             words,
         )),
         (OperandKind::File, [word, ..]) if is_name(word) => Some(OperandValue::File(word)),
-        (OperandKind::OtherFile, [word, ..]) if is_other(first, word) => Some(OperandValue::File(
+        (OperandKind::OtherFile, [word, ..]) if is_other(given, word) => Some(OperandValue::File(
             word,
         )),
         (OperandKind::Number { least, most }, [word, ..]) => {
@@ -82,16 +94,6 @@ fn words_behind<'w, 'a>(kind: OperandKind, words: &'w [&'a str]) -> &'w [&'a str
     }
 }
 
-/// The first word, if there is one.
-fn first_word<'a>(words: &[&'a str]) -> &'a str
-    ensures { result.now ≡ first_word (map (λ word. word.now) words.now) }
-{
-    match words {
-        [first, ..] => first,
-        [] => "",
-    }
-}
-
 /// What the operands are given by these words, where each fits and none is left over.
 pub(crate) fn read_operands<'w, 'a>(
     alloc: Global,
@@ -101,11 +103,10 @@ pub(crate) fn read_operands<'w, 'a>(
     ensures { IfOk result (λ values. option_map (λ values. map value_is values.items) values
         ≡ operand_values (map operand_is operands.now) (map (λ word. word.now) words.now)) }
 {
-    let first = first_word(words);
     let mut values = Vec::new(alloc);
     let mut left = words;
     for operand in operands {
-        let Some(value) = read_value(operand.kind, first, left) else {
+        let Some(value) = read_value(operand.kind, &values, left) else {
             return Ok(None);
         };
         values.push(value)?;

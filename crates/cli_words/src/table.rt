@@ -18,6 +18,8 @@ pub(crate) enum CommandForm {
     Generate,
     Selftest,
     Schedule,
+    Inject,
+    Header,
 }
 
 /// Which words an operand takes.
@@ -25,9 +27,9 @@ pub(crate) enum CommandForm {
 pub(crate) enum OperandKind {
     /// The name of a file. It isn't empty.
     File,
-    /// The name of a file, which is another word than the first operand.
+    /// The name of a file, which is another word than the name of each file before it.
     OtherFile,
-    /// The names of 1 to 1,024 sources, as the last operand. None of them is the first operand.
+    /// The names of 1 to 1,024 sources, as the last operand. None of them is the name of a file before them.
     Sources,
     /// A number from `least` to `most`.
     Number { least: u32, most: u32 },
@@ -128,6 +130,11 @@ const FILE: Operand = Operand {
     kind: OperandKind::File,
 };
 
+const OUT: Operand = Operand {
+    shown: "OUT",
+    kind: OperandKind::OtherFile,
+};
+
 pub(crate) const RING: &str = "ring";
 
 pub(crate) const BATCH: &str = "batch";
@@ -204,6 +211,18 @@ pub(crate) const ROWS: &[CommandRow] = &[
         form: CommandForm::Schedule,
         word: "schedule",
         operands: &[FILE],
+        has_options: false,
+    },
+    CommandRow {
+        form: CommandForm::Inject,
+        word: "inject",
+        operands: &[DICT, FILE, OUT],
+        has_options: false,
+    },
+    CommandRow {
+        form: CommandForm::Header,
+        word: "header",
+        operands: &[DICT, OUT],
         has_options: false,
     },
 ];

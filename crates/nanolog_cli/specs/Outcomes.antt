@@ -1,7 +1,7 @@
 -- What the answer of the program says.
 use Rattle.std.specs.Prelude.{◌≡◌, ◌⊎◌, ℕ, List, Option, Some, None}
 use Rattle.nl_io.specs.Desk.{Desk}
-use Rattle.cli_words.specs.Commands.{Command, Preprocess, Direct, Replay, Decompress, Aggregate, Generate, Selftest}
+use Rattle.cli_words.specs.Commands.{Command, Preprocess, Direct, Replay, Decompress, Aggregate, Generate, Selftest, Inject, Header}
 use Rattle.cli_words.specs.Usage.{usage_text}
 use Rattle.command_base.specs.Endings.{Ending, Usage, NoMemory}
 use Rattle.command_base.specs.Scenes.{Scene}
@@ -9,6 +9,8 @@ use Rattle.command_base.specs.Tasks.{Task}
 use Rattle.command_base.specs.Effects.{CommandEffect}
 use Rattle.source_commands.specs.Preprocessing.{preprocess_task}
 use Rattle.trace_commands.specs.Tasks.{direct_task, generate_task}
+use Rattle.dictionary_commands.specs.Injecting.{inject_task}
+use Rattle.dictionary_commands.specs.Heading.{header_task}
 use Rattle.log_commands.specs.Decompressing.{decompress_task}
 use Rattle.log_commands.specs.Aggregating.{aggregate_task}
 use Rattle.session_commands.specs.Replays.{replay_task}
@@ -23,6 +25,8 @@ task_of (Decompress log) = decompress_task log
 task_of (Aggregate log id nth) = aggregate_task log id nth
 task_of (Generate seed calls writers) = generate_task seed calls writers
 task_of (Selftest seed calls writers) = selftest_task seed calls writers
+task_of (Inject dictionary source output) = inject_task dictionary source output
+task_of (Header dictionary output) = header_task dictionary output
 
 -- What the answer of a command says.
 abbrev pub Ends : Command → Scene → Scene → Ending → Type 0

@@ -17,6 +17,7 @@ ghost use Rattle.nanolog_cli.specs.Outcomes.{quick_part, Answers};
 
 use cli_words::{Command, command_of, usage};
 use command_base::{Note, Refusal, Status, say_end};
+use dictionary_commands::{header, inject};
 use log_commands::{aggregate, decompress};
 use nl_io::{Files, Sink};
 use session_commands::{replay, selftest};
@@ -76,6 +77,14 @@ fn run_quick<'a, F: Files, O: Sink>(
             calls,
             writers,
         } => without_note(generate(alloc, seed, calls, writers, out)),
+        Command::Inject {
+            dictionary,
+            source,
+            output,
+        } => without_note(inject(alloc, files, dictionary, source, output, out)),
+        Command::Header { dictionary, output } => {
+            without_note(header(alloc, files, dictionary, output, out))
+        }
     }
 }
 
@@ -174,8 +183,11 @@ where
 /// writers without a close mark. `aggregate LOG ID NTH` prints how many numbers an argument of a message has in the
 /// log, the least, the greatest and the sum of them, also of what stands in front of a damage. `generate SEED CALLS
 /// WRITERS` prints a trace that is drawn from the seed. `selftest SEED CALLS WRITERS` makes the calls of that trace by
-/// a session in memory, decompresses its log, and prints how many calls there were; it may wait for its threads too. A
-/// file that is no trace is refused, and so is a log that has no such argument.
+/// a session in memory, decompresses its log, and prints how many calls there were; it may wait for its threads too.
+/// `inject DICT FILE OUT` writes the source with calls by number in place of its log statements, and prints how many
+/// these are; what is refused of the source is told as by `preprocess`. `header DICT OUT` writes what a program needs to
+/// know of the messages of the dictionary, and prints how many they are. A file that is no trace, or no dictionary, is
+/// refused, and so is a log that has no such argument.
 ///
 /// The gate is called by the threads of a session on their way.
 pub fn nanolog<R, F, O, E, G>(

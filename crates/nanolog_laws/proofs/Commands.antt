@@ -1,9 +1,10 @@
 -- What is asked of a task is so of each command's.
-use Rattle.cli_words.specs.Commands.{Command, Preprocess, Direct, Replay, Decompress, Aggregate, Generate, Selftest}
+use Rattle.cli_words.specs.Commands.{Command, Preprocess, Direct, Replay, Decompress, Aggregate, Generate, Selftest, Inject, Header}
 use Rattle.command_base.specs.Soundness.{IsSound}
 use Rattle.source_commands.specs.Preprocessing.{GiveDictionary}
 use Rattle.source_commands.specs.SourceLaws.{source_sound}
 use Rattle.trace_commands.proofs.Soundness.{direct_sound, generate_sound}
+use Rattle.dictionary_commands.proofs.Soundness.{header_sound, inject_sound}
 use Rattle.log_commands.proofs.Soundness.{decompress_sound, aggregate_sound}
 use Rattle.session_commands.proofs.Soundness.{replay_sound, selftest_sound}
 use Rattle.std.proofs.Common.{Some}
@@ -17,3 +18,5 @@ task_sound (Decompress log) = decompress_sound log
 task_sound (Aggregate log id nth) = aggregate_sound log id nth
 task_sound (Generate seed calls writers) = generate_sound seed calls writers
 task_sound (Selftest seed calls writers) = selftest_sound seed calls writers
+task_sound (Inject dictionary source output) = inject_sound dictionary source output
+task_sound (Header dictionary output) = header_sound dictionary output

@@ -41,3 +41,11 @@ pub returns-in-Generate-clause-ends : goal.returns-in-Generate-clause-ends
 returns-in-Generate-clause-ends g c =
     done_as quick_part _ _ _ _ _ _ c.in-Generate.is c.without_note-in-Generate.ensures
     (inr (c.generate.ensures.ends (g.F.Files.desk c.args.files.now)))
+
+pub returns-in-Inject-clause-ends : goal.returns-in-Inject-clause-ends
+returns-in-Inject-clause-ends g c =
+    done_as quick_part _ _ _ _ _ _ c.in-Inject.is c.without_note-in-Inject.ensures (inr c.inject.ensures.ends)
+
+pub returns-in-Header-clause-ends : goal.returns-in-Header-clause-ends
+returns-in-Header-clause-ends g c =
+    done_as quick_part _ _ _ _ _ _ c.in-Header.is c.without_note-in-Header.ensures (inr c.header.ensures.ends)

@@ -1,0 +1,4 @@
+pub mod Soundness
+pub mod Counts
+pub mod Injections
+pub mod Headings
