@@ -1,10 +1,11 @@
 //! Traces: their limits, how they are written, and the order of stamps.
 
-ghost use Rattle.std.specs.Prelude.{◌<◌};
+ghost use Rattle.std.specs.Prelude.{◌≡◌, ◌<◌, true};
+ghost use Rattle.stamp_merge.specs.Mergers.{list_at, wants};
 
 use crate::tables::{check_rows, check_told, cut, joined, truth_of};
 use nl_io::{MAX_HELD, MemSink, MemSource};
-use stamp_merge::merge_order;
+use stamp_merge::{Merger, Next, merge_order};
 use std::alloc::{AllocError, Global};
 use std::test::Fail;
 use trace_text::{Trace, TraceFault, WriteTraceFault, read_text, read_trace, write_trace};
@@ -305,8 +306,45 @@ const EQUAL: &str = "\
 47, 48, 48, 48, 49, 49, 49, 50, 50, 50, 51, 51, 51, 52, 52, 52, 53, 53, 53, 54, 54, 54, 55, 55, 55, 56, 56, 56, \
 57, 57, 57, 58, 58, 58, 59, 59, 59, 60, 60, 60, 61, 61, 61, 62, 62, 62, 63, 63, 63]";
 
+/// Hands a merger the next stamp of a list that it wants, and closes the list behind the last.
+fn feed(merger: &mut Merger, list: u32, stamps: &[u64], place: usize)
+    requires { wants (list_at merger.old list) ≡ true }
+{
+    match stamps.get(place) {
+        Some(&stamp) => merger.push(list, stamp),
+        None => merger.close(list),
+    }
+}
+
+/// The lists in the order in which a merger takes their stamps, which come as it wants them.
+fn taken(alloc: Global, lists: &[Vec<u64>]) -> Result<Vec<u32>, Fail> {
+    let mut merger = Merger::make(alloc, u32::try_from(lists.len())?)?;
+    let mut order = Vec::new(alloc);
+    for _ in 0..1_000 {
+        match merger.next() {
+            Next::Take(list) => order.push(list)?,
+            Next::Want(list) => {
+                let place = order.iter().filter(|taken| **taken == list).count();
+                let stamps = lists.get(list as usize).ok_or("no such list")?;
+                feed(&mut merger, list, stamps, place);
+            }
+            Next::Done => return Ok(order),
+        }
+    }
+    Err("the merger doesn't end".into())
+}
+
+fn taken_order_of(alloc: Global, row: &str) -> Result<String, Fail> {
+    let words = joined(alloc, row)?;
+    let lists = lists_of(alloc, &words)?;
+    let order = taken(alloc, &lists)?;
+    Ok(format!(in alloc; "{order:?}")?)
+}
+
 #[test]
 fn stamps_are_put_in_order(rt: HostRuntime) -> Result<(), Fail> {
     check_rows(&rt, ORDERS, order_of)?;
-    check_rows(&rt, EQUAL, order_of)
+    check_rows(&rt, EQUAL, order_of)?;
+    check_rows(&rt, ORDERS, taken_order_of)?;
+    check_rows(&rt, EQUAL, taken_order_of)
 }
