@@ -53,7 +53,7 @@ fn a_long_text_is_printed_in_pieces(rt: HostRuntime) -> Result<(), Fail> {
     Ok(())
 }
 
-/// One message more than there can be is told, also where its line is wrong.
+/// One message more than there can be is told, also where its line is wrong. A dictionary is read as a trace is.
 #[test]
 fn too_many_messages_are_told(rt: HostRuntime) -> Result<(), Fail> {
     let alloc = rt.alloc();
@@ -62,20 +62,53 @@ fn too_many_messages_are_told(rt: HostRuntime) -> Result<(), Fail> {
     let wrong = text.as_str().replacen(alloc, right, wrong, 1)?;
     let told = "nanolog: t:65538: refused: 15 TooMany\n";
     for text in [text.as_str(), wrong.as_str()] {
-        let ran = run_over(&rt, alloc, "direct t", ("t", text.as_bytes()))?;
-        assert_eq!(rt; ran.shown(), (Status::Refused, "", told));
+        for line in ["direct t", "header t l"] {
+            let ran = run_over(&rt, alloc, line, ("t", text.as_bytes()))?;
+            assert_eq!(rt; ran.shown(), (Status::Refused, "", told), "{line}");
+            assert!(rt; ran.log.is_none(), "{line}");
+        }
     }
     Ok(())
 }
 
-/// One byte more than a trace has is told.
+/// One byte more than a trace has is told, and so it is of a dictionary.
 #[test]
 fn too_large_a_trace_is_told(rt: HostRuntime) -> Result<(), Fail> {
     let bytes = Vec::from_elem(rt.alloc(), b'\n', 67_108_865)?;
     let file = ("t", bytes.as_slice());
-    let ran = run_over(&rt, rt.alloc(), "direct t", file)?;
     let told = "nanolog: t:0: refused: 18 TooLarge\n";
-    assert_eq!(rt; ran.shown(), (Status::Refused, "", told));
+    for line in ["direct t", "header t l", "inject t none l"] {
+        let ran = run_over(&rt, rt.alloc(), line, file)?;
+        assert_eq!(rt; ran.shown(), (Status::Refused, "", told), "{line}");
+        assert!(rt; ran.log.is_none(), "{line}");
+    }
+    Ok(())
+}
+
+/// As many bytes as a source has are taken, and one more is told.
+#[test]
+fn too_large_a_source_is_told(rt: HostRuntime) -> Result<(), Fail> {
+    let alloc = rt.alloc();
+    let mut files = MemFiles::make(alloc, PIECE, &[])?;
+    files.put_file("d", b"nanolog-trace 1\n")?;
+    let mut out = MemSink::make(alloc, PIECE, &[])?;
+    let mut err = MemSink::make(alloc, PIECE, &[])?;
+    let words = words_of(alloc, "inject d m.cc l")?;
+    let mut source = Vec::from_elem(alloc, b'\n', 16_777_217)?;
+    files.put_file("m.cc", &source)?;
+    let status = quick(alloc, &words, &mut files, &mut out, &mut err);
+    assert_eq!(rt; status, Status::Refused);
+    assert_eq!(rt;
+        err.bytes(),
+        b"nanolog: m.cc:0: refused: 7 TooLarge\n".as_slice()
+    );
+    assert!(rt; out.bytes().is_empty() && files.get_file("l").is_none());
+    source.truncate(16_777_216);
+    files.put_file("m.cc", &source)?;
+    let status = quick(alloc, &words, &mut files, &mut out, &mut err);
+    assert_eq!(rt; status, Status::Done);
+    assert_eq!(rt; out.bytes(), b"injected 0\n".as_slice());
+    assert!(rt; files.get_file("l") == Some(source.as_slice()));
     Ok(())
 }
 

@@ -8,7 +8,9 @@ use nl_io::{MAX_HELD, MemSink, MemSource};
 use stamp_merge::{Merger, Next, merge_order};
 use std::alloc::{AllocError, Global};
 use std::test::Fail;
-use trace_text::{Trace, TraceFault, WriteTraceFault, read_text, read_trace, write_trace};
+use trace_text::{
+    Trace, TraceFault, WriteTraceFault, read_dictionary, read_text, read_trace, write_trace,
+};
 
 /// The line, the number and the name of a cause, or the fault.
 fn fault_shown(alloc: Global, fault: Option<TraceFault>) -> Result<String, AllocError> {
@@ -45,7 +47,7 @@ fn answer(alloc: Global, text: &[u8]) -> Result<String, Fail> {
     Ok(fault_shown(alloc, fault)?)
 }
 
-/// The text with one message more than there may be, or with as many.
+/// As many messages as there may be, and what stands behind them.
 fn many_messages(alloc: Global, last: &str) -> Result<String, Fail> {
     let mut text = String::new(alloc);
     text.push_str("nanolog-trace 1\n")?;
@@ -53,7 +55,18 @@ fn many_messages(alloc: Global, last: &str) -> Result<String, Fail> {
         text.push_str(&format!(in alloc; "message {id} ERROR {id} \"a\" \"b\"\n")?)?;
     }
     text.push_str(joined(alloc, last)?.as_str())?;
+    Ok(text)
+}
+
+fn full_trace(alloc: Global, last: &str) -> Result<String, Fail> {
+    let text = many_messages(alloc, last)?;
     answer(alloc, text.as_bytes())
+}
+
+fn full_dictionary(alloc: Global, last: &str) -> Result<String, Fail> {
+    let text = many_messages(alloc, last)?;
+    let fault = read_dictionary(alloc, text.as_bytes()).err();
+    Ok(fault_shown(alloc, fault)?)
 }
 
 #[test]
@@ -61,7 +74,12 @@ fn traces_are_judged(rt: HostRuntime) -> Result<(), Fail> {
     check_rows(
         &rt,
         "message 7␊|65538 15 TooMany;;clock 1 2 3␊writers 1␊end␊|right",
-        many_messages,
+        full_trace,
+    )?;
+    check_rows(
+        &rt,
+        "|right;;message 7␊|65538 15 TooMany;;message 7|65538 2 Message;;clock 1 2 3␊|65538 2 Message",
+        full_dictionary,
     )
 }
 

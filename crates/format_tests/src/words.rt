@@ -27,7 +27,10 @@ preprocess d m.cc|Preprocess { dictionary: "d", sources: ["m.cc"] }
 preprocess d m.cc n.cc|Preprocess { dictionary: "d", sources: ["m.cc", "n.cc"] }
 preprocess d m.cc m.cc|Preprocess { dictionary: "d", sources: ["m.cc", "m.cc"] }
 preprocess d -- -m.cc|Preprocess { dictionary: "d", sources: ["-m.cc"] }
-preprocess -- -d --|Preprocess { dictionary: "-d", sources: ["--"] };;preprocess d§1024* m.cc|1024 sources;;preprocess d§1025* m.cc|none"#;
+preprocess -- -d --|Preprocess { dictionary: "-d", sources: ["--"] };;preprocess d§1024* m.cc|1024 sources;;preprocess d§1025* m.cc|none
+inject d m.cc o.cc|Inject { dictionary: "d", source: "m.cc", output: "o.cc" }
+inject d d o|Inject { dictionary: "d", source: "d", output: "o" };;inject d m.cc d|none;;inject d m.cc m.cc|none
+header d h|Header { dictionary: "d", output: "h" };;header -- -d -h|Header { dictionary: "-d", output: "-h" };;header d d|none"#;
 
 fn replay_shown(
     alloc: Global,
