@@ -57,6 +57,8 @@ usage='usage:
   nanolog generate SEED CALLS WRITERS
   nanolog selftest SEED CALLS WRITERS
   nanolog schedule FILE
+  nanolog inject DICT FILE OUT
+  nanolog header DICT OUT
 '
 
 # ---- words
@@ -99,6 +101,14 @@ expect 1 '' "$usage" generate 18446744073709551616 2 1
 expect 1 '' "$usage" selftest 1 2 0
 expect 1 '' "$usage" selftest 1 2 65
 expect 1 '' "$usage" schedule t
+expect 1 '' "$usage" inject d m.cc
+expect 1 '' "$usage" inject d l d
+expect 1 '' "$usage" inject d l l
+expect 1 '' "$usage" inject d m.cc l l
+expect 1 '' "$usage" inject d '' l
+expect 1 '' "$usage" header d
+expect 1 '' "$usage" header d d
+expect 1 '' "$usage" header d l --level ERROR
 expect 1 '' "$usage" direct $'\xff'
 [ -e l ] && fail "words that are no command created a log"
 
@@ -405,6 +415,62 @@ for output in full gone closed; do
     holds new "$dictionary"
 done
 
+# ---- calls by number
+
+rewritten=$(sed '4s/.*/NANO_LOG_CALL(0, f(1, 2));/' m.cc)$'\n'
+header='/* nanolog-header 1 */
+#define NANO_LOG_MESSAGES 1
+static const char *const nano_log_types[] = {
+"m",
+0};
+static const unsigned char nano_log_severity[] = {
+3,
+0};
+'
+head -c 1000 /dev/zero >o.cc
+expect 0 $'injected 1\n' '' inject d m.cc o.cc
+holds o.cc "$rewritten"
+expect 0 $'messages 1\n' '' header d o.h
+holds o.h "$header"
+expect 0 $'injected 1\n' '' inject <(cat d) m.cc -- -o
+holds -o "$rewritten"
+
+# Where DICT or FILE can't be taken nothing is made, and a file that is there stays. DICT is read first.
+expect 2 '' $'nanolog: m.cc:4: refused: 9 NotInDictionary\n' inject none m.cc undone
+expect 2 '' "$bad" inject d e.cc o.cc
+expect 2 '' $'nanolog: large.cc:0: refused: 7 TooLarge\n' inject d large.cc undone
+expect 2 '' $'nanolog: empty:1: refused: 1 Header\n' inject empty nofile undone
+expect 2 '' $'nanolog: t:3: refused: 2 Message\n' header t undone
+head -c -1 d >unended
+expect 2 '' $'nanolog: unended:2: refused: 2 Message\n' header unended undone
+{
+    cat full
+    echo 'message 65536 NOTICE 1 "full.cc" "one too many"'
+} >overfull
+expect 2 '' $'nanolog: overfull:65538: refused: 15 TooMany\n' inject overfull m.cc undone
+expect 2 '' $'nanolog: zeros:0: refused: 18 TooLarge\n' header zeros undone
+expect 7 '' $'nanolog: nofile: absent\n' inject nofile none undone
+expect 7 '' $'nanolog: none.cc: absent\n' inject d none.cc undone
+expect 4 '' $'nanolog: folder: read fault\n' inject d folder undone
+expect 4 '' $'nanolog: folder: read fault\n' header folder undone
+holds o.cc "$rewritten"
+[ -e undone ] && fail "an output was made although an input can't be taken"
+
+# As many calls as there may be messages.
+expect 0 $'injected 65536\n' '' inject full full.cc numbered.cc
+cmp -s numbered.cc <(seq -f 'NANO_LOG_CALL(%.0f);' 0 65535) || fail "the calls by number are others"
+
+expect 5 '' $'nanolog: no/o: write fault\n' inject d m.cc no/o
+expect 5 '' $'nanolog: folder: write fault\n' header d folder
+expect 5 '' $'nanolog: /dev/full: write fault\n' inject d m.cc /dev/full
+for output in full gone closed; do
+    rm -f -- new
+    unprinted "$output" inject d m.cc new
+    holds new "$rewritten"
+    unprinted "$output" header d new
+    holds new "$header"
+done
+
 # ---- the example program
 
 sources=(examples/store/main.cc examples/store/store.cc examples/store/store.h)
@@ -432,6 +498,49 @@ if [ -n "$compiler" ]; then
     expect 0 $'messages 7 statements 8\n' '' preprocess included.dictionary main.ii store.ii
     cmp -s <(messages included.dictionary) <(messages store.dictionary) || fail "other messages of what is included"
 
+    # A copy whose statements are calls by number is compiled with a macro of its own. Each call prints its number, the
+    # severity and the types of its message, and how many arguments it got.
+    mkdir numbered
+    expect 0 $'injected 2\n' '' inject store.dictionary examples/store/main.cc numbered/main.cc
+    expect 0 $'injected 4\n' '' inject store.dictionary examples/store/store.cc numbered/store.cc
+    expect 0 $'injected 1\n' '' inject store.dictionary examples/store/store.h numbered/store.h
+    expect 0 $'messages 7\n' '' header store.dictionary numbered/messages.h
+    cat >numbered/nano_log.h <<'END'
+#pragma once
+
+#include <cstddef>
+#include <cstdio>
+
+#include "messages.h"
+
+namespace nano {
+
+static_assert(sizeof nano_log_severity == NANO_LOG_MESSAGES + 1);
+
+template <typename... Arguments>
+std::size_t count(const Arguments&...) {
+    return sizeof...(Arguments);
+}
+
+}  // namespace nano
+
+#define NANO_LOG_CALL(id, ...)                                              \
+    std::fprintf(stderr, "%d %d %s %zu\n", id, nano_log_severity[id],       \
+                 nano_log_types[id], nano::count(__VA_ARGS__))
+END
+    "$compiler" -std=c++17 -Wall -Wextra -Werror -o numbered/store numbered/{main,store}.cc 2>err ||
+        fail "not compiled with calls by number: $(cat err)"
+    numbered/store 2>made
+    holds made $'0 3  0\n2 4 sm 2\n2 4 sm 2\n6 2 mm 2\n3 1 s 1\n4 4 wss 3\n4 4 wss 3\n5 3 mmmm 4\n1 3 ii 2\n'
+    # The lines keep their numbers, and no format is left in the program.
+    for source in "${sources[@]##*/}"; do
+        [ "$(wc -l <"numbered/$source")" = "$(wc -l <"examples/store/$source")" ] || fail "$source has other lines"
+    done
+    for format in 'stopped, ' 'of the room taken' 'no value for' 'bytes taken' 'no room for'; do
+        grep -q -a -e "$format" store || fail "the example program lacks the format with: $format"
+        grep -q -a -e "$format" numbered/store && fail "the program with calls by number has a format with: $format"
+    done
+
     # The headers of the C++ library have no statements.
     mapfile -t folders < <("$compiler" -E -x c++ -v /dev/null 2>&1 | sed -n '/^#include </,/^End/s/^ //p' | grep 'c++')
     mapfile -d '' headers < <(find "${folders[@]}" -type f -print0 | sort -zu)
@@ -456,7 +565,7 @@ cmp -s l trial.log || fail "a trial run of replay: another log"
 # ---- pages
 
 # A page shows commands, each behind `$ `, and below each what that prints. try_page PAGE HEADING runs those that stand
-# under the heading and begin with ./nanolog or cat.
+# under the heading and begin with ./nanolog, cat or tail.
 mkdir pages
 ln -s -- "$top/nanolog" "$top/examples" pages
 try_page() {
@@ -465,7 +574,7 @@ try_page() {
     : >printed
     while IFS= read -r row; do
         case $row in
-            '$ ./nanolog '* | '$ cat '*)
+            '$ ./nanolog '* | '$ cat '* | '$ tail '*)
                 is_run=yes
                 echo "$row" | tee -a shown >>printed
                 (cd pages && bash -c "${row#'$ '}") >>printed 2>&1 </dev/null
@@ -481,6 +590,7 @@ try_page() {
 
 try_page README.md 'Try it'
 try_page docs/log-statements.md 'An example'
+try_page docs/log-statements.md 'Calls by number'
 try_page docs/log-statements.md 'What is refused'
 try_page docs/sessions.md 'Replaying and reading it'
 
