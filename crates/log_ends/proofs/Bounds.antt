@@ -1,0 +1,76 @@
+-- A visit gives no more bytes than there is room for.
+use Rattle.std.proofs.Common.{◌≡◌, ℕ, ◌+◌, ◌≤◌, List, [], ◌∷◌, ◌++◌, length, get_or, add-one, take, drop, ap, ◌∙◌, inl, inr, arith}
+use Rattle.std.specs.Prelude.{sum_by, slice_get, Some}
+use Rattle.std.proofs.Math.Seq.{take-suc}
+use Rattle.std.proofs.lemmas.List.{length-append}
+use Rattle.std.proofs.lemmas.List.Sums.{sum_by-cons, sum_by-append, sum_by_push, sum_by-take-le, sum_by-take-drop}
+use Rattle.std.proofs.lemmas.Option.{slice_get_within, get_or_from_slice_get}
+use Rattle.log_dictionary.specs.declared.message.Message.{Message}
+use Rattle.log_dictionary.specs.BinaryEntries.{entry_bytes}
+use Rattle.arg_records.specs.declared.call.Call.{Call}
+use Rattle.checkpoint_io.specs.Blocks.{Block, Fragment, Extent, Close, SpellsEntries, SpellsBlocks, fragment_head_bytes, extent_head_bytes}
+use Rattle.checkpoint_io.specs.Logs.{AreFragments}
+use Rattle.checkpoint_io.proofs.BlockLaws.{le_length}
+use Rattle.roaming_consumer.specs.Visits.{AreBytesFor}
+use Rattle.log_ends.specs.declared.rooms.TheConstants.{FRAGMENT_HEAD_LEN, EXTENT_HEAD_LEN}
+use Rattle.log_ends.specs.Rooms.{definitions_len, visit_len}
+
+sum_at : {A : Type 0} (f : A → ℕ) (xs : List A) (i : ℕ) (x : A) → slice_get xs i ≡ Some x → sum_by f (take (i + 1) xs) ≡ sum_by f (take i xs) + f x
+sum_at f xs i x there =
+    rw add-one (ap (sum_by f) (take-suc xs i x (slice_get_within xs i x there)) ∙ sum_by_push f (take i xs) (get_or xs i x) ∙ ap (λ y. sum_by f (take i xs) + f y) (get_or_from_slice_get xs i x x there))
+
+pub one_more_definition : (messages : List Message) (id : ℕ) (message : Message) → slice_get messages id ≡ Some message → definitions_len (take (id + 1) messages) ≡ definitions_len (take id messages) + (FRAGMENT_HEAD_LEN + length (entry_bytes message))
+unfolding definitions_len
+one_more_definition messages id message there =
+    sum_at (λ (m : Message). FRAGMENT_HEAD_LEN + length (entry_bytes m)) messages id message there
+
+-- entries take what their messages take without the heads
+entries_fit : (messages : List Message) (bytes : List ℕ) → SpellsEntries messages bytes → length bytes ≤ definitions_len messages
+unfolding definitions_len
+entries_fit [] bytes spelled = omega (arith, ap length spelled)
+entries_fit (message ∷ messages) bytes (front, back, joined, entry, others) =
+    let f = λ (m : Message). FRAGMENT_HEAD_LEN + length (entry_bytes m) in
+    omega (arith, ap length joined, length-append front back, ap length entry.spelled, entries_fit messages back others, sum_by-cons f message messages)
+
+-- so there is room for a head in front of them
+entries_and_head_fit : (messages : List Message) (bytes : List ℕ) → 1 ≤ length messages → SpellsEntries messages bytes → FRAGMENT_HEAD_LEN + length bytes ≤ definitions_len messages
+unfolding definitions_len
+entries_and_head_fit [] bytes some spelled = absurd (omega arith)
+entries_and_head_fit (message ∷ messages) bytes some (front, back, joined, entry, others) =
+    let f = λ (m : Message). FRAGMENT_HEAD_LEN + length (entry_bytes m) in
+    omega (arith, ap length joined, length-append front back, ap length entry.spelled, entries_fit messages back others, sum_by-cons f message messages)
+
+definitions_append : (front back messages : List Message) → messages ≡ front ++ back → definitions_len messages ≡ definitions_len front + definitions_len back
+unfolding definitions_len
+definitions_append front back messages joined = ap definitions_len joined ∙ sum_by-append (λ (m : Message). FRAGMENT_HEAD_LEN + length (entry_bytes m)) front back
+
+head_long : (first count : ℕ) (entries : List ℕ) → length (fragment_head_bytes first count ++ entries) ≡ FRAGMENT_HEAD_LEN + length entries
+head_long first count entries = simp length-append (omega (arith, le_length 4 first, le_length 2 count))
+
+extent_long : (writer : ℕ) (body : List ℕ) → length (extent_head_bytes writer (length body) ++ body) ≡ EXTENT_HEAD_LEN + length body
+extent_long writer body = simp length-append (omega (arith, le_length 4 (length body)))
+
+fragments_fit : (first tick : ℕ) (messages : List Message) (before blocks : List Block) (bytes : List ℕ) → AreFragments first messages blocks → SpellsBlocks tick before blocks bytes → length bytes ≤ definitions_len messages
+fragments_fit first tick messages before [] bytes are spelled = omega (arith, ap length spelled)
+fragments_fit first tick messages before (Fragment id front ∷ blocks) bytes (back, id_is, parted, full, others) (one, more, joined, fragment, rest) =
+    let here = entries_and_head_fit front fragment.entries fragment.some fragment.entries_spelled in
+    let there = fragments_fit (first + length front) tick back (before ++ Fragment id front ∷ []) blocks more others rest in
+    omega (arith, ap length joined, length-append one more, ap length fragment.joined, head_long id (length front) fragment.entries, definitions_append front back messages parted, here, there)
+fragments_fit first tick messages before (Extent writer entries ∷ blocks) bytes are spelled = absurd are
+fragments_fit first tick messages before (Close writer ∷ blocks) bytes are spelled = absurd are
+
+part_fits : (messages : List Message) (n m : ℕ) → definitions_len (drop n (take m messages)) ≤ definitions_len messages
+unfolding definitions_len
+part_fits messages n m =
+    let f = λ (message : Message). FRAGMENT_HEAD_LEN + length (entry_bytes message) in
+    omega (arith, sum_by-take-le f messages m, sum_by-take-drop f (take m messages) n)
+
+-- what a visit was to write
+pub visit_fits : (messages : List Message) (tick defined writer : ℕ) (entries : List Call) (bytes : List ℕ) → AreBytesFor messages tick defined writer entries bytes → length bytes ≤ visit_len messages
+visit_fits messages tick defined writer entries bytes are =
+    let fragments = fragments_fit defined tick _ [] are.spelled.blocks are.fragments are.spelled.are (are.spelled.spelled tick []) in
+    let part = part_fits messages defined are.up_to in
+    elim are.behind [
+      | inl none ↦ omega (arith, ap length are.joined, length-append are.fragments are.extent, ap length none, fragments, part)
+      | inr extent ↦ omega (arith, ap length are.joined, length-append are.fragments are.extent, ap length extent.1.joined, extent_long writer extent.1.body, extent.1.short, fragments, part)
+    ]

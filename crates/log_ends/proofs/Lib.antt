@@ -1,0 +1,12 @@
+pub mod Lists
+pub mod Consumers
+pub mod Bounds
+pub mod Backs
+pub mod Faultless
+pub mod Visiting
+pub mod Passing
+pub mod Seeking
+pub mod Logging
+pub mod Finishing
+pub mod Openings
+pub mod HeldEnds

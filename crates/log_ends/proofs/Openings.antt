@@ -1,0 +1,40 @@
+-- Which text opens a session.
+use Rattle.std.proofs.Common.{◌≡◌, ◌⊎◌, ℕ, List, length, map, refl, sym, ap, subst, ◌∙◌, inl, inr}
+use Rattle.std.specs.List.{AllZip}
+use Rattle.std.proofs.lemmas.List.{length-map}
+use Rattle.std.specs.Prelude.{Err}
+use Rattle.trace_text.specs.declared.cause.TraceCause.{TraceCause}
+use Rattle.trace_text.specs.declared.reading.TraceFault.{TraceFault}
+use Rattle.trace_text.specs.declared.reading.TraceFault.TheVariants as faults
+use Rattle.trace_text.specs.TraceReading.{IsAnswerTo, IsOnlyAnswerTo}
+use Rattle.log_ends.specs.declared.opening.OpenFault.TheVariants as opens
+use Rattle.ring_core.specs.Plans.{Plan}
+use Rattle.word_ring.specs.Ends.{WordWriterEnd, WordRoamerEnd}
+use Rattle.log_session.specs.Writers.{WriterView}
+use Rattle.log_ends.specs.declared.writer.WriterEnd.{WriterEnd}
+use Rattle.log_ends.specs.Openings.{open_fault, IsNewPair, HaveNewRing}
+use Rattle.log_ends.proofs.Lists.{zip_images}
+
+module _ {A : Type 0} (IsRight : A → Type 0) (IsRefused : ℕ → TraceCause → Type 0) where
+  -- the line that is told is refused
+  pub refused_so : (fault : TraceFault) (line : ℕ) → IsAnswerTo IsRight IsRefused (Err fault) → open_fault fault ≡ opens.BadDictionary line → (cause : TraceCause) × IsRefused line cause
+  refused_so (faults.Refused at cause) line answer told = let same : at ≡ line = cc in (cause, subst (λ (n : ℕ). IsRefused n cause) same answer)
+  refused_so faults.ReadFault line answer told = absurd cc
+  refused_so faults.NoMemory line answer told = absurd cc
+
+  -- a line that is refused is told
+  pub refused_only : (fault : TraceFault) (line : ℕ) (cause : TraceCause) → IsOnlyAnswerTo IsRight IsRefused (Err fault) → IsRefused line cause
+      → (open_fault fault ≡ opens.BadDictionary line) ⊎ (open_fault fault ≡ opens.NoMemory)
+  refused_only (faults.Refused at other) line cause only refused = elim (only.refusal line cause refused) [ inl same ↦ inl cc | inr none ↦ absurd none ]
+  refused_only faults.ReadFault line cause only refused = inr refl
+  refused_only faults.NoMemory line cause only refused = inr refl
+
+-- the writers that are to be given out have the rings
+pub rings_left : (size : ℕ) (plan : Plan) (left : List WriterEnd) (writers : List (WriterView WordWriterEnd)) (ends ends_after : List WordRoamerEnd) → map (λ (end : WriterEnd). end.writer) left ≡ writers → ends_after ≡ ends
+    → AllZip (IsNewPair size plan) writers ends → AllZip (HaveNewRing size plan) left ends_after
+rings_left size plan left writers ends ends_after same same_ends rings =
+    zip_images (λ (end : WriterEnd). end.writer) (IsNewPair size plan) left ends_after
+    (subst (λ (pair : List (WriterView WordWriterEnd) × List WordRoamerEnd). AllZip (IsNewPair size plan) pair.0 pair.1) (λ i. (sym same i, sym same_ends i)) rings)
+
+pub count_left : (left : List WriterEnd) (writers : List (WriterView WordWriterEnd)) (count : ℕ) → map (λ (end : WriterEnd). end.writer) left ≡ writers → length writers ≡ count → length left ≡ count
+count_left left writers count same all = sym (length-map left (λ (end : WriterEnd). end.writer)) ∙ ap length same ∙ all

@@ -1,0 +1,190 @@
+-- How the writers are visited one after the other.
+use Rattle.std.proofs.Common.{◌≡◌, ◌≢◌, ℕ, zero, suc, ◌+◌, ◌<◌, ◌≤◌, Bool, true, false, List, [], ◌∷◌, ◌++◌, length, Some, refl, sym, ap, subst, ◌∙◌, append_assoc, inl, inr, arith}
+use Rattle.std.specs.Prelude.{slice_get, slice_set}
+use Rattle.std.specs.List.{AllZip}
+use Rattle.std.proofs.lemmas.Bool.Decides.{eqb_tells}
+use Rattle.std.proofs.lemmas.List.{append-nil}
+use Rattle.std.proofs.lemmas.Option.{same_Some, slice_get_within}
+use Rattle.log_ends.proofs.Lists.{get_set, get_other}
+use Rattle.word_ring.specs.Ends.{WordRoamerEnd}
+use Rattle.roaming_consumer.specs.declared.visit.Visit.{Visit}
+use Rattle.roaming_consumer.specs.declared.visit.Visit.TheVariants as visits
+use Rattle.roaming_consumer.specs.Roamers.{is_marked, IsSameRun}
+use Rattle.log_ends.specs.declared.consumer.ConsumerEnd.{ConsumerEnd}
+use Rattle.log_ends.specs.Consumers.{StandsFor, consumer_ends, waiting, is_over, GoesOn, FoundNone}
+use Rattle.log_ends.specs.Rounds.{Answers, IsVisited, Passes}
+
+-- The writers from the first one up to this one were visited, and nothing waits.
+pub record IsPassing (old : ConsumerEnd) (first upto : ℕ) (all_ended : Bool) (new : ConsumerEnd) : Type 0 where
+  pub ends : AllZip GoesOn (consumer_ends old) (consumer_ends new)
+  pub stands : (wrote : List ℕ) → StandsFor old.roamer wrote → StandsFor new.roamer wrote
+  pub none : waiting new ≡ []
+  pub found : (writer : ℕ) (before after : WordRoamerEnd) → first ≤ writer → writer < upto → slice_get (consumer_ends old) writer ≡ Some before → slice_get (consumer_ends new) writer ≡ Some after → FoundNone before after
+  pub untouched : (writer : ℕ) → upto ≤ writer → slice_get (consumer_ends new) writer ≡ slice_get (consumer_ends old) writer
+  pub below : (writer : ℕ) → writer < first → slice_get (consumer_ends new) writer ≡ slice_get (consumer_ends old) writer
+  pub ahead : first ≤ upto
+  pub over : all_ended ≡ true → (writer : ℕ) → first ≤ writer → writer < upto → is_marked new.roamer writer ≡ true
+  pub some_open : all_ended ≡ false → (writer : ℕ) × (end : WordRoamerEnd) × (writer < upto) × (slice_get (consumer_ends new) writer ≡ Some end) × (end.ended ≡ false)
+  pub same_run : IsSameRun old.roamer new.roamer
+  pub same_writers : new.writers ≡ old.writers
+  pub same_over : is_over new ≡ is_over old
+
+-- ---- ends that go on
+
+goes_on_same : (end : WordRoamerEnd) → GoesOn end end
+goes_on_same end = record { same_pair = refl; same_plan = refl; loads_never_fall = omega arith; front = ([], sym (append-nil end.got)) }
+
+goes_on_then : (a b c : WordRoamerEnd) → GoesOn a b → GoesOn b c → GoesOn a c
+goes_on_then a b c first second = record {
+  same_pair = second.same_pair ∙ first.same_pair;
+  same_plan = second.same_plan ∙ first.same_plan;
+  loads_never_fall = omega (arith, first.loads_never_fall, second.loads_never_fall);
+  front = (
+    first.front.0 ++ second.front.0,
+    second.front.1 ∙ ap (λ (frames : List (List ℕ)). frames ++ second.front.0) first.front.1 ∙ append_assoc a.got first.front.0 second.front.0,
+  );
+}
+
+pub all_go_on_same : (ends : List WordRoamerEnd) → AllZip GoesOn ends ends
+all_go_on_same [] = tt
+all_go_on_same (end ∷ ends) = (goes_on_same end, all_go_on_same ends)
+
+pub all_go_on_then : (xs ys zs : List WordRoamerEnd) → AllZip GoesOn xs ys → AllZip GoesOn ys zs → AllZip GoesOn xs zs
+all_go_on_then [] [] [] first second = tt
+all_go_on_then [] [] (c ∷ zs) first second = absurd second
+all_go_on_then [] (b ∷ ys) zs first second = absurd first
+all_go_on_then (a ∷ xs) [] zs first second = absurd first
+all_go_on_then (a ∷ xs) (b ∷ ys) [] first second = absurd second
+all_go_on_then (a ∷ xs) (b ∷ ys) (c ∷ zs) first second = (goes_on_then a b c first.0 second.0, all_go_on_then xs ys zs first.1 second.1)
+
+-- one of them does
+all_go_on_at : (ends : List WordRoamerEnd) (writer : ℕ) (before after : WordRoamerEnd) → slice_get ends writer ≡ Some before → GoesOn before after → AllZip GoesOn ends (slice_set ends writer after)
+all_go_on_at [] writer before after was on = tt
+all_go_on_at (end ∷ ends) zero before after was on =
+    (subst (λ (e : WordRoamerEnd). GoesOn e after) (sym (same_Some end before was)) on, all_go_on_same ends)
+all_go_on_at (end ∷ ends) (suc writer) before after was on = (goes_on_same end, all_go_on_at ends writer before after was on)
+
+-- ---- from writer to writer
+
+pub run_then : (a b c : ConsumerEnd) → IsSameRun a.roamer b.roamer → IsSameRun b.roamer c.roamer → IsSameRun a.roamer c.roamer
+run_then a b c first second = record {
+  messages = second.messages ∙ first.messages;
+  clock = second.clock ∙ first.clock;
+  batch = second.batch ∙ first.batch;
+}
+
+pub passing_none : (old : ConsumerEnd) (first : ℕ) → waiting old ≡ [] → IsPassing old first first true old
+passing_none old first none = record {
+  ends = all_go_on_same (consumer_ends old);
+  stands = λ wrote stands. stands;
+  none = none;
+  found = λ writer before after from below was now. absurd (omega arith);
+  untouched = λ writer from. refl;
+  below = λ writer below. refl;
+  ahead = omega arith;
+  over = λ is writer from below. absurd (omega arith);
+  some_open = λ is. absurd cc;
+  same_run = record { messages = refl; clock = refl; batch = refl };
+  same_writers = refl;
+  same_over = refl;
+}
+
+answers_none : (answer : Visit) (before after : WordRoamerEnd) (bytes : List ℕ) → Answers answer before after bytes → bytes ≡ [] → FoundNone before after
+answers_none (visits.Wrote n) before after bytes answers none = absurd (answers none)
+answers_none visits.Idle before after bytes answers none = answers.0
+answers_none visits.Ended before after bytes answers none = answers.0
+answers_none (visits.Discarded n) before after bytes answers none = absurd answers
+
+answers_open : (answer : Visit) (before after : WordRoamerEnd) (bytes : List ℕ) → answer ≢ visits.Ended → Answers answer before after bytes → bytes ≡ [] → after.ended ≡ false
+answers_open (visits.Wrote n) before after bytes open_end answers none = absurd (answers none)
+answers_open visits.Idle before after bytes open_end answers none = answers.1
+answers_open visits.Ended before after bytes open_end answers none = absurd (open_end refl)
+answers_open (visits.Discarded n) before after bytes open_end answers none = absurd answers
+
+-- whether all have ended, of one more
+pub data AllEnded (before after : Bool) (answer : Visit) : Type 0 where
+  one_more : answer ≡ visits.Ended → after ≡ before → AllEnded before after answer
+  not_this : answer ≢ visits.Ended → after ≡ false → AllEnded before after answer
+
+module _ (old cur new : ConsumerEnd) (first writer : ℕ) (all_ended : Bool) (answer : Visit) (passing : IsPassing old first writer all_ended cur) (visited : IsVisited cur writer answer new) where
+  at_writer : slice_get (consumer_ends new) writer ≡ Some visited.after
+  at_writer = ap (λ (ends : List WordRoamerEnd). slice_get ends writer) visited.now ∙ get_set (consumer_ends cur) writer visited.before visited.after visited.was
+
+  elsewhere : (other : ℕ) → other ≢ writer → slice_get (consumer_ends new) other ≡ slice_get (consumer_ends cur) other
+  elsewhere other apart = ap (λ (ends : List WordRoamerEnd). slice_get ends other) visited.now ∙ get_other (consumer_ends cur) writer other visited.after apart
+
+  ends_go_on : AllZip GoesOn (consumer_ends old) (consumer_ends new)
+  ends_go_on =
+      all_go_on_then (consumer_ends old) (consumer_ends cur) (consumer_ends new) passing.ends
+      (subst (λ (ends : List WordRoamerEnd). AllZip GoesOn (consumer_ends cur) ends) (sym visited.now) (all_go_on_at (consumer_ends cur) writer visited.before visited.after visited.was visited.goes_on))
+
+  none_found : waiting new ≡ [] → (other : ℕ) (before after : WordRoamerEnd) → first ≤ other → other < writer + 1 → slice_get (consumer_ends old) other ≡ Some before → slice_get (consumer_ends new) other ≡ Some after → FoundNone before after
+  none_found none other before after from below was now =
+      elim (eqb_tells other writer) [
+        | inl same ↦
+            let here = same.1 in
+            let first_is : before ≡ visited.before = same_Some before visited.before (sym was ∙ ap (slice_get (consumer_ends old)) here ∙ sym (passing.untouched writer (omega arith)) ∙ visited.was) in
+            let last_is : after ≡ visited.after = same_Some after visited.after (sym now ∙ ap (slice_get (consumer_ends new)) here ∙ at_writer) in
+            subst (λ (pair : WordRoamerEnd × WordRoamerEnd). FoundNone pair.0 pair.1) (λ i. (sym first_is i, sym last_is i)) (answers_none answer visited.before visited.after (waiting new) visited.answers none)
+        | inr apart ↦ passing.found other before after from (omega (arith, apart.1)) was (sym (elsewhere other apart.1) ∙ now)
+      ]
+
+  all_marked : (all_now : Bool) → AllEnded all_ended all_now answer → all_now ≡ true → (other : ℕ) → first ≤ other → other < writer + 1 → is_marked new.roamer other ≡ true
+  all_marked all_now (one_more is same) over other from below =
+      elim (eqb_tells other writer) [
+        | inl here ↦ subst (λ (w : ℕ). is_marked new.roamer w ≡ true) (sym here.1) (visited.marked is)
+        | inr apart ↦ visited.kept other (passing.over (sym same ∙ over) other from (omega (arith, apart.1)))
+      ]
+  all_marked all_now (not_this is same) over other from below = absurd cc
+
+  one_open : waiting new ≡ [] → (all_now : Bool) → AllEnded all_ended all_now answer → all_now ≡ false → (other : ℕ) × (end : WordRoamerEnd) × (other < writer + 1) × (slice_get (consumer_ends new) other ≡ Some end) × (end.ended ≡ false)
+  one_open none all_now (one_more is same) not_over =
+      let before = passing.some_open (sym same ∙ not_over) in
+      (before.0, before.1, omega (arith, before.2), elsewhere before.0 (λ here. omega (arith, here, before.2)) ∙ before.3, before.4)
+  one_open none all_now (not_this is same) not_over = (writer, visited.after, omega arith, at_writer, answers_open answer visited.before visited.after (waiting new) is visited.answers none)
+
+  still_below : (other : ℕ) → other < first → slice_get (consumer_ends new) other ≡ slice_get (consumer_ends old) other
+  still_below other below = elsewhere other (λ here. omega (arith, here, below, passing.ahead)) ∙ passing.below other below
+
+  -- nothing waits behind the visit
+  pub passing_one : waiting new ≡ [] → (all_now : Bool) → AllEnded all_ended all_now answer → IsPassing old first (writer + 1) all_now new
+  passing_one none all_now told = record {
+    ends = ends_go_on;
+    stands = λ wrote stands. subst (λ (bytes : List ℕ). StandsFor new.roamer bytes) (ap (λ (back : List ℕ). wrote ++ back) none ∙ append-nil wrote) (visited.stands wrote (passing.stands wrote stands));
+    none = none;
+    found = none_found none;
+    untouched = λ other from. elsewhere other (λ here. omega (arith, here)) ∙ passing.untouched other (omega arith);
+    below = still_below;
+    ahead = omega (arith, passing.ahead);
+    over = all_marked all_now told;
+    some_open = one_open none all_now told;
+    same_run = run_then old cur new passing.same_run visited.same_run;
+    same_writers = visited.same_place.0 ∙ passing.same_writers;
+    same_over = visited.same_over ∙ passing.same_over;
+  }
+
+  -- something waits behind the visit
+  pub passing_stops : ¬ (waiting new ≡ []) → Passes old first false new
+  passing_stops some = record {
+    ends = ends_go_on;
+    stands = λ wrote stands. visited.stands wrote (passing.stands wrote stands);
+    below = still_below;
+    found = λ none. absurd (some none);
+    over = λ is. absurd cc;
+    some_open = λ is none. absurd (some none);
+    same_run = run_then old cur new passing.same_run visited.same_run;
+    same_over = visited.same_over ∙ passing.same_over;
+  }
+
+-- all were visited, and nothing waits
+pub passed : (old new : ConsumerEnd) (first upto : ℕ) (all_ended : Bool) → length (consumer_ends new) ≤ upto → IsPassing old first upto all_ended new → Passes old first all_ended new
+passed old new first upto all_ended all passing = record {
+  ends = passing.ends;
+  stands = λ wrote stands. subst (λ (bytes : List ℕ). StandsFor new.roamer bytes) (sym (ap (λ (back : List ℕ). wrote ++ back) passing.none ∙ append-nil wrote)) (passing.stands wrote stands);
+  below = passing.below;
+  found = λ none writer before after from was now. passing.found writer before after from (omega (arith, all, slice_get_within (consumer_ends new) writer after now)) was now;
+  over = λ is. (passing.none, λ writer from below. passing.over is writer from (omega (arith, all, below)));
+  some_open = λ is none. let o = passing.some_open is in (o.0, o.1, o.3, o.4);
+  same_run = passing.same_run;
+  same_over = passing.same_over;
+}

@@ -1,0 +1,29 @@
+use Rattle.std.proofs.Common.{refl, ap, arith}
+use Rattle.log_ends.specs.Rooms.{definitions_len}
+use Rattle.log_ends.proofs.Faultless.{visit_succeeds, stays_unfaulted, stays_unrefused}
+use Rattle.log_ends.proofs.Visiting.{visited}
+use Rattle.log_ends.proofs.consumer.ConsumerEnd.visit.Goals as goal
+
+pub invariant_of-self-clause-unfaulted : goal.invariant_of-self-clause-unfaulted
+invariant_of-self-clause-unfaulted c =
+    let e = c.visit.ensures in let self = c.args.self.now in
+    stays_unfaulted self.roamer c.visit.new.self c.visit.result
+    (visit_succeeds self.roamer c.visit.new.self self.held c.visit.new.sink c.args.writer c.visit.result c.requires.none self.unrefused self.roomy e.others e.cause e.stops)
+    e.ok self.unfaulted
+
+pub invariant_of-self-clause-unrefused : goal.invariant_of-self-clause-unrefused
+invariant_of-self-clause-unrefused c =
+    let e = c.visit.ensures in let self = c.args.self.now in
+    stays_unrefused self.held c.visit.new.sink c.visit.result
+    (visit_succeeds self.roamer c.visit.new.self self.held c.visit.new.sink c.args.writer c.visit.result c.requires.none self.unrefused self.roomy e.others e.cause e.stops)
+    e.counted self.unrefused
+
+pub invariant_of-self-clause-roomy : goal.invariant_of-self-clause-roomy
+invariant_of-self-clause-roomy c =
+    let e = c.visit.ensures in let roomy = c.args.self.now.roomy in
+    omega (arith, ap definitions_len e.same_run.messages, e.others.room, roomy)
+
+pub returns : goal.returns
+returns c =
+    let e = c.in-Ok.ensures in let self = c.args.self.now in
+    visited self _ c.args.writer c.in-Ok.visit c.requires.none e.visits (e.written self.unfaulted) e.marks e.writes e.wrote e.same_run refl refl refl

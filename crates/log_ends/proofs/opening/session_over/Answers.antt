@@ -1,0 +1,46 @@
+use Rattle.std.proofs.Common.{[], length, refl, sym, ap, ◌∙◌, arith}
+use Rattle.ring_core.specs.Plans.{Plan, plan_of}
+use Rattle.word_ring.specs.Ends.{WordRoamerEnd}
+use Rattle.roaming_consumer.specs.Roamers.{roamer_header}
+use Rattle.log_ends.specs.Ends.{IsWriterFor}
+use Rattle.log_ends.proofs.Lists.{zip_length, zip_first}
+use Rattle.log_ends.proofs.Consumers.{planned_same}
+use Rattle.log_ends.proofs.Faultless.{header_succeeds, no_error}
+use Rattle.log_ends.proofs.Visiting.{stands_after}
+use Rattle.log_ends.proofs.Openings.{rings_left, count_left}
+use Rattle.log_ends.proofs.opening.session_over.Goals as goal
+
+pub writer_ends-requires : goal.writer_ends-requires
+writer_ends-requires c =
+    zip_first _ (IsWriterFor c.args.dictionary.now) (λ writer end ring. ap (λ (plan : Plan). plan.types) ring.plan_is) _ _ c.in-Ok.ensures.rings
+
+pub unreachable-requires : goal.unreachable-requires
+unreachable-requires c =
+    let held = c.in_ok-held in
+    no_error c.begin.result
+    (header_succeeds held.held c.begin.new.sink (roamer_header c.in-Ok.roamer) c.begin.result held.ensures.empty held.ensures.unrefused (omega (arith, held.ensures.room, c.room_of.ensures)) c.begin.ensures.others c.begin.ensures.sent)
+    (sym c.if-is_err.ensures.value)
+
+pub invariant_of-consumer-clause-counted : goal.invariant_of-consumer-clause-counted
+invariant_of-consumer-clause-counted c =
+    ap length c.begin.ensures.same_ends ∙ sym (zip_length _ _ _ c.in-Ok.ensures.rings) ∙ c.in-Ok.ensures.count
+
+pub invariant_of-consumer-clause-planned : goal.invariant_of-consumer-clause-planned
+invariant_of-consumer-clause-planned c =
+    planned_same (λ (end : WordRoamerEnd). end.plan) _ _ c.begin.ensures.same_ends c.begin.ensures.same_run c.in-Ok.ensures.planned
+
+pub returns : goal.returns
+returns c =
+    let begun = c.begin.ensures in
+    let started = c.in-Ok.ensures in
+    let left = c.in_ok-left in record {
+      count = count_left left.left.items c.in-Ok.writers.items c.args.setup.writers left.ensures.writers started.count;
+      rings = rings_left c.args.setup.ring (plan_of c.args.dictionary.now c.args.setup.clock.tick) left.left.items c.in-Ok.writers.items _ _ left.ensures.writers begun.same_ends started.rings;
+      named = left.ensures.messages;
+      lasts = refl;
+      messages_are = begun.same_run.messages ∙ started.run.0;
+      clock_is = begun.same_run.clock ∙ started.run.1;
+      batch_is = begun.same_run.batch ∙ started.run.2;
+      ungiven = stands_after c.in-Ok.roamer c.begin.new.self c.in_ok-held.held c.begin.new.sink c.in_ok-held.ensures.empty begun.wrote [] started.stands;
+      goes_on = refl;
+    }

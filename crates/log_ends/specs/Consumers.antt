@@ -1,0 +1,89 @@
+-- What a consumer stands for, and what a pump does.
+use Rattle.std.specs.Prelude.{◌≡◌, ◌⊎◌, ◌↔◌, ℕ, ◌≤◌, ⊤, Bool, true, false, List, [], ◌++◌, length, take, drop, slice_get, Some}
+use Rattle.std.specs.List.{AllZip}
+use Rattle.nl_io.specs.Count.{Rose}
+use Rattle.ring_core.specs.Plans.{BeginsWith}
+use Rattle.word_ring.specs.Ends.{WordRoamerEnd}
+use Rattle.roaming_consumer.specs.declared.roamer.Roamer.{Roamer}
+use Rattle.roaming_consumer.specs.Roamers.{ends_of, AreMarked, IsSameRun, RoamerStandsFor}
+use Rattle.log_ends.specs.declared.consumer.ConsumerEnd.{ConsumerEnd}
+use Rattle.log_ends.specs.declared.consumer.Pumped.{Pumped}
+use Rattle.log_ends.specs.declared.consumer.Pumped.TheVariants as pumped
+use Rattle.log_ends.specs.Helds.{held_back}
+
+-- the roamer's calls have put these bytes
+abbrev pub StandsFor : Roamer WordRoamerEnd → List ℕ → Type 0
+StandsFor roamer wrote = RoamerStandsFor (λ (end : WordRoamerEnd). end.got) (λ (end : WordRoamerEnd). end.ended) roamer wrote
+
+-- the roamer's ends of the rings, by the numbers of their writers
+abbrev pub consumer_ends : ConsumerEnd → List WordRoamerEnd
+consumer_ends consumer = ends_of consumer.roamer
+
+-- the bytes that weren't given
+abbrev pub waiting : ConsumerEnd → List ℕ
+waiting consumer = held_back consumer.held
+
+-- These bytes were given so far. With those that wait behind them they are the log of the calls whose frames were taken.
+abbrev pub HasGiven : ConsumerEnd → List ℕ → Type 0
+HasGiven consumer given = StandsFor consumer.roamer (given ++ waiting consumer)
+
+-- the log has the close mark of each writer, and all of it was given
+abbrev pub IsAtEnd : ConsumerEnd → Type 0
+IsAtEnd consumer = AreMarked consumer.roamer × (waiting consumer ≡ [])
+
+-- it was told so
+abbrev pub is_over : ConsumerEnd → Bool
+is_over consumer = consumer.over
+
+-- ---- the ends of the rings
+
+-- An end of a ring stays one of that ring, and frames came behind those that were taken before.
+pub record GoesOn (before after : WordRoamerEnd) : Type 0 where
+  pub same_pair : after.pair ≡ before.pair
+  pub same_plan : after.plan ≡ before.plan
+  pub loads_never_fall : before.loads ≤ after.loads
+  pub front : BeginsWith after.got before.got
+
+-- No frame was there: all had ended, or it was looked for one.
+pub record FoundNone (before after : WordRoamerEnd) : Type 0 where
+  pub none : after.got ≡ before.got
+  pub looked : (after.ended ≡ true) ⊎ Rose before.loads after.loads
+
+-- ---- a pump
+
+-- how many bytes were given
+abbrev pub given_count : Pumped → ℕ
+given_count (pumped.Gave n) = n
+given_count pumped.NoRoom = 0
+given_count pumped.Nothing = 0
+given_count pumped.AtEnd = 0
+
+-- where bytes were given, this holds of their number
+abbrev pub IfGave : Pumped → (ℕ → Type 0) → Type 0
+IfGave (pumped.Gave n) P = P n
+IfGave pumped.NoRoom P = ⊤
+IfGave pumped.Nothing P = ⊤
+IfGave pumped.AtEnd P = ⊤
+
+-- What a pump answers, and what it leaves.
+pub record Pumps (old : ConsumerEnd) (into : List ℕ) (answer : Pumped) (new : ConsumerEnd) (into_after : List ℕ)
+    : Type 0 where
+  -- At least one byte was given, and as many as fit or were there. They are the front of the room.
+  pub gave : IfGave answer (λ n. (1 ≤ n) × (n ≤ length into))
+  pub rest : into_after ≡ take (given_count answer) into_after ++ drop (given_count answer) into
+  -- Whatever was given before, this comes behind it.
+  pub more : (given : List ℕ) → HasGiven old given → HasGiven new (given ++ take (given_count answer) into_after)
+  pub no_room : (answer ≡ pumped.NoRoom) ↔ (into ≡ [])
+  pub unchanged : answer ≡ pumped.NoRoom → new ≡ old
+  -- Nothing waits: in this call no ring had a frame, nothing was held back, and some writer has not ended.
+  pub none_waiting : answer ≡ pumped.Nothing → waiting new ≡ []
+  pub none_found : answer ≡ pumped.Nothing → AllZip FoundNone (consumer_ends old) (consumer_ends new)
+  pub one_open : answer ≡ pumped.Nothing
+      → (writer : ℕ) × (end : WordRoamerEnd) × (slice_get (consumer_ends new) writer ≡ Some end) × (end.ended ≡ false)
+  pub at_end : answer ≡ pumped.AtEnd → IsAtEnd new
+  -- once it is told that all is over, nothing changes any more, and it is told again
+  pub told : (is_over new ≡ true) ↔ ((is_over old ≡ true) ⊎ (answer ≡ pumped.AtEnd))
+  pub again : is_over old ≡ true → (new ≡ old) × ((answer ≡ pumped.AtEnd) ⊎ (answer ≡ pumped.NoRoom))
+  -- the same run, of the same rings
+  pub ends : AllZip GoesOn (consumer_ends old) (consumer_ends new)
+  pub same_run : IsSameRun old.roamer new.roamer

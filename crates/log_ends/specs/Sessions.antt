@@ -1,0 +1,34 @@
+-- What a session's end stands for: the writers that weren't given out.
+use Rattle.std.specs.Prelude.{◌≡◌, ◌⊎◌, Bool, true, false, List, [], ◌∷◌}
+use Rattle.std.specs.List.{AllZip}
+use Rattle.log_ends.specs.declared.end.End.{End}
+use Rattle.log_ends.specs.declared.end.End.TheVariants.{Writer}
+use Rattle.log_ends.specs.declared.session.SessionEnd.{SessionEnd}
+use Rattle.log_ends.specs.declared.writer.WriterEnd.{WriterEnd}
+use Rattle.log_ends.specs.Writers.{IsFinishedFrom}
+
+-- those that weren't given out, in the order in which they are
+abbrev pub writers_left : SessionEnd → List WriterEnd
+writers_left session = session.left.items
+
+abbrev pub has_ended : SessionEnd → Bool
+has_ended session = session.ended
+
+-- no writer is given out
+abbrev pub IsSpent : SessionEnd → Type 0
+IsSpent session = (has_ended session ≡ true) ⊎ (writers_left session ≡ [])
+
+-- it is the same session, of which as many writers are left
+abbrev pub IsSameSession : SessionEnd → SessionEnd → Type 0
+IsSameSession old new = (writers_left new ≡ writers_left old) × (has_ended new ≡ has_ended old)
+
+-- the next writer was given out
+abbrev pub GivesBoxed : SessionEnd → End → SessionEnd → Type 0
+GivesBoxed old given new =
+    (writer : WriterEnd) × (given ≡ Writer writer) × (writers_left old ≡ writer ∷ writers_left new)
+    × (has_ended old ≡ false) × (has_ended new ≡ false)
+
+-- No writer is given out any more, and those that weren't are finished.
+pub record EndsSession (old new : SessionEnd) : Type 0 where
+  pub ended : has_ended new ≡ true
+  pub finished : AllZip IsFinishedFrom (writers_left old) (writers_left new)

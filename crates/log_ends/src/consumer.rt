@@ -1,0 +1,45 @@
+//! The end that the bytes of the log come from.
+
+ghost use Rattle.std.specs.Prelude.{◌≡◌, ◌<◌, true, false, [], length};
+ghost use Rattle.word_ring.specs.Ends.{WordRoamerEnd};
+ghost use Rattle.roaming_consumer.specs.Roamers.{ends_of, roamer_messages, is_begun, is_faulted, AreMarked, ArePlanned};
+ghost use Rattle.log_ends.specs.Helds.{held_back, room_len};
+ghost use Rattle.log_ends.specs.Rooms.{visit_len};
+
+use crate::held::Held;
+use roaming_consumer::Roamer;
+use word_ring::WordOut;
+
+/// Takes the calls of all writers, and gives the bytes of their log.
+#[derive(Drop)]
+pub struct ConsumerEnd {
+    pub(crate) roamer: Roamer<'static, WordOut>,
+    /// What the last visit wrote that wasn't given.
+    pub(crate) held: Held,
+    /// How many writers there are.
+    pub(crate) writers: u32,
+    /// The writer that is visited next.
+    pub(crate) next: u32,
+    /// Whether all bytes of the log were given, and the log has the close mark of every writer.
+    pub(crate) over: bool,
+    ghost counted: { length (ends_of roamer) ≡ writers },
+    ghost begun: { is_begun roamer ≡ true },
+    ghost unfaulted: { is_faulted roamer ≡ false },
+    ghost planned: { ArePlanned (λ (end : WordRoamerEnd). end.plan) roamer },
+    ghost unrefused: { held.refused ≡ 0 },
+    ghost ended: { over ≡ true → AreMarked roamer × (held_back held ≡ []) },
+    ghost roomy: { visit_len (roamer_messages roamer) < room_len held },
+}
+
+/// What a pump gave.
+#[derive(Clone, Copy, Debug, PartialEq, Eq)]
+pub enum Pumped {
+    /// So many bytes.
+    Gave(usize),
+    /// There was no room for any.
+    NoRoom,
+    /// Nothing waits now.
+    Nothing,
+    /// All bytes of the log were given, and it has the close mark of every writer.
+    AtEnd,
+}

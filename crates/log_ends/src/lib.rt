@@ -1,0 +1,24 @@
+//! The ends of a session as values that live across calls: what a program holds that logs without threads of ours.
+#![tactic(auto)]
+
+mod argument;
+mod consumer;
+mod end;
+mod giving;
+mod held;
+mod opening;
+mod pumping;
+mod rooms;
+mod session;
+mod setup;
+mod slots;
+mod writer;
+
+pub use argument::{Argument, SIGNED, TEXT, UNSIGNED};
+pub use consumer::{ConsumerEnd, Pumped};
+pub use end::End;
+pub use opening::{OpenFault, open};
+pub use session::{SessionEnd, WriterFault};
+pub use setup::Setup;
+pub use slots::{Slot, end_session, finish_writer, give_writer, log_call, open_into, pump_log};
+pub use writer::{LogFault, WriterEnd};

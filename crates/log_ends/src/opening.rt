@@ -1,0 +1,142 @@
+//! Opening a session.
+
+ghost use Rattle.std.specs.Prelude.{◌≡◌, ◌⊎◌, ◌↔◌, ℕ, List, Err, map, All, IfOk, IsErrOf, IsTrue};
+ghost use Rattle.log_dictionary.specs.declared.message.Message.{Message};
+ghost use Rattle.trace_text.specs.Dictionaries.{DictionaryText};
+ghost use Rattle.log_ends.specs.Openings.{IsInRange, IsRefusedAt, IsOpened, open_fault};
+ghost use Rattle.log_ends.specs.Ends.{IsWriterFor};
+
+use crate::consumer::ConsumerEnd;
+use crate::held::Held;
+use crate::rooms::room_of;
+use crate::session::SessionEnd;
+use crate::setup::Setup;
+use crate::writer::WriterEnd;
+use log_dictionary::Dictionary;
+use log_session::{Writer, start};
+use std::alloc::{AllocError, Global};
+use std::collections::VecDeque;
+use trace_text::{TraceFault, read_dictionary};
+use word_ring::{WordIn, WordRing};
+
+/// Why no session was opened.
+#[derive(Clone, Copy, Debug, PartialEq, Eq)]
+pub enum OpenFault {
+    /// A number is out of its range.
+    OutOfRange,
+    /// The text isn't that of a dictionary. This line of it is the first that is refused, from 1; it is 0 where the text
+    /// is too long.
+    BadDictionary { line: u64 },
+    NoMemory,
+}
+
+/// Why there is no session where a text isn't read.
+fn fault_of(fault: TraceFault) -> OpenFault
+    ensures { result ≡ open_fault fault }
+{
+    match fault {
+        TraceFault::Refused { line, cause: _ } => OpenFault::BadDictionary { line },
+        TraceFault::ReadFault | TraceFault::NoMemory => OpenFault::NoMemory,
+    }
+}
+
+/// The dictionary of the text, which is kept for ever.
+fn kept_dictionary(alloc: Global, text: &[u8]) -> Result<&'static Dictionary, OpenFault>
+    ensures found { IfOk result (λ dictionary. DictionaryText text.now dictionary.now) }
+    ensures refused { (line : ℕ) → result ≡ Err (OpenFault.BadDictionary line) → IsRefusedAt text.now line }
+    ensures only { (line : ℕ) → IsRefusedAt text.now line
+        → (result ≡ Err (OpenFault.BadDictionary line)) ⊎ (result ≡ Err OpenFault.NoMemory) }
+    ensures in_range { ¬ (IsErrOf result OpenFault.OutOfRange) }
+{
+    let dictionary = match read_dictionary(alloc, text) {
+        Ok(dictionary) => dictionary,
+        Err(fault) => return Err(fault_of(fault)),
+    };
+    match Box::new(alloc, dictionary) {
+        Ok(dictionary) => Ok(Box::leak(dictionary)),
+        Err(_) => Err(OpenFault::NoMemory),
+    }
+}
+
+/// The writers, each with the dictionary.
+fn writer_ends(
+    alloc: Global,
+    writers: Vec<Writer<WordIn>>,
+    dictionary: &'static Dictionary,
+) -> Result<VecDeque<WriterEnd>, AllocError>
+    requires { All (IsWriterFor dictionary.now) writers.items }
+    ensures writers { IfOk result (λ left. map (λ end. end.writer) left.items ≡ writers.items) }
+    ensures messages { IfOk result (λ left. All (λ end. end.dictionary.now ≡ dictionary.now) left.items) }
+{
+    let mut left = VecDeque::with_capacity(alloc, writers.len())?;
+    for writer in writers {
+        left.push_back(WriterEnd { writer, dictionary })?;
+    }
+    Ok(left)
+}
+
+/// A session over the dictionary.
+fn session_over(
+    alloc: Global,
+    setup: Setup,
+    dictionary: &'static Dictionary,
+) -> Result<(SessionEnd, ConsumerEnd), AllocError>
+    requires { IsInRange setup }
+    ensures { IfOk result (λ ends. IsOpened dictionary.now setup ends.0 ends.1) }
+{
+    let Ok((writers, mut roamer)) = start::<WordRing>(
+        alloc,
+        setup.ring,
+        setup.writers,
+        setup.batch,
+        setup.clock,
+        dictionary,
+    ) else {
+        return Err(AllocError);
+    };
+    let mut held = Held::make(alloc, room_of(dictionary))?;
+    let left = writer_ends(alloc, writers, dictionary)?;
+    if roamer.begin(&mut held).is_err() {
+        unreachable!();
+    }
+    let session = SessionEnd { left, ended: false };
+    let consumer = ConsumerEnd {
+        roamer,
+        held,
+        writers: setup.writers,
+        next: 0,
+        over: false,
+    };
+    Ok((session, consumer))
+}
+
+/// Opens a session for the calls of a dictionary, whose text it reads. All memory is taken that the session's ends ever
+/// take.
+///
+/// # Errors
+///
+/// A number is out of range, or the text is refused, in this order; or there is no memory.
+pub fn open(
+    alloc: Global,
+    text: &[u8],
+    setup: Setup,
+) -> Result<(SessionEnd, ConsumerEnd), OpenFault>
+    ensures opened { IfOk result (λ ends. (messages : List Message) × DictionaryText text.now messages
+        × IsOpened messages setup ends.0 ends.1) }
+    ensures out_of_range { IsErrOf result OpenFault.OutOfRange ↔ (¬ (IsInRange setup)) }
+    ensures refused { (line : ℕ) → result ≡ Err (OpenFault.BadDictionary line) → IsRefusedAt text.now line }
+    ensures only { IsInRange setup → (line : ℕ) → IsRefusedAt text.now line
+        → (result ≡ Err (OpenFault.BadDictionary line)) ⊎ (result ≡ Err OpenFault.NoMemory) }
+{
+    if !setup.is_in_range() {
+        return Err(OpenFault::OutOfRange);
+    }
+    let dictionary = match kept_dictionary(alloc, text) {
+        Ok(dictionary) => dictionary,
+        Err(fault) => return Err(fault),
+    };
+    match session_over(alloc, setup, dictionary) {
+        Ok(ends) => Ok(ends),
+        Err(_) => Err(OpenFault::NoMemory),
+    }
+}
