@@ -1,0 +1,386 @@
+// Each C call with each value that it refuses, and what stays as it was.
+// What it logged is written into calls.log.
+#include <climits>
+#include <initializer_list>
+#include <string>
+#include <vector>
+
+#include "check.hpp"
+#include "nanolog.h"
+
+// How many pieces of memory the library is still given. The program is linked with --wrap for these two.
+static int pieces_left = INT_MAX;
+extern "C" {
+void *__real_malloc(std::size_t size);
+void *__real_realloc(void *piece, std::size_t size);
+void *__wrap_malloc(std::size_t size) { return pieces_left > 0 ? pieces_left--, __real_malloc(size) : nullptr; }
+void *__wrap_realloc(void *piece, std::size_t size) {
+    return pieces_left > 0 ? pieces_left--, __real_realloc(piece, size) : nullptr;
+}
+}
+
+namespace {
+
+constexpr std::uint64_t kTick = 1000;
+const std::string kDictionary =
+    "nanolog-trace 1\n"
+    "message 0 NOTICE 1 \"calls.cc\" \"%d of int\"\n"
+    "message 1 ERROR 2 \"calls.cc\" \"%u of unsigned\"\n"
+    "message 2 DEBUG 3 \"calls.cc\" \"%ld of long\"\n"
+    "message 3 WARNING 4 \"calls.cc\" \"%lu of unsigned long\"\n"
+    "message 4 NOTICE 5 \"calls.cc\" \"%*.*d of width and precision\"\n"
+    "message 5 NOTICE 6 \"calls.cc\" \"%s of text\"\n"
+    "message 6 NOTICE 7 \"calls.cc\" \"%s%s of two texts\"\n"
+    "message 7 NOTICE 8 \"calls.cc\" \"of nothing\"\n";
+
+const std::uint8_t *bytes_of(const std::string &text) { return reinterpret_cast<const std::uint8_t *>(text.data()); }
+
+nanolog_arg number(std::uint8_t tag, std::uint64_t word) { return {tag, word, nullptr, 0}; }
+nanolog_arg signed_of(std::int64_t number) { return {NANOLOG_SIGNED, static_cast<std::uint64_t>(number), nullptr, 0}; }
+nanolog_arg unsigned_of(std::uint64_t number) { return {NANOLOG_UNSIGNED, number, nullptr, 0}; }
+nanolog_arg text_of(const std::string &text) { return {NANOLOG_TEXT, 0, bytes_of(text), text.size()}; }
+
+struct Ends {
+    void *session = nullptr;
+    void *consumer = nullptr;
+
+    explicit Ends(std::uint64_t ring = 1024, std::uint32_t writers = 3) {
+        std::uint64_t line = 77;
+        CHECK(nanolog_open(bytes_of(kDictionary), kDictionary.size(), ring, writers, 4096, kTick, 5, 1000000000,
+                           &session, &consumer, &line) == NANOLOG_OK);
+        CHECK(session != nullptr && consumer != nullptr && line == 77);
+    }
+    ~Ends() {
+        nanolog_free(session);
+        nanolog_free(consumer);
+    }
+    Ends(const Ends &) = delete;
+    Ends &operator=(const Ends &) = delete;
+
+    void *writer() {
+        void *writer = nullptr;
+        CHECK(nanolog_writer(&session, &writer) == NANOLOG_OK && writer != nullptr);
+        return writer;
+    }
+};
+
+std::int32_t log(void *&writer, std::uint64_t stamp, std::uint32_t id, std::initializer_list<nanolog_arg> args) {
+    std::uint64_t need = 88, room = 99;
+    const std::int32_t answer = nanolog_log(&writer, stamp, id, args.begin(), args.size(), &need, &room);
+    CHECK(answer == NANOLOG_FULL || (need == 88 && room == 99));
+    return answer;
+}
+
+// ---- nanolog_open
+
+std::int32_t open(const std::string &dictionary, std::uint64_t ring, std::uint32_t writers, std::uint32_t batch,
+                  std::uint64_t rate, std::uint64_t *line) {
+    void *session = nullptr, *consumer = nullptr;
+    const std::int32_t answer = nanolog_open(bytes_of(dictionary), dictionary.size(), ring, writers, batch, kTick, 5,
+                                             rate, &session, &consumer, line);
+    CHECK((answer == NANOLOG_OK) == (session != nullptr) && (answer == NANOLOG_OK) == (consumer != nullptr));
+    nanolog_free(consumer);
+    nanolog_free(session);
+    return answer;
+}
+
+void refuse_dictionary(const std::string &dictionary, std::uint64_t wanted) {
+    std::uint64_t line = 77;
+    CHECK(open(dictionary, 1024, 1, 1, 1, &line) == NANOLOG_BAD_DICTIONARY);
+    if (line != wanted)
+        std::fprintf(stderr, "line %llu of %s\n", static_cast<unsigned long long>(line), dictionary.c_str());
+    CHECK(line == wanted);
+    // A number that is out of its range goes first.
+    line = 77;
+    CHECK(open(dictionary, 1, 1, 1, 1, &line) == NANOLOG_OUT_OF_RANGE && line == 77);
+}
+
+void opening() {
+    std::uint64_t line = 77;
+    for (const std::uint64_t ring : {0ull, 1ull, 1023ull, 1048577ull, 1ull << 32, ~0ull}) {
+        CHECK(open(kDictionary, ring, 1, 1, 1, &line) == NANOLOG_OUT_OF_RANGE);
+    }
+    for (const std::uint32_t writers : {0u, 65u, 256u, ~0u}) {
+        CHECK(open(kDictionary, 1024, writers, 1, 1, &line) == NANOLOG_OUT_OF_RANGE);
+    }
+    for (const std::uint32_t batch : {0u, 65537u, ~0u}) {
+        CHECK(open(kDictionary, 1024, 1, batch, 1, &line) == NANOLOG_OUT_OF_RANGE);
+    }
+    CHECK(open(kDictionary, 1024, 1, 1, 0, &line) == NANOLOG_OUT_OF_RANGE);
+    CHECK(open(kDictionary, 1024, 1, 1, 1, &line) == NANOLOG_OK);
+    CHECK(open(kDictionary, 1048576, 1, 65536, ~0ull, &line) == NANOLOG_OK);
+    CHECK(open(kDictionary, 1024, 64, 1, 1, &line) == NANOLOG_OK);
+    CHECK(open("nanolog-trace 1\n", 1024, 1, 1, 1, &line) == NANOLOG_OK);
+    CHECK(line == 77);
+
+    const std::string first = "nanolog-trace 1\n";
+    refuse_dictionary("", 1);
+    refuse_dictionary("nanolog-trace 1", 1);
+    refuse_dictionary("nanolog-trace 2\n", 1);
+    refuse_dictionary("\n", 1);
+    refuse_dictionary(first + "message 1 NOTICE 1 \"f\" \"x\"\n", 2);
+    refuse_dictionary(first + "message 0 NOTE 1 \"f\" \"x\"\n", 2);
+    refuse_dictionary(first + "message 0 NOTICE 1 \"\" \"x\"\n", 2);
+    refuse_dictionary(first + "message 0 NOTICE 1 \"f\" \"%f\"\n", 2);
+    refuse_dictionary(first + "message 0 NOTICE 1 \"f\" \"x\"", 2);
+    refuse_dictionary(first + "message 0 NOTICE 1 \"f\" \"x\"\nmessage 1 NOTICE 1 \"f\" \"x\"\n", 3);
+    refuse_dictionary(kDictionary + "\n", 10);
+    refuse_dictionary(kDictionary + "clock 1 2 3\n", 10);
+    std::string many = first;
+    for (int id = 0; id <= 65536; id++) {
+        many += "message " + std::to_string(id) + " NOTICE " + std::to_string(id) + " \"f\" \"x\"\n";
+    }
+    refuse_dictionary(many, 65538);
+    many.resize(many.rfind("message"));
+    CHECK(open(many, 1024, 1, 1, 1, &line) == NANOLOG_OK);
+
+    void *session = nullptr, *consumer = nullptr;
+    CHECK(nanolog_open(nullptr, 0, 1024, 1, 1, 0, 0, 1, &session, &consumer, &line) == NANOLOG_BAD_DICTIONARY);
+    CHECK(line == 1 && session == nullptr && consumer == nullptr);
+    Ends ends;
+    CHECK(nanolog_open(nullptr, 0, 0, 1, 1, 0, 0, 1, &ends.session, &consumer, &line) == NANOLOG_BAD_HANDLE);
+    CHECK(nanolog_open(nullptr, 0, 0, 1, 1, 0, 0, 1, &session, &ends.consumer, &line) == NANOLOG_BAD_HANDLE);
+    CHECK(session == nullptr && consumer == nullptr);
+}
+
+// ---- nanolog_writer, nanolog_end
+
+void writers() {
+    Ends ends;
+    void *null = nullptr, *one = ends.writer(), *two = ends.writer();
+    CHECK(nanolog_writer(&null, &null) == NANOLOG_BAD_HANDLE);
+    CHECK(nanolog_writer(&ends.consumer, &null) == NANOLOG_BAD_HANDLE);
+    CHECK(nanolog_writer(&one, &null) == NANOLOG_BAD_HANDLE);
+    CHECK(nanolog_writer(&ends.session, &two) == NANOLOG_BAD_HANDLE);
+    CHECK(null == nullptr);
+    void *three = ends.writer();
+    CHECK(nanolog_writer(&ends.session, &null) == NANOLOG_NO_WRITER && null == nullptr);
+    CHECK(nanolog_end(&null) == NANOLOG_BAD_HANDLE);
+    CHECK(nanolog_end(&ends.consumer) == NANOLOG_BAD_HANDLE);
+    CHECK(nanolog_end(&one) == NANOLOG_BAD_HANDLE);
+    CHECK(nanolog_end(&ends.session) == NANOLOG_OK);
+    CHECK(nanolog_end(&ends.session) == NANOLOG_OK);
+    CHECK(nanolog_writer(&ends.session, &null) == NANOLOG_NO_WRITER && null == nullptr);
+    for (void *writer : {one, two, three}) nanolog_free(writer);
+
+    Ends ended;
+    void *only = ended.writer();
+    CHECK(nanolog_end(&ended.session) == NANOLOG_OK);
+    CHECK(nanolog_writer(&ended.session, &null) == NANOLOG_NO_WRITER && null == nullptr);
+    CHECK(log(only, kTick, 7, {}) == NANOLOG_OK);
+    nanolog_free(only);
+    nanolog_free(nullptr);
+}
+
+// ---- nanolog_log, nanolog_finish
+
+// That a message takes these numbers as its argument, and neither their neighbours nor other kinds.
+void one_type(void *&writer, std::uint32_t id, std::uint8_t tag, std::initializer_list<std::uint64_t> taken,
+              std::initializer_list<std::uint64_t> refused) {
+    for (const std::uint64_t word : taken) CHECK(log(writer, kTick, id, {number(tag, word)}) == NANOLOG_OK);
+    for (const std::uint64_t word : refused) CHECK(log(writer, kTick, id, {number(tag, word)}) == NANOLOG_MISFIT);
+    for (const std::uint8_t other : {0, 1, 2, 3, 255}) {
+        if (other != tag) CHECK(log(writer, kTick, id, {number(other, 5)}) == NANOLOG_MISFIT);
+    }
+    CHECK(log(writer, kTick, id, {}) == NANOLOG_MISFIT);
+    CHECK(log(writer, kTick, id, {number(tag, 5), number(tag, 5)}) == NANOLOG_MISFIT);
+}
+
+std::uint64_t word(std::int64_t number) { return static_cast<std::uint64_t>(number); }
+
+void logging() {
+    Ends ends(4096);
+    void *writer = ends.writer(), *null = nullptr;
+    for (void **other : {&null, &ends.session, &ends.consumer}) {
+        CHECK(log(*other, kTick, 7, {}) == NANOLOG_BAD_HANDLE);
+        CHECK(nanolog_finish(other) == NANOLOG_BAD_HANDLE);
+    }
+    for (const std::uint32_t id : {8u, 9u, 65535u, 65536u, ~0u}) CHECK(log(writer, kTick, id, {}) == NANOLOG_MISFIT);
+    one_type(writer, 0, NANOLOG_SIGNED, {0, word(-1), word(INT32_MAX), word(INT32_MIN)},
+             {word(INT32_MAX + 1ll), word(INT32_MIN - 1ll), word(INT64_MIN)});
+    one_type(writer, 1, NANOLOG_UNSIGNED, {0, UINT32_MAX}, {UINT32_MAX + 1ull, UINT64_MAX});
+    one_type(writer, 2, NANOLOG_SIGNED, {0, word(INT64_MAX), word(INT64_MIN)}, {});
+    one_type(writer, 3, NANOLOG_UNSIGNED, {0, UINT64_MAX}, {});
+    for (const std::int64_t width : {0, 4095, -4095}) {
+        CHECK(log(writer, kTick, 4, {signed_of(width), signed_of(1), signed_of(2)}) == NANOLOG_OK);
+    }
+    for (const std::int64_t width : {4096, -4096, INT_MAX}) {
+        CHECK(log(writer, kTick, 4, {signed_of(width), signed_of(1), signed_of(2)}) == NANOLOG_MISFIT);
+    }
+    for (const std::int64_t precision : {0, 4095, -1, INT_MIN}) {
+        CHECK(log(writer, kTick, 4, {signed_of(1), signed_of(precision), signed_of(2)}) == NANOLOG_OK);
+    }
+    for (const std::int64_t precision : {4096ll, INT_MIN - 1ll}) {
+        CHECK(log(writer, kTick, 4, {signed_of(1), signed_of(precision), signed_of(2)}) == NANOLOG_MISFIT);
+    }
+    CHECK(log(writer, kTick, 4, {signed_of(1), signed_of(1), unsigned_of(2)}) == NANOLOG_MISFIT);
+
+    const std::string most(4000, 'x'), more(4001, 'x'), nul("a\0b", 3), ends_in_nul("ab\0", 3), half(2041, 'y');
+    for (const std::string &text : {std::string(), std::string("x"), most}) {
+        CHECK(log(writer, kTick, 5, {text_of(text)}) == NANOLOG_OK);
+    }
+    CHECK(log(writer, kTick, 5, {number(NANOLOG_TEXT, 0)}) == NANOLOG_OK);
+    for (const std::string &text : {more, nul, ends_in_nul}) {
+        CHECK(log(writer, kTick, 5, {text_of(text)}) == NANOLOG_MISFIT);
+    }
+    for (const nanolog_arg &arg : {signed_of(5), unsigned_of(5), number(3, 5)}) {
+        CHECK(log(writer, kTick, 5, {arg}) == NANOLOG_MISFIT);
+    }
+    // Two words, and for each text one and its own: the most is 512.
+    const std::string whole(254 * 8, 'z');
+    CHECK(log(writer, kTick, 6, {text_of(whole), text_of(whole)}) == NANOLOG_OK);
+    CHECK(log(writer, kTick, 6, {text_of(whole), text_of(half)}) == NANOLOG_TOO_LONG);
+    CHECK(log(writer, kTick, 6, {text_of(most), text_of(most)}) == NANOLOG_TOO_LONG);
+    CHECK(log(writer, kTick - 1, 6, {text_of(most), text_of(most)}) == NANOLOG_EARLY);
+    CHECK(log(writer, kTick - 1, 6, {text_of(more), text_of(most)}) == NANOLOG_MISFIT);
+
+    // Stamps: none below the tick, and none below the last one that was logged.
+    void *second = ends.writer();
+    for (const std::uint64_t stamp : {std::uint64_t{0}, kTick - 1}) CHECK(log(second, stamp, 7, {}) == NANOLOG_EARLY);
+    CHECK(log(second, kTick + 5, 7, {}) == NANOLOG_OK && log(second, kTick + 5, 7, {}) == NANOLOG_OK);
+    CHECK(log(second, kTick + 4, 7, {}) == NANOLOG_EARLY);
+    CHECK(log(second, kTick + 9, 8, {}) == NANOLOG_MISFIT && log(second, kTick + 5, 7, {}) == NANOLOG_OK);
+    CHECK(log(second, UINT64_MAX, 7, {}) == NANOLOG_OK && log(second, UINT64_MAX - 1, 7, {}) == NANOLOG_EARLY);
+
+    CHECK(nanolog_finish(&writer) == NANOLOG_OK && nanolog_finish(&writer) == NANOLOG_FINISHED);
+    CHECK(log(writer, kTick, 7, {}) == NANOLOG_FINISHED && log(writer, 0, 99, {}) == NANOLOG_FINISHED);
+    nanolog_free(writer);
+    nanolog_free(second);
+}
+
+// A ring of 1,024 words takes 341 frames of three, and has one place left, behind which the next one would not end.
+void filling() {
+    Ends ends(1024, 1);
+    void *writer = ends.writer();
+    for (int turn = 0; turn < 3; turn++) {
+        int logged = 0;
+        while (log(writer, kTick, 0, {signed_of(logged)}) == NANOLOG_OK) logged++;
+        CHECK(turn > 0 || logged == 341);
+        std::uint64_t need = 0, room = 0;
+        const nanolog_arg arg = signed_of(5);
+        CHECK(nanolog_log(&writer, kTick, 0, &arg, 1, &need, &room) == NANOLOG_FULL && need > room);
+        CHECK(turn > 0 || (need == 4 && room == 1));
+        CHECK(log(writer, kTick, 8, {}) == NANOLOG_MISFIT);
+        std::uint8_t bytes[65536];
+        while (nanolog_pump(&ends.consumer, bytes, sizeof bytes) > 0) {
+        }
+        CHECK(log(writer, kTick, 0, {signed_of(turn)}) == NANOLOG_OK);
+    }
+    nanolog_free(writer);
+}
+
+// ---- nanolog_pump
+
+// Logs, and pumps everything with so much room at a time.
+std::string pump_all(std::size_t room) {
+    Ends ends;
+    std::string all;
+    std::vector<std::uint8_t> bytes(room);
+    const auto pump = [&] {
+        for (;;) {
+            const std::int64_t answer = nanolog_pump(&ends.consumer, bytes.data(), room);
+            if (answer <= 0) return answer;
+            CHECK(static_cast<std::size_t>(answer) <= room);
+            all.append(reinterpret_cast<const char *>(bytes.data()), static_cast<std::size_t>(answer));
+        }
+    };
+    void *one = ends.writer(), *two = ends.writer(), *null = nullptr;
+    CHECK(nanolog_pump(&null, bytes.data(), room) == NANOLOG_BAD_HANDLE);
+    CHECK(nanolog_pump(&ends.session, bytes.data(), room) == NANOLOG_BAD_HANDLE);
+    CHECK(nanolog_pump(&one, bytes.data(), room) == NANOLOG_BAD_HANDLE);
+    CHECK(nanolog_pump(&ends.consumer, bytes.data(), 0) == NANOLOG_OUT_OF_RANGE);
+    CHECK(nanolog_pump(&ends.consumer, nullptr, 0) == NANOLOG_OUT_OF_RANGE);
+    CHECK(pump() == 0 && all.size() == 30);
+    CHECK(log(one, kTick + 1, 0, {signed_of(-5)}) == NANOLOG_OK);
+    CHECK(log(two, kTick + 2, 5, {text_of("a piece")}) == NANOLOG_OK);
+    CHECK(log(one, kTick + 3, 4, {signed_of(6), signed_of(3), signed_of(7)}) == NANOLOG_OK);
+    CHECK(pump() == 0);
+    CHECK(nanolog_finish(&one) == NANOLOG_OK && pump() == 0);
+    CHECK(nanolog_end(&ends.session) == NANOLOG_OK && pump() == 0);
+    CHECK(log(two, kTick + 4, 7, {}) == NANOLOG_OK);
+    CHECK(nanolog_finish(&two) == NANOLOG_OK);
+    CHECK(pump() == NANOLOG_AT_END && pump() == NANOLOG_AT_END);
+    CHECK(nanolog_pump(&ends.consumer, bytes.data(), 0) == NANOLOG_OUT_OF_RANGE);
+    nanolog_free(one);
+    nanolog_free(two);
+    return all;
+}
+
+void pumping() {
+    const std::string all = pump_all(1 << 20);
+    for (const std::size_t room : {1, 2, 3, 7, 30, 64}) CHECK(pump_all(room) == all);
+    std::FILE *const file = std::fopen("calls.log", "w");
+    CHECK(file != nullptr && std::fwrite(all.data(), 1, all.size(), file) == all.size() && std::fclose(file) == 0);
+
+    // Handles are given up in any order, and unfinished.
+    for (int order = 0; order < 6; order++) {
+        void *session = nullptr, *consumer = nullptr, *writer = nullptr;
+        std::uint64_t line = 0;
+        CHECK(nanolog_open(bytes_of(kDictionary), kDictionary.size(), 1024, 2, 1, 0, 0, 1, &session, &consumer,
+                           &line) == 0);
+        CHECK(nanolog_writer(&session, &writer) == NANOLOG_OK && log(writer, 5, 7, {}) == NANOLOG_OK);
+        void *const handles[] = {session, consumer, writer};
+        const int first = order % 3, second = (first + 1 + order / 3) % 3;
+        nanolog_free(handles[first]);
+        nanolog_free(handles[second]);
+        nanolog_free(handles[3 - first - second]);
+    }
+}
+
+// ---- memory
+
+// Opens a session, takes a writer and logs, where so many pieces of memory are given and no more. It answers whether
+// that was enough, and sets `open` to whether there was enough for the session.
+bool make_in(int pieces, bool &open) {
+    pieces_left = pieces;
+    void *session = nullptr, *consumer = nullptr, *writer = nullptr;
+    std::uint64_t line = 77;
+    const std::int32_t opened =
+        nanolog_open(bytes_of(kDictionary), kDictionary.size(), 1024, 2, 1, kTick, 0, 1, &session, &consumer, &line);
+    open = opened == NANOLOG_OK;
+    CHECK(open || (opened == NANOLOG_NO_MEMORY && session == nullptr && consumer == nullptr));
+    CHECK(line == 77);
+    bool is_enough = false;
+    if (open) {
+        const std::int32_t given = nanolog_writer(&session, &writer);
+        is_enough = given == NANOLOG_OK;
+        CHECK(is_enough || (given == NANOLOG_NO_MEMORY && writer == nullptr));
+        // What was refused is to be had when there is memory. Nothing else takes any.
+        pieces_left = 1;
+        CHECK(is_enough || nanolog_writer(&session, &writer) == NANOLOG_OK);
+        pieces_left = 0;
+        CHECK(log(writer, kTick, 7, {}) == NANOLOG_OK && nanolog_finish(&writer) == NANOLOG_OK);
+        CHECK(nanolog_end(&session) == NANOLOG_OK);
+        std::uint8_t bytes[4096];
+        std::int64_t answer = 1;
+        while (answer > 0) answer = nanolog_pump(&consumer, bytes, sizeof bytes);
+        CHECK(answer == NANOLOG_AT_END);
+    }
+    pieces_left = INT_MAX;
+    nanolog_free(writer);
+    nanolog_free(consumer);
+    nanolog_free(session);
+    return is_enough;
+}
+
+void memory() {
+    bool open = false;
+    int pieces = 0, opened_in = 0;
+    for (; !make_in(pieces, open); pieces++) {
+        if (!open) opened_in = pieces + 1;
+    }
+    CHECK(opened_in > 5 && pieces == opened_in + 1);
+    std::printf("%d pieces of memory, and one for a writer\n", opened_in);
+}
+
+}  // namespace
+
+int main() {
+    opening();
+    writers();
+    logging();
+    filling();
+    pumping();
+    memory();
+    return 0;
+}

@@ -1,0 +1,428 @@
+// What becomes of calls and sessions, one case a run.
+// usage: sessions CASE
+#include <sys/resource.h>
+#include <unistd.h>
+
+#include <csignal>
+#include <cstring>
+#include <memory>
+#include <nanolog.hpp>
+#include <string>
+#include <string_view>
+#include <thread>
+#include <vector>
+
+#include "check.hpp"
+
+namespace {
+
+constexpr const char *kLog = "sessions.log";
+constexpr const char *kDictionary = "sessions.dict";
+
+// So many calls of several threads make no log that is too large to be read.
+constexpr int kMany = 500000;
+
+int evaluated = 0;
+int evaluate() { return ++evaluated; }
+
+// Copies a file as it is now.
+void copy(const char *from, const char *to) {
+    std::FILE *const in = std::fopen(from, "r"), *const out = std::fopen(to, "w");
+    CHECK(in != nullptr && out != nullptr);
+    char bytes[65536];
+    while (const std::size_t len = std::fread(bytes, 1, sizeof bytes, in))
+        CHECK(std::fwrite(bytes, 1, len, out) == len);
+    std::fclose(in);
+    CHECK(std::fclose(out) == 0);
+}
+
+// ---- levels, and calls without a session
+
+// No argument of a call that the level leaves out is evaluated.
+void level() {
+    nanolog::Options options;
+    options.level = nanolog::Severity::Warning;
+    nanolog::Session log(kLog, kDictionary, options);
+    NANO_LOG(ERROR, "error %d", evaluate());
+    NANO_LOG(WARNING, "warning %d", evaluate());
+    NANO_LOG(NOTICE, "notice %d", evaluate());
+    NANO_LOG(DEBUG, "debug %d", evaluate());
+    CHECK(evaluated == 2);
+    CHECK(log.close().logged == 2);
+}
+
+// Calls before a session, between two and behind them are counted, and their arguments aren't evaluated.
+void without() {
+    NANO_LOG(NOTICE, "before %d", evaluate());
+    {
+        nanolog::Session log(kLog, kDictionary);
+        CHECK(log.report().sessionless == 1);
+        NANO_LOG(NOTICE, "within the first %d", evaluate());
+    }
+    NANO_LOG(NOTICE, "between %d", evaluate());
+    NANO_LOG(NOTICE, "between %d", evaluate());
+    {
+        nanolog::Session log("sessions2.log", kDictionary);
+        NANO_LOG(NOTICE, "within the second %d", evaluate());
+        const nanolog::Report report = log.close();
+        CHECK(report.logged == 1 && report.sessionless == 2 && !report.is_clean());
+        NANO_LOG(NOTICE, "behind %d", evaluate());
+        CHECK(log.close().sessionless == 2 && log.report().logged == 1);
+    }
+    NANO_LOG(NOTICE, "behind %d", evaluate());
+    CHECK(evaluated == 2);
+}
+
+// A session that can't be: calls are without one.
+void unopened(const char *log_name, const char *dictionary, const nanolog::Options &options) {
+    nanolog::Session log(log_name, dictionary, options);
+    CHECK(!log && !log.flush());
+    NANO_LOG(NOTICE, "unopened %d", evaluate());
+    CHECK(evaluated == 0 && log.report().sessionless == 1 && log.report().logged == 0);
+}
+
+void no_dictionary() { unopened(kLog, "no/such.dict", {}); }
+void a_folder() { unopened(kLog, "/", {}); }
+void bad_dictionary() { unopened(kLog, "bad.dict", {}); }
+void other_dictionary() { unopened(kLog, "other.dict", {}); }
+void no_ring() {
+    nanolog::Options options;
+    options.ring = 1023;
+    unopened(kLog, kDictionary, options);
+}
+void no_writers() {
+    nanolog::Options options;
+    options.writers = 0;
+    unopened(kLog, kDictionary, options);
+}
+void no_batch() {
+    nanolog::Options options;
+    options.batch = 65537;
+    unopened(kLog, kDictionary, options);
+}
+void no_memory() {
+    const rlimit limit = {1 << 28, 1 << 28};
+    CHECK(setrlimit(RLIMIT_AS, &limit) == 0);
+    nanolog::Options options;
+    options.ring = 1 << 20;
+    unopened(kLog, kDictionary, options);
+}
+void quiet() {
+    nanolog::Options options;
+    options.quiet = true;
+    unopened(kLog, "no/such.dict", options);
+    NANO_LOG(NOTICE, "quiet %d", 1);
+}
+
+// A second session while there is one does nothing.
+void second() {
+    nanolog::Session log(kLog, kDictionary);
+    {
+        nanolog::Session other("sessions2.log", kDictionary);
+        CHECK(!other && log);
+        NANO_LOG(NOTICE, "second %d", 1);
+        CHECK(other.report().logged == 0);
+    }
+    NANO_LOG(NOTICE, "second %d", 2);
+    CHECK(log.report().logged == 2 && log.close().is_clean());
+}
+
+// ---- losses
+
+// What is said of all losses at once.
+void losses() {
+    nanolog::Options options;
+    options.writers = 2;
+    options.ring = 1024;
+    options.policy = nanolog::Policy::Drop;
+    static std::uint64_t time = 1000;
+    options.clock = [] { return time; };
+    nanolog::Session log("/dev/full", kDictionary, options);
+    const std::string long_text(4001, 'x'), half(2500, 'y');
+    NANO_LOG(NOTICE, "cut %s", long_text);
+    CHECK(log.flush() == false);
+    NANO_LOG(NOTICE, "cut %s, %.*s", std::string_view("a\0b", 3), 4095, long_text.c_str());
+    CHECK(log.flush() == false);
+    NANO_LOG(NOTICE, "too long: %s %s", half, half);
+    NANO_LOG(NOTICE, "too wide: %*d", 4096, 5);
+    NANO_LOG(NOTICE, "too wide: %.*d", 4096, 5);
+    time = 999;
+    NANO_LOG(NOTICE, "early");
+    const nanolog::Report report = log.close();
+    CHECK(report.logged == 3 && report.cut == 3 && report.too_long == 1 && report.misfit == 2 && report.early == 1);
+    CHECK(report.dropped == 0 && report.unplaced == 0 && report.sessionless == 0 && report.written == 0);
+    CHECK(report.error == ENOSPC && report.unwritten > 8000);
+}
+
+// A text is cut where its type ends, and the rest of the call is there.
+void cut() {
+    nanolog::Session log(kLog, kDictionary);
+    const std::string most(4000, 'm'), more(4001, 'n');
+    const char array[4] = {'a', 'b', 'c', 'd'};
+    NANO_LOG(NOTICE, "cut: %.3s %d", most, 1);
+    NANO_LOG(NOTICE, "cut: %.3s %d", more.c_str(), 2);
+    NANO_LOG(NOTICE, "cut: %.3s %d", std::string_view(more), 3);
+    NANO_LOG(NOTICE, "not cut: %.*s %s %.*s", 3, more, array, 2, std::string_view("x\0y", 3));
+    NANO_LOG(NOTICE, "cut: %s", std::string_view("x\0y", 3));
+    CHECK(log.close().cut == 4);
+}
+
+void signalled(int) { NANO_LOG(NOTICE, "of a handler %d", 1); }
+
+// A signal handler's call that comes upon one of its own thread is refused, and nothing stands still.
+void interrupted() {
+    nanolog::Options options;
+    static bool is_raised = false;
+    options.clock = [] {
+        if (is_raised) std::raise(SIGUSR1);
+        is_raised = false;
+        return std::uint64_t{5};
+    };
+    std::signal(SIGUSR1, signalled);
+    nanolog::Session log(kLog, kDictionary, options);
+    NANO_LOG(NOTICE, "interrupted %d", 1);
+    is_raised = true;
+    NANO_LOG(NOTICE, "interrupted %d", 2);
+    const nanolog::Report report = log.close();
+    CHECK(report.logged == 2 && report.unplaced == 1);
+}
+
+// ---- lives of threads and of sessions
+
+void call_some(const char *what, int calls) {
+    for (int number = 0; number < calls; number++) NANO_LOG(NOTICE, "%s %d", what, number);
+}
+
+// A thread that has a writer of one session logs in the next, too.
+void successive() {
+    auto first = std::make_unique<nanolog::Session>(kLog, kDictionary);
+    std::atomic<int> step{0};
+    std::thread thread([&] {
+        call_some("first", 1000);
+        step = 1;
+        while (step != 2) std::this_thread::yield();
+        call_some("second", 2000);
+    });
+    while (step != 1) std::this_thread::yield();
+    CHECK(first->close().logged == 1000);
+    first.reset();
+    nanolog::Session next("sessions2.log", kDictionary);
+    step = 2;
+    thread.join();
+    CHECK(next.close().logged == 2000);
+}
+
+// A thread that has a writer of one session ends in the next one, and leaves the writers of that alone.
+void late_end() {
+    auto first = std::make_unique<nanolog::Session>(kLog, kDictionary);
+    std::atomic<int> step{0};
+    std::thread thread([&] {
+        call_some("first", 10);
+        step = 1;
+        while (step != 2) std::this_thread::yield();
+    });
+    while (step != 1) std::this_thread::yield();
+    first.reset();
+    nanolog::Session next("sessions2.log", kDictionary);
+    call_some("next", 10);
+    step = 2;
+    thread.join();
+    std::thread([] { call_some("next", 10); }).join();
+    const nanolog::Report report = next.close();
+    CHECK(report.logged == 20 && report.writers == 2 && report.is_clean());
+}
+
+// Sessions begin and end while threads log. Each call is in one of them, or was made without one.
+void abandoned() {
+    constexpr int kThreads = 4, kSessions = 40;
+    std::atomic<bool> is_over{false};
+    std::atomic<std::uint64_t> calls{0};
+    std::vector<std::thread> threads;
+    for (int thread = 0; thread < kThreads; thread++) {
+        threads.emplace_back([&] {
+            std::uint64_t number = 0;
+            for (; !is_over; number++) NANO_LOG(NOTICE, "abandoned %llu", number);
+            calls += number;
+        });
+    }
+    std::uint64_t logged = 0, sessionless = 0;
+    nanolog::Options options;
+    options.ring = 1024;
+    options.writers = 3;
+    options.quiet = true;
+    for (int session = 0; session < kSessions; session++) {
+        options.policy = session % 2 == 0 ? nanolog::Policy::Wait : nanolog::Policy::Drop;
+        nanolog::Session log(kLog, kDictionary, options);
+        CHECK(log);
+        usleep(2000);
+        const nanolog::Report report = log.close();
+        logged += report.logged + report.dropped;
+        sessionless += report.sessionless;
+        CHECK(report.writers <= 3 && report.too_long + report.misfit + report.unplaced + report.unwritten == 0);
+    }
+    is_over = true;
+    for (std::thread &thread : threads) thread.join();
+    nanolog::Session last("sessions2.log", kDictionary, options);
+    sessionless += last.close().sessionless;
+    CHECK(logged > 0 && logged + sessionless == calls);
+}
+
+struct Speaker {
+    const char *name;
+    ~Speaker() { NANO_LOG(NOTICE, "%s says goodbye", name); }
+};
+
+// The destructors of thread_locals log, those that come before the writer is given back and those behind it.
+void thread_locals() {
+    nanolog::Session log(kLog, kDictionary);
+    for (int thread = 0; thread < 100; thread++) {
+        std::thread([&] {
+            thread_local Speaker early{"early"};
+            CHECK(early.name != nullptr);
+            NANO_LOG(NOTICE, "thread %d", thread);
+            thread_local Speaker late{"late"};
+            CHECK(late.name != nullptr);
+        }).join();
+    }
+    const nanolog::Report report = log.close();
+    CHECK(report.logged == 300 && report.writers == 2 && report.shared == 100 && report.is_clean());
+}
+
+// A session that lives until the program's static objects are destroyed: those made before it come too late.
+void statics() {
+    static Speaker outside{"outside"};
+    static nanolog::Session log(kLog, kDictionary);
+    static Speaker inside{"inside"};
+    NANO_LOG(NOTICE, "main %d", 1);
+}
+
+// A program that ends while its threads log.
+void exiting() {
+    static nanolog::Session log(kLog, kDictionary);
+    for (int thread = 0; thread < 4; thread++) {
+        std::thread([] {
+            for (int number = 0; number < kMany; number++) NANO_LOG(NOTICE, "exiting %d", number);
+            for (;;) pause();
+        }).detach();
+    }
+    usleep(20000);
+    std::exit(0);
+}
+
+// One writer, which all threads share.
+void one_writer() {
+    nanolog::Options options;
+    options.writers = 1;
+    options.ring = 1024;
+    nanolog::Session log(kLog, kDictionary, options);
+    std::vector<std::thread> threads;
+    for (int thread = 0; thread < 8; thread++) threads.emplace_back([] { call_some("one writer", 5000); });
+    for (std::thread &thread : threads) thread.join();
+    const nanolog::Report report = log.close();
+    CHECK(report.logged == 40000 && report.shared == 40000 && report.writers == 1 && report.is_clean());
+}
+
+// ---- flushes
+
+// What was logged before a flush is in the file, by whichever thread.
+void flush() {
+    nanolog::Session log(kLog, kDictionary);
+    for (int turn = 0; turn < 20; turn++) {
+        std::thread([] { call_some("flush of another thread", 50); }).join();
+        call_some("flush", 50);
+        CHECK(log.flush());
+    }
+    copy(kLog, "flushed.log");
+    CHECK(log.close().logged == 2000);
+}
+
+// Each call that is flushed is written by then, whatever other flushes there are.
+void many_flushes() {
+    nanolog::Session log(kLog, kDictionary);
+    std::atomic<bool> is_over{false};
+    std::thread other([&] {
+        while (!is_over) CHECK(log.flush());
+    });
+    std::uint64_t written = log.report().written;
+    for (int number = 0; number < 20000; number++) {
+        NANO_LOG(NOTICE, "flushed %d", number);
+        CHECK(log.flush());
+        const std::uint64_t now = log.report().written;
+        CHECK(now > written);
+        written = now;
+    }
+    is_over = true;
+    other.join();
+}
+
+// A flush ends though other threads never let the rings get empty, and so do several at once.
+void busy_flush() {
+    nanolog::Options options;
+    options.ring = 1024;
+    nanolog::Session log(kLog, kDictionary, options);
+    std::atomic<bool> is_over{false};
+    std::vector<std::thread> threads;
+    for (int thread = 0; thread < 4; thread++) {
+        threads.emplace_back([&] {
+            for (int number = 0; !is_over && number < kMany; number++) NANO_LOG(DEBUG, "busy %d", number);
+        });
+    }
+    std::thread other([&] {
+        for (int turn = 0; turn < 5; turn++) CHECK(log.flush());
+    });
+    for (int turn = 0; turn < 5; turn++) {
+        call_some("flush", 100);
+        CHECK(log.flush());
+    }
+    copy(kLog, "flushed.log");
+    other.join();
+    is_over = true;
+    for (std::thread &thread : threads) thread.join();
+    const nanolog::Report report = log.close();
+    CHECK(report.is_clean());
+    std::printf("%llu\n", static_cast<unsigned long long>(report.logged));
+}
+
+}  // namespace
+
+int main(int count, char **words) {
+    CHECK(count == 2);
+    const struct {
+        const char *name;
+        void (*run)();
+    } cases[] = {
+        {"level", level},
+        {"without", without},
+        {"no_dictionary", no_dictionary},
+        {"a_folder", a_folder},
+        {"bad_dictionary", bad_dictionary},
+        {"other_dictionary", other_dictionary},
+        {"no_ring", no_ring},
+        {"no_writers", no_writers},
+        {"no_batch", no_batch},
+        {"no_memory", no_memory},
+        {"quiet", quiet},
+        {"second", second},
+        {"losses", losses},
+        {"cut", cut},
+        {"interrupted", interrupted},
+        {"successive", successive},
+        {"late_end", late_end},
+        {"abandoned", abandoned},
+        {"thread_locals", thread_locals},
+        {"statics", statics},
+        {"exiting", exiting},
+        {"one_writer", one_writer},
+        {"flush", flush},
+        {"many_flushes", many_flushes},
+        {"busy_flush", busy_flush},
+    };
+    for (const auto &one : cases) {
+        if (std::strcmp(words[1], one.name) == 0) {
+            one.run();
+            return 0;
+        }
+    }
+    CHECK(!"a case has this name");
+    return 0;
+}
