@@ -1,25 +1,34 @@
 // How the C++ programs of this folder measure calls, and what they print.
 //
-// A Session is made for so many writers, each of which is a thread. `call` makes the call with a number, and tries again
-// where there is no room. `close` comes behind a writer's last call, and `consume` returns when all writers have closed.
+// A Session is made for so many writers, each of which is a thread. `call` makes the call with a number, and tries
+// again where there is no room; the number modulo 4 says which of the generator's messages it is of. `close` comes
+// behind a writer's last call, and `consume` returns when all writers have closed.
 #pragma once
 #include <algorithm>
 #include <chrono>
 #include <cstdio>
+#include <cstring>
 #include <numeric>
 #include <thread>
 #include <vector>
 
 constexpr unsigned long long kBurst = 20000;
-constexpr unsigned long long kRun = 4000000;
 constexpr int kBursts = 5;
 // The threads sleep so long, and begin together so long after the first of them was started.
 constexpr std::chrono::milliseconds kPause{20};
 constexpr std::chrono::milliseconds kBegin{25};
 
+// What is called: every so many numbers from a first one on, and how many calls a long run has, of all threads
+// together.
+struct Kind {
+    const char *name;
+    unsigned long long first, step, run;
+};
+constexpr Kind kKinds[] = {{"all", 0, 1, 4000000}, {"queue", 1, 4, 10000000}, {"request", 2, 4, 10000000}};
+
 // How many nanoseconds a thousand calls took, on the average of the writers.
 template <class Session>
-unsigned long long measure(unsigned writers, unsigned long long calls) {
+unsigned long long measure(const Kind &kind, unsigned writers, unsigned long long calls) {
     using Clock = std::chrono::steady_clock;
     Session session(writers);
     std::vector<unsigned long long> taken(writers);
@@ -31,7 +40,9 @@ unsigned long long measure(unsigned writers, unsigned long long calls) {
             while (Clock::now() - start < kBegin) {
             }
             const auto begun = Clock::now();
-            for (unsigned long long number = 0; number < calls; number++) session.call(writer, number);
+            const unsigned long long end = kind.first + calls * kind.step;
+            for (unsigned long long number = kind.first; number < end; number += kind.step)
+                session.call(writer, number);
             const std::chrono::nanoseconds nanos = Clock::now() - begun;
             taken[writer] = static_cast<unsigned long long>(nanos.count()) * 1000 / calls;
             session.close(writer);
@@ -42,13 +53,20 @@ unsigned long long measure(unsigned writers, unsigned long long calls) {
     return std::accumulate(taken.begin(), taken.end(), 0ull) / writers;
 }
 
-// Prints lines `WRITERS burst NANOSECONDS`, of the best burst, and `WRITERS run NANOSECONDS`, both of a thousand calls.
+// Prints lines `WRITERS burst NANOSECONDS`, of the best burst, and `WRITERS run NANOSECONDS`, both of a thousand calls
+// of the kind that the program's word names. It answers the program's status.
 template <class Session>
-void measure_all() {
-    for (const unsigned writers : {1u, 2u, 4u}) {
-        unsigned long long best = ~0ull;
-        for (int burst = 0; burst < kBursts; burst++) best = std::min(best, measure<Session>(writers, kBurst));
-        std::printf("%u burst %llu\n", writers, best);
-        std::printf("%u run %llu\n", writers, measure<Session>(writers, kRun / writers));
+int measure_all(int count, char **words) {
+    for (const Kind &kind : kKinds) {
+        if (count != 2 || std::strcmp(words[1], kind.name) != 0) continue;
+        for (const unsigned writers : {1u, 2u, 4u}) {
+            unsigned long long best = ~0ull;
+            for (int burst = 0; burst < kBursts; burst++)
+                best = std::min(best, measure<Session>(kind, writers, kBurst));
+            std::printf("%u burst %llu\n", writers, best);
+            std::printf("%u run %llu\n", writers, measure<Session>(kind, writers, kind.run / writers));
+        }
+        return 0;
     }
+    return 1;
 }

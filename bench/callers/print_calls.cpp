@@ -48,7 +48,4 @@ struct Session {
 
 }  // namespace
 
-int main() {
-    measure_all<Session>();
-    return 0;
-}
+int main(int count, char **words) { return measure_all<Session>(count, words); }

@@ -133,8 +133,7 @@ struct Session {
 
 }  // namespace
 
-int main() {
+int main(int count, char **words) {
     for (const char *message : kMessages) add_message(message, message + std::strlen(message));
-    measure_all<Session>();
-    return 0;
+    return measure_all<Session>(count, words);
 }
