@@ -1,7 +1,7 @@
-pub mod Sums
-pub mod Entries
-pub mod Tallying
-pub mod Arguments
-pub mod Outcomes
-pub mod TotalsLaws
-pub mod Worked
+pub mod lemmas
+mod Sums
+mod Entries
+mod Tallying
+mod Arguments
+mod Outcomes
+mod Worked

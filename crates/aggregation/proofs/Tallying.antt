@@ -7,8 +7,8 @@ use Rattle.checkpoint_io.specs.declared.block.Block.{Block as ReadBlock}
 use Rattle.checkpoint_io.specs.declared.block.Block.TheVariants as read
 use Rattle.checkpoint_io.specs.Blocks.{Block, Extent, messages_of, FileOf}
 use Rattle.checkpoint_io.specs.NextBlocks.{Describes}
-use Rattle.checkpoint_io.proofs.FileLaws.{is_extent}
-use Rattle.checkpoint_io.proofs.ValidityLaws.{messages-push}
+use Rattle.checkpoint_io.proofs.lemmas.FileLaws.{is_extent}
+use Rattle.checkpoint_io.proofs.lemmas.ValidityLaws.{messages-push}
 use Rattle.log_scan.specs.Parts.{LogPart, StandsNext}
 use Rattle.aggregation.specs.declared.totals.Totals.{Totals}
 use Rattle.aggregation.specs.declared.tally.Tally.{Tally}

@@ -12,8 +12,8 @@ use Rattle.printf_grammar.specs.declared.argument.Value.TheVariants as values
 use Rattle.arg_records.specs.Frames.{IsShort, AreArguments, words_of_argument, argument_words, FrameLen, Frame}
 use Rattle.arg_records.specs.Kinds.{HoldsBytes}
 use Rattle.arg_records.specs.Places.{with_words}
-use Rattle.arg_records.proofs.Lengths.{length-words_of_argument, length-Frame}
-use Rattle.arg_records.proofs.Places.{word_first, words_first}
+use Rattle.arg_records.proofs.lemmas.Lengths.{length-words_of_argument, length-Frame}
+use Rattle.arg_records.proofs.lemmas.Places.{word_first, words_first}
 
 short_words : (value : Value) → IsShort value → argument_words value ≤ 501
 short_words (values.Signed z) short = omega arith

@@ -3,7 +3,7 @@ use Rattle.std.proofs.Common.{◌≡◌, ℕ, ◌<◌, ◌≤◌, ◌≢◌, lit
 use Rattle.std.specs.Prelude.{Some, slice_get}
 use Rattle.std.proofs.lemmas.List.{length-replicate}
 use Rattle.printf_grammar.specs.Types.{Types, Fits, IsText}
-use Rattle.printf_grammar.proofs.Worked.{all_copies}
+use Rattle.printf_grammar.proofs.lemmas.Worked.{all_copies}
 use Rattle.log_dictionary.specs.declared.message.Message.{Message}
 use Rattle.arg_records.specs.declared.call.Call.{Call}
 use Rattle.arg_records.specs.Calls.{IsCall, NeverFalls}

@@ -1,9 +1,6 @@
-pub mod Arguments
-pub mod Bytes
-pub mod Fitted
-pub mod Lengths
-pub mod Places
-pub mod Unique
-pub mod TextWords
-pub mod Reading
-pub mod CallLaws
+pub mod lemmas
+mod Arguments
+mod Bytes
+mod Unique
+mod Reading
+mod CallLaws

@@ -13,10 +13,10 @@ use Rattle.printf_grammar.specs.Types.{IsText}
 use Rattle.arg_records.specs.Frames.{words_of_bytes, words_of_argument, FrameLen}
 use Rattle.arg_records.specs.Kinds.{HoldsBytes}
 use Rattle.arg_records.specs.Reading.{IsFrameOf, SpellsArguments, BeginsWithWordsOf, bytes_of_words, IsPadded}
-use Rattle.arg_records.proofs.Lengths.{length-words_of_bytes, length-arguments, length-Frame}
+use Rattle.arg_records.proofs.lemmas.Lengths.{length-words_of_bytes, length-arguments, length-Frame}
 use Rattle.arg_records.proofs.Unique.{argument_same}
-use Rattle.arg_records.proofs.Fitted.{kind_fits, argument_fits, AreArguments-from_Fits, Frame-unique-Fits}
-use Rattle.arg_records.proofs.TextWords.{bytes_below, length-bytes_of_words, padded_words, text_padded}
+use Rattle.arg_records.proofs.lemmas.Fitted.{kind_fits, argument_fits, AreArguments-from_Fits, Frame-unique-Fits}
+use Rattle.arg_records.proofs.lemmas.TextWords.{bytes_below, length-bytes_of_words, padded_words, text_padded}
 
 -- ---- texts
 

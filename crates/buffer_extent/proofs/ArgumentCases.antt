@@ -21,7 +21,7 @@ use Rattle.buffer_extent.specs.declared.numbers.Number.TheVariants.{Signed, Unsi
 use Rattle.buffer_extent.specs.Records.{kind_of}
 use Rattle.buffer_extent.specs.Parts.{codes_in, HoldCodes, BeginsWithCodes}
 use Rattle.buffer_extent.specs.Steps.{number_value, kind_of_number, number_for, FitsNumber, FitNumbers, BeginsWithKind, BeginsWithArgument, BeginsWithNumbers, BeginsWithCodedNumbers, BeginsWithValue, BeginsWithTexts}
-use Rattle.buffer_extent.proofs.Codes.{codes_take, last_code_of_bytes, codes_taken}
+use Rattle.buffer_extent.proofs.lemmas.Codes.{codes_take, last_code_of_bytes, codes_taken}
 use Rattle.buffer_extent.proofs.Numbering.{value_number, BeginsWithValue-unique, texts_whole, texts_again}
 use Rattle.buffer_extent.proofs.Arguments.{BeginsWithKind-unique, argument_kind, BeginsWithArgument-unique, coded_codes, coded_made, coded_read}
 use Rattle.nibble_pack.specs.Bytes.{AreBytes, back_bytes}

@@ -6,7 +6,7 @@ use Rattle.std.proofs.lemmas.List.Elements.{All-take, All-drop, All-append}
 use Rattle.std.proofs.lemmas.Nat.{shr_high}
 use Rattle.std.specs.Int.{w64, to_le_bytes, bytes_low_first}
 use Rattle.nibble_pack.specs.Bytes.{AreBytes, number_of_bytes, length-bytes_low_first, bytes_low_first-below, number_of_bytes-low_first, number_of_bytes-lt, low_first-number_of_bytes}
-use Rattle.nibble_pack.proofs.Counts.{pow256}
+use Rattle.nibble_pack.proofs.lemmas.Counts.{pow256}
 use Rattle.arg_records.specs.Places.{with_words}
 
 number_of_bytes-append : (xs ys : List ℕ) → number_of_bytes (xs ++ ys) ≡ number_of_bytes xs + 256 ^ length xs * number_of_bytes ys

@@ -1,20 +1,19 @@
-pub mod Codes
-pub mod Fronts
-pub mod Lacking
-pub mod TypeKinds
-pub mod Heads
-pub mod OneByOne
-pub mod Arguments
-pub mod Numbering
-pub mod Starts
-pub mod Bodies
-pub mod Packing
-pub mod Staging
-pub mod Putting
-pub mod Writes
-pub mod Worked
-pub mod Joining
-pub mod Deciding
-pub mod NumberCases
-pub mod ArgumentCases
-pub mod BodyCases
+pub mod lemmas
+mod Fronts
+mod Lacking
+mod TypeKinds
+mod Heads
+mod OneByOne
+mod Arguments
+mod Numbering
+mod Starts
+mod Bodies
+mod Packing
+mod Staging
+mod Putting
+mod Writes
+mod Worked
+mod Joining
+mod Deciding
+mod NumberCases
+mod ArgumentCases

@@ -6,9 +6,9 @@ use Rattle.std.specs.Prelude.{ℤ, pos, negsuc}
 use Rattle.std.specs.Int.{w64, cast_signed, from_le_bytes}
 use Rattle.nibble_pack.specs.Packing.{Kind, unsigned, signed, IsLeastCount, IsWide}
 use Rattle.nibble_pack.specs.PackingLaws.{IsLeastCount-zero, IsLeastCount-suc, Packed-code, same_number}
-use Rattle.nibble_pack.proofs.Counts.{pow256, pow-mono}
-use Rattle.nibble_pack.proofs.Fronts.{read_spells, Packed-at_front, Packed-stands}
-use Rattle.nibble_pack.proofs.SignedForms.{signed_from_unsigned, unsigned_from_signed, signed_from_count, count_from_signed, reads_wide, reads_no_wide}
+use Rattle.nibble_pack.proofs.lemmas.Counts.{pow256, pow-mono}
+use Rattle.nibble_pack.proofs.lemmas.Fronts.{read_spells, Packed-at_front, Packed-stands}
+use Rattle.nibble_pack.proofs.lemmas.SignedForms.{signed_from_unsigned, unsigned_from_signed, signed_from_count, count_from_signed, reads_wide, reads_no_wide}
 use Rattle.buffer_extent.specs.Parts.{BeginsWithNumber}
 use Rattle.nibble_pack.specs.Bytes.{AreBytes}
 use Rattle.buffer_extent.proofs.Deciding.{IsDecided}

@@ -11,7 +11,7 @@ use Rattle.printf_grammar.specs.declared.arg_type.ArgType.TheVariants as argumen
 use Rattle.printf_grammar.specs.declared.argument.Value.{Value}
 use Rattle.printf_grammar.specs.declared.argument.Value.TheVariants as values
 use Rattle.printf_grammar.specs.Types.{FitsType, Fits}
-use Rattle.printf_grammar.proofs.Fitting.{Fits-length}
+use Rattle.printf_grammar.proofs.lemmas.Fitting.{Fits-length}
 use Rattle.arg_records.specs.Frames.{words_of_argument}
 use Rattle.arg_records.specs.Kinds.{HoldsBytes}
 use Rattle.nibble_pack.specs.declared.pack.Packed.{Packed as PackedBytes}
@@ -21,7 +21,7 @@ use Rattle.nibble_pack.specs.PackingLaws.{Packed-length, Packed-bytes}
 use Rattle.buffer_extent.specs.Records.{PackedNumber, kind_of, packed_value, PacksArguments, code_bytes}
 use Rattle.buffer_extent.specs.RecordLaws.{codes_of, numbers_are_as_many}
 use Rattle.buffer_extent.specs.Writing.{BeginsWithWords, HasItsBytes}
-use Rattle.buffer_extent.proofs.Codes.{length-code_bytes}
+use Rattle.buffer_extent.proofs.lemmas.Codes.{length-code_bytes}
 
 -- ---- one word
 

@@ -14,9 +14,9 @@ use Rattle.printf_grammar.specs.Types.{FitsType, Fits, text_of}
 use Rattle.arg_records.specs.Frames.{IsStaged, IsFrame, argument_words, FrameLen, Frame}
 use Rattle.arg_records.specs.Kinds.{HoldsBytes}
 use Rattle.arg_records.specs.Places.{with_words}
-use Rattle.arg_records.proofs.Fitted.{AreArguments-from_Fits}
-use Rattle.arg_records.proofs.Lengths.{length-Frame}
-use Rattle.arg_records.proofs.Places.{words_first}
+use Rattle.arg_records.proofs.lemmas.Fitted.{AreArguments-from_Fits}
+use Rattle.arg_records.proofs.lemmas.Lengths.{length-Frame}
+use Rattle.arg_records.proofs.lemmas.Places.{words_first}
 use Rattle.nibble_pack.specs.Packing.{Kind, unsigned, signed, IsWide, PacksSigned, small, negative, wide, Packed}
 use Rattle.nibble_pack.specs.Bytes.{length-bytes_low_first}
 use Rattle.nibble_pack.specs.PackingLaws.{Packed-code, Packed-length, byte_count-le}

@@ -11,15 +11,15 @@ use Rattle.printf_grammar.specs.declared.arg_type.ArgType.TheVariants as argumen
 use Rattle.printf_grammar.specs.declared.argument.Value.{Value}
 use Rattle.printf_grammar.specs.declared.argument.Value.TheVariants as values
 use Rattle.printf_grammar.specs.Types.{FitsType, text_of}
-use Rattle.printf_grammar.proofs.Fitting.{Fits-length}
+use Rattle.printf_grammar.proofs.lemmas.Fitting.{Fits-length}
 use Rattle.arg_records.specs.Frames.{words_of_bytes, words_of_argument, words_of_text, argument_words}
 use Rattle.arg_records.specs.Kinds.{HoldsBytes}
 use Rattle.arg_records.specs.Places.{with_words}
-use Rattle.arg_records.proofs.Places.{words_first, no_words}
-use Rattle.arg_records.proofs.Lengths.{length-words_of_argument}
+use Rattle.arg_records.proofs.lemmas.Places.{words_first, no_words}
+use Rattle.arg_records.proofs.lemmas.Lengths.{length-words_of_argument}
 use Rattle.nibble_pack.specs.Bytes.{AreBytes, number_of_bytes, length-bytes_low_first, number_of_bytes-lt, low_first-number_of_bytes, bytes_low_first-zeros}
 use Rattle.arg_records.specs.Reading.{bytes_of_words}
-use Rattle.arg_records.proofs.TextWords.{take_both}
+use Rattle.arg_records.proofs.lemmas.TextWords.{take_both}
 use Rattle.buffer_extent.specs.Writing.{AreWordsOf, BeginsWithWords}
 use Rattle.buffer_extent.proofs.Packing.{no_value}
 

@@ -8,7 +8,7 @@ use Rattle.std.specs.List.{flat_map}
 use Rattle.printf_grammar.specs.declared.arg_type.ArgType.{ArgType}
 use Rattle.printf_grammar.specs.declared.argument.Value.{Value}
 use Rattle.printf_grammar.specs.Types.{Types, Fits, text_of}
-use Rattle.printf_grammar.proofs.Fitting.{Fits-length}
+use Rattle.printf_grammar.proofs.lemmas.Fitting.{Fits-length}
 use Rattle.nibble_pack.specs.Packing.{Packed}
 use Rattle.log_dictionary.specs.declared.message.Message.{Message}
 use Rattle.arg_records.specs.declared.call.Call.{Call}

@@ -10,7 +10,7 @@ use Rattle.log_dictionary.specs.Severities.{severity_number}
 use Rattle.log_dictionary.specs.BinaryEntries.{SpellsEntry, entry_head_bytes, text_bytes, IsCutText, IsCutEntry, IsBadEntry}
 use Rattle.log_dictionary.specs.BinaryEntries.IsCutText.{in_length, in_text}
 use Rattle.log_dictionary.specs.BinaryEntries.IsCutEntry.{in_severity, in_line, in_file, in_format}
-use Rattle.log_dictionary.proofs.BinaryCases.{stays_bad}
+use Rattle.log_dictionary.proofs.lemmas.BinaryCases.{stays_bad}
 use Rattle.checkpoint_io.specs.declared.cause.Cause.{Cause}
 use Rattle.checkpoint_io.specs.declared.cause.Cause.TheVariants as causes
 use Rattle.checkpoint_io.specs.declared.fault.BlockFault.{BlockFault}
@@ -19,7 +19,7 @@ use Rattle.checkpoint_io.specs.Places.{UnreadBytes, LogPlace, with_front, log_pl
 use Rattle.checkpoint_io.specs.Entries.{BeginsWithNone, BeginsWithOld, BreaksNoEntry, BreaksEntry, TakesEntry}
 use Rattle.log_dictionary.specs.Messages.{HasMessage}
 use Rattle.checkpoint_io.proofs.StepLaws.{front_taken}
-use Rattle.checkpoint_io.proofs.BlockLaws.{le_length}
+use Rattle.checkpoint_io.proofs.lemmas.BlockLaws.{le_length}
 
 -- ---- how long bytes are that end inside an entry
 

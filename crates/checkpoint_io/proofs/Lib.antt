@@ -1,10 +1,6 @@
-pub mod BlockLaws
-pub mod FrontLaws
-pub mod ValidityLaws
-pub mod LogLaws
+pub mod lemmas
 mod ReadingLaws
 mod ReadingForms
-pub mod BreakLaws
 mod StepLaws
 mod EntryLaws
 mod AppendLaws
@@ -14,8 +10,4 @@ mod StartLaws
 mod WriterLaws
 mod NextLaws
 mod ReaderLaws
-pub mod Worked
-pub mod LimitLaws
 mod SomeOutcome
-pub mod Wholeness
-pub mod FileLaws

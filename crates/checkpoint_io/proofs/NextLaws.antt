@@ -21,7 +21,7 @@ use Rattle.checkpoint_io.specs.Places.{UnreadBytes, LogPlace, with_front, log_pl
 use Rattle.checkpoint_io.specs.Entries.{TakesFragment}
 use Rattle.checkpoint_io.specs.Writers.{WriterStates, AreStatesOf}
 use Rattle.checkpoint_io.specs.NextBlocks.{TakesClose, TakesExtent, TakesBlock}
-use Rattle.checkpoint_io.proofs.ValidityLaws.{messages-push}
+use Rattle.checkpoint_io.proofs.lemmas.ValidityLaws.{messages-push}
 use Rattle.checkpoint_io.proofs.StepLaws.{front_taken, GoesOnBehind, taken_behind, refused_behind}
 use Rattle.checkpoint_io.proofs.WriterLaws.{states_kept}
 

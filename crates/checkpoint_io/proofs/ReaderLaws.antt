@@ -20,8 +20,8 @@ use Rattle.checkpoint_io.specs.Places.{UnreadBytes, LogPlace, with_front, log_pl
 use Rattle.checkpoint_io.specs.Writers.{WriterStates, AreStatesOf}
 use Rattle.checkpoint_io.specs.Readers.{ReaderState, StandsFor}
 use Rattle.checkpoint_io.specs.NextBlocks.{TakesBlock, TakesNext, EndsThere, StopsAt}
-use Rattle.checkpoint_io.proofs.FrontLaws.{file_goes_on}
-use Rattle.checkpoint_io.proofs.ValidityLaws.{goes_on, messages_differ}
+use Rattle.checkpoint_io.proofs.lemmas.FrontLaws.{file_goes_on}
+use Rattle.checkpoint_io.proofs.lemmas.ValidityLaws.{goes_on, messages_differ}
 use Rattle.checkpoint_io.proofs.ReadingForms.{read_block_right}
 
 parted : (front back : List ℕ) (told : Told) → with_front front (with_front back told) ≡ with_front (front ++ back) told

@@ -7,8 +7,8 @@ use Rattle.std.proofs.lemmas.List.{length-append, append-nil}
 use Rattle.log_dictionary.specs.declared.message.Message.{Message}
 use Rattle.log_dictionary.specs.declared.dictionary.TheConstants.{MAX_MESSAGES}
 use Rattle.log_dictionary.specs.Messages.{HasMessage, AreDistinct}
-use Rattle.log_dictionary.proofs.Distinct.{is_new}
-use Rattle.log_dictionary.proofs.Distinct.{still_distinct}
+use Rattle.log_dictionary.proofs.lemmas.Distinct.{is_new}
+use Rattle.log_dictionary.proofs.lemmas.Distinct.{still_distinct}
 use Rattle.arg_records.specs.declared.call.Call.{Call}
 use Rattle.buffer_extent.specs.Bodies.{IsBody}
 use Rattle.checkpoint_io.specs.declared.cause.Cause.{Cause}
@@ -18,8 +18,8 @@ use Rattle.checkpoint_io.specs.declared.heads.TheConstants.{MAX_BODY}
 use Rattle.checkpoint_io.specs.Blocks.{Block, Fragment, Extent, Close, messages_of, header_bytes, fragment_head_bytes, extent_head_bytes, SpellsEntries, SpellsFragment, SpellsBlock}
 use Rattle.checkpoint_io.specs.Validity.{records_of, last_stamp, IsClosed, MayStillWrite, DefinesNext, ContinuesWriter, IsRightAfter, IsHeader}
 use Rattle.checkpoint_io.specs.Reading.{ReadOutcome, found, broken, Reads, ReadsNoMore, Unless, ByteThen, NumberThen, MagicThen, ReadsClock, ReadsVersion, ReadsHeader, ReadsEntries, IsBadCount, ReadsCount, ReadsFragment, WriterThen, ReadsBody, ReadsLength, ReadsExtent, ReadsClose, ReadsTagged, ReadsBlock}
-use Rattle.checkpoint_io.proofs.BlockLaws.{fragment_nested, extent_nested}
-use Rattle.checkpoint_io.proofs.FrontLaws.{header_nested}
+use Rattle.checkpoint_io.proofs.lemmas.BlockLaws.{fragment_nested, extent_nested}
+use Rattle.checkpoint_io.proofs.lemmas.FrontLaws.{header_nested}
 
 -- ---- right headers are read
 

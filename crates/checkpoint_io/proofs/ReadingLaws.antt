@@ -4,7 +4,7 @@ use Rattle.std.specs.Prelude.{codes}
 use Rattle.std.specs.Hash.{le_bytes}
 use Rattle.std.proofs.lemmas.List.{length-append}
 use Rattle.log_dictionary.specs.declared.message.Message.{Message}
-use Rattle.log_dictionary.proofs.BinaryLaws.{same_fronts, first_is, others_are, begins_not_cut, cut_not_bad, bad_not_whole}
+use Rattle.log_dictionary.proofs.lemmas.BinaryLaws.{same_fronts, first_is, others_are, begins_not_cut, cut_not_bad, bad_not_whole}
 use Rattle.log_dictionary.specs.Messages.{HasMessage}
 use Rattle.arg_records.specs.declared.call.Call.{Call}
 use Rattle.buffer_extent.specs.declared.fault.Cause.{Cause as BodyCause}
@@ -17,7 +17,7 @@ use Rattle.checkpoint_io.specs.Blocks.{Block, Fragment, Extent, Close, messages_
 use Rattle.checkpoint_io.specs.Validity.{records_of, last_stamp, IsClosed}
 use Rattle.checkpoint_io.specs.declared.heads.TheConstants.{MAX_BODY}
 use Rattle.checkpoint_io.specs.Reading.{IsBadCount, ReadOutcome, found, broken, Reads, Unless, ByteThen, NumberThen, MagicThen, ReadsClock, ReadsWriters, ReadsVersion, ReadsHeader, EntryThen, ReadsEntries, ReadsCount, ReadsFragment, WriterThen, ReadsBody, ReadsLength, ReadsExtent, ReadsClose, ReadsTagged, ReadsBlock}
-use Rattle.checkpoint_io.proofs.BlockLaws.{le_length, same_numbers, one_entry}
+use Rattle.checkpoint_io.proofs.lemmas.BlockLaws.{le_length, same_numbers, one_entry}
 
 -- what is read gives at most one outcome
 abbrev pub GivesOne : {A : Type 0} → (ReadOutcome A → Type 0) → Type 0

@@ -11,10 +11,10 @@ use Rattle.nibble_pack.specs.Bytes.{AreBytes, back_bytes, number_of_bytes, numbe
 use Rattle.log_dictionary.specs.declared.message.Message.{Message}
 use Rattle.log_dictionary.specs.declared.dictionary.TheConstants.{MAX_MESSAGES}
 use Rattle.log_dictionary.specs.Messages.{HasMessage, is_same}
-use Rattle.log_dictionary.proofs.BinaryCases.{entry_cases}
-use Rattle.log_dictionary.proofs.Distinct.{there_from_test, none_from_test}
+use Rattle.log_dictionary.proofs.lemmas.BinaryCases.{entry_cases}
+use Rattle.log_dictionary.proofs.lemmas.Distinct.{there_from_test, none_from_test}
 use Rattle.session_options.specs.declared.limits.TheConstants.{MAX_WRITERS}
-use Rattle.buffer_extent.proofs.BodyCases.{body_or_break}
+use Rattle.buffer_extent.proofs.lemmas.BodyCases.{body_or_break}
 use Rattle.checkpoint_io.specs.declared.cause.Cause.{Cause}
 use Rattle.checkpoint_io.specs.declared.cause.Cause.TheVariants as causes
 use Rattle.checkpoint_io.specs.declared.header.Header.{Header}

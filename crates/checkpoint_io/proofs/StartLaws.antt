@@ -17,8 +17,8 @@ use Rattle.checkpoint_io.specs.Fronts.{Break, at_header}
 use Rattle.checkpoint_io.specs.Places.{UnreadBytes, with_front, log_place, StandsBetween}
 use Rattle.checkpoint_io.specs.Writers.{AreStatesOf}
 use Rattle.checkpoint_io.specs.Readers.{ReaderState, StandsFor}
-use Rattle.checkpoint_io.proofs.BlockLaws.{le_length}
-use Rattle.checkpoint_io.proofs.FrontLaws.{header_nested, empty_file}
+use Rattle.checkpoint_io.proofs.lemmas.BlockLaws.{le_length}
+use Rattle.checkpoint_io.proofs.lemmas.FrontLaws.{header_nested, empty_file}
 use Rattle.checkpoint_io.proofs.ReadingForms.{passed, byte_passed, number_passed, at_most, settled}
 
 -- ---- a header that is read is right

@@ -17,7 +17,7 @@ use Rattle.checkpoint_io.specs.declared.fault.BlockFault.TheVariants.{Damaged, R
 use Rattle.checkpoint_io.specs.declared.header.Header.{Header}
 use Rattle.checkpoint_io.specs.Reading.{ReadOutcome, found, broken, Reads, ReadsNoMore, Unless, NumberThen, MagicThen, header_of, ReadsRate, ReadsNanos, ReadsClock, ReadsWriters, ReadsVersion}
 use Rattle.checkpoint_io.specs.Places.{UnreadBytes, LogPlace, with_front, log_place, further, BytesBetween, StandsBetween, Refuses}
-use Rattle.checkpoint_io.proofs.BlockLaws.{le_length}
+use Rattle.checkpoint_io.proofs.lemmas.BlockLaws.{le_length}
 
 -- ---- numbers at the front of bytes
 

@@ -15,8 +15,8 @@ use Rattle.checkpoint_io.specs.Validity.{Valid}
 use Rattle.checkpoint_io.specs.Reading.{broken, ReadsVersion, ReadsBlock, IsBadCount}
 use Rattle.checkpoint_io.specs.Fronts.{Break, at_header, at_block}
 use Rattle.checkpoint_io.specs.Rows.{row_header, row_blocks, row_header_bytes, row_fragment_bytes, row_bytes}
-use Rattle.checkpoint_io.proofs.FrontLaws.{empty_file, file_goes_on}
-use Rattle.checkpoint_io.proofs.Worked.{fragment_spelled, file, valid}
+use Rattle.checkpoint_io.proofs.lemmas.FrontLaws.{empty_file, file_goes_on}
+use Rattle.checkpoint_io.proofs.lemmas.Worked.{fragment_spelled, file, valid}
 
 right : {X : Type 0} (x : X) → ¬ (x ≢ x)
 right x wrong = wrong refl

@@ -9,7 +9,7 @@ use Rattle.arg_records.specs.declared.call.Call.{Call}
 use Rattle.checkpoint_io.specs.Blocks.{Block, Extent}
 use Rattle.checkpoint_io.specs.Validity.{block_records, records_of, last_stamp, closes}
 use Rattle.checkpoint_io.specs.Writers.{WriterStates, AreStatesOf}
-use Rattle.checkpoint_io.proofs.ValidityLaws.{records-push}
+use Rattle.checkpoint_io.proofs.lemmas.ValidityLaws.{records-push}
 
 -- ---- the last stamp
 

@@ -9,7 +9,7 @@ use Rattle.source_scan.specs.declared.found.Found.TheVariants as found
 use Rattle.source_scan.specs.declared.found.Statement.{Statement}
 use Rattle.source_scan.specs.Spans.{StandFrom}
 use Rattle.source_scan.specs.Statements.{Statements}
-use Rattle.source_scan.proofs.Order.{statements_stand}
+use Rattle.source_scan.proofs.lemmas.Order.{statements_stand}
 use Rattle.code_inject.specs.declared.rewrite.Rewrite.{Rewrite}
 use Rattle.code_inject.specs.Rewrites.{call_by_id, rewritten_from}
 use Rattle.code_inject.specs.Outcomes.{Outcome, IsKnown, AreOutcomes, rewrites_of, refusals_of}

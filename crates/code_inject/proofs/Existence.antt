@@ -6,13 +6,13 @@ use Rattle.std.proofs.lemmas.Bool.{cases_Bool}
 use Rattle.std.proofs.lemmas.Option.{slice_get-get_or}
 use Rattle.log_dictionary.specs.declared.message.Message.{Message}
 use Rattle.log_dictionary.specs.Messages.{is_same, HasMessage, HasId}
-use Rattle.log_dictionary.proofs.Distinct.{there_from_test, none_from_test}
+use Rattle.log_dictionary.proofs.lemmas.Distinct.{there_from_test, none_from_test}
 use Rattle.source_scan.specs.declared.found.Found.{Found}
 use Rattle.source_scan.specs.declared.found.Found.TheVariants as found
 use Rattle.source_scan.specs.Statements.{Statements}
 use Rattle.preprocessor.specs.Findings.{bad_refusal, IsNamed}
 use Rattle.preprocessor.specs.declared.refusal.SourceRefusal.{SourceRefusal}
-use Rattle.preprocessor.proofs.Finding.{statements_are_named}
+use Rattle.preprocessor.proofs.lemmas.Finding.{statements_are_named}
 use Rattle.code_inject.specs.Outcomes.{Outcome, unknown_refusal, IsOutcome, AreOutcomes, refusals_of}
 use Rattle.code_inject.specs.Injected.{HasAnswer}
 

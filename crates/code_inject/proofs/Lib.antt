@@ -1,8 +1,8 @@
-pub mod Gathered
-pub mod Rewriting
-pub mod Sources
-pub mod Worked
-pub mod Unique
-pub mod Differing
-pub mod LineFeeds
-pub mod Existence
+pub mod lemmas
+mod Gathered
+mod Rewriting
+mod Sources
+mod Worked
+mod Differing
+mod LineFeeds
+mod Existence

@@ -6,7 +6,7 @@ use Rattle.std.proofs.lemmas.List.Elements.{All-head, All-tail, filter-append}
 use Rattle.std.proofs.lemmas.Option.{slice_get_within}
 use Rattle.log_dictionary.specs.declared.message.Message.{Message}
 use Rattle.log_dictionary.specs.declared.dictionary.TheConstants.{MAX_MESSAGES}
-use Rattle.log_dictionary.proofs.Lines.{decimal_none}
+use Rattle.log_dictionary.proofs.lemmas.Lines.{decimal_none}
 use Rattle.source_scan.specs.declared.found.Found.{Found}
 use Rattle.source_scan.specs.declared.found.Found.TheVariants as found
 use Rattle.source_scan.specs.Statements.{Statements}

@@ -3,7 +3,7 @@ use Rattle.std.proofs.Common.{◌≡◌, ℕ, List, [], length, sym, subst, ap, 
 use Rattle.log_dictionary.specs.declared.message.Message.{Message}
 use Rattle.source_scan.specs.declared.found.Found.{Found}
 use Rattle.source_scan.specs.Statements.{Statements}
-use Rattle.source_scan.proofs.Order.{statements_stand}
+use Rattle.source_scan.proofs.lemmas.Order.{statements_stand}
 use Rattle.code_inject.specs.declared.rewrite.Rewrite.{Rewrite}
 use Rattle.code_inject.specs.declared.outcomes.Outcomes.{Outcomes}
 use Rattle.code_inject.specs.Rewrites.{rewritten_from, HeadsFrom}

@@ -5,7 +5,7 @@ use Rattle.nl_io.specs.Count.{Rose}
 use Rattle.nl_io.specs.Content.{Told, with_end, PutsFront}
 use Rattle.nl_io.specs.TextWriters.{Carries, IsCutOff}
 use Rattle.nl_io.specs.declared.failed.Failed.{Failed}
-use Rattle.nl_io.proofs.TextWriters.{carries_all, cut_held}
+use Rattle.nl_io.proofs.lemmas.TextWriters.{carries_all, cut_held}
 use Rattle.command_base.specs.Printing.{Prints, printed_ending}
 
 -- a text that was written in one call is printed so

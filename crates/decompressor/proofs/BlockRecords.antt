@@ -11,8 +11,8 @@ use Rattle.checkpoint_io.specs.declared.block.Block.TheVariants as read
 use Rattle.checkpoint_io.specs.Blocks.{Block, Extent}
 use Rattle.checkpoint_io.specs.Validity.{block_records, records_of, Valid}
 use Rattle.checkpoint_io.specs.NextBlocks.{Describes}
-use Rattle.checkpoint_io.proofs.FileLaws.{is_extent}
-use Rattle.checkpoint_io.proofs.ValidityLaws.{records-push, AreRightAfter-split, own_records, other_records}
+use Rattle.checkpoint_io.proofs.lemmas.FileLaws.{is_extent}
+use Rattle.checkpoint_io.proofs.lemmas.ValidityLaws.{records-push, AreRightAfter-split, own_records, other_records}
 use Rattle.log_scan.specs.Parts.{LogPart, with_block, header_alone, StandsNext}
 use Rattle.decompressor.specs.Gathering.{records_by_writer, HoldRecords}
 

@@ -11,7 +11,7 @@ use Rattle.checkpoint_io.specs.declared.header.Header.{Header}
 use Rattle.checkpoint_io.specs.Blocks.{Block, messages_of}
 use Rattle.checkpoint_io.specs.Validity.{records_of, Valid}
 use Rattle.checkpoint_io.specs.Readers.{ReaderState, StandsFor}
-use Rattle.checkpoint_io.proofs.ValidityLaws.{IsCall-front, records_fit, stamps_rise}
+use Rattle.checkpoint_io.proofs.lemmas.ValidityLaws.{IsCall-front, records_fit, stamps_rise}
 use Rattle.log_scan.specs.Parts.{LogPart}
 use Rattle.log_scan.specs.Scans.{HasFront, IsDamagedScan, EndsWhole, IsReaderOf, StandsForAll}
 use Rattle.decompressor.specs.declared.report.Report.{Report}
@@ -19,7 +19,7 @@ use Rattle.decompressor.specs.Decompression.{CallsOf, all_calls, Decompressed, o
 use Rattle.decompressor.specs.Decompressing.{calls_read, text_read, unclosed_read, open_writers, IsTextOfWhole, IsTextOfDamaged}
 use Rattle.decompressor.specs.Gathering.{records_by_writer, HoldRecords}
 use Rattle.decompressor.specs.Printing.{ArePrintable}
-use Rattle.decompressor.proofs.TextLaws.{same_calls, same_flat, numbered}
+use Rattle.decompressor.proofs.lemmas.TextLaws.{same_calls, same_flat, numbered}
 use Rattle.decompressor.proofs.BlockRecords.{writers_are}
 
 -- ---- the calls of what was read

@@ -1,12 +1,11 @@
-pub mod DecompressionLaws
-pub mod TextLaws
-pub mod Merging
-pub mod Taking
-pub mod BlockRecords
-pub mod Endings
-pub mod Lines
-pub mod Unclosed
-pub mod LeftFrom
-pub mod Outcomes
-pub mod Worked
-pub mod SomeText
+pub mod lemmas
+mod Merging
+mod Taking
+mod BlockRecords
+mod Endings
+mod Lines
+mod Unclosed
+mod LeftFrom
+mod Outcomes
+mod Worked
+mod SomeText

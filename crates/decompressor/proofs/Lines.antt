@@ -13,8 +13,8 @@ use Rattle.log_dictionary.specs.Calls.{LogCall}
 use Rattle.arg_records.specs.declared.call.Call.{Call}
 use Rattle.arg_records.specs.Calls.{calls_by_writer}
 use Rattle.direct_printf.specs.Lines.{Line, in_order, Direct}
-use Rattle.direct_printf.proofs.Sorting.{in_order-permutation}
-use Rattle.trace_text.proofs.OwnCalls.{is_of}
+use Rattle.direct_printf.proofs.lemmas.Sorting.{in_order-permutation}
+use Rattle.trace_text.proofs.lemmas.OwnCalls.{is_of}
 use Rattle.decompressor.specs.declared.fault.DecodeFault.{DecodeFault}
 use Rattle.decompressor.specs.Printing.{CutsText, PrintsText, ArePrintable}
 use Rattle.decompressor.proofs.Taking.{IsCallOf, AreCallsOf, AreLeft, IsNext, all_left, next_left, others_left, writers_known}

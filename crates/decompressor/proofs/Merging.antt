@@ -11,11 +11,11 @@ use Rattle.log_dictionary.specs.Calls.{LogCall}
 use Rattle.arg_records.specs.declared.call.Call.{Call}
 use Rattle.arg_records.specs.Calls.{IsCall, log_call, writer_calls, calls_by_writer}
 use Rattle.stamp_merge.specs.Merging.{key_cmp, merged, merge_order}
-use Rattle.stamp_merge.proofs.Comparing.{front_not_less}
-use Rattle.stamp_merge.proofs.Ordering.{IsSortedBy-map}
-use Rattle.stamp_merge.proofs.MergeKeys.{keys_sorted}
+use Rattle.stamp_merge.proofs.lemmas.Comparing.{front_not_less}
+use Rattle.stamp_merge.proofs.lemmas.Ordering.{IsSortedBy-map}
+use Rattle.stamp_merge.proofs.lemmas.MergeKeys.{keys_sorted}
 use Rattle.direct_printf.specs.Lines.{call_before, in_order}
-use Rattle.direct_printf.proofs.Sorting.{in_order-permutation, in_order-rises}
+use Rattle.direct_printf.proofs.lemmas.Sorting.{in_order-permutation, in_order-rises}
 use Rattle.decompressor.specs.Taking.{stamps_of}
 
 -- Keys of calls: each is a stamp and the number of its writer, and they compare by these.

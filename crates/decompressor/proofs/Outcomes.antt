@@ -4,13 +4,13 @@ use Rattle.std.specs.Prelude.{IfSome}
 use Rattle.std.specs.Result.{IsErrAnd}
 use Rattle.nl_io.specs.Count.{Rose}
 use Rattle.nl_io.specs.Content.{Told, with_end, PutsFront}
-use Rattle.nl_io.proofs.Contents.{front-whole}
+use Rattle.nl_io.proofs.lemmas.Contents.{front-whole}
 use Rattle.checkpoint_io.specs.declared.cause.Cause.{Cause}
 use Rattle.log_scan.specs.declared.scan.ScanEnd.{ScanEnd}
 use Rattle.log_scan.specs.declared.scan.ScanEnd.TheVariants.{Whole, Damaged, ReadFault}
 use Rattle.log_scan.specs.Parts.{LogPart}
 use Rattle.log_scan.specs.Scans.{EndsWhole, IsDamagedScan, BeginsWithin, EndsScan}
-use Rattle.log_scan.proofs.Ends.{some_of}
+use Rattle.log_scan.proofs.lemmas.Ends.{some_of}
 use Rattle.decompressor.specs.declared.fault.DecodeFault.{DecodeFault}
 use Rattle.decompressor.specs.declared.fault.DecodeFault.TheVariants as faults
 use Rattle.decompressor.specs.declared.report.Report.{Report}

@@ -1,6 +1,6 @@
 -- Each file stands for a text.
 use Rattle.std.proofs.Common.{inl, inr, ℕ, ◌<◌, List, [], All, refl}
-use Rattle.checkpoint_io.proofs.Wholeness.{front_or_none}
+use Rattle.checkpoint_io.proofs.lemmas.Wholeness.{front_or_none}
 use Rattle.direct_printf.specs.Lines.{Direct}
 use Rattle.decompressor.specs.Decompression.{all_calls, Decompressed, of_front, of_nothing}
 

@@ -13,8 +13,8 @@ use Rattle.log_dictionary.specs.Calls.{LogCall}
 use Rattle.arg_records.specs.declared.call.Call.{Call}
 use Rattle.arg_records.specs.Calls.{IsCall, NeverFalls, log_call, writer_calls, calls_by_writer}
 use Rattle.direct_printf.specs.Lines.{in_order}
-use Rattle.direct_printf.proofs.Sorting.{in_order-permutation}
-use Rattle.trace_text.proofs.OwnCalls.{is_of, own_in_order}
+use Rattle.direct_printf.proofs.lemmas.Sorting.{in_order-permutation}
+use Rattle.trace_text.proofs.lemmas.OwnCalls.{is_of, own_in_order}
 
 -- the call is the record's, and not before the tick
 pub record IsCallOf (messages : List Message) (tick : ℕ) (call : LogCall) (entry : Call) : Type 0 where

@@ -5,9 +5,9 @@ use Rattle.direct_printf.specs.Fields.{Digits, Field, pieces_text, Text}
 use Rattle.stamp_merge.specs.Ordering.{insert_by, in_order_by}
 use Rattle.direct_printf.specs.Lines.{Line, Direct}
 use Rattle.checkpoint_io.specs.Rows.{row_header, row_blocks, row_bytes}
-use Rattle.checkpoint_io.proofs.Worked.{file, valid}
+use Rattle.checkpoint_io.proofs.lemmas.Worked.{file, valid}
 use Rattle.decompressor.specs.Decompression.{all_calls, Decompressed}
-use Rattle.decompressor.proofs.DecompressionLaws.{whole_is_text}
+use Rattle.decompressor.proofs.lemmas.DecompressionLaws.{whole_is_text}
 use Rattle.decompressor.specs.Rows.{row_line, three_writers, mixed_blocks, mixed_lines}
 
 one_line : Direct row_header.clock (all_calls row_header row_blocks) ≡ row_line

@@ -16,7 +16,7 @@ use Rattle.command_base.specs.Printing.{Prints}
 use Rattle.command_base.specs.Scenes.{Scene, scene}
 use Rattle.trace_commands.specs.Traces.{IsRefusedBy, GivesNoText, DictionaryRead}
 use Rattle.dictionary_commands.specs.Heading.{header_of, GivesHeader, header_task}
-use Rattle.dictionary_commands.proofs.Soundness.{header_sound}
+use Rattle.dictionary_commands.proofs.lemmas.Soundness.{header_sound}
 
 module _ (dictionary output : List ℕ) (old : Scene) (desk : Desk) where
   -- the dictionary gave no messages

@@ -18,7 +18,7 @@ use Rattle.trace_text.specs.Dictionaries.{DictionaryBreak}
 use Rattle.code_inject.specs.Injected.{InjectsSource}
 use Rattle.trace_commands.specs.Traces.{GivesNoText, DictionaryRead}
 use Rattle.dictionary_commands.specs.Injecting.{IsLarge, GivesNoSource, IsRefusedSource, IsSource, injected_of, GivesInjected, inject_task}
-use Rattle.dictionary_commands.proofs.Soundness.{inject_sound}
+use Rattle.dictionary_commands.proofs.lemmas.Soundness.{inject_sound}
 
 -- bytes that aren't injected give nothing
 refused_reads : (source : List ℕ) (messages : List Message) (bytes : List ℕ) (old new : Desk) (ending : Ending) → new ≡ old → IsSource old source bytes → IsRefusedSource source bytes messages ending

@@ -1,4 +1,4 @@
-pub mod Soundness
-pub mod Counts
-pub mod Injections
-pub mod Headings
+pub mod lemmas
+mod Counts
+mod Injections
+mod Headings

@@ -8,7 +8,7 @@ use Rattle.printf_grammar.specs.declared.arg_type.ArgType.{ArgType}
 use Rattle.printf_grammar.specs.declared.arg_type.ArgType.TheVariants.{Width, Precision}
 use Rattle.printf_grammar.specs.declared.argument.Value.{Value}
 use Rattle.printf_grammar.specs.Types.{Fits, size_types, field_types}
-use Rattle.printf_grammar.proofs.Fitting.{Fits-length_of_args}
+use Rattle.printf_grammar.proofs.lemmas.Fitting.{Fits-length_of_args}
 use Rattle.direct_printf.specs.Fields.{Field, padded, converted, is_integer, width_of, is_left_star, precision_of, stars, argument_at, argument_count, signed_of}
 
 size_types-stars : (type : ArgType) (size : Size) → length (size_types type size) ≡ stars size

@@ -1,9 +1,9 @@
-pub mod Wrapping
-pub mod Padded
-pub mod Plain
-pub mod Spelling
-pub mod Rest
-pub mod Arguments
-pub mod Formats
-pub mod Joining
-pub mod Sorting
+pub mod lemmas
+mod Wrapping
+mod Padded
+mod Plain
+mod Spelling
+mod Rest
+mod Arguments
+mod Formats
+mod Joining

@@ -1,4 +1,4 @@
-pub mod Told
-pub mod Totals
-pub mod Texts
-pub mod Soundness
+pub mod lemmas
+mod Told
+mod Totals
+mod Texts

@@ -23,7 +23,7 @@ use Rattle.command_base.specs.Tasks.{Streaming, text_alone}
 use Rattle.log_commands.specs.Logs.{IsLog}
 use Rattle.log_commands.specs.Decompressing.{writers_text, whole_ending, log_ending, GivesText, BeginsText, decompress_task}
 use Rattle.log_commands.proofs.Told.{text_told}
-use Rattle.log_commands.proofs.Soundness.{decompress_sound}
+use Rattle.log_commands.proofs.lemmas.Soundness.{decompress_sound}
 
 -- ---- what was read
 

@@ -12,7 +12,7 @@ use Rattle.log_dictionary.specs.declared.message.Message.{Message}
 use Rattle.log_dictionary.specs.BinaryEntries.{RawEntry, raw_entry_bytes, raw_of, entry_bytes, SpellsEntry, IsCutEntry, IsOutOfRange, IsBadEntry}
 use Rattle.log_dictionary.specs.BinaryEntries.IsBadEntry.{out_of_range, refused}
 use Rattle.log_dictionary.specs.EntryReading.{EntryStops, BeginsWithRawEntry}
-use Rattle.log_dictionary.proofs.BinaryLaws.{entry_in_range, same_as_message, one_entry, cut_not_whole, cut_in_range, cut_not_bad, whole_in_range, bad_not_whole}
+use Rattle.log_dictionary.proofs.lemmas.BinaryLaws.{entry_in_range, same_as_message, one_entry, cut_not_whole, cut_in_range, cut_not_bad, whole_in_range, bad_not_whole}
 
 widened : (fault : EntryFault) (cut wrong cut_whole wrong_whole : Type 0) → (cut → cut_whole) → (wrong → wrong_whole) → EntryStops fault cut wrong → EntryStops fault cut_whole wrong_whole
 widened Cut cut wrong cut_whole wrong_whole f g stops = f stops

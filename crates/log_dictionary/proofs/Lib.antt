@@ -1,24 +1,9 @@
-pub mod Decimals
-pub mod NumberLemmas
-pub mod NumberLaws
-pub mod TextLemmas
-pub mod TextRuns
-pub mod TextLaws
-pub mod FieldLemmas
-pub mod Splits
-pub mod Lines
-pub mod SameMessages
-pub mod Distinct
-pub mod BinaryNumbers
-pub mod BinaryLaws
-pub mod BinaryReading
-pub mod BinaryCases
-pub mod BinaryWorked
-pub mod Putting
-pub mod LineParts
-pub mod LineMessages
-pub mod LineLaws
-pub mod Appending
-pub mod Written
-pub mod Places
-pub mod LineWorked
+pub mod lemmas
+mod Decimals
+mod NumberLemmas
+mod TextLemmas
+mod TextRuns
+mod BinaryNumbers
+mod BinaryReading
+mod LineParts
+mod Places

@@ -13,10 +13,10 @@ use Rattle.log_dictionary.specs.Severities.{severity_name}
 use Rattle.log_dictionary.specs.Texts.{SpellsText, text_at}
 use Rattle.log_dictionary.specs.Fields.{◌>>=◌, split_at_first, after}
 use Rattle.log_dictionary.specs.MessageLines.{SpelledParts, parts_at, MessageLineFields, SpellsParts}
-use Rattle.log_dictionary.proofs.Splits.{split_again, split_takes, after_takes}
-use Rattle.log_dictionary.proofs.Lines.{severity_none, natural_none, decimal_none}
-use Rattle.log_dictionary.proofs.SameMessages.{same_names}
-use Rattle.log_dictionary.proofs.TextLaws.{opens_read, read_opens_text}
+use Rattle.log_dictionary.proofs.lemmas.Splits.{split_again, split_takes, after_takes}
+use Rattle.log_dictionary.proofs.lemmas.Lines.{severity_none, natural_none, decimal_none}
+use Rattle.log_dictionary.proofs.lemmas.SameMessages.{same_names}
+use Rattle.log_dictionary.proofs.lemmas.TextLaws.{opens_read, read_opens_text}
 
 -- ---- a line with its parts
 

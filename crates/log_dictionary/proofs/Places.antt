@@ -17,7 +17,7 @@ use Rattle.log_dictionary.specs.declared.message.Message.{Message}
 use Rattle.log_dictionary.specs.BinaryEntries.{SpellsEntry, entry_bytes}
 use Rattle.log_dictionary.specs.Messages.{SameMessage, HasMessage, HasId}
 use Rattle.log_dictionary.specs.Places.{place_at, IsPlace, ArePlaces}
-use Rattle.log_dictionary.proofs.BinaryLaws.{one_spelling}
+use Rattle.log_dictionary.proofs.lemmas.BinaryLaws.{one_spelling}
 
 -- the order of the keys
 abbrev by_items : Vec ℕ Global → Vec ℕ Global → Ordering

@@ -10,7 +10,7 @@ use Rattle.log_dictionary.specs.BinaryEntries.{entry_bytes}
 use Rattle.arg_records.specs.declared.call.Call.{Call}
 use Rattle.checkpoint_io.specs.Blocks.{Block, Fragment, Extent, Close, SpellsEntries, SpellsBlocks, fragment_head_bytes, extent_head_bytes}
 use Rattle.checkpoint_io.specs.Logs.{AreFragments}
-use Rattle.checkpoint_io.proofs.BlockLaws.{le_length}
+use Rattle.checkpoint_io.proofs.lemmas.BlockLaws.{le_length}
 use Rattle.roaming_consumer.specs.Visits.{AreBytesFor}
 use Rattle.log_ends.specs.declared.rooms.TheConstants.{FRAGMENT_HEAD_LEN, EXTENT_HEAD_LEN}
 use Rattle.log_ends.specs.Rooms.{definitions_len, visit_len}

@@ -9,7 +9,7 @@ use Rattle.nl_io.specs.Content.{PutsFront}
 use Rattle.word_ring.specs.Ends.{WordRoamerEnd}
 use Rattle.checkpoint_io.specs.declared.header.Header.{Header}
 use Rattle.checkpoint_io.specs.Blocks.{header_bytes, close_bytes}
-use Rattle.checkpoint_io.proofs.BlockLaws.{le_length}
+use Rattle.checkpoint_io.proofs.lemmas.BlockLaws.{le_length}
 use Rattle.roaming_consumer.specs.declared.roamer.Roamer.{Roamer}
 use Rattle.roaming_consumer.specs.declared.visit.Visit.{Visit}
 use Rattle.roaming_consumer.specs.declared.visit.SinkFault.{SinkFault}

@@ -15,13 +15,13 @@ use Rattle.checkpoint_io.specs.Fronts.{Break}
 use Rattle.checkpoint_io.specs.Places.{with_front}
 use Rattle.checkpoint_io.specs.Readers.{ReaderState, StandsFor}
 use Rattle.checkpoint_io.specs.NextBlocks.{TakesNext, EndsThere, AnswersNext, StopsAt}
-use Rattle.checkpoint_io.proofs.FileLaws.{file_on, file_begins, file_ends, offset_rises, offset_within}
+use Rattle.checkpoint_io.proofs.lemmas.FileLaws.{file_on, file_begins, file_ends, offset_rises, offset_within}
 use Rattle.log_scan.specs.declared.scan.ScanEnd.{ScanEnd}
 use Rattle.log_scan.specs.declared.scan.ScanEnd.TheVariants.{Whole, Damaged, ReadFault}
 use Rattle.log_scan.specs.declared.scan.Scan.{Scan}
 use Rattle.log_scan.specs.Parts.{LogPart, header_alone, with_block, log_part, StandsNext}
 use Rattle.log_scan.specs.Scans.{EndsScan, ReaderKnows, scan_of, Scans, EndsAtHeader}
-use Rattle.log_scan.proofs.Ends.{some_of, some_of_both, some_always, is_whole_scan, begins_within, is_damaged_scan, header_damaged}
+use Rattle.log_scan.proofs.lemmas.Ends.{some_of, some_of_both, some_always, is_whole_scan, begins_within, is_damaged_scan, header_damaged}
 
 -- the reader stands in the file behind blocks that were folded
 pub record IsOn {V : Type 0} (has : V → Option LogPart → Type 0) (file : Told) (reader : ReaderState) (fold : V) (left : Told) : Type 0 where

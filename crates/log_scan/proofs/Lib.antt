@@ -1,2 +1,2 @@
-pub mod Ends
-pub mod BlockScans
+pub mod lemmas
+mod BlockScans

@@ -1,3 +1,3 @@
+pub mod lemmas
 mod Logging
 mod Rings
-pub mod Walks

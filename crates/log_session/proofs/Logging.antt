@@ -18,12 +18,12 @@ use Rattle.arg_records.specs.declared.call.Call.{Call}
 use Rattle.arg_records.specs.Calls.{last_stamp}
 use Rattle.arg_records.specs.Frames.{AreArguments, Frame, FrameLen}
 use Rattle.arg_records.specs.Kinds.{HoldsBytes}
-use Rattle.arg_records.proofs.Fitted.{AreArguments-from_Fits}
+use Rattle.arg_records.proofs.lemmas.Fitted.{AreArguments-from_Fits}
 use Rattle.ring_core.specs.Plans.{Plan, plan_of, call_of, AreFramesOf, MayFollow, Lawful}
 use Rattle.ring_core.specs.Positions.{Need, Position, position_from}
-use Rattle.ring_core.proofs.Frames.{AreFramesOf-push, last_stamp-push}
-use Rattle.ring_core.proofs.Needs.{Need-within, Need-beyond, position_from-push}
-use Rattle.ring_core.proofs.OneReading.{AreFramesOf-unique}
+use Rattle.ring_core.proofs.lemmas.Frames.{AreFramesOf-push, last_stamp-push}
+use Rattle.ring_core.proofs.lemmas.Needs.{Need-within, Need-beyond, position_from-push}
+use Rattle.ring_core.proofs.lemmas.OneReading.{AreFramesOf-unique}
 use Rattle.log_session.specs.Writers.{WriterView, IsDictionaryPlan, Knows, AppendsCall, HasLogged, knows_taken}
 
 -- ---- positions

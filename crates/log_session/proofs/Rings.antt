@@ -7,7 +7,7 @@ use Rattle.std.proofs.lemmas.List.Elements.{All-nil, All-cons}
 use Rattle.std.proofs.lemmas.List.Sums.{sum_by_push, sum_by-cons}
 use Rattle.log_session.specs.Starts.{AllZipMore}
 use Rattle.log_session.specs.Settling.{AllZip3}
-use Rattle.log_session.proofs.Walks.{AllZip-snoc}
+use Rattle.log_session.proofs.lemmas.Walks.{AllZip-snoc}
 
 -- with one pair more it holds of all, and there is one more
 pub zip_more : {A B : Type 0} (R : A → B → Type 0) (xs : List A) (ys : List B) (more_xs : List A) (more_ys : List B) → AllZip R xs ys → AllZipMore R xs ys more_xs more_ys → AllZip R more_xs more_ys

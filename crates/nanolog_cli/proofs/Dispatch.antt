@@ -15,7 +15,7 @@ use Rattle.command_base.specs.declared.status.Status.{Status}
 use Rattle.command_base.specs.declared.status.Status.TheVariants as statuses
 use Rattle.command_base.specs.Scenes.{Scene}
 use Rattle.session_commands.specs.Headline.{Headline}
-use Rattle.session_commands.proofs.Headlines.{headline_follows}
+use Rattle.session_commands.proofs.lemmas.Headlines.{headline_follows}
 use Rattle.nanolog_cli.specs.Outcomes.{quick_part, AnswersRead, Answers}
 
 -- the words are no command, and nothing was done

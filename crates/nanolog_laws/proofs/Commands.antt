@@ -3,10 +3,10 @@ use Rattle.cli_words.specs.Commands.{Command, Preprocess, Direct, Replay, Decomp
 use Rattle.command_base.specs.Soundness.{IsSound}
 use Rattle.source_commands.specs.Preprocessing.{GiveDictionary}
 use Rattle.source_commands.specs.SourceLaws.{source_sound}
-use Rattle.trace_commands.proofs.Soundness.{direct_sound, generate_sound}
-use Rattle.dictionary_commands.proofs.Soundness.{header_sound, inject_sound}
-use Rattle.log_commands.proofs.Soundness.{decompress_sound, aggregate_sound}
-use Rattle.session_commands.proofs.Soundness.{replay_sound, selftest_sound}
+use Rattle.trace_commands.proofs.lemmas.Soundness.{direct_sound, generate_sound}
+use Rattle.dictionary_commands.proofs.lemmas.Soundness.{header_sound, inject_sound}
+use Rattle.log_commands.proofs.lemmas.Soundness.{decompress_sound, aggregate_sound}
+use Rattle.session_commands.proofs.lemmas.Soundness.{replay_sound, selftest_sound}
 use Rattle.std.proofs.Common.{Some}
 use Rattle.nanolog_cli.specs.Outcomes.{task_of}
 

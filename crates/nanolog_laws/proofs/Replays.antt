@@ -11,16 +11,16 @@ use Rattle.arg_records.specs.declared.call.Call.{Call}
 use Rattle.checkpoint_io.specs.declared.heads.TheConstants.{MAX_LOG}
 use Rattle.checkpoint_io.specs.Blocks.{Block}
 use Rattle.checkpoint_io.specs.Validity.{IsClosed, closes}
-use Rattle.checkpoint_io.proofs.FrontLaws.{one_front, whole_is_front}
+use Rattle.checkpoint_io.proofs.lemmas.FrontLaws.{one_front, whole_is_front}
 use Rattle.decompressor.specs.declared.report.Report.{Report}
 use Rattle.decompressor.specs.declared.fault.DecodeFault.{DecodeFault}
 use Rattle.decompressor.specs.declared.fault.DecodeFault.TheVariants as faults
 use Rattle.decompressor.specs.Decompressing.{open_writers, IsTextOfWhole}
-use Rattle.decompressor.proofs.DecompressionLaws.{one_text}
-use Rattle.decompressor.proofs.TextLaws.{log_is_text}
+use Rattle.decompressor.proofs.lemmas.DecompressionLaws.{one_text}
+use Rattle.decompressor.proofs.lemmas.TextLaws.{log_is_text}
 use Rattle.trace_text.specs.Recordings.{Recording, IsRecording}
 use Rattle.trace_text.specs.Traces.{TraceText}
-use Rattle.trace_text.proofs.ToldApart.{one_run}
+use Rattle.trace_text.proofs.lemmas.ToldApart.{one_run}
 use Rattle.session_options.specs.declared.options.Options.{Options}
 use Rattle.session_options.specs.declared.options.Policy.TheVariants as policies
 use Rattle.trace_session.specs.declared.drops.Dropped.{Dropped}
@@ -39,11 +39,11 @@ use Rattle.trace_commands.specs.Traces.{TraceRead}
 use Rattle.trace_commands.specs.Tasks.{direct_task}
 use Rattle.log_commands.specs.Logs.{IsLog}
 use Rattle.log_commands.specs.Decompressing.{whole_ending, log_ending, HaveText, decompress_task}
-use Rattle.log_commands.proofs.Soundness.{not_damaged, decompress_sound}
+use Rattle.log_commands.proofs.lemmas.Soundness.{not_damaged, decompress_sound}
 use Rattle.session_commands.specs.Headline.{taken_text, LogLawful, TextSame}
 use Rattle.session_commands.specs.Replays.{replay_task}
-use Rattle.session_commands.proofs.Headlines.{only_log}
-use Rattle.session_commands.proofs.WholeRuns.{whole_text}
+use Rattle.session_commands.proofs.lemmas.Headlines.{only_log}
+use Rattle.session_commands.proofs.lemmas.WholeRuns.{whole_text}
 
 some_same : {A : Type 0} (a b : A) → Some a ≡ Some b → a ≡ b
 some_same a b e = cc

@@ -1,7 +1,5 @@
-pub mod Ids
-pub mod Contents
-pub mod TextWriters
-pub mod Tables
-pub mod Shelves
-pub mod Names
-pub mod Outcomes
+pub mod lemmas
+mod Ids
+mod Tables
+mod Shelves
+mod Names

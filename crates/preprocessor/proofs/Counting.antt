@@ -9,7 +9,7 @@ use Rattle.preprocessor.specs.Findings.{SourceFile, Finding, large_refusal, AreF
 use Rattle.preprocessor.specs.Findings.HasFindings.{too_large, scanned}
 use Rattle.preprocessor.specs.Numbering.{firsts, HoldsFindings, NumbersSources}
 use Rattle.preprocessor.specs.Numbering.NumbersSources.{all_read, stopped}
-use Rattle.preprocessor.proofs.Finding.{have_findings, statements_are_named}
+use Rattle.preprocessor.proofs.lemmas.Finding.{have_findings, statements_are_named}
 
 have_more : (files : List SourceFile) (file : SourceFile) (findings more : List Finding) → AllHave files findings → HasFindings file more → AllHave (files ++ file ∷ []) (findings ++ more)
 have_more [] file findings more none has = (more, [], ap (λ (l : List Finding). l ++ more) none ∙ sym (append-nil more), has, refl)

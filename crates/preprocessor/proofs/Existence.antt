@@ -7,7 +7,7 @@ use Rattle.std.proofs.lemmas.List.{get_or-map, length-map}
 use Rattle.log_dictionary.specs.declared.message.Message.{Message}
 use Rattle.log_dictionary.specs.declared.dictionary.TheConstants.{MAX_MESSAGES}
 use Rattle.log_dictionary.specs.Messages.{is_same}
-use Rattle.log_dictionary.proofs.Distinct.{none_from_test}
+use Rattle.log_dictionary.proofs.lemmas.Distinct.{none_from_test}
 use Rattle.source_scan.specs.declared.found.Found.{Found}
 use Rattle.source_scan.specs.Statements.{Statements}
 use Rattle.source_scan.specs.declared.statement.TheConstants.{MAX_SOURCE}
@@ -16,8 +16,8 @@ use Rattle.preprocessor.specs.Findings.{SourceFile, Finding, large_refusal, HasF
 use Rattle.preprocessor.specs.Findings.HasFindings.{too_large, scanned}
 use Rattle.preprocessor.specs.Numbering.{stated_messages, firsts, numbered, refusals_of, excess_refusal, IsFullAt, Numbered, Refusals}
 use Rattle.preprocessor.specs.Numbering.Refusals.{all_read, stopped}
-use Rattle.preprocessor.proofs.Behind.{one_longer}
-use Rattle.preprocessor.proofs.Finding.{have_findings, statements_are_named}
+use Rattle.preprocessor.proofs.lemmas.Behind.{one_longer}
+use Rattle.preprocessor.proofs.lemmas.Finding.{have_findings, statements_are_named}
 use Rattle.preprocessor.proofs.Firsts.{with_new, firsts-push}
 use Rattle.preprocessor.proofs.Holding.{messages-push}
 

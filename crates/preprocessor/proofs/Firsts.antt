@@ -9,7 +9,7 @@ use Rattle.log_dictionary.specs.declared.dictionary.Added.{Added}
 use Rattle.log_dictionary.specs.declared.dictionary.Added.TheVariants.{Old, New}
 use Rattle.log_dictionary.specs.Messages.{is_same}
 use Rattle.log_dictionary.specs.Additions.{IsAdded}
-use Rattle.log_dictionary.proofs.Distinct.{same_from_test, test_from_same, id_is_there, there_from_test, test_from_there}
+use Rattle.log_dictionary.proofs.lemmas.Distinct.{same_from_test, test_from_same, id_is_there, there_from_test, test_from_there}
 use Rattle.preprocessor.specs.Numbering.{firsts}
 
 -- ---- the test

@@ -1,9 +1,6 @@
-pub mod Behind
-pub mod Counting
-pub mod Existence
-pub mod Finding
-pub mod Firsts
-pub mod Holding
-pub mod Once
-pub mod RefusalLines
-pub mod Told
+pub mod lemmas
+mod Counting
+mod Existence
+mod Firsts
+mod Holding
+mod RefusalLines

@@ -1,15 +1,10 @@
-pub mod Behind
-pub mod Fields
-pub mod Fitting
-pub mod Longer
-pub mod NarrowLaws
-pub mod Numbers
-pub mod Reading
-pub mod Runs
-pub mod Shortening
-pub mod Sizes
-pub mod Steps
-pub mod Taking
-pub mod Total
-pub mod Unique
-pub mod Worked
+pub mod lemmas
+mod Behind
+mod Fields
+mod Longer
+mod Numbers
+mod Reading
+mod Runs
+mod Sizes
+mod Steps
+mod Taking

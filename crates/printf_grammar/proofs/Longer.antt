@@ -17,7 +17,7 @@ use Rattle.printf_grammar.specs.Breaks.{Head, IsHead, IsModifier, head_bytes, is
 use Rattle.printf_grammar.proofs.Runs.{all_join}
 use Rattle.printf_grammar.proofs.Numbers.{digits_width, width_digits, width_some, width_first}
 use Rattle.printf_grammar.proofs.Sizes.{stars_join}
-use Rattle.printf_grammar.proofs.Shortening.{head_of, plain, no_star_in, flags_end, width_end, precision_end, no_digits}
+use Rattle.printf_grammar.proofs.lemmas.Shortening.{head_of, plain, no_star_in, flags_end, width_end, precision_end, no_digits}
 
 -- ---- no cause fits
 

@@ -23,7 +23,7 @@ use Rattle.printf_grammar.proofs.Numbers.{width_digits, width_some, no_star}
 use Rattle.printf_grammar.proofs.Sizes.{stars_join, width_stars, precision_stars}
 use Rattle.printf_grammar.proofs.Reading.{EndsWithoutLiteral, spelled_more}
 use Rattle.printf_grammar.proofs.Runs.{all_front, all_back}
-use Rattle.printf_grammar.proofs.Shortening.{snoc_cases, snoc_parts, head_of, extend, shorter}
+use Rattle.printf_grammar.proofs.lemmas.Shortening.{snoc_cases, snoc_parts, head_of, extend, shorter}
 use Rattle.printf_grammar.proofs.Taking.{Types-append}
 
 -- ---- what a head and a conversion make

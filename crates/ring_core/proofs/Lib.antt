@@ -1,5 +1,3 @@
-pub mod Frames
-pub mod Needs
-pub mod DictionaryCalls
-pub mod Storing
-pub mod OneReading
+pub mod lemmas
+mod DictionaryCalls
+mod Storing

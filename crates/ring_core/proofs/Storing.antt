@@ -10,7 +10,7 @@ use Rattle.nl_io.specs.Count.{counted}
 use Rattle.ring_core.specs.declared.stored_out.StoredOut.TheInside.{Inside}
 use Rattle.ring_core.specs.Stored.{stored_frames, end_after}
 use Rattle.ring_core.specs.StoredInside.{entry_words, end_of}
-use Rattle.ring_core.proofs.Frames.{Lawful-front, Lawful-lengths}
+use Rattle.ring_core.proofs.lemmas.Frames.{Lawful-front, Lawful-lengths}
 
 -- the frames of one list behind those of another
 pub stored_frames-append : (xs ys : List (Option (List ℕ))) → stored_frames (xs ++ ys) ≡ stored_frames xs ++ stored_frames ys

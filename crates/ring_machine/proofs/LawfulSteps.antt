@@ -7,9 +7,9 @@ use Rattle.ring_machine.specs.declared.steps.Step.TheVariants as steps
 use Rattle.ring_machine.specs.Streams.{Walk, is_whole_frame, is_wrap_mark, onward}
 use Rattle.ring_machine.specs.RingStates.{RingState, written, RingOk, RingLawful}
 use Rattle.ring_machine.specs.Steps.{barred, after_step, stored, is_store}
-use Rattle.ring_machine.proofs.Walks.{onward_cases, onward-skipped, walk-push}
+use Rattle.ring_machine.proofs.lemmas.Walks.{onward_cases, onward-skipped, walk-push}
 use Rattle.ring_machine.proofs.Tests.{skip_open}
-use Rattle.ring_machine.proofs.Schedules.{RingOk-after, lawful_read}
+use Rattle.ring_machine.proofs.lemmas.Schedules.{RingOk-after, lawful_read}
 
 pub lawful_stored : (plan : Plan) (s : RingState) (word : ℕ) → RingLawful plan s
     → (is_whole_frame ((written s).part ++ word ∷ []) ≡ true → Lawful plan ((written s).frames ++ ((written s).part ++ word ∷ []) ∷ [])) → RingLawful plan (stored s word)

@@ -1,7 +1,5 @@
-pub mod Walks
-pub mod Places
-pub mod Tests
-pub mod StepLaws
-pub mod Schedules
-pub mod LawfulSteps
-pub mod Reaching
+pub mod lemmas
+mod Places
+mod Tests
+mod LawfulSteps
+mod Reaching

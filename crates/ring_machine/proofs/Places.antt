@@ -3,7 +3,7 @@ use Rattle.std.proofs.Common.{◌≡◌, ◌≢◌, ℕ, ◌+◌, ◌%◌, ◌/�
 use Rattle.std.specs.Prelude.{◌⊎◌}
 use Rattle.std.proofs.lemmas.Bool.{cases_lt}
 use Rattle.std.proofs.Math.Nat.{div-add-mod, mul-le-mul_left}
-use Rattle.ring_machine.proofs.Walks.{two_fronts}
+use Rattle.ring_machine.proofs.lemmas.Walks.{two_fronts}
 
 -- two positions less than the ring's size apart have different places
 pub places_apart : (p q size : ℕ) → p < q → q < p + size → p % size ≢ q % size

@@ -5,7 +5,7 @@ use Rattle.ring_machine.specs.declared.reach.Reach.{Reach}
 use Rattle.ring_machine.specs.Streams.{Walk, onward, Begins, Wraps, MayCome}
 use Rattle.ring_machine.specs.Steps.{is_inside}
 use Rattle.ring_machine.specs.Reaches.{IsReach}
-use Rattle.ring_machine.proofs.Walks.{onward_cases}
+use Rattle.ring_machine.proofs.lemmas.Walks.{onward_cases}
 
 abbrev pub reach : ℕ → ℕ → ℕ → Reach
 reach at left frames = record { at = at; left = left; frames = frames }

@@ -13,8 +13,8 @@ use Rattle.checkpoint_io.specs.Blocks.{Fragment, fragment_head_bytes, SpellsEntr
 use Rattle.checkpoint_io.specs.Logs.{AreFragments}
 use Rattle.roaming_consumer.specs.Growth.{FragmentsFor}
 use Rattle.roaming_consumer.specs.Sinks.{SendsFragments}
-use Rattle.roaming_consumer.proofs.Sending.{with_end-nil, with_end-append, sends_then, sends_stop}
-use Rattle.checkpoint_io.proofs.BlockLaws.{le_length}
+use Rattle.roaming_consumer.proofs.lemmas.Sending.{with_end-nil, with_end-append, sends_then, sends_stop}
+use Rattle.checkpoint_io.proofs.lemmas.BlockLaws.{le_length}
 
 pub entries_push : (messages : List Message) (message : Message) (bytes entry : List ℕ) → SpellsEntries messages bytes → SpellsEntry entry message → SpellsEntries (messages ++ message ∷ []) (bytes ++ entry)
 entries_push [] message bytes entry none is = (entry, [], ap (λ (b : List ℕ). b ++ entry) none ∙ sym (append-nil entry), is, refl)

@@ -18,9 +18,9 @@ use Rattle.checkpoint_io.specs.declared.header.Header.{Header}
 use Rattle.checkpoint_io.specs.Blocks.{Block, Fragment, Extent, Close, block_messages, messages_of, header_bytes, close_bytes, SpellsBlocks, SpellsExtent, SpellsClose, FileOf}
 use Rattle.checkpoint_io.specs.Validity.{block_records, records_of, closes, IsClosed, DefinesNext, AreRightAfter, IsHeader, Valid}
 use Rattle.checkpoint_io.specs.Logs.{ids_used, new_messages, AreFragments, IsLaidOut, ends, extent, close, LogOf}
-use Rattle.checkpoint_io.proofs.FrontLaws.{empty_file, file_goes_on}
-use Rattle.checkpoint_io.proofs.LogLaws.{messages_of-AreFragments, laid_out_join}
-use Rattle.checkpoint_io.proofs.ValidityLaws.{messages-push, records-push, AreRightAfter-append, goes_on}
+use Rattle.checkpoint_io.proofs.lemmas.FrontLaws.{empty_file, file_goes_on}
+use Rattle.checkpoint_io.proofs.lemmas.LogLaws.{messages_of-AreFragments, laid_out_join}
+use Rattle.checkpoint_io.proofs.lemmas.ValidityLaws.{messages-push, records-push, AreRightAfter-append, goes_on}
 use Rattle.roaming_consumer.specs.Growth.{LogProgress, IsLogSoFar, with_calls, IsNext, progress_behind, progress_closing}
 use Rattle.roaming_consumer.proofs.Used.{distinct_front, new_behind, ids_known, calls_of_front, spelled_with_front}
 use Rattle.roaming_consumer.proofs.Lists.{at_one, more_at_one, none_each}

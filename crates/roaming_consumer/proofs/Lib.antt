@@ -1,10 +1,9 @@
-pub mod Used
-pub mod Lists
-pub mod Growth
-pub mod Drafting
-pub mod Sending
-pub mod Fragmenting
-pub mod TakenFrames
-pub mod Standing
-pub mod Marking
-pub mod Stopping
+pub mod lemmas
+mod Used
+mod Lists
+mod Growth
+mod Drafting
+mod Fragmenting
+mod TakenFrames
+mod Standing
+mod Stopping

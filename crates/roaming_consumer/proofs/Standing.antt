@@ -18,7 +18,7 @@ use Rattle.checkpoint_io.specs.Blocks.{SpellsExtent, header_bytes, extent_head_b
 use Rattle.checkpoint_io.specs.Validity.{IsHeader}
 use Rattle.checkpoint_io.specs.Logs.{ids_used, new_messages}
 use Rattle.ring_core.specs.Plans.{Plan, plan_of, frames_of, AreFramesOf}
-use Rattle.ring_core.proofs.Frames.{AreFramesOf-nil}
+use Rattle.ring_core.proofs.lemmas.Frames.{AreFramesOf-nil}
 use Rattle.roaming_consumer.specs.declared.draft.Draft.{Draft}
 use Rattle.roaming_consumer.specs.declared.roamer.Roamer.{Roamer}
 use Rattle.roaming_consumer.specs.Growth.{LogProgress, IsLogSoFar, with_calls, FragmentsFor, IsNext, progress_behind, progress_closing}
@@ -27,7 +27,7 @@ use Rattle.roaming_consumer.specs.Gathering.{DraftsFrames, StopsTaking}
 use Rattle.roaming_consumer.specs.Roamers.{ends_of, roamer_messages, roamer_clock, roamer_batch, roamer_progress, is_begun, is_faulted, plan_of_roamer, ArePlanned, IsSameRun, KeepsLog, EndAfterTaking, ChangesOne, FramesAreTaken, IsLogOfEnds, RoamerStandsFor, roamer_header, AppendsToLog}
 use Rattle.roaming_consumer.specs.Visits.{WritesExtent}
 use Rattle.roaming_consumer.proofs.Used.{ids_known}
-use Rattle.roaming_consumer.proofs.Sending.{with_end-nil, ExtentSent}
+use Rattle.roaming_consumer.proofs.lemmas.Sending.{with_end-nil, ExtentSent}
 use Rattle.roaming_consumer.proofs.Growth.{grown, closing, beginning}
 
 pub false_is_not_true : {A : Type 0} (b : Bool) → b ≡ false → b ≡ true → A

@@ -10,8 +10,8 @@ use Rattle.log_dictionary.specs.declared.message.Message.{Message}
 use Rattle.arg_records.specs.declared.call.Call.{Call}
 use Rattle.arg_records.specs.Calls.{IsCall, NeverFalls, last_stamp}
 use Rattle.ring_core.specs.Plans.{types_by_id, plan_of, IsPlanned, frame_of, frames_of, AreFramesOf, Lawful, MayFollow}
-use Rattle.ring_core.proofs.Frames.{AreFramesOf-push, Lawful-front, Lawful-last}
-use Rattle.ring_core.proofs.OneReading.{AreFramesOf-unique}
+use Rattle.ring_core.proofs.lemmas.Frames.{AreFramesOf-push, Lawful-front, Lawful-last}
+use Rattle.ring_core.proofs.lemmas.OneReading.{AreFramesOf-unique}
 use Rattle.roaming_consumer.specs.declared.draft.Draft.{Draft}
 use Rattle.roaming_consumer.specs.Drafts.{IsFrameOfCall, IsDraft}
 use Rattle.roaming_consumer.specs.Gathering.{CallsCame, DraftsFrames, FramesCame}

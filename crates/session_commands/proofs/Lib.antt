@@ -1,8 +1,6 @@
-pub mod Soundness
-pub mod Headlines
-pub mod WholeRuns
-pub mod ReplayEnds
-pub mod LogLengths
+pub mod lemmas
+mod ReplayEnds
+mod LogLengths
 mod Pieces
 mod OutcomeTexts
 mod SelftestEnds

@@ -21,13 +21,13 @@ use Rattle.arg_records.specs.declared.call.Call.{Call}
 use Rattle.buffer_extent.specs.Records.{PackedNumber, kind_of, packed_value, PacksArguments, code_bytes}
 use Rattle.buffer_extent.specs.RecordLaws.{codes_of, packed_bytes}
 use Rattle.buffer_extent.specs.Bodies.{SpellsRecord, SpellsRecords}
-use Rattle.buffer_extent.proofs.Codes.{length-code_bytes}
+use Rattle.buffer_extent.proofs.lemmas.Codes.{length-code_bytes}
 use Rattle.checkpoint_io.specs.declared.header.Header.{Header}
 use Rattle.checkpoint_io.specs.Blocks.{Block, Fragment, Extent, Close, block_messages, messages_of, header_bytes, fragment_head_bytes, extent_head_bytes, SpellsEntries, SpellsFragment, SpellsExtent, SpellsBlock, SpellsBlocks}
 use Rattle.checkpoint_io.specs.Validity.{block_records, records_of, closes, IsClosed, IsRightAfter, AreRightAfter}
 use Rattle.checkpoint_io.specs.Logs.{LogOf}
-use Rattle.checkpoint_io.proofs.BlockLaws.{le_length}
-use Rattle.checkpoint_io.proofs.LimitLaws.{extent_has_records}
+use Rattle.checkpoint_io.proofs.lemmas.BlockLaws.{le_length}
+use Rattle.checkpoint_io.proofs.lemmas.LimitLaws.{extent_has_records}
 use Rattle.trace_text.specs.Lines.{WriterCall}
 use Rattle.trace_text.specs.Traces.{calls_by}
 use Rattle.trace_generator.specs.Generated.{draw, state_after, generated_messages, generated_clock, drawn_arguments, drawn_call, generator_at, generated_call, generated_calls, Generated}

@@ -4,7 +4,7 @@ use Rattle.std.specs.List.{flat_map}
 use Rattle.std.specs.Prelude.{length, OnOk, OnErr}
 use Rattle.nl_io.specs.Content.{Told, with_end}
 use Rattle.nl_io.specs.TextWriters.{Carries, IsCutOff}
-use Rattle.nl_io.proofs.TextWriters.{carries_held, carries_more, carries_all, cut_held, cut_more}
+use Rattle.nl_io.proofs.lemmas.TextWriters.{carries_held, carries_more, carries_all, cut_held, cut_more}
 use Rattle.trace_session.specs.declared.drops.Dropped.{Dropped}
 use Rattle.session_commands.specs.Headline.{drop_line, counts_line, outcome_text}
 

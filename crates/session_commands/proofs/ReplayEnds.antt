@@ -14,7 +14,7 @@ use Rattle.trace_session.specs.declared.outcome.RunFault.{RunFault}
 use Rattle.trace_session.specs.declared.outcome.RunFault.TheVariants as run_faults
 use Rattle.trace_session.specs.Drops.{Taken}
 use Rattle.trace_session.specs.Sessions.{AreCounted, IsSession}
-use Rattle.decompressor.proofs.TextLaws.{log_is_text}
+use Rattle.decompressor.proofs.lemmas.TextLaws.{log_is_text}
 use Rattle.command_base.specs.Endings.{Ending, WriteFault, NoMemory}
 use Rattle.command_base.specs.Effects.{CommandEffect}
 use Rattle.command_base.specs.EffectLaws.{put_nothing, nothing_came, none_given, printed_done, lost}
@@ -26,7 +26,7 @@ use Rattle.command_base.specs.Tasks.{Product}
 use Rattle.trace_commands.specs.Traces.{TraceRead, IsRefusedAt, GivesNoTrace}
 use Rattle.session_commands.specs.Headline.{outcome_text, accepted_count, filtered_count, told_text}
 use Rattle.session_commands.specs.Replays.{ReplayGives, GivesNoLog, run_fault_ending, replay_task}
-use Rattle.session_commands.proofs.Soundness.{replay_sound}
+use Rattle.session_commands.proofs.lemmas.Soundness.{replay_sound}
 
 -- ---- the log
 

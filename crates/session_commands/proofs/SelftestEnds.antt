@@ -4,15 +4,15 @@ use Rattle.std.specs.Prelude.{IfSome}
 use Rattle.nl_io.specs.Content.{Told, with_end}
 use Rattle.arg_records.specs.declared.call.Call.{Call}
 use Rattle.checkpoint_io.specs.declared.cause.Cause.{Cause}
-use Rattle.checkpoint_io.proofs.FrontLaws.{one_front, whole_is_front}
-use Rattle.checkpoint_io.proofs.BreakLaws.{whole_or_break}
+use Rattle.checkpoint_io.proofs.lemmas.FrontLaws.{one_front, whole_is_front}
+use Rattle.checkpoint_io.proofs.lemmas.BreakLaws.{whole_or_break}
 use Rattle.decompressor.specs.declared.report.Report.{Report}
 use Rattle.decompressor.specs.declared.fault.DecodeFault.{DecodeFault}
 use Rattle.decompressor.specs.declared.fault.DecodeFault.TheVariants.{Damaged}
 use Rattle.decompressor.specs.Decompression.{all_calls}
 use Rattle.decompressor.specs.Decompressing.{IsTextOfWhole, IsTextOfDamaged, Decompresses}
-use Rattle.decompressor.proofs.DecompressionLaws.{one_text}
-use Rattle.decompressor.proofs.TextLaws.{log_is_text, taken_are}
+use Rattle.decompressor.proofs.lemmas.DecompressionLaws.{one_text}
+use Rattle.decompressor.proofs.lemmas.TextLaws.{log_is_text, taken_are}
 use Rattle.trace_text.specs.Recordings.{Recording, IsRecording, calls_of}
 use Rattle.trace_session.specs.declared.outcome.Outcome.{Outcome}
 use Rattle.session_options.specs.declared.options.Options.{Options}
@@ -29,9 +29,9 @@ use Rattle.command_base.specs.Printing.{Prints}
 use Rattle.command_base.specs.Scenes.{Scene, scene}
 use Rattle.command_base.specs.Tasks.{text_alone}
 use Rattle.session_commands.specs.Selftests.{summary_of, summary_line, selftest_task}
-use Rattle.session_commands.proofs.Soundness.{selftest_sound}
+use Rattle.session_commands.proofs.lemmas.Soundness.{selftest_sound}
 use Rattle.trace_commands.specs.Texts.{direct_text}
-use Rattle.session_commands.proofs.WholeRuns.{taken_writers}
+use Rattle.session_commands.proofs.lemmas.WholeRuns.{taken_writers}
 
 some_same : {A : Type 0} (a b : A) → Some a ≡ Some b → a ≡ b
 some_same a b e = cc

@@ -16,7 +16,7 @@ use Rattle.preprocessor.specs.declared.refusal.SourceRefusal.{SourceRefusal}
 use Rattle.preprocessor.specs.Causes.{refusal_line}
 use Rattle.preprocessor.specs.Findings.{SourceFile}
 use Rattle.preprocessor.specs.Numbering.{refusals_of, excess_refusal, Numbered, Refusals, NumbersSources}
-use Rattle.preprocessor.proofs.Told.{numbering_refuses, numbering_numbers}
+use Rattle.preprocessor.proofs.lemmas.Told.{numbering_refuses, numbering_numbers}
 use Rattle.command_base.specs.declared.refusal.Refusal.{Refusal}
 use Rattle.command_base.specs.declared.refusal.Refusal.TheVariants.{NoMemory as WantsMemory}
 use Rattle.command_base.specs.Endings.{Ending, Done, StillOpen, Usage, Absent, ReadFault, Refused, RefusedSources, Damaged, WriteFault, NoMemory, refusal_ending}

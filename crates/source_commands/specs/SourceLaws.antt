@@ -12,8 +12,8 @@ use Rattle.log_dictionary.specs.declared.dictionary.TheConstants.{MAX_MESSAGES}
 use Rattle.preprocessor.specs.declared.refusal.SourceRefusal.{SourceRefusal}
 use Rattle.preprocessor.specs.Findings.{SourceFile, Finding, AllHave}
 use Rattle.preprocessor.specs.Numbering.{finding_messages, stated_messages, finding_refusals, refusals_of, firsts, numbered, excess_refusal, Refusals}
-use Rattle.preprocessor.proofs.Behind.{grown_behind}
-use Rattle.preprocessor.proofs.Once.{refusals_once}
+use Rattle.preprocessor.proofs.lemmas.Behind.{grown_behind}
+use Rattle.preprocessor.proofs.lemmas.Once.{refusals_once}
 use Rattle.command_base.specs.Endings.{Ending, Done, StillOpen, Usage, Absent, ReadFault, Refused, RefusedSources, Damaged, WriteFault, NoMemory, status_of}
 use Rattle.command_base.specs.HeldFiles.{IsHeld}
 use Rattle.command_base.specs.Tasks.{Product, nothing, WhileReading}

@@ -9,7 +9,7 @@ use Rattle.std.specs.Char.{is_digit, digit_value}
 use Rattle.std.specs.Str.Parse.{digits_value, digits_value_after, AllDigits}
 use Rattle.source_scan.specs.Escapes.{digits_of}
 use Rattle.source_scan.specs.LineNumbers.{is_decimal}
-use Rattle.source_tokens.proofs.Passing.{back_of, first_and_back}
+use Rattle.source_tokens.proofs.lemmas.Passing.{back_of, first_and_back}
 
 -- digits behind others make no number smaller
 pub after-le : (radix n : ℕ) (digits : List ℕ) → 1 ≤ radix → n ≤ digits_value_after radix n digits

@@ -1,25 +1,24 @@
-pub mod Answered
-pub mod ChangeLists
-pub mod Closing
-pub mod Commas
-pub mod CursorLemmas
-pub mod Digits
-pub mod Spans
-pub mod FoundLists
-pub mod Fronts
-pub mod Heads
-pub mod ItemLists
-pub mod LineBounds
-pub mod Moving
-pub mod Order
-pub mod Parts
-pub mod Rises
-pub mod SomeChanges
-pub mod SomeStatements
-pub mod SomeTokens
-pub mod Texts
-pub mod Unique
-pub mod Unsplicing
-pub mod WorkedCauses
-pub mod WorkedSource
-pub mod WorkedTokens
+pub mod lemmas
+mod Answered
+mod ChangeLists
+mod Closing
+mod Commas
+mod CursorLemmas
+mod Digits
+mod Spans
+mod FoundLists
+mod Fronts
+mod Heads
+mod ItemLists
+mod LineBounds
+mod Moving
+mod Parts
+mod Rises
+mod SomeChanges
+mod SomeStatements
+mod SomeTokens
+mod Texts
+mod Unsplicing
+mod WorkedCauses
+mod WorkedSource
+mod WorkedTokens

@@ -4,7 +4,7 @@ use Rattle.std.specs.Option.{option_map}
 use Rattle.source_scan.specs.declared.escape.Meaning.{Meaning}
 use Rattle.source_scan.specs.Escapes.{meaning_bytes, part_of, joined_part, unescaped_behind, unescaped_literal}
 use Rattle.std.proofs.lemmas.List.{append-nil}
-use Rattle.source_tokens.proofs.Passing.{back_of, first_and_back, nothing_there}
+use Rattle.source_tokens.proofs.lemmas.Passing.{back_of, first_and_back, nothing_there}
 
 -- the bytes of an escape may be passed at once
 pub behind-drop : (own : ℕ) (bytes : List ℕ) → unescaped_behind own bytes ≡ unescaped_literal (drop own bytes)

@@ -5,7 +5,7 @@ use Rattle.std.proofs.lemmas.List.{length-take, length-drop}
 use Rattle.source_tokens.specs.declared.token.Token.{Token}
 use Rattle.source_tokens.specs.Directives.{Parts}
 use Rattle.source_tokens.specs.Joins.{JoinsFrom}
-use Rattle.source_tokens.proofs.Joining.{parts-join}
+use Rattle.source_tokens.proofs.lemmas.Joining.{parts-join}
 use Rattle.source_scan.specs.Texts.{is_significant, significant}
 use Rattle.source_scan.specs.Arguments.{parted_from}
 use Rattle.source_scan.specs.Rising.{RiseFrom}

@@ -6,7 +6,7 @@ use Rattle.std.proofs.lemmas.Slice.Eq.{bytes_eq-Decides}
 use Rattle.printf_grammar.specs.declared.piece.Piece.{Piece}
 use Rattle.printf_grammar.specs.Spelling.{Spells}
 use Rattle.printf_grammar.specs.Types.{Types}
-use Rattle.printf_grammar.proofs.Total.{one_holds}
+use Rattle.printf_grammar.proofs.lemmas.Total.{one_holds}
 use Rattle.log_dictionary.specs.declared.severity.Severity.{Severity}
 use Rattle.log_dictionary.specs.declared.severity.Severity.TheVariants.{Error, Warning, Notice, Debug}
 use Rattle.log_dictionary.specs.declared.message.TheConstants.{MAX_FILE_NAME}
@@ -27,7 +27,7 @@ use Rattle.source_scan.specs.Statements.{SourceText, begins, in_force, reading_o
 use Rattle.source_scan.proofs.FoundLists.{other-front, found-front}
 use Rattle.source_scan.proofs.SomeTokens.{HaveTokens}
 use Rattle.source_scan.proofs.SomeChanges.{some_changes}
-use Rattle.source_scan.proofs.Unique.{some_once, not_none}
+use Rattle.source_scan.proofs.lemmas.Unique.{some_once, not_none}
 
 -- ---- what a statement has or doesn't have
 

@@ -17,7 +17,7 @@ use Rattle.source_scan.specs.Statements.{SourceText, begins, in_force, IsFoundAt
 use Rattle.source_scan.specs.Readings.{HasCause}
 use Rattle.source_scan.specs.Spans.{StatementSpan, IsIn, IsInOne, AreDisjoint, AreAll, span_of, file_of, line_number_of, HasSpan, Stand}
 use Rattle.source_scan.proofs.Rises.{rise-at, rise-wider, rise-drop, significant-rise}
-use Rattle.source_scan.proofs.Unique.{statements_find}
+use Rattle.source_scan.proofs.lemmas.Unique.{statements_find}
 
 -- ---- what stands in front of a closing parenthesis
 

@@ -1,8 +1,8 @@
 -- Bytes without splices, taken one by one.
 use Rattle.std.proofs.Common.{◌≡◌, ◌↔◌, ℕ, ◌+◌, ◌<◌, ◌≤◌, Bool, true, false, ◌&&◌, List, [], ◌∷◌, ◌++◌, length, drop, get_or, refl, sym, ap, ◌∙◌, append_assoc, ◌==◌, if◌then◌else◌}
 use Rattle.std.proofs.lemmas.List.{drop_more}
-use Rattle.printf_grammar.proofs.Shortening.{cons_parts}
-use Rattle.source_tokens.proofs.Passing.{back_of, first_and_back}
+use Rattle.printf_grammar.proofs.lemmas.Shortening.{cons_parts}
+use Rattle.source_tokens.proofs.lemmas.Passing.{back_of, first_and_back}
 use Rattle.source_tokens.specs.Splices.{past_splices}
 use Rattle.source_scan.specs.Texts.{unspliced}
 

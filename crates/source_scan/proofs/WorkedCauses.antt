@@ -8,7 +8,7 @@ use Rattle.printf_grammar.specs.declared.fault.FormatCause.TheVariants.{Store}
 use Rattle.printf_grammar.specs.Spelling.{Spells}
 use Rattle.printf_grammar.specs.Breaks.{FormatBreak}
 use Rattle.printf_grammar.specs.Narrow.{plain_d}
-use Rattle.printf_grammar.proofs.NarrowLaws.{plain_d_spelled}
+use Rattle.printf_grammar.proofs.lemmas.NarrowLaws.{plain_d_spelled}
 use Rattle.log_dictionary.specs.declared.severity.Severity.{Severity}
 use Rattle.log_dictionary.specs.declared.severity.Severity.TheVariants.{Error, Warning, Notice, Debug}
 use Rattle.log_dictionary.specs.Severities.{severity_name}

@@ -8,8 +8,8 @@ use Rattle.source_tokens.specs.Forms.{opening_of, is_tail, token_kind}
 use Rattle.source_tokens.specs.Reading.{ReadsUnspliced}
 use Rattle.source_tokens.specs.RawStrings.{is_prefix_byte}
 use Rattle.source_tokens.specs.Tokens.{IsToken, Follow}
-use Rattle.source_tokens.proofs.Prefixes.{prefix-letter}
-use Rattle.source_tokens.proofs.Texts.{Stops, longest-stops, reads-nothing, reads-first}
+use Rattle.source_tokens.proofs.lemmas.Prefixes.{prefix-letter}
+use Rattle.source_tokens.proofs.lemmas.Texts.{Stops, longest-stops, reads-nothing, reads-first}
 
 -- no byte is a backslash
 abbrev pub are_plain : List ℕ → Bool

@@ -4,7 +4,7 @@ use Rattle.std.proofs.lemmas.Bool.{cases_Bool, eqb-true, false≢true}
 use Rattle.source_tokens.specs.Forms.{is_comment_body}
 use Rattle.source_tokens.specs.Splices.{past_splices}
 use Rattle.source_tokens.specs.Reading.{EndsLongest}
-use Rattle.source_tokens.proofs.Passing.{Passes, back_of, passes-front, ends-nothing, ends-here}
+use Rattle.source_tokens.proofs.lemmas.Passing.{Passes, back_of, passes-front, ends-nothing, ends-here}
 
 -- what may follow behind a `*` or another byte of a comment
 abbrev pub left_of : Bool → List ℕ → Bool

@@ -1,14 +1,9 @@
-pub mod Comments
-pub mod Joining
-pub mod Lists
-pub mod LineLists
-pub mod Literals
-pub mod Numbers
-pub mod Passing
-pub mod Prefixes
-pub mod SomeParts
-pub mod Splicing
-pub mod Standings
-pub mod Texts
-pub mod Unique
-pub mod UniqueParts
+pub mod lemmas
+mod Comments
+mod Lists
+mod LineLists
+mod Literals
+mod Numbers
+mod SomeParts
+mod Splicing
+mod Standings

@@ -5,8 +5,8 @@ use Rattle.std.proofs.lemmas.List.{append-nil}
 use Rattle.source_tokens.specs.Forms.{is_literal_body, has_mark}
 use Rattle.source_tokens.specs.Splices.{past_splices}
 use Rattle.source_tokens.specs.Reading.{IsLongest}
-use Rattle.source_tokens.proofs.Texts.{Stops}
-use Rattle.source_tokens.proofs.Passing.{Passes, back_of, passes-none, passes-front, passes-end, stops-nothing, stops-front}
+use Rattle.source_tokens.proofs.lemmas.Texts.{Stops}
+use Rattle.source_tokens.proofs.lemmas.Passing.{Passes, back_of, passes-none, passes-front, passes-end, stops-nothing, stops-front}
 
 -- whether a part of a literal goes on within it, and whether its mark stands there
 abbrev pub states : ℕ → List ℕ → Bool × Bool

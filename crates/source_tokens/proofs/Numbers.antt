@@ -6,8 +6,8 @@ use Rattle.source_tokens.specs.Bytes.{is_number_byte, is_sign, is_exponent}
 use Rattle.source_tokens.specs.Forms.{is_number_tail, first_passes}
 use Rattle.source_tokens.specs.Splices.{past_splices}
 use Rattle.source_tokens.specs.Reading.{ReadsUnspliced, EndsLongest}
-use Rattle.source_tokens.proofs.Texts.{reads-first, reads-nothing}
-use Rattle.source_tokens.proofs.Passing.{Passes, back_of, passes-front, ends-nothing, ends-front}
+use Rattle.source_tokens.proofs.lemmas.Texts.{reads-first, reads-nothing}
+use Rattle.source_tokens.proofs.lemmas.Passing.{Passes, back_of, passes-front, ends-nothing, ends-front}
 
 -- the byte goes on with a number, whatever follows
 abbrev pub goes_on_alone : ℕ → ℕ → Bool

@@ -22,10 +22,10 @@ use Rattle.stamp_merge.specs.Ordering.{insert_by, in_order_by}
 use Rattle.stamp_merge.specs.Merging.{stamp_before, merged, merge_order}
 use Rattle.stamp_merge.specs.Mergers.{fresh_list, no_list, list_at, wants, NoneWants, IsSpent, heads_of, without_head}
 use Rattle.stamp_merge.specs.Heaps.{heap_cmp, kept_keys, KeepsHeads}
-use Rattle.stamp_merge.proofs.Ordering.{in_order_by-rises, insert_by-front, IsNotAfter}
-use Rattle.stamp_merge.proofs.MergeKeys.{key_at, keys_same}
+use Rattle.stamp_merge.proofs.lemmas.Ordering.{in_order_by-rises, insert_by-front, IsNotAfter}
+use Rattle.stamp_merge.proofs.lemmas.MergeKeys.{key_at, keys_same}
 use Rattle.stamp_merge.proofs.ListChanges.{key_order, keys_after, sum-in_order, all-in_order, merged-all}
-use Rattle.stamp_merge.proofs.Mergers.{IsHead, heads_are, head_at, merged-none, no_fresh_heads, wanting_is_there, heads-with_head, heads-without_head, heads-with_close}
+use Rattle.stamp_merge.proofs.lemmas.Mergers.{IsHead, heads_are, head_at, merged-none, no_fresh_heads, wanting_is_there, heads-with_head, heads-without_head, heads-with_close}
 
 -- ---- keys in order
 

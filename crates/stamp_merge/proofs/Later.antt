@@ -10,11 +10,11 @@ use Rattle.stamp_merge.specs.declared.merger.ListState.{ListState}
 use Rattle.stamp_merge.specs.Ordering.{in_order_by}
 use Rattle.stamp_merge.specs.Merging.{list_keys, keys_of, key_cmp, stamp_before, merged, merge_order}
 use Rattle.stamp_merge.specs.Mergers.{list_at, IsSpent, heads_of, with_head, without_head, with_close, Merging, pushed_to, RisesFrom, last_or, Merges, made, pushed, closed, took, GoesOn}
-use Rattle.stamp_merge.proofs.Ordering.{in_order_by-rises}
-use Rattle.stamp_merge.proofs.Sorted.{in_order_by-behind}
-use Rattle.stamp_merge.proofs.MergeKeys.{key_at, key_total, key_exact, merged-rises, keys_same, merge_order-counts}
+use Rattle.stamp_merge.proofs.lemmas.Ordering.{in_order_by-rises}
+use Rattle.stamp_merge.proofs.lemmas.Sorted.{in_order_by-behind}
+use Rattle.stamp_merge.proofs.lemmas.MergeKeys.{key_at, key_total, key_exact, merged-rises, keys_same, merge_order-counts}
 use Rattle.stamp_merge.proofs.ListChanges.{key_order, keys_after, sum-merged, sum-in_order, all-keys}
-use Rattle.stamp_merge.proofs.Mergers.{head_at, closed_of, closed_at, closed-head, was_open, waiting_is, is_merging, taken_rises}
+use Rattle.stamp_merge.proofs.lemmas.Mergers.{head_at, closed_of, closed_at, closed-head, was_open, waiting_is, is_merging, taken_rises}
 use Rattle.stamp_merge.proofs.Heaps.{at-set, never_wants, no_spent_heads}
 
 -- ---- what more comes

@@ -1,8 +1,4 @@
-pub mod Comparing
-pub mod Ordering
-pub mod Sorted
-pub mod MergeKeys
-pub mod ListChanges
-pub mod Mergers
-pub mod Heaps
-pub mod Later
+pub mod lemmas
+mod ListChanges
+mod Heaps
+mod Later

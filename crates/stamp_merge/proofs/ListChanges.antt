@@ -12,8 +12,8 @@ use Rattle.std.proofs.lemmas.List.Sorted.{IsPermutation-sym, All-permutation, su
 use Rattle.stamp_merge.specs.declared.merge.MergeKey.{MergeKey}
 use Rattle.stamp_merge.specs.Ordering.{insert_by, in_order_by}
 use Rattle.stamp_merge.specs.Merging.{list_keys, keys_of, stamp_before, merged}
-use Rattle.stamp_merge.proofs.Ordering.{insert_by-permutation, in_order_by-permutation, in_order_by-rises, sorted_rest}
-use Rattle.stamp_merge.proofs.MergeKeys.{key_at, key_total, merged-rises, keys_same}
+use Rattle.stamp_merge.proofs.lemmas.Ordering.{insert_by-permutation, in_order_by-permutation, in_order_by-rises, sorted_rest}
+use Rattle.stamp_merge.proofs.lemmas.MergeKeys.{key_at, key_total, merged-rises, keys_same}
 
 pub key_order : IsStrictWeakOrder stamp_before
 key_order = ranks_by key_total (λ key. key)

@@ -14,7 +14,7 @@ use Rattle.arg_records.specs.Calls.{IsCall, NeverFalls, log_call}
 use Rattle.trace_text.specs.declared.order.CallPlace.{CallPlace}
 use Rattle.trace_text.specs.Recordings.{Recording, IsRecording, calls_of}
 use Rattle.trace_text.specs.Order.{call_place, places_in_order}
-use Rattle.trace_text.proofs.CallPlaces.{IsAtPlace, all_at_places}
+use Rattle.trace_text.proofs.lemmas.CallPlaces.{IsAtPlace, all_at_places}
 use Rattle.trace_commands.specs.Texts.{direct_text, HasCall}
 
 some_same : {A : Type 0} (a b : A) → Some a ≡ Some b → a ≡ b

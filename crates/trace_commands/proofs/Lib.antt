@@ -1,3 +1,3 @@
-pub mod CallLines
-pub mod Traces
-pub mod Soundness
+pub mod lemmas
+mod CallLines
+mod Traces

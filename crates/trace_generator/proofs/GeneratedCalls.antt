@@ -17,9 +17,9 @@ use Rattle.trace_text.specs.Lines.{WriterCall}
 use Rattle.trace_text.specs.Traces.{calls_by}
 use Rattle.trace_text.specs.CallReading.{last_stamp, with_call_of, with_call}
 use Rattle.trace_generator.specs.Generated.{next_state, state_after, draw, generated_messages, generated_clock, drawn_arguments, drawn_call, after_call, generator_at, generated_call, generated_calls, Generated}
-use Rattle.trace_text.proofs.CallRuns.{writers_with, with_calls, CanFollow, recorded_after, writers_are, length-with_call_of, sum_by-with_call_of, all_after, all_at}
-use Rattle.trace_text.proofs.RecordingLaws.{sum_of_none}
-use Rattle.trace_text.proofs.RunSteps.{start_of, start_recorded}
+use Rattle.trace_text.proofs.lemmas.CallRuns.{writers_with, with_calls, CanFollow, recorded_after, writers_are, length-with_call_of, sum_by-with_call_of, all_after, all_at}
+use Rattle.trace_text.proofs.lemmas.RecordingLaws.{sum_of_none}
+use Rattle.trace_text.proofs.lemmas.RunSteps.{start_of, start_recorded}
 
 -- ---- draws
 

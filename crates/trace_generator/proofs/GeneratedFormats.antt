@@ -8,7 +8,7 @@ use Rattle.printf_grammar.specs.declared.piece.Length.TheVariants.{L, LL}
 use Rattle.printf_grammar.specs.declared.piece.Conversion.TheVariants.{U, X, S, C}
 use Rattle.printf_grammar.specs.Spelling.{IsLiteralByte, SpellsWidth, SpellsField, SpellsLiteral, Spells}
 use Rattle.printf_grammar.specs.Narrow.{plain_d}
-use Rattle.printf_grammar.proofs.NarrowLaws.{plain_d_spelled}
+use Rattle.printf_grammar.proofs.lemmas.NarrowLaws.{plain_d_spelled}
 use Rattle.trace_generator.specs.Generated.{disk_format, disk_pieces, queue_format, queue_pieces, request_format, request_pieces, state_format, state_pieces}
 
 -- ---- pieces

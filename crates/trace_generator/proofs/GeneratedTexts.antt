@@ -15,8 +15,8 @@ use Rattle.arg_records.specs.Kinds.{HoldsBytes}
 use Rattle.trace_text.specs.Recordings.{Recording}
 use Rattle.trace_text.specs.Canonical.{HasCallLine, HasText}
 use Rattle.trace_generator.specs.Generated.{next_state, state_after, draw, generated_file, generated_message, generated_messages, drawn_arguments, drawn_call, generator_at, generated_call, Generated}
-use Rattle.trace_text.proofs.CallRuns.{all-push, all_after, all_at}
-use Rattle.printf_grammar.proofs.Worked.{all_copies}
+use Rattle.trace_text.proofs.lemmas.CallRuns.{all-push, all_after, all_at}
+use Rattle.printf_grammar.proofs.lemmas.Worked.{all_copies}
 use Rattle.trace_generator.proofs.GeneratedFormats.{disk, queue, request, state}
 use Rattle.trace_generator.proofs.GeneratedCalls.{draw_below, stamp_within, there, generated_none, generated_next, generated_recorded, generated_writer}
 

@@ -18,7 +18,7 @@ use Rattle.trace_session.specs.Drops.{taken_of, calls_at, call_count, LawfulDrop
 use Rattle.trace_session.specs.Workers.{WorkerProgress, WorkerView, WriterTask, Work, task_calls, accepted_before, kept_before, HasWorked, state_of, work_of}
 use Rattle.trace_session.specs.Finishing.{task_at, work_at, works_of, taken_front, HasSent, FinishedView, AreDone}
 use Rattle.log_session.specs.Writers.{WriterView}
-use Rattle.log_session.proofs.Walks.{AllZip-snoc}
+use Rattle.log_session.proofs.lemmas.Walks.{AllZip-snoc}
 use Rattle.trace_session.proofs.Taking.{numbered_push, lawful_append, taken_of-before, taken_of-own}
 use Rattle.trace_session.proofs.Working.{worked_all}
 

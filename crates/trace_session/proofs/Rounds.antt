@@ -14,7 +14,7 @@ use Rattle.roaming_consumer.specs.declared.visit.Visit.TheVariants.{Ended}
 use Rattle.roaming_consumer.specs.declared.visit.SinkFault.{SinkFault}
 use Rattle.roaming_consumer.specs.Roamers.{ends_of, is_begun, is_faulted, is_marked, ArePlanned, IsSameRun, ChangesOne, RoamerStandsFor, AppendsToLog}
 use Rattle.roaming_consumer.specs.Visits.{VisitTells, KeepsRing, Marks}
-use Rattle.roaming_consumer.proofs.Sending.{with_end-append, with_end-nil}
+use Rattle.roaming_consumer.proofs.lemmas.Sending.{with_end-append, with_end-nil}
 use Rattle.trace_session.specs.Rounds.{Roams, IsOverUpTo}
 
 -- ---- what the sink was given

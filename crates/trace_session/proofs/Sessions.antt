@@ -14,10 +14,10 @@ use Rattle.checkpoint_io.specs.Logs.{LogOf}
 use Rattle.nl_io.specs.Content.{Told}
 use Rattle.session_options.specs.declared.options.Options.{Options}
 use Rattle.ring_core.specs.Plans.{Plan, plan_of, frames_of, frame_of, AreFramesOf}
-use Rattle.ring_core.proofs.OneReading.{AreFramesOf-unique}
+use Rattle.ring_core.proofs.lemmas.OneReading.{AreFramesOf-unique}
 use Rattle.roaming_consumer.specs.declared.roamer.Roamer.{Roamer}
 use Rattle.roaming_consumer.specs.Roamers.{ends_of, roamer_messages, roamer_clock, roamer_batch, is_faulted, plan_of_roamer, FramesAreTaken, IsSameRun, RoamerStandsFor}
-use Rattle.roaming_consumer.proofs.Marking.{closed_log}
+use Rattle.roaming_consumer.proofs.lemmas.Marking.{closed_log}
 use Rattle.trace_text.specs.Recordings.{Recording}
 use Rattle.trace_session.specs.declared.drops.Dropped.{Dropped}
 use Rattle.trace_session.specs.Levels.{keeps, Kept}

@@ -19,8 +19,8 @@ use Rattle.ring_core.specs.declared.answers.Full.{Full}
 use Rattle.ring_core.specs.Answers.{IsFull}
 use Rattle.ring_core.specs.Plans.{AreFramesOf}
 use Rattle.ring_core.specs.Positions.{Need, Position, position_from}
-use Rattle.ring_core.proofs.Frames.{last_stamp-push}
-use Rattle.ring_core.proofs.Needs.{Need-most, position_from-push}
+use Rattle.ring_core.proofs.lemmas.Frames.{last_stamp-push}
+use Rattle.ring_core.proofs.lemmas.Needs.{Need-most, position_from-push}
 use Rattle.trace_text.specs.declared.trace.TheConstants.{MAX_CALLS}
 use Rattle.trace_text.specs.Recordings.{Recording, IsRecording}
 use Rattle.trace_session.specs.declared.drops.Dropped.{Dropped}

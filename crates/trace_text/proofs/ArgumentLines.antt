@@ -18,8 +18,8 @@ use Rattle.printf_grammar.specs.Types.{FitsType, Fits, IsText}
 use Rattle.log_dictionary.specs.Texts.{SpellsText, text_at}
 use Rattle.log_dictionary.specs.Numbers.{integer_of}
 use Rattle.log_dictionary.specs.Fields.{first_field, put_front}
-use Rattle.log_dictionary.proofs.NumberLaws.{IsShort, integer_decimal, decimal_integer}
-use Rattle.log_dictionary.proofs.TextLaws.{opens_read, read_opens_text}
+use Rattle.log_dictionary.proofs.lemmas.NumberLaws.{IsShort, integer_decimal, decimal_integer}
+use Rattle.log_dictionary.proofs.lemmas.TextLaws.{opens_read, read_opens_text}
 use Rattle.trace_text.specs.declared.cause.TraceCause.{TraceCause}
 use Rattle.trace_text.specs.declared.cause.TraceCause.TheVariants.{ArgKind, ArgRange, NulInText, TooLong}
 use Rattle.trace_text.specs.Lines.{SpellsArgument, SpellsArgumentFields}

@@ -23,7 +23,7 @@ use Rattle.trace_text.specs.Reading as parts
 use Rattle.trace_text.specs.Progress.{progress, IsRefusal, call_fault}
 use Rattle.trace_text.specs.Lines.{WriterCall, last_line}
 use Rattle.trace_text.specs.LineFields.{begins_with, CallHead, head_at}
-use Rattle.trace_text.proofs.CallRuns.{CanFollow, sum_by-with_call_of}
+use Rattle.trace_text.proofs.lemmas.CallRuns.{CanFollow, sum_by-with_call_of}
 use Rattle.trace_text.proofs.Steps.{refused_here}
 use Rattle.trace_text.proofs.LineFronts.{call_begins}
 use Rattle.trace_text.proofs.Arguments.{arguments_fit, bind-ok, ok_or-ok}

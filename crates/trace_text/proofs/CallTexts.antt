@@ -6,7 +6,7 @@ use Rattle.std.specs.Result.{IsErrAnd}
 use Rattle.std.proofs.lemmas.List.{append-nil, at_drop_more, drop_all}
 use Rattle.nl_io.specs.Content.{Told}
 use Rattle.nl_io.specs.TextWriters.{Carries, IsCutOff}
-use Rattle.nl_io.proofs.TextWriters.{carries_held, carries_more, carries_front, front_more, cut_held, cut_more}
+use Rattle.nl_io.proofs.lemmas.TextWriters.{carries_held, carries_more, carries_front, front_more, cut_held, cut_more}
 use Rattle.trace_text.specs.declared.order.CallPlace.{CallPlace}
 use Rattle.trace_text.specs.declared.writing.WriteTraceFault.{WriteTraceFault}
 use Rattle.trace_text.specs.declared.writing.WriteTraceFault.TheVariants.{Failed, NoMemory}

@@ -10,7 +10,7 @@ use Rattle.log_dictionary.specs.declared.dictionary.TheConstants.{MAX_MESSAGES}
 use Rattle.log_dictionary.specs.declared.message.Message.{Message}
 use Rattle.log_dictionary.specs.Canonical.{canonical_text, message_line, message_text, HasLine}
 use Rattle.log_dictionary.specs.Calls.{LogCall}
-use Rattle.log_dictionary.proofs.Written.{written_text, written_message}
+use Rattle.log_dictionary.proofs.lemmas.Written.{written_text, written_message}
 use Rattle.arg_records.specs.declared.call.Call.{Call}
 use Rattle.arg_records.specs.Kinds.{HoldsBytes}
 use Rattle.arg_records.specs.Calls.{IsCall, NeverFalls, log_call}
@@ -22,7 +22,7 @@ use Rattle.trace_text.specs.Order.{call_place}
 use Rattle.trace_text.specs.Lines.{WriterCall, first_line, last_line, clock_line, writers_line, SpellsArgumentFields, SpellsCall, SpellsMessages, SpellsCalls, text_of_lines}
 use Rattle.trace_text.specs.Traces.{TraceText, calls_by}
 use Rattle.trace_text.specs.Canonical.{argument_text, call_line, call_text, made_by, made_at, calls_in_order, Canonical, HasCallLine, HasText}
-use Rattle.trace_text.proofs.OwnCalls.{is_of, own_in_order}
+use Rattle.trace_text.proofs.lemmas.OwnCalls.{is_of, own_in_order}
 
 -- ---- what stands at a place
 

@@ -9,7 +9,7 @@ use Rattle.log_dictionary.specs.declared.message.Message.{Message}
 use Rattle.log_dictionary.specs.declared.dictionary.TheConstants.{MAX_MESSAGES}
 use Rattle.log_dictionary.specs.Additions.{SpellsNew}
 use Rattle.log_dictionary.specs.Canonical.{dictionary_text}
-use Rattle.log_dictionary.proofs.Lines.{none_by_test}
+use Rattle.log_dictionary.proofs.lemmas.Lines.{none_by_test}
 use Rattle.trace_text.specs.declared.cause.TraceCause.{TraceCause}
 use Rattle.trace_text.specs.declared.cause.TraceCause.TheVariants as causes
 use Rattle.trace_text.specs.declared.trace.TheConstants.{MAX_TRACE}

@@ -10,7 +10,7 @@ use Rattle.log_dictionary.specs.declared.dictionary.LineFault.TheVariants as fau
 use Rattle.log_dictionary.specs.Additions.{ReadsLine}
 use Rattle.log_dictionary.specs.Fields.{IsFirstSplit}
 use Rattle.log_dictionary.specs.Messages.{SpellsMessage}
-use Rattle.log_dictionary.proofs.Distinct.{still_distinct}
+use Rattle.log_dictionary.proofs.lemmas.Distinct.{still_distinct}
 use Rattle.trace_text.specs.declared.cause.TraceCause.{TraceCause}
 use Rattle.trace_text.specs.declared.cause.TraceCause.TheVariants as causes
 use Rattle.trace_text.specs.declared.lines.Lines.{Lines}

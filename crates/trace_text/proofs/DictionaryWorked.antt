@@ -5,7 +5,7 @@ use Rattle.std.specs.List.{list_all}
 use Rattle.std.proofs.lemmas.List.Elements.{All-from_recursion}
 use Rattle.log_dictionary.specs.Fields.{IsFirstSplit}
 use Rattle.log_dictionary.specs.Rows.{row_message}
-use Rattle.log_dictionary.proofs.LineWorked.{row_spelled}
+use Rattle.log_dictionary.proofs.lemmas.LineWorked.{row_spelled}
 use Rattle.trace_text.specs.declared.cause.TraceCause.TheVariants as causes
 use Rattle.trace_text.specs.Dictionaries.{SpellsDictionary, DictionaryText, DictionaryBreak}
 use Rattle.trace_text.specs.Lines.{first_line}

@@ -14,7 +14,7 @@ use Rattle.trace_text.proofs.Cuts.{CutOf, cut_of, cut_lines}
 use Rattle.trace_text.proofs.Steps.{refused_after}
 use Rattle.trace_text.proofs.OneOutcome.{one_cut}
 use Rattle.trace_text.proofs.TextReads.{text_reads}
-use Rattle.trace_text.proofs.ToldApart.{ok_of, err_of, same_break, no_run_breaks}
+use Rattle.trace_text.proofs.lemmas.ToldApart.{ok_of, err_of, same_break, no_run_breaks}
 
 -- ---- where a refusal stands
 

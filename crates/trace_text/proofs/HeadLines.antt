@@ -4,8 +4,8 @@ use Rattle.std.specs.Prelude.{codes, decimal, ◌&&◌}
 use Rattle.std.proofs.lemmas.Bool.{eqb-false, ne_eqb, and_parts, leb-true, le-leb}
 use Rattle.log_dictionary.specs.declared.clock.Clock.{Clock}
 use Rattle.log_dictionary.specs.Fields.{◌>>=◌, after, split_at_first}
-use Rattle.log_dictionary.proofs.Splits.{split_again, split_takes, after_takes}
-use Rattle.log_dictionary.proofs.Lines.{decimal_none}
+use Rattle.log_dictionary.proofs.lemmas.Splits.{split_again, split_takes, after_takes}
+use Rattle.log_dictionary.proofs.lemmas.Lines.{decimal_none}
 use Rattle.session_options.specs.declared.limits.TheConstants.{MAX_WRITERS}
 use Rattle.trace_text.specs.Lines.{clock_line, writers_line, FitsLine}
 use Rattle.trace_text.specs.LineFields.{field_number, clock_of, clock_at, writer_count, writers_at}

@@ -5,8 +5,8 @@ use Rattle.std.proofs.lemmas.Bool.{eqb-true}
 use Rattle.std.proofs.lemmas.List.{take_all}
 use Rattle.std.proofs.lemmas.List.Elements.{All-from_recursion}
 use Rattle.log_dictionary.specs.Fields.{◌>>=◌, first_field, split_at_first, of_first_field}
-use Rattle.log_dictionary.proofs.Splits.{split_again}
-use Rattle.log_dictionary.proofs.FieldLemmas.{not_parted}
+use Rattle.log_dictionary.proofs.lemmas.Splits.{split_again}
+use Rattle.log_dictionary.proofs.lemmas.FieldLemmas.{not_parted}
 use Rattle.trace_text.specs.LineFields.{field_number, number_before}
 use Rattle.trace_text.proofs.ArgumentLines.{IsParted, first_taken}
 

@@ -1,41 +1,35 @@
-pub mod Worked
-pub mod RecordingLaws
-pub mod PlaceOrder
-pub mod CallRuns
-pub mod CallFieldLemmas
-pub mod LastStamps
-pub mod OneLines
-pub mod OneDictionary
-pub mod DictionaryReads
-pub mod DictionaryLaws
-pub mod DictionaryWorked
-pub mod NextMessages
-pub mod OnlyAnswers
-pub mod CallPlaces
-pub mod HeadLines
-pub mod HeadNumbers
-pub mod TextReads
-pub mod DecimalBytes
-pub mod ArgumentLines
-pub mod NumberFields
-pub mod CallLines
-pub mod WorkedRefusals
-pub mod Cuts
-pub mod Steps
-pub mod LineFronts
-pub mod Arguments
-pub mod CallSteps
-pub mod MessageSteps
-pub mod RunSteps
-pub mod ReadTexts
-pub mod OneOutcome
-pub mod SomeOutcome
-pub mod ToldApart
-pub mod Followed
-pub mod LongLines
-pub mod CauseNumbers
-pub mod Fronts
-pub mod CallTexts
-pub mod OwnCalls
-pub mod CanonicalLaws
-pub mod SpelledRuns
+pub mod lemmas
+mod Worked
+mod PlaceOrder
+mod CallFieldLemmas
+mod LastStamps
+mod OneLines
+mod DictionaryReads
+mod DictionaryLaws
+mod DictionaryWorked
+mod NextMessages
+mod OnlyAnswers
+mod HeadLines
+mod HeadNumbers
+mod TextReads
+mod DecimalBytes
+mod ArgumentLines
+mod NumberFields
+mod CallLines
+mod WorkedRefusals
+mod Cuts
+mod Steps
+mod LineFronts
+mod Arguments
+mod CallSteps
+mod MessageSteps
+mod ReadTexts
+mod OneOutcome
+mod SomeOutcome
+mod Followed
+mod LongLines
+mod CauseNumbers
+mod Fronts
+mod CallTexts
+mod CanonicalLaws
+mod SpelledRuns

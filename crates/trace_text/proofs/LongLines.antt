@@ -11,11 +11,11 @@ use Rattle.printf_grammar.specs.declared.argument.Value.TheVariants.{Text}
 use Rattle.printf_grammar.specs.declared.arg_type.ArgType.TheVariants as types
 use Rattle.printf_grammar.specs.declared.limits.TheConstants.{MAX_TEXT}
 use Rattle.printf_grammar.specs.Types.{IsText}
-use Rattle.printf_grammar.proofs.Worked.{all_copies}
+use Rattle.printf_grammar.proofs.lemmas.Worked.{all_copies}
 use Rattle.log_dictionary.specs.declared.message.Message.{Message}
 use Rattle.log_dictionary.specs.Texts.{IsPlain, SpellsText, has_nul}
 use Rattle.log_dictionary.specs.Additions.{SpellsNew}
-use Rattle.log_dictionary.proofs.TextLaws.{opens_read}
+use Rattle.log_dictionary.proofs.lemmas.TextLaws.{opens_read}
 use Rattle.arg_records.specs.declared.frame.TheConstants.{MAX_FRAME_WORDS}
 use Rattle.arg_records.specs.Frames.{FrameLen}
 use Rattle.arg_records.specs.Rows.{row_call, full_message}
@@ -31,7 +31,7 @@ use Rattle.trace_text.specs.Reading as parts
 use Rattle.trace_text.specs.Reading.{Follows, Breaks}
 use Rattle.trace_text.specs.Rows.{begun_run, letters_text, texts_line, texts_made, many_calls}
 use Rattle.trace_text.proofs.Worked.{high, plain_text}
-use Rattle.trace_text.proofs.RecordingLaws.{row_is_call, calls_recorded}
+use Rattle.trace_text.proofs.lemmas.RecordingLaws.{row_is_call, calls_recorded}
 use Rattle.trace_text.proofs.ArgumentLines.{arguments_read}
 use Rattle.trace_text.proofs.CallLines.{head_read, call_read}
 use Rattle.trace_text.proofs.Arguments.{with_value, with_item}

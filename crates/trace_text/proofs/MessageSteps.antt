@@ -6,7 +6,7 @@ use Rattle.log_dictionary.specs.declared.dictionary.LineFault.{LineFault}
 use Rattle.log_dictionary.specs.declared.dictionary.LineFault.TheVariants as faults
 use Rattle.log_dictionary.specs.Additions.{SpellsNew, SpellsNoneNew, SpellsOutOfOrder, ReadsLine}
 use Rattle.log_dictionary.specs.Fields.{IsFirstSplit}
-use Rattle.log_dictionary.proofs.LineMessages.{one_message}
+use Rattle.log_dictionary.proofs.lemmas.LineMessages.{one_message}
 use Rattle.trace_text.specs.declared.cause.TraceCause.TheVariants as causes
 use Rattle.trace_text.specs.declared.lines.Lines.{Lines}
 use Rattle.trace_text.specs.LineFields.{begins_with}

@@ -6,7 +6,7 @@ use Rattle.log_dictionary.specs.declared.message.Message.{Message}
 use Rattle.log_dictionary.specs.declared.dictionary.TheConstants.{MAX_MESSAGES}
 use Rattle.log_dictionary.specs.Additions.{SpellsNew}
 use Rattle.log_dictionary.specs.Messages.{SpellsMessage, AreDistinct}
-use Rattle.log_dictionary.proofs.Distinct.{is_new}
+use Rattle.log_dictionary.proofs.lemmas.Distinct.{is_new}
 use Rattle.trace_text.specs.Lines.{SpellsMessages}
 use Rattle.trace_text.specs.LineFields.{begins_with}
 

@@ -3,7 +3,7 @@ use Rattle.std.proofs.Common.{◌≡◌, ℕ, ◌<◌, ◌^◌, Bool, true, fals
 use Rattle.std.specs.Prelude.{decimal}
 use Rattle.std.proofs.lemmas.Bool.{ltb-true, lt-ltb, cond-true}
 use Rattle.log_dictionary.specs.Numbers.{natural_of, if_small}
-use Rattle.log_dictionary.proofs.NumberLaws.{natural_decimal, decimal_natural}
+use Rattle.log_dictionary.proofs.lemmas.NumberLaws.{natural_decimal, decimal_natural}
 use Rattle.trace_text.specs.LineFields.{field_number}
 
 -- the decimal digits of a number below 2^64 are read as that number

@@ -12,7 +12,7 @@ use Rattle.log_dictionary.specs.declared.severity.Severity.{Severity}
 use Rattle.log_dictionary.specs.Severities.{severity_name}
 use Rattle.log_dictionary.specs.Texts.{IsPlain, SpellsByte, itself, quotation_mark, backslash, line_feed, tab, hexadecimal, SpellsText}
 use Rattle.log_dictionary.specs.Messages.{SpellsMessage}
-use Rattle.log_dictionary.proofs.Lines.{none_by_test, severity_none, natural_none}
+use Rattle.log_dictionary.proofs.lemmas.Lines.{none_by_test, severity_none, natural_none}
 use Rattle.trace_text.specs.Lines.{first_line, last_line, clock_line, writers_line, SpellsArgument, SpellsArgumentFields, WriterCall, SpellsCall}
 use Rattle.trace_text.specs.Reading.{IsOneLine}
 use Rattle.trace_text.proofs.DecimalBytes.{decimal_all}

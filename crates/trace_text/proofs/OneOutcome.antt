@@ -7,7 +7,7 @@ use Rattle.trace_text.specs.Lines.{WriterCall, text_of_lines}
 use Rattle.trace_text.specs.CallReading.{with_call}
 use Rattle.trace_text.specs.Reading as parts
 use Rattle.trace_text.specs.Reading.{TracePart, Broken, IsOneLine, IsCutIntoLines, Follows, Breaks, FollowsMessages, BreaksMessages, ReadsLines, Gives}
-use Rattle.log_dictionary.proofs.LineMessages.{one_message}
+use Rattle.log_dictionary.proofs.lemmas.LineMessages.{one_message}
 
 -- ---- one way to cut
 

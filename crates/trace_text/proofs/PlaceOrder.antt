@@ -11,9 +11,9 @@ use Rattle.std.proofs.lemmas.Map.Lookups.{CmpEqualImpliesEq, exact_unsigned}
 use Rattle.log_dictionary.specs.declared.message.Message.{Message}
 use Rattle.arg_records.specs.declared.call.Call.{Call}
 use Rattle.arg_records.specs.Calls.{IsCall, log_call, writer_calls}
-use Rattle.stamp_merge.proofs.Comparing.{then_equal}
-use Rattle.stamp_merge.proofs.Ordering.{in_order_by-map}
-use Rattle.stamp_merge.proofs.Sorted.{sorted-in_order}
+use Rattle.stamp_merge.proofs.lemmas.Comparing.{then_equal}
+use Rattle.stamp_merge.proofs.lemmas.Ordering.{in_order_by-map}
+use Rattle.stamp_merge.proofs.lemmas.Sorted.{sorted-in_order}
 use Rattle.trace_text.specs.declared.order.CallPlace.{CallPlace}
 use Rattle.trace_text.specs.Recordings.{Recording, IsRecording, calls_of}
 use Rattle.trace_text.specs.Order.{call_place, places_in_order, place_in, writer_places, places_by_writer}

@@ -7,7 +7,7 @@ use Rattle.log_dictionary.specs.declared.clock.Clock.{Clock}
 use Rattle.log_dictionary.specs.declared.message.Message.{Message}
 use Rattle.log_dictionary.specs.declared.dictionary.TheConstants.{MAX_MESSAGES}
 use Rattle.log_dictionary.specs.Messages.{AreDistinct}
-use Rattle.log_dictionary.proofs.Distinct.{still_distinct}
+use Rattle.log_dictionary.proofs.lemmas.Distinct.{still_distinct}
 use Rattle.trace_text.specs.declared.trace.TheConstants.{MAX_TRACE}
 use Rattle.trace_text.specs.declared.reading.TraceFault.{TraceFault}
 use Rattle.trace_text.specs.declared.reading.TraceFault.TheVariants.{ReadFault, Refused, NoMemory}
@@ -20,8 +20,8 @@ use Rattle.trace_text.specs.Traces.{calls_by, TraceText}
 use Rattle.trace_text.specs.CallReading.{with_call_of, with_call}
 use Rattle.trace_text.specs.Reading.{TracePart, opening, messages, clock, calls, ended, ReadsLines, Gives}
 use Rattle.trace_text.proofs.HeadLines.{clock_taken, writers_taken}
-use Rattle.trace_text.proofs.CallRuns.{with_calls, writers_are, recorded_after, length-writers_with, length-with_call_of}
-use Rattle.trace_text.proofs.RunSteps.{start_of, start_recorded}
+use Rattle.trace_text.proofs.lemmas.CallRuns.{with_calls, writers_are, recorded_after, length-writers_with, length-with_call_of}
+use Rattle.trace_text.proofs.lemmas.RunSteps.{start_of, start_recorded}
 use Rattle.trace_text.proofs.TextReads.{NextCalls}
 use Rattle.trace_text.proofs.CallLines.{call_spelled}
 use Rattle.trace_text.proofs.CallSteps.{can_follow, writer_is_there}

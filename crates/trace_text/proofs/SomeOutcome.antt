@@ -19,9 +19,9 @@ use Rattle.trace_text.specs.Reading as parts
 use Rattle.trace_text.specs.Reading.{TracePart, Broken, Follows, Breaks, at_end, ReadsLines, Gives}
 use Rattle.trace_text.proofs.Cuts.{cut_of}
 use Rattle.trace_text.proofs.LineFronts.{same_line, other_line}
-use Rattle.log_dictionary.proofs.LineMessages.{one_message}
-use Rattle.log_dictionary.proofs.LineLaws.{message_or_not}
-use Rattle.log_dictionary.proofs.Distinct.{there_from_test, none_from_test}
+use Rattle.log_dictionary.proofs.lemmas.LineMessages.{one_message}
+use Rattle.log_dictionary.proofs.lemmas.LineLaws.{message_or_not}
+use Rattle.log_dictionary.proofs.lemmas.Distinct.{there_from_test, none_from_test}
 
 -- a line is right in the part, or it is refused
 abbrev Judged : TracePart → List ℕ → Type 0

@@ -16,15 +16,15 @@ use Rattle.log_dictionary.specs.Canonical.{HasLine}
 use Rattle.log_dictionary.specs.Messages.{SpellsMessage}
 use Rattle.log_dictionary.specs.Additions.{ReadsLine}
 use Rattle.log_dictionary.specs.declared.clock.Clock.{Clock}
-use Rattle.log_dictionary.proofs.Distinct.{still_distinct}
-use Rattle.printf_grammar.proofs.Worked.{all_copies}
+use Rattle.log_dictionary.proofs.lemmas.Distinct.{still_distinct}
+use Rattle.printf_grammar.proofs.lemmas.Worked.{all_copies}
 use Rattle.std.proofs.lemmas.List.{length-append}
 use Rattle.session_options.specs.declared.limits.TheConstants.{MAX_WRITERS}
 use Rattle.trace_text.specs.CallReading.{call_at, with_call}
-use Rattle.trace_text.proofs.CallRuns.{all-push, all_after, all_at, recorded_after}
+use Rattle.trace_text.proofs.lemmas.CallRuns.{all-push, all_after, all_at, recorded_after}
 use Rattle.trace_text.proofs.CallLines.{call_spelled}
 use Rattle.trace_text.proofs.CallSteps.{can_follow}
-use Rattle.trace_text.proofs.RunSteps.{start_of, start_recorded}
+use Rattle.trace_text.proofs.lemmas.RunSteps.{start_of, start_recorded}
 use Rattle.trace_text.specs.Recordings.{Recording}
 use Rattle.trace_text.specs.Lines.{WriterCall, FitsLine, SpellsArgumentFields, SpellsCall, SpellsMessages, SpellsCalls}
 use Rattle.trace_text.specs.Traces.{TraceText, calls_by}

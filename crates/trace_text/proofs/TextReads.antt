@@ -16,8 +16,8 @@ use Rattle.trace_text.specs.Reading.{opening, messages, clock, calls, ended, Bro
 use Rattle.trace_text.proofs.NextMessages.{message_begins, NextMessages, next_messages}
 use Rattle.trace_text.proofs.OneLines.{first_is_line, last_is_line, clock_is_line, writers_is_line, message_is_line, call_is_line}
 use Rattle.trace_text.proofs.HeadLines.{clock_read, writers_read}
-use Rattle.trace_text.proofs.CallRuns.{writers_with, with_calls, writers_are, recorded_before, length-with_call_of}
-use Rattle.trace_text.proofs.RunSteps.{start_of}
+use Rattle.trace_text.proofs.lemmas.CallRuns.{writers_with, with_calls, writers_are, recorded_before, length-with_call_of}
+use Rattle.trace_text.proofs.lemmas.RunSteps.{start_of}
 use Rattle.trace_text.proofs.CallLines.{call_read}
 
 -- ---- no line has a line feed

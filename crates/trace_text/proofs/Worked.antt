@@ -11,7 +11,7 @@ use Rattle.trace_text.specs.Traces.{TraceText}
 use Rattle.trace_text.specs.Rows.{three_writers_run, three_writers_text, text_call, text_call_line}
 use Rattle.arg_records.specs.Rows.{row_call}
 use Rattle.log_dictionary.specs.Rows.{row_message}
-use Rattle.log_dictionary.proofs.LineWorked.{row_spelled}
+use Rattle.log_dictionary.proofs.lemmas.LineWorked.{row_spelled}
 
 pub high : (b : ℕ) → 93 ≤ b → b ≤ 126 → IsPlain b
 high b least most = inl (omega (arith, least), most, (λ e. omega (arith, least, e)), (λ e. omega (arith, least, e)))

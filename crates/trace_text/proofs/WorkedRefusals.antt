@@ -14,9 +14,9 @@ use Rattle.log_dictionary.specs.Canonical.{message_line}
 use Rattle.log_dictionary.specs.Additions.{SpellsNew}
 use Rattle.log_dictionary.specs.Fields.{split_at_first}
 use Rattle.log_dictionary.specs.Numbers.{number_from}
-use Rattle.log_dictionary.proofs.Lines.{none_by_test}
-use Rattle.log_dictionary.proofs.LineMessages.{one_message}
-use Rattle.log_dictionary.proofs.Written.{written_message}
+use Rattle.log_dictionary.proofs.lemmas.Lines.{none_by_test}
+use Rattle.log_dictionary.proofs.lemmas.LineMessages.{one_message}
+use Rattle.log_dictionary.proofs.lemmas.Written.{written_message}
 use Rattle.trace_text.specs.declared.cause.TraceCause.TheVariants as causes
 use Rattle.trace_text.specs.Recordings.{Recording}
 use Rattle.trace_text.specs.Lines.{first_line}

@@ -5,13 +5,13 @@ use Rattle.std.proofs.Math.Nat.{mod-lt, div-add-mod, mul-add-mod_self_left, mod-
 use Rattle.std.proofs.lemmas.List.{length-take-le}
 use Rattle.std.proofs.lemmas.List.Elements.{All-contains, Contains-push}
 use Rattle.arg_records.specs.Frames.{FrameLen, IsFrame}
-use Rattle.arg_records.proofs.Lengths.{length-Frame}
+use Rattle.arg_records.proofs.lemmas.Lengths.{length-Frame}
 use Rattle.ring_core.specs.Plans.{Plan, Lawful}
-use Rattle.ring_core.proofs.Frames.{Lawful-frames}
+use Rattle.ring_core.proofs.lemmas.Frames.{Lawful-frames}
 use Rattle.arg_records.specs.declared.frame.TheConstants.{MAX_FRAME_WORDS}
 use Rattle.log_dictionary.specs.declared.dictionary.TheConstants.{MAX_MESSAGES}
 use Rattle.ring_machine.specs.Streams.{Walk, frame_len, is_whole_frame, onward, Begins, FitsWithin}
-use Rattle.ring_machine.proofs.Walks.{onward_cases}
+use Rattle.ring_machine.proofs.lemmas.Walks.{onward_cases}
 use Rattle.word_ring.specs.Frames.{with_frame, with_part, with_words}
 
 -- ---- places

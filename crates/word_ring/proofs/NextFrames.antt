@@ -2,7 +2,7 @@
 use Rattle.std.proofs.Common.{◌≡◌, ◌≢◌, ℕ, ◌+◌, ◌-◌, ◌%◌, ◌<◌, ◌≤◌, ◌^◌, List, [], ◌∷◌, ◌++◌, length, refl, sym, ap, ◌∙◌, subst, ⊎_elim, length-append, arith}
 use Rattle.std.specs.Prelude.{◌⊎◌}
 use Rattle.ring_machine.specs.Streams.{Walk, start, walk_from, next_lap, is_wrap_mark, skipped, onward, Begins, Wraps, IsBegun}
-use Rattle.ring_machine.proofs.Walks.{onward_cases, onward-skipped, walk-push}
+use Rattle.ring_machine.proofs.lemmas.Walks.{onward_cases, onward-skipped, walk-push}
 use Rattle.word_ring.specs.declared.known.Known.{Known}
 use Rattle.word_ring.specs.declared.word_out.WordOut.TheInside.{Inside}
 use Rattle.word_ring.specs.Frames.{with_part}

@@ -3,10 +3,10 @@ use Rattle.std.proofs.Common.{◌≡◌, ℕ, ◌+◌, ◌-◌, ◌%◌, ◌<◌
 use Rattle.std.proofs.Math.Nat.{mod-lt}
 use Rattle.ring_core.specs.Plans.{Lawful}
 use Rattle.ring_core.specs.Positions.{Need}
-use Rattle.ring_core.proofs.Frames.{Lawful-front}
-use Rattle.ring_core.proofs.Needs.{Need-beyond}
+use Rattle.ring_core.proofs.lemmas.Frames.{Lawful-front}
+use Rattle.ring_core.proofs.lemmas.Needs.{Need-beyond}
 use Rattle.ring_machine.specs.Streams.{Walk, is_wrap_mark, skipped, FitsWithin}
-use Rattle.ring_machine.proofs.Walks.{onward-skipped, walk-push}
+use Rattle.ring_machine.proofs.lemmas.Walks.{onward-skipped, walk-push}
 use Rattle.word_ring.specs.declared.known.Known.{Known}
 use Rattle.word_ring.specs.Ends.{IsTableSize}
 use Rattle.word_ring.specs.Frames.{with_frame, with_next, MayStore, MayPut}

@@ -4,7 +4,7 @@ use Rattle.arg_records.specs.declared.frame.TheConstants.{MAX_FRAME_WORDS}
 use Rattle.nl_io.specs.Count.{counted}
 use Rattle.ring_core.specs.Plans.{Lawful}
 use Rattle.ring_machine.specs.Streams.{Walk, frame_len, onward, IsBegun}
-use Rattle.ring_machine.proofs.Walks.{walk-push}
+use Rattle.ring_machine.proofs.lemmas.Walks.{walk-push}
 use Rattle.word_ring.specs.declared.known.Known.{Known}
 use Rattle.word_ring.specs.Counts.{CountsSteps}
 use Rattle.word_ring.specs.Ends.{IsTableSize}

@@ -9,16 +9,16 @@ use Rattle.atomic_table.specs.Table.{State, keeps, Allows, Splits, Joins, step, 
 use Rattle.atomic_table.proofs.Lists.{at_set, at_snoc, set_again}
 use Rattle.nl_io.specs.Count.{counted}
 use Rattle.ring_core.specs.Plans.{Plan, Lawful, BeginsWith}
-use Rattle.ring_core.proofs.Frames.{AreFramesOf-nil}
+use Rattle.ring_core.proofs.lemmas.Frames.{AreFramesOf-nil}
 use Rattle.ring_machine.specs.declared.records.WriterRecord.{WriterRecord}
 use Rattle.ring_machine.specs.declared.records.RoamerRecord.{RoamerRecord}
 use Rattle.ring_machine.specs.declared.steps.Step.TheVariants as steps
 use Rattle.ring_machine.specs.Streams.{Walk, start, walk, FitsWithin}
 use Rattle.ring_machine.specs.RingStates.{RingState, new_ring, new_writer, new_roamer, written, taken, RingOk, RingLawful}
 use Rattle.ring_machine.specs.Steps.{stored, after_step, next_word}
-use Rattle.ring_machine.proofs.Walks.{walk_from-append, walk_from-frames, walk_from-at_more}
-use Rattle.ring_machine.proofs.StepLaws.{RingOk-new, RingOk-look, RingOk-stored, RingOk-publish, RingOk-close, RingOk-load, RingOk-read, RingOk-release, reads_next}
-use Rattle.ring_machine.proofs.Schedules.{lawful_read}
+use Rattle.ring_machine.proofs.lemmas.Walks.{walk_from-append, walk_from-frames, walk_from-at_more}
+use Rattle.ring_machine.proofs.lemmas.StepLaws.{RingOk-new, RingOk-look, RingOk-stored, RingOk-publish, RingOk-close, RingOk-load, RingOk-read, RingOk-release, reads_next}
+use Rattle.ring_machine.proofs.lemmas.Schedules.{lawful_read}
 use Rattle.word_ring.specs.declared.known.Known.{Known}
 use Rattle.word_ring.specs.declared.places.TheConstants.{PRODUCER, CONSUMER, DATA}
 use Rattle.word_ring.specs.Rule.{plan_in, no_plan, newcomer, writer_of, roamer_of, both_of, spent, LaysOut, IsEnd, SeatKnows, IsRingTable}

@@ -3,9 +3,9 @@ use Rattle.std.proofs.Common.{◌≡◌, ℕ, suc, ◌+◌, ◌%◌, ◌<◌, �
 use Rattle.std.proofs.lemmas.Bool.{cases_lt, cond_both}
 use Rattle.nl_io.specs.Count.{counted}
 use Rattle.ring_core.specs.Plans.{Lawful}
-use Rattle.ring_core.proofs.Frames.{Lawful-front}
+use Rattle.ring_core.proofs.lemmas.Frames.{Lawful-front}
 use Rattle.ring_machine.specs.Streams.{Walk, is_whole_frame, onward, Begins, FitsWithin}
-use Rattle.ring_machine.proofs.Walks.{walk-push}
+use Rattle.ring_machine.proofs.lemmas.Walks.{walk-push}
 use Rattle.word_ring.specs.declared.known.Known.{Known}
 use Rattle.word_ring.specs.Counts.{CountsSteps}
 use Rattle.word_ring.specs.Ends.{IsTableSize}

@@ -1,4 +1,4 @@
-use Rattle.aggregation.proofs.TotalsLaws.{one_totals}
+use Rattle.aggregation.proofs.lemmas.TotalsLaws.{one_totals}
 use Rattle.aggregation.proofs.laws.totals_are_one.Goals as goal
 
 pub returns : goal.returns

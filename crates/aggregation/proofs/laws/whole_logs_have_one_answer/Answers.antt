@@ -1,4 +1,4 @@
-use Rattle.aggregation.proofs.TotalsLaws.{one_answer}
+use Rattle.aggregation.proofs.lemmas.TotalsLaws.{one_answer}
 use Rattle.aggregation.proofs.laws.whole_logs_have_one_answer.Goals as goal
 
 pub returns : goal.returns

@@ -1,4 +1,4 @@
-use Rattle.arg_records.proofs.Lengths.{length-Frame}
+use Rattle.arg_records.proofs.lemmas.Lengths.{length-Frame}
 use Rattle.arg_records.proofs.laws.frame_has_its_length.Goals as goal
 
 pub returns : goal.returns

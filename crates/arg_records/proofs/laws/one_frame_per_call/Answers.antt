@@ -1,4 +1,4 @@
-use Rattle.arg_records.proofs.Fitted.{Frame-unique-Fits}
+use Rattle.arg_records.proofs.lemmas.Fitted.{Frame-unique-Fits}
 use Rattle.arg_records.proofs.Unique.{Frame-unique}
 use Rattle.arg_records.proofs.laws.one_frame_per_call.Goals as goal
 

@@ -2,7 +2,7 @@ use Rattle.std.proofs.Common.{◌≡◌, ◌+◌, ◌-◌, ◌++◌, ℕ, List, 
 use Rattle.std.specs.Int.{w64, to_le_bytes}
 use Rattle.std.proofs.lemmas.List.{drop_more}
 use Rattle.arg_records.specs.Reading.{bytes_of_words}
-use Rattle.arg_records.proofs.TextWords.{take_both}
+use Rattle.arg_records.proofs.lemmas.TextWords.{take_both}
 use Rattle.arg_records.proofs.read.copy_text.Goals as goal
 
 pub loop-word-preserved : goal.loop-word-preserved

@@ -1,7 +1,7 @@
 use Rattle.std.proofs.Common.{ℕ, List, ◌+◌, drop, get_or, rules, refl, sym, subst}
 use Rattle.std.proofs.lemmas.List.{drop_more}
 use Rattle.arg_records.specs.Reading.{IsPadded, bytes_of_words}
-use Rattle.arg_records.proofs.TextWords.{padded_parts, padded_both}
+use Rattle.arg_records.proofs.lemmas.TextWords.{padded_parts, padded_both}
 use Rattle.arg_records.proofs.read.holds_text.Goals as goal
 
 pub returns-then-not-is_text_word : goal.returns-then-not-is_text_word

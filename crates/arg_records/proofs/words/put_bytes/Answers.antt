@@ -3,7 +3,7 @@ use Rattle.std.proofs.lemmas.List.{nil_from_length}
 use Rattle.std.proofs.lemmas.Bool.{eqb-true}
 use Rattle.arg_records.specs.Frames.{words_of_bytes}
 use Rattle.arg_records.specs.Places.{with_words}
-use Rattle.arg_records.proofs.Places.{word_first, no_words, one_word}
+use Rattle.arg_records.proofs.lemmas.Places.{word_first, no_words, one_word}
 use Rattle.arg_records.proofs.Bytes.{first_word, only_word}
 use Rattle.arg_records.proofs.words.put_bytes.Goals as goal
 

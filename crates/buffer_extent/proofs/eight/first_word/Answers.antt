@@ -2,7 +2,7 @@ use Rattle.std.proofs.Common.{take, ap, ◌∙◌}
 use Rattle.std.proofs.lemmas.List.{length-take-le}
 use Rattle.std.proofs.lemmas.Nat.{le_bytes_8}
 use Rattle.std.specs.Int.{w64, from_le_bytes}
-use Rattle.buffer_extent.proofs.Codes.{take_fits}
+use Rattle.buffer_extent.proofs.lemmas.Codes.{take_fits}
 use Rattle.buffer_extent.proofs.eight.first_word.Goals as goal
 
 pub returns : goal.returns

@@ -1,5 +1,5 @@
 use Rattle.std.proofs.Common.{◌/◌, sym, arith}
-use Rattle.buffer_extent.proofs.Codes.{codes_in-low, codes_in-high}
+use Rattle.buffer_extent.proofs.lemmas.Codes.{codes_in-low, codes_in-high}
 use Rattle.buffer_extent.proofs.numbers.code_at.Goals as goal
 
 pub returns-then-place-eq0 : goal.returns-then-place-eq0

@@ -2,7 +2,7 @@ use Rattle.std.proofs.Common.{◌≡◌, ◌<◌, ◌≤◌, ◌*◌, ℕ, List,
 use Rattle.std.proofs.lemmas.List.{length-set}
 use Rattle.buffer_extent.specs.Parts.{codes_in}
 use Rattle.buffer_extent.specs.Steps.{BeginsWithArgument, BeginsWithNumbers}
-use Rattle.buffer_extent.proofs.Codes.{length-codes_in}
+use Rattle.buffer_extent.proofs.lemmas.Codes.{length-codes_in}
 use Rattle.buffer_extent.proofs.Lacking.{handed_on, part_lacks}
 use Rattle.buffer_extent.proofs.OneByOne.{stands_at, next_left, one_kept, all_read}
 use Rattle.buffer_extent.proofs.Arguments.{BeginsWithArgument-unique}

@@ -1,9 +1,9 @@
 use Rattle.std.proofs.Common.{◌+◌, ◌<◌, ◌≤◌, length, get_or, drop, sym, ap, ◌∙◌, arith}
 use Rattle.std.specs.List.{flat_map}
-use Rattle.printf_grammar.proofs.Fitting.{Fits-length}
+use Rattle.printf_grammar.proofs.lemmas.Fitting.{Fits-length}
 use Rattle.arg_records.specs.Frames.{words_of_argument}
 use Rattle.arg_records.specs.Places.{with_words}
-use Rattle.arg_records.proofs.Places.{no_words}
+use Rattle.arg_records.proofs.lemmas.Places.{no_words}
 use Rattle.buffer_extent.proofs.Packing.{no_value, value_at, words_begin, bytes_at}
 use Rattle.buffer_extent.proofs.Staging.{no_texts, text_room, one_put, all_put}
 use Rattle.buffer_extent.proofs.put.put_texts.Goals as goal

@@ -1,5 +1,5 @@
 use Rattle.std.proofs.Common.{arith}
-use Rattle.buffer_extent.proofs.Codes.{length-codes_in}
+use Rattle.buffer_extent.proofs.lemmas.Codes.{length-codes_in}
 use Rattle.buffer_extent.proofs.Lacking.{handed_on, part_lacks, told}
 use Rattle.buffer_extent.proofs.Arguments.{coded_codes, coded_made, coded_read}
 use Rattle.buffer_extent.proofs.take.take_coded_numbers.Goals as goal

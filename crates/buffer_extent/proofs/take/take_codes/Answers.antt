@@ -1,6 +1,6 @@
 use Rattle.std.proofs.Common.{◌+◌, ◌/◌, ◌%◌, ℕ, List, get_or, refl, ap, arith}
 use Rattle.std.proofs.lemmas.List.{get_or-take}
-use Rattle.buffer_extent.proofs.Codes.{codes_take, last_code_of_bytes, codes_taken}
+use Rattle.buffer_extent.proofs.lemmas.Codes.{codes_take, last_code_of_bytes, codes_taken}
 use Rattle.buffer_extent.proofs.take.take_codes.Goals.{else-count-eq1-via-then-count-eq1+else-codes-count-ge-CODE_LIMIT, else-count-eq1-via-else-count-eq1}
 use Rattle.buffer_extent.proofs.take.take_codes.Goals as goal
 

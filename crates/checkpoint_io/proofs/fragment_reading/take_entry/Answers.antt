@@ -3,7 +3,7 @@ use Rattle.log_dictionary.specs.declared.dictionary.Added.{Added}
 use Rattle.log_dictionary.specs.declared.dictionary.Added.TheVariants.{Old, New}
 use Rattle.log_dictionary.specs.declared.dictionary.AddFault.{AddFault}
 use Rattle.log_dictionary.specs.Additions.{IsAdded}
-use Rattle.log_dictionary.proofs.Distinct.{id_is_there}
+use Rattle.log_dictionary.proofs.lemmas.Distinct.{id_is_there}
 use Rattle.checkpoint_io.specs.Places.{log_place}
 use Rattle.checkpoint_io.specs.Entries.{BreaksNoEntry}
 use Rattle.checkpoint_io.proofs.EntryLaws.{none_breaks, old_entry, new_entry}

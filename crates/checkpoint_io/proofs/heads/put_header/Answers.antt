@@ -1,7 +1,7 @@
 use Rattle.std.proofs.Common.{ℕ, List, [], ◌≡◌, ◌∷◌, ◌++◌, length, drop, ap, arith, ◌∙◌}
 use Rattle.std.specs.Prelude.{codes}
 use Rattle.std.specs.Hash.{le_bytes}
-use Rattle.log_dictionary.proofs.Putting.{then_put}
+use Rattle.log_dictionary.proofs.lemmas.Putting.{then_put}
 use Rattle.checkpoint_io.proofs.heads.put_header.Goals as goal
 
 pub returns-clause-put : goal.returns-clause-put

@@ -1,4 +1,4 @@
-use Rattle.checkpoint_io.proofs.ValidityLaws.{closed_among, open_without_mark}
+use Rattle.checkpoint_io.proofs.lemmas.ValidityLaws.{closed_among, open_without_mark}
 use Rattle.checkpoint_io.proofs.laws.close_marks_close_their_writer.Goals as goal
 
 pub returns-clause-closed : goal.returns-clause-closed

@@ -1,4 +1,4 @@
-use Rattle.checkpoint_io.proofs.ValidityLaws.{writers_known, closed_for_good}
+use Rattle.checkpoint_io.proofs.lemmas.ValidityLaws.{writers_known, closed_for_good}
 use Rattle.checkpoint_io.proofs.laws.closed_writers_write_no_more.Goals as goal
 
 pub returns-clause-known : goal.returns-clause-known

@@ -1,4 +1,4 @@
-use Rattle.checkpoint_io.proofs.LimitLaws.{extent_within, extent_some, extent_short, extent_has_records, close_within}
+use Rattle.checkpoint_io.proofs.lemmas.LimitLaws.{extent_within, extent_some, extent_short, extent_has_records, close_within}
 use Rattle.checkpoint_io.proofs.laws.extents_are_within_limits.Goals as goal
 
 pub returns-clause-right : goal.returns-clause-right

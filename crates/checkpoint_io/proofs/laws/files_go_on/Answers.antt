@@ -1,4 +1,4 @@
-use Rattle.checkpoint_io.proofs.FrontLaws.{empty_file, file_goes_on}
+use Rattle.checkpoint_io.proofs.lemmas.FrontLaws.{empty_file, file_goes_on}
 use Rattle.checkpoint_io.proofs.laws.files_go_on.Goals as goal
 
 pub returns-clause-empty : goal.returns-clause-empty

@@ -1,4 +1,4 @@
-use Rattle.checkpoint_io.proofs.LogLaws.{messages_of-AreFragments, fragments_alone, fragment_ids, fragment_full, last_fragment, full_fragment}
+use Rattle.checkpoint_io.proofs.lemmas.LogLaws.{messages_of-AreFragments, fragments_alone, fragment_ids, fragment_full, last_fragment, full_fragment}
 use Rattle.checkpoint_io.proofs.laws.fragments_are_full_but_the_last.Goals as goal
 
 pub returns-clause-messages : goal.returns-clause-messages

@@ -1,5 +1,5 @@
-use Rattle.checkpoint_io.proofs.Worked.{mixed}
-use Rattle.checkpoint_io.proofs.LogLaws.{wanted_fragments, laid_out_behind, no_fragments}
+use Rattle.checkpoint_io.proofs.lemmas.Worked.{mixed}
+use Rattle.checkpoint_io.proofs.lemmas.LogLaws.{wanted_fragments, laid_out_behind, no_fragments}
 use Rattle.checkpoint_io.proofs.laws.fragments_stand_in_front_of_their_extent.Goals as goal
 
 pub returns-clause-worked : goal.returns-clause-worked

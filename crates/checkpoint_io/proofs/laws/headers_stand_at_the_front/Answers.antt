@@ -1,4 +1,4 @@
-use Rattle.checkpoint_io.proofs.FrontLaws.{some_header, no_header, short_bytes}
+use Rattle.checkpoint_io.proofs.lemmas.FrontLaws.{some_header, no_header, short_bytes}
 use Rattle.checkpoint_io.proofs.laws.headers_stand_at_the_front.Goals as goal
 
 pub returns-clause-some : goal.returns-clause-some

@@ -1,4 +1,4 @@
-use Rattle.checkpoint_io.proofs.LogLaws.{laid_out_join}
+use Rattle.checkpoint_io.proofs.lemmas.LogLaws.{laid_out_join}
 use Rattle.checkpoint_io.proofs.laws.layouts_join.Goals as goal
 
 pub returns : goal.returns

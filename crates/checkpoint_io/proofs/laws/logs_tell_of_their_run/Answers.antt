@@ -4,7 +4,7 @@ use Rattle.checkpoint_io.specs.declared.header.Header.{Header}
 use Rattle.checkpoint_io.specs.Blocks.{Block, messages_of}
 use Rattle.checkpoint_io.specs.Validity.{records_of}
 use Rattle.checkpoint_io.specs.Logs.{IsLaidOut}
-use Rattle.checkpoint_io.proofs.LogLaws.{front_of_run}
+use Rattle.checkpoint_io.proofs.lemmas.LogLaws.{front_of_run}
 use Rattle.checkpoint_io.proofs.laws.logs_tell_of_their_run.Goals as goal
 
 pub returns-clause-whole : goal.returns-clause-whole

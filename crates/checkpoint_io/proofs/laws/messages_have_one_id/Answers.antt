@@ -1,4 +1,4 @@
-use Rattle.checkpoint_io.proofs.ValidityLaws.{messages_differ, ids_go_on}
+use Rattle.checkpoint_io.proofs.lemmas.ValidityLaws.{messages_differ, ids_go_on}
 use Rattle.checkpoint_io.proofs.laws.messages_have_one_id.Goals as goal
 
 pub returns-clause-distinct : goal.returns-clause-distinct

@@ -1,4 +1,4 @@
-use Rattle.checkpoint_io.proofs.ValidityLaws.{records_defined, records_fit, stamps_rise}
+use Rattle.checkpoint_io.proofs.lemmas.ValidityLaws.{records_defined, records_fit, stamps_rise}
 use Rattle.checkpoint_io.proofs.laws.records_are_right.Goals as goal
 
 pub returns-clause-defined : goal.returns-clause-defined

@@ -1,4 +1,4 @@
-use Rattle.checkpoint_io.proofs.LogLaws.{ids_below, ids_least, new_between, nothing_new}
+use Rattle.checkpoint_io.proofs.lemmas.LogLaws.{ids_below, ids_least, new_between, nothing_new}
 use Rattle.checkpoint_io.proofs.laws.records_want_the_messages_up_to_their_ids.Goals as goal
 
 pub returns-clause-below : goal.returns-clause-below

@@ -1,4 +1,4 @@
-use Rattle.checkpoint_io.proofs.ValidityLaws.{messages_differ}
+use Rattle.checkpoint_io.proofs.lemmas.ValidityLaws.{messages_differ}
 use Rattle.checkpoint_io.proofs.ReadingForms.{read_block_right}
 use Rattle.checkpoint_io.proofs.laws.what_is_read_is_right.Goals as goal
 

@@ -1,5 +1,5 @@
-use Rattle.checkpoint_io.proofs.BreakLaws.{whole_or_break}
-use Rattle.checkpoint_io.proofs.Wholeness.{whole_or_breaks}
+use Rattle.checkpoint_io.proofs.lemmas.BreakLaws.{whole_or_break}
+use Rattle.checkpoint_io.proofs.lemmas.Wholeness.{whole_or_breaks}
 use Rattle.checkpoint_io.proofs.laws.whole_or_breaks.Goals as goal
 
 pub returns : goal.returns

@@ -1,5 +1,5 @@
 use Rattle.std.proofs.Common.{lit≤}
-use Rattle.checkpoint_io.proofs.Worked.{file, valid, log}
+use Rattle.checkpoint_io.proofs.lemmas.Worked.{file, valid, log}
 use Rattle.checkpoint_io.proofs.laws.worked_log.Goals as goal
 
 pub returns-clause-file : goal.returns-clause-file

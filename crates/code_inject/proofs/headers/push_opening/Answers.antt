@@ -1,4 +1,4 @@
-use Rattle.log_dictionary.proofs.Appending.{line_begun}
+use Rattle.log_dictionary.proofs.lemmas.Appending.{line_begun}
 use Rattle.code_inject.proofs.headers.push_opening.Goals as goal
 
 pub returns-clause-ok : goal.returns-clause-ok

@@ -1,6 +1,6 @@
 use Rattle.std.proofs.Common.{◌≡◌, [], length, arith, ◌∙◌}
 use Rattle.std.proofs.lemmas.List.{nil_from_length}
-use Rattle.preprocessor.proofs.Finding.{statements_are_named}
+use Rattle.preprocessor.proofs.lemmas.Finding.{statements_are_named}
 use Rattle.code_inject.specs.Rewrites.{HeadsFrom}
 use Rattle.code_inject.proofs.Gathered.{heads_few}
 use Rattle.code_inject.proofs.Sources.{heads_in, injects}

@@ -1,4 +1,4 @@
-use Rattle.code_inject.proofs.Unique.{text_once, refusals_once, apart}
+use Rattle.code_inject.proofs.lemmas.Unique.{text_once, refusals_once, apart}
 use Rattle.code_inject.proofs.laws.one_answer.Goals as goal
 
 pub returns-clause-text : goal.returns-clause-text

@@ -1,5 +1,5 @@
 use Rattle.std.proofs.Common.{◌≡◌, take, vec_len, rules}
-use Rattle.log_dictionary.proofs.Appending.{kept}
+use Rattle.log_dictionary.proofs.lemmas.Appending.{kept}
 use Rattle.code_inject.proofs.rewrite.push_head.Goals as goal
 
 pub returns-in_err-push_call-clause-err : goal.returns-in_err-push_call-clause-err

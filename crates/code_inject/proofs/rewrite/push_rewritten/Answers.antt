@@ -1,6 +1,6 @@
 use Rattle.std.proofs.Common.{◌≡◌, ℕ, List, ◌++◌, take, vec_len, rules, ap, ◌∙◌}
 use Rattle.std.proofs.lemmas.List.{take_rest}
-use Rattle.log_dictionary.proofs.Appending.{kept}
+use Rattle.log_dictionary.proofs.lemmas.Appending.{kept}
 use Rattle.code_inject.proofs.Rewriting.{heads_end, next_head, appended_again, head_appended, rest_appended}
 use Rattle.code_inject.proofs.rewrite.push_rewritten.Goals as goal
 

@@ -1,4 +1,4 @@
-use Rattle.nl_io.proofs.Outcomes.{at_err}
+use Rattle.nl_io.proofs.lemmas.Outcomes.{at_err}
 use Rattle.command_base.proofs.Printings.{flushed_whole, flushed_cut}
 use Rattle.command_base.proofs.output.put_pieces.Goals as goal
 

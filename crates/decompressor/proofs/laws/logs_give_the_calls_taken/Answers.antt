@@ -1,4 +1,4 @@
-use Rattle.decompressor.proofs.TextLaws.{log_is_text}
+use Rattle.decompressor.proofs.lemmas.TextLaws.{log_is_text}
 use Rattle.decompressor.proofs.laws.logs_give_the_calls_taken.Goals as goal
 
 pub returns : goal.returns

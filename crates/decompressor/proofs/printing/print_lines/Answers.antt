@@ -2,7 +2,7 @@ use Rattle.std.proofs.Common.{◌≡◌, ◌+◌, ℕ, List, [], ◌++◌, lengt
 use Rattle.std.proofs.lemmas.List.{append-nil, get_or_default}
 use Rattle.nl_io.specs.Content.{with_end}
 use Rattle.nl_io.specs.TextWriters.{Carries, IsCutOff}
-use Rattle.nl_io.proofs.TextWriters.{carries_held, carries_more, carries_all, carries_front, cut_more, cut_held}
+use Rattle.nl_io.proofs.lemmas.TextWriters.{carries_held, carries_more, carries_all, carries_front, cut_more, cut_held}
 use Rattle.arg_records.specs.Calls.{calls_by_writer}
 use Rattle.decompressor.specs.declared.fault.DecodeFault.TheVariants.{WriteFault, NoMemory}
 use Rattle.decompressor.proofs.Merging.{merged_is}

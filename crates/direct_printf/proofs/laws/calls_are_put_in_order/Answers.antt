@@ -1,6 +1,6 @@
-use Rattle.stamp_merge.proofs.Ordering.{in_order_by-sorted}
+use Rattle.stamp_merge.proofs.lemmas.Ordering.{in_order_by-sorted}
 use Rattle.direct_printf.specs.Lines.{call_before}
-use Rattle.direct_printf.proofs.Sorting.{in_order-permutation, in_order-rises}
+use Rattle.direct_printf.proofs.lemmas.Sorting.{in_order-permutation, in_order-rises}
 use Rattle.direct_printf.proofs.laws.calls_are_put_in_order.Goals as goal
 
 pub returns : goal.returns

@@ -1,6 +1,6 @@
 use Rattle.std.proofs.Common.{refl, true, false, sym, ◌∙◌, ◌≡◌}
-use Rattle.stamp_merge.proofs.Comparing.{nat_cmp-less, nat_cmp-equal}
-use Rattle.direct_printf.proofs.Sorting.{call_order}
+use Rattle.stamp_merge.proofs.lemmas.Comparing.{nat_cmp-less, nat_cmp-equal}
+use Rattle.direct_printf.proofs.lemmas.Sorting.{call_order}
 use Rattle.direct_printf.proofs.laws.calls_go_by_stamp_then_writer_then_ordinal.Goals as goal
 
 pub returns : goal.returns

@@ -1,5 +1,5 @@
 use Rattle.std.proofs.lemmas.Result.{on_err_weaker}
-use Rattle.log_dictionary.proofs.Appending.{kept}
+use Rattle.log_dictionary.proofs.lemmas.Appending.{kept}
 use Rattle.direct_printf.proofs.Padded.{padded-zeros}
 use Rattle.direct_printf.proofs.padding.append_padded.Goals as goal
 

@@ -1,6 +1,6 @@
 use Rattle.std.proofs.Common.{◌≡◌, ◌+◌, ◌≤◌, [], ◌++◌, length, take, vec_len, sym, ◌∙◌, ap, arith, rules}
 use Rattle.std.proofs.lemmas.List.{append-nil}
-use Rattle.log_dictionary.proofs.Appending.{kept}
+use Rattle.log_dictionary.proofs.lemmas.Appending.{kept}
 use Rattle.direct_printf.proofs.Rest.{Rest-start, Rest-end, Rest-at, Rest-from, Rest-literal, Rest-percent, Rest-field_args, own_inside, own_fitting, appended}
 use Rattle.direct_printf.proofs.text.append_text.Goals as goal
 use Rattle.direct_printf.proofs.text.append_text.Goals.{in-Literal+in_ok-extend_from_slice-in-Literal, in-Percent+in_ok-extend_from_slice-in-Percent, in-Field+in_ok-append_field-in-Field}

@@ -1,6 +1,6 @@
 use Rattle.std.proofs.Common.{map, rules}
 use Rattle.printf_grammar.specs.Types.{Fits}
-use Rattle.arg_records.proofs.Fitted.{AreArguments-from_Fits}
+use Rattle.arg_records.proofs.lemmas.Fitted.{AreArguments-from_Fits}
 use Rattle.format_tests.proofs.frames.framed.Goals as goal
 
 pub frame_words-requires-clause-arguments : goal.frame_words-requires-clause-arguments

@@ -1,4 +1,4 @@
-use Rattle.stamp_merge.proofs.Mergers.{wanting_is_there}
+use Rattle.stamp_merge.proofs.lemmas.Mergers.{wanting_is_there}
 use Rattle.format_tests.proofs.traces.feed.Goals as goal
 
 pub close-requires : goal.close-requires

@@ -1,7 +1,7 @@
 use Rattle.std.proofs.Common.{List, ap, refl, ◌∙◌}
 use Rattle.stamp_merge.specs.declared.merger.ListState.{ListState}
 use Rattle.stamp_merge.specs.Mergers.{list_at, wants}
-use Rattle.stamp_merge.proofs.Mergers.{first_wants_head}
+use Rattle.stamp_merge.proofs.lemmas.Mergers.{first_wants_head}
 use Rattle.format_tests.proofs.traces.taken.Goals as goal
 
 pub feed-requires : goal.feed-requires

@@ -8,7 +8,7 @@ use Rattle.command_base.specs.Tasks.{WhileReading, text_alone}
 use Rattle.log_commands.specs.Logs.{HasNumber}
 use Rattle.log_commands.specs.Aggregating.{totals_text, GivesTotals, aggregate_task}
 use Rattle.log_commands.proofs.Told.{text_told}
-use Rattle.log_commands.proofs.Soundness.{aggregate_sound}
+use Rattle.log_commands.proofs.lemmas.Soundness.{aggregate_sound}
 use Rattle.log_commands.proofs.aggregating.aggregate.Goals as goal
 
 pub returns-in_err-print_line-clause-ends : goal.returns-in_err-print_line-clause-ends

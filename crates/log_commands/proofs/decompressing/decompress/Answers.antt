@@ -1,6 +1,6 @@
 use Rattle.std.proofs.Common.{ℕ, Ok, Err, sym, subst}
 use Rattle.nl_io.specs.DeskLaws.{Opens-reading, Opens-content}
-use Rattle.nl_io.proofs.Contents.{front-whole}
+use Rattle.nl_io.proofs.lemmas.Contents.{front-whole}
 use Rattle.decompressor.specs.Decompressing.{Decompresses}
 use Rattle.command_base.specs.Endings.{Ending}
 use Rattle.command_base.specs.Effects.{CommandEffect}
@@ -9,7 +9,7 @@ use Rattle.command_base.specs.HeldLaws.{was_read, counts_by}
 use Rattle.command_base.specs.Scenes.{Scene, scene}
 use Rattle.log_commands.specs.Decompressing.{GivesText, BeginsText, decompress_task}
 use Rattle.log_commands.proofs.Texts.{all_told, stops_told, fault_told}
-use Rattle.log_commands.proofs.Soundness.{decompress_sound}
+use Rattle.log_commands.proofs.lemmas.Soundness.{decompress_sound}
 use Rattle.log_commands.proofs.decompressing.decompress.Goals as goal
 
 pub returns-in_err-id-clause-ends : goal.returns-in_err-id-clause-ends

@@ -1,4 +1,4 @@
-use Rattle.log_commands.proofs.Soundness.{decompress_sound, aggregate_sound}
+use Rattle.log_commands.proofs.lemmas.Soundness.{decompress_sound, aggregate_sound}
 use Rattle.log_commands.proofs.laws.commands_over_logs_are_sound.Goals as goal
 
 pub returns : goal.returns

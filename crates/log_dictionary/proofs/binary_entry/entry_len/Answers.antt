@@ -1,6 +1,6 @@
 use Rattle.std.proofs.Common.{length, ap, arith}
 use Rattle.log_dictionary.specs.BinaryEntries.{raw_of}
-use Rattle.log_dictionary.proofs.BinaryLaws.{raw_length}
+use Rattle.log_dictionary.proofs.lemmas.BinaryLaws.{raw_length}
 use Rattle.log_dictionary.proofs.binary_entry.entry_len.Goals as goal
 
 pub returns-clause-len : goal.returns-clause-len

@@ -2,8 +2,8 @@ use Rattle.std.proofs.Common.{ℕ, List, [], ◌∷◌, ◌++◌, length, drop, 
 use Rattle.log_dictionary.specs.Severities.{severity_number}
 use Rattle.log_dictionary.specs.BinaryEntries.{raw_of, text_bytes}
 use Rattle.log_dictionary.proofs.BinaryNumbers.{four_bytes}
-use Rattle.log_dictionary.proofs.BinaryLaws.{raw_length, after_text}
-use Rattle.log_dictionary.proofs.Putting.{then_put}
+use Rattle.log_dictionary.proofs.lemmas.BinaryLaws.{raw_length, after_text}
+use Rattle.log_dictionary.proofs.lemmas.Putting.{then_put}
 use Rattle.log_dictionary.proofs.binary_entry.put_entry.Goals as goal
 
 pub put-at-requires-2 : goal.put-at-requires-2

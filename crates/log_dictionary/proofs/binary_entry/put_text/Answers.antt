@@ -1,6 +1,6 @@
 use Rattle.std.proofs.Common.{ℕ, List, ◌++◌, length, take, drop, ap, arith, ◌∙◌, sym}
 use Rattle.log_dictionary.proofs.BinaryNumbers.{two_bytes}
-use Rattle.log_dictionary.proofs.Putting.{then_put}
+use Rattle.log_dictionary.proofs.lemmas.Putting.{then_put}
 use Rattle.log_dictionary.proofs.binary_entry.put_text.Goals as goal
 
 pub returns-clause-put : goal.returns-clause-put

@@ -3,7 +3,7 @@ use Rattle.log_dictionary.specs.Severities.{severity_number}
 use Rattle.log_dictionary.specs.BinaryEntries.{entry_head_bytes, text_bytes}
 use Rattle.log_dictionary.specs.BinaryEntries.IsCutEntry.{in_severity, in_line, in_file, in_format}
 use Rattle.log_dictionary.specs.BinaryEntries.IsOutOfRange.{at_severity, at_file, at_format}
-use Rattle.log_dictionary.proofs.BinaryLaws.{three_nested, nested}
+use Rattle.log_dictionary.proofs.lemmas.BinaryLaws.{three_nested, nested}
 use Rattle.log_dictionary.proofs.BinaryReading.{stops_whole}
 use Rattle.log_dictionary.proofs.binary_entry.read_fields.Goals as goal
 

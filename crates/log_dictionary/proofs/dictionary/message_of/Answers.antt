@@ -3,7 +3,7 @@ use Rattle.printf_grammar.specs.Spelling.{Spells}
 use Rattle.log_dictionary.specs.declared.formats.FormatFault.{FormatFault}
 use Rattle.log_dictionary.specs.declared.severity.Severity.{Severity}
 use Rattle.log_dictionary.specs.MessageLines.{MessageLineFields, message_line_fields}
-use Rattle.log_dictionary.proofs.LineMessages.{parts_of, parts_spelled, message_spelled, format_is_spelled}
+use Rattle.log_dictionary.proofs.lemmas.LineMessages.{parts_of, parts_spelled, message_spelled, format_is_spelled}
 use Rattle.log_dictionary.proofs.dictionary.message_of.Goals as goal
 
 abbrev made : ℕ → Severity → ℕ → List ℕ → List ℕ → MessageLineFields

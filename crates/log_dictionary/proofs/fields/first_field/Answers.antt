@@ -1,4 +1,4 @@
-use Rattle.log_dictionary.proofs.FieldLemmas.{first_field_is}
+use Rattle.log_dictionary.proofs.lemmas.FieldLemmas.{first_field_is}
 use Rattle.log_dictionary.proofs.fields.first_field.Goals as goal
 
 pub returns : goal.returns

@@ -1,4 +1,4 @@
-use Rattle.log_dictionary.proofs.FieldLemmas.{parts_are}
+use Rattle.log_dictionary.proofs.lemmas.FieldLemmas.{parts_are}
 use Rattle.log_dictionary.proofs.fields.split_at_byte.Goals as goal
 
 pub returns-clause-value : goal.returns-clause-value

@@ -1,5 +1,5 @@
-use Rattle.log_dictionary.proofs.BinaryLaws.{one_entry, one_spelling}
-use Rattle.log_dictionary.proofs.BinaryCases.{prefix_is_cut, stays_bad}
+use Rattle.log_dictionary.proofs.lemmas.BinaryLaws.{one_entry, one_spelling}
+use Rattle.log_dictionary.proofs.lemmas.BinaryCases.{prefix_is_cut, stays_bad}
 use Rattle.log_dictionary.proofs.laws.entries_are_one.Goals as goal
 
 pub returns-clause-one_message : goal.returns-clause-one_message

@@ -1,5 +1,5 @@
-use Rattle.log_dictionary.proofs.BinaryLaws.{begins_not_cut, cut_not_bad, bad_not_whole}
-use Rattle.log_dictionary.proofs.BinaryCases.{entry_cases}
+use Rattle.log_dictionary.proofs.lemmas.BinaryLaws.{begins_not_cut, cut_not_bad, bad_not_whole}
+use Rattle.log_dictionary.proofs.lemmas.BinaryCases.{entry_cases}
 use Rattle.log_dictionary.proofs.laws.entries_are_told_apart.Goals as goal
 
 pub returns-clause-one_holds : goal.returns-clause-one_holds

@@ -1,6 +1,6 @@
-use Rattle.log_dictionary.proofs.Distinct.{same_from_test, test_from_same}
-use Rattle.log_dictionary.proofs.LineMessages.{one_message}
-use Rattle.log_dictionary.proofs.LineLaws.{message_or_not}
+use Rattle.log_dictionary.proofs.lemmas.Distinct.{same_from_test, test_from_same}
+use Rattle.log_dictionary.proofs.lemmas.LineMessages.{one_message}
+use Rattle.log_dictionary.proofs.lemmas.LineLaws.{message_or_not}
 use Rattle.log_dictionary.proofs.laws.message_lines_have_one_reading.Goals as goal
 
 pub returns-clause-one_reading : goal.returns-clause-one_reading

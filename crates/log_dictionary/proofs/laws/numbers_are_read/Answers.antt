@@ -1,4 +1,4 @@
-use Rattle.log_dictionary.proofs.NumberLaws.{natural_decimal, decimal_natural, integer_decimal, decimal_integer, short_from_fits}
+use Rattle.log_dictionary.proofs.lemmas.NumberLaws.{natural_decimal, decimal_natural, integer_decimal, decimal_integer, short_from_fits}
 use Rattle.log_dictionary.proofs.laws.numbers_are_read.Goals as goal
 use Rattle.std.proofs.Common.{pos}
 

@@ -1,4 +1,4 @@
-use Rattle.log_dictionary.proofs.TextLaws.{opens_read, read_opens_text, one_text, text_or_none}
+use Rattle.log_dictionary.proofs.lemmas.TextLaws.{opens_read, read_opens_text, one_text, text_or_none}
 use Rattle.log_dictionary.proofs.laws.texts_are_read.Goals as goal
 
 pub returns-clause-read : goal.returns-clause-read

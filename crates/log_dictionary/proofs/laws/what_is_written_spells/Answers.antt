@@ -1,5 +1,5 @@
-use Rattle.log_dictionary.proofs.Written.{written_text, written_message}
-use Rattle.log_dictionary.proofs.LineWorked.{row_written, dictionary_written}
+use Rattle.log_dictionary.proofs.lemmas.Written.{written_text, written_message}
+use Rattle.log_dictionary.proofs.lemmas.LineWorked.{row_written, dictionary_written}
 use Rattle.log_dictionary.proofs.laws.what_is_written_spells.Goals as goal
 
 pub returns-clause-text : goal.returns-clause-text

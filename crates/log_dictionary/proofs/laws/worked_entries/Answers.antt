@@ -1,4 +1,4 @@
-use Rattle.log_dictionary.proofs.BinaryWorked.{whole, bad_severity, half_length, empty_file, long_file, unfinished_file, long_format, unfinished_format}
+use Rattle.log_dictionary.proofs.lemmas.BinaryWorked.{whole, bad_severity, half_length, empty_file, long_file, unfinished_file, long_format, unfinished_format}
 use Rattle.log_dictionary.proofs.laws.worked_entries.Goals as goal
 
 pub returns-clause-whole : goal.returns-clause-whole

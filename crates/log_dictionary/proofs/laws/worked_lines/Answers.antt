@@ -1,4 +1,4 @@
-use Rattle.log_dictionary.proofs.LineWorked.{row_read, great_order, great_not_bad}
+use Rattle.log_dictionary.proofs.lemmas.LineWorked.{row_read, great_order, great_not_bad}
 use Rattle.log_dictionary.proofs.laws.worked_lines.Goals as goal
 
 pub returns-clause-read : goal.returns-clause-read

@@ -1,6 +1,6 @@
 use Rattle.std.proofs.lemmas.Slice.Eq.{strip_prefix_is}
 use Rattle.std.proofs.lemmas.Bool.Decides.{Decides-eqb}
-use Rattle.log_dictionary.proofs.Splits.{after_is}
+use Rattle.log_dictionary.proofs.lemmas.Splits.{after_is}
 use Rattle.log_dictionary.proofs.message_line.after.Goals as goal
 
 pub returns : goal.returns

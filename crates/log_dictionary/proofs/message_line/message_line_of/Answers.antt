@@ -4,7 +4,7 @@ use Rattle.std.proofs.lemmas.Bool.{false≢true}
 use Rattle.log_dictionary.specs.Numbers.{natural_of, natural_read}
 use Rattle.log_dictionary.specs.Severities.{severity_name}
 use Rattle.log_dictionary.specs.MessageLines.{SpelledParts, spelled_parts, MessageLineFields}
-use Rattle.log_dictionary.proofs.NumberLaws.{mapped_is}
+use Rattle.log_dictionary.proofs.lemmas.NumberLaws.{mapped_is}
 use Rattle.log_dictionary.proofs.LineParts.{parts_at-spelled, same_spelling, spells_parts}
 use Rattle.log_dictionary.proofs.message_line.message_line_of.Goals as goal
 

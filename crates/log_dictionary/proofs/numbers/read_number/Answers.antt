@@ -1,4 +1,4 @@
-use Rattle.log_dictionary.proofs.NumberLaws.{small_some, small_none}
+use Rattle.log_dictionary.proofs.lemmas.NumberLaws.{small_some, small_none}
 use Rattle.log_dictionary.proofs.numbers.read_number.Goals as goal
 
 pub returns-clause-some : goal.returns-clause-some

@@ -1,4 +1,4 @@
-use Rattle.log_dictionary.proofs.NumberLaws.{signed_some, signed_none}
+use Rattle.log_dictionary.proofs.lemmas.NumberLaws.{signed_some, signed_none}
 use Rattle.log_dictionary.proofs.numbers.read_signed.Goals as goal
 
 pub returns-clause-some : goal.returns-clause-some

@@ -1,5 +1,5 @@
 use Rattle.std.proofs.Common.{◌≡◌, take, vec_len, ap, length, arith, rules}
-use Rattle.log_dictionary.proofs.Appending.{kept, begun}
+use Rattle.log_dictionary.proofs.lemmas.Appending.{kept, begun}
 use Rattle.log_dictionary.proofs.writing.push_dictionary.Goals as goal
 
 pub loop-id-init : goal.loop-id-init

@@ -1,5 +1,5 @@
 use Rattle.std.proofs.Common.{◌≡◌, take, vec_len, rules}
-use Rattle.log_dictionary.proofs.Appending.{kept, line_begun, line_joined}
+use Rattle.log_dictionary.proofs.lemmas.Appending.{kept, line_begun, line_joined}
 use Rattle.log_dictionary.proofs.writing.push_message.Goals as goal
 
 pub returns-in_err-push_text-clause-err : goal.returns-in_err-push_text-clause-err

@@ -4,7 +4,7 @@ use Rattle.std.specs.Prelude.{pos, negsuc, ◌-ℤ◌}
 use Rattle.std.specs.Int.{w64, cast_signed, cast_unsigned}
 use Rattle.std.specs.Int.RustNames.{unsigned_abs}
 use Rattle.nibble_pack.specs.Packing.{signed, Packed, IsWide}
-use Rattle.nibble_pack.proofs.SignedForms.{packs_negative, packs_small}
+use Rattle.nibble_pack.proofs.lemmas.SignedForms.{packs_negative, packs_small}
 use Rattle.nibble_pack.proofs.pack.pack_signed.Goals as goal
 
 -- the unsigned form of -v - 1

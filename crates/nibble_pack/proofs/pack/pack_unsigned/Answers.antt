@@ -1,4 +1,4 @@
-use Rattle.nibble_pack.proofs.Fronts.{packs_unsigned, spelled_rest}
+use Rattle.nibble_pack.proofs.lemmas.Fronts.{packs_unsigned, spelled_rest}
 use Rattle.std.proofs.Common.{ap, ◌∙◌, drop}
 use Rattle.nibble_pack.proofs.pack.pack_unsigned.Goals as goal
 

@@ -4,7 +4,7 @@ use Rattle.std.specs.Prelude.{ℤ, pos}
 use Rattle.std.specs.Int.{w64, from_le_bytes}
 use Rattle.nibble_pack.specs.Packing.{unsigned, IsLeastCount, Packed}
 use Rattle.nibble_pack.specs.PackingLaws.{Packed-code}
-use Rattle.nibble_pack.proofs.Fronts.{reads_unsigned, reads_no_unsigned, Packed-stands, Packed-at_front, only_value}
+use Rattle.nibble_pack.proofs.lemmas.Fronts.{reads_unsigned, reads_no_unsigned, Packed-stands, Packed-at_front, only_value}
 use Rattle.nibble_pack.proofs.unpack.unpack_unsigned.Goals as goal
 
 pub returns-then-code-gt8-clause-only : goal.returns-then-code-gt8-clause-only

@@ -4,8 +4,8 @@ use Rattle.std.proofs.lemmas.Int.{to_z-of_z}
 use Rattle.std.specs.Prelude.{ℤ}
 use Rattle.std.specs.Int.{w64, cast_signed, cast_unsigned, from_le_bytes}
 use Rattle.nibble_pack.specs.Packing.{signed, IsWide, Packed}
-use Rattle.nibble_pack.proofs.Fronts.{Packed-at_front}
-use Rattle.nibble_pack.proofs.SignedForms.{reads_wide, reads_no_wide}
+use Rattle.nibble_pack.proofs.lemmas.Fronts.{Packed-at_front}
+use Rattle.nibble_pack.proofs.lemmas.SignedForms.{reads_wide, reads_no_wide}
 use Rattle.nibble_pack.proofs.unpack.unpack_wide.Goals as goal
 
 -- what was read is spelled by the bytes

@@ -1,6 +1,6 @@
 use Rattle.std.proofs.Common.{◌∙◌, arith, ◌≤◌, length, length-drop, ◌+◌}
 use Rattle.std.proofs.lemmas.List.{take_rest}
-use Rattle.nl_io.proofs.Contents.{with_end-more}
+use Rattle.nl_io.proofs.lemmas.Contents.{with_end-more}
 use Rattle.nl_io.proofs.sink.write_all.Goals as goal
 
 pub loop-done-preserved : goal.loop-done-preserved

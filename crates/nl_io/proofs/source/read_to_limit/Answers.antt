@@ -1,8 +1,8 @@
 use Rattle.std.proofs.Common.{List, ℕ, ◌++◌, ◌+◌, ◌≤◌, length, take, arith}
 use Rattle.std.proofs.lemmas.List.{length-append, length-take}
 use Rattle.nl_io.specs.Content.{Came}
-use Rattle.nl_io.proofs.Contents.{Came-more, Came-front}
-use Rattle.nl_io.proofs.Outcomes.{at_err}
+use Rattle.nl_io.proofs.lemmas.Contents.{Came-more, Came-front}
+use Rattle.nl_io.proofs.lemmas.Outcomes.{at_err}
 use Rattle.nl_io.proofs.source.read_to_limit.Goals as goal
 
 pub returns-in_err-extend_from_slice-clause-err : goal.returns-in_err-extend_from_slice-clause-err

@@ -1,8 +1,8 @@
 use Rattle.std.proofs.Common.{sym, subst}
 use Rattle.log_dictionary.specs.Messages.{AreDistinct}
 use Rattle.preprocessor.specs.Numbering.{stated_messages}
-use Rattle.preprocessor.proofs.Behind.{firsts_are_distinct}
-use Rattle.preprocessor.proofs.Told.{numbered_has}
+use Rattle.preprocessor.proofs.lemmas.Behind.{firsts_are_distinct}
+use Rattle.preprocessor.proofs.lemmas.Told.{numbered_has}
 use Rattle.preprocessor.proofs.laws.each_message_has_one_number.Goals as goal
 
 pub returns : goal.returns

@@ -1,4 +1,4 @@
-use Rattle.preprocessor.proofs.Told.{numbering_refuses, numbering_numbers}
+use Rattle.preprocessor.proofs.lemmas.Told.{numbering_refuses, numbering_numbers}
 use Rattle.preprocessor.proofs.laws.numberings_tell_of_sources.Goals as goal
 
 pub returns : goal.returns

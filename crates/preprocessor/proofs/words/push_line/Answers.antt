@@ -1,5 +1,5 @@
 use Rattle.std.proofs.Common.{◌≡◌, take, vec_len, rules}
-use Rattle.log_dictionary.proofs.Appending.{kept, line_begun}
+use Rattle.log_dictionary.proofs.lemmas.Appending.{kept, line_begun}
 use Rattle.preprocessor.proofs.words.push_line.Goals as goal
 
 pub returns-in_err-push_place-clause-err : goal.returns-in_err-push_place-clause-err

@@ -1,4 +1,4 @@
-use Rattle.printf_grammar.proofs.Fitting.{Fits-length_of_args}
+use Rattle.printf_grammar.proofs.lemmas.Fitting.{Fits-length_of_args}
 use Rattle.printf_grammar.proofs.arg_type.fits.Goals as goal
 
 pub returns-then-types-args : goal.returns-then-types-args

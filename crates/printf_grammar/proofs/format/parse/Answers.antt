@@ -1,7 +1,7 @@
 use Rattle.std.proofs.Common.{refl, ap, Err}
 use Rattle.std.proofs.lemmas.Result.{err_from_is_err_and}
 use Rattle.printf_grammar.specs.declared.fault.ParseFault.{ParseFault}
-use Rattle.printf_grammar.proofs.Unique.{spells_once, never_both, fault_of_spelled, fault_of_break}
+use Rattle.printf_grammar.proofs.lemmas.Unique.{spells_once, never_both, fault_of_spelled, fault_of_break}
 use Rattle.printf_grammar.proofs.format.parse.Goals as goal
 
 pub returns-in_err-pieces-clause-only_found : goal.returns-in_err-pieces-clause-only_found

@@ -1,5 +1,5 @@
-use Rattle.printf_grammar.proofs.Total.{one_holds}
-use Rattle.printf_grammar.proofs.Unique.{spells_once, breaks_once, never_both}
+use Rattle.printf_grammar.proofs.lemmas.Total.{one_holds}
+use Rattle.printf_grammar.proofs.lemmas.Unique.{spells_once, breaks_once, never_both}
 use Rattle.printf_grammar.proofs.laws.one_reading.Goals as goal
 
 pub returns-clause-spells_or_breaks : goal.returns-clause-spells_or_breaks

@@ -1,4 +1,4 @@
-use Rattle.printf_grammar.proofs.Worked.{float, long_float, wide, store, bad_percent, bad_length, positional, ends, nul, percent_after_l, l_after_l, third_h, digit_after_star}
+use Rattle.printf_grammar.proofs.lemmas.Worked.{float, long_float, wide, store, bad_percent, bad_length, positional, ends, nul, percent_after_l, l_after_l, third_h, digit_after_star}
 use Rattle.printf_grammar.proofs.laws.worked_faults.Goals as goal
 
 pub returns-clause-float : goal.returns-clause-float

@@ -1,4 +1,4 @@
-use Rattle.printf_grammar.proofs.Worked.{padded, starred}
+use Rattle.printf_grammar.proofs.lemmas.Worked.{padded, starred}
 use Rattle.printf_grammar.proofs.laws.worked_formats.Goals as goal
 
 pub returns-clause-padded : goal.returns-clause-padded

@@ -1,4 +1,4 @@
-use Rattle.printf_grammar.proofs.Worked.{widest, too_wide, too_precise, most_args, too_many_args, longest, long, longest_text, long_text}
+use Rattle.printf_grammar.proofs.lemmas.Worked.{widest, too_wide, too_precise, most_args, too_many_args, longest, long, longest_text, long_text}
 use Rattle.printf_grammar.proofs.laws.worked_limits.Goals as goal
 
 pub returns-clause-widest : goal.returns-clause-widest

@@ -1,4 +1,4 @@
-use Rattle.ring_core.proofs.OneReading.{joined-front}
+use Rattle.ring_core.proofs.lemmas.OneReading.{joined-front}
 use Rattle.ring_core.proofs.laws.joined_frames_begin_alike.Goals as goal
 
 pub returns : goal.returns

@@ -1,4 +1,4 @@
-use Rattle.ring_core.proofs.Frames.{Lawful-frames, Lawful-lengths}
+use Rattle.ring_core.proofs.lemmas.Frames.{Lawful-frames, Lawful-lengths}
 use Rattle.ring_core.proofs.laws.lawful_frames_are_frames.Goals as goal
 
 pub returns-clause-frames : goal.returns-clause-frames

@@ -1,4 +1,4 @@
-use Rattle.ring_core.proofs.OneReading.{unknown_id, stamp_early, stamp_falls}
+use Rattle.ring_core.proofs.lemmas.OneReading.{unknown_id, stamp_early, stamp_falls}
 use Rattle.ring_core.proofs.laws.other_frames_are_not_lawful.Goals as goal
 
 pub returns-clause-unknown : goal.returns-clause-unknown

@@ -3,7 +3,7 @@ use Rattle.std.proofs.lemmas.Bool.{cases_lt}
 use Rattle.printf_grammar.specs.Types.{values_of, Fits}
 use Rattle.log_dictionary.specs.declared.dictionary.TheConstants.{MAX_MESSAGES}
 use Rattle.arg_records.specs.Frames.{FrameLen}
-use Rattle.arg_records.proofs.Fitted.{AreArguments-from_Fits}
+use Rattle.arg_records.proofs.lemmas.Fitted.{AreArguments-from_Fits}
 use Rattle.ring_core.proofs.DictionaryCalls.{IsPlanned-message}
 use Rattle.ring_core.proofs.planned.planned_frame.Goals as goal
 

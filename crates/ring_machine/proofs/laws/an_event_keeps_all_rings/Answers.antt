@@ -1,4 +1,4 @@
-use Rattle.ring_machine.proofs.Schedules.{event_keeps, event_leaves, event_number}
+use Rattle.ring_machine.proofs.lemmas.Schedules.{event_keeps, event_leaves, event_number}
 use Rattle.ring_machine.proofs.laws.an_event_keeps_all_rings.Goals as goal
 
 pub returns-clause-kept : goal.returns-clause-kept

@@ -1,4 +1,4 @@
-use Rattle.ring_machine.proofs.Schedules.{schedule_ok, schedule_front, schedule_ended}
+use Rattle.ring_machine.proofs.lemmas.Schedules.{schedule_ok, schedule_front, schedule_ended}
 use Rattle.ring_machine.proofs.laws.every_schedule.Goals as goal
 
 pub returns-clause-right : goal.returns-clause-right

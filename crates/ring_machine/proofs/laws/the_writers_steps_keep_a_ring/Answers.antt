@@ -1,5 +1,5 @@
 use Rattle.ring_machine.specs.declared.steps.Step.TheVariants as steps
-use Rattle.ring_machine.proofs.Schedules.{RingOk-after}
+use Rattle.ring_machine.proofs.lemmas.Schedules.{RingOk-after}
 use Rattle.ring_machine.proofs.laws.the_writers_steps_keep_a_ring.Goals as goal
 
 pub returns-clause-look : goal.returns-clause-look

@@ -1,4 +1,4 @@
-use Rattle.ring_machine.proofs.Schedules.{got_front, got_ended, read_stream}
+use Rattle.ring_machine.proofs.lemmas.Schedules.{got_front, got_ended, read_stream}
 use Rattle.ring_machine.proofs.laws.what_was_got_was_sent.Goals as goal
 
 pub returns-clause-front : goal.returns-clause-front

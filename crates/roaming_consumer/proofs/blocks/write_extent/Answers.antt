@@ -2,7 +2,7 @@ use Rattle.std.proofs.Common.{◌≡◌, List, ℕ, length, ap, subst, ◌∙◌
 use Rattle.std.proofs.lemmas.List.{append-nil}
 use Rattle.nl_io.specs.Content.{with_end, PutsFront}
 use Rattle.checkpoint_io.specs.Blocks.{extent_head_bytes}
-use Rattle.roaming_consumer.proofs.Sending.{sends_then, sends_stop, sends_all}
+use Rattle.roaming_consumer.proofs.lemmas.Sending.{sends_then, sends_stop, sends_all}
 use Rattle.roaming_consumer.proofs.blocks.write_extent.Goals as goal
 
 pub returns-in_err-write_all-clause-sent : goal.returns-in_err-write_all-clause-sent

@@ -1,5 +1,5 @@
 use Rattle.std.proofs.Common.{refl, ◌∙◌}
-use Rattle.nl_io.proofs.Outcomes.{at_err}
+use Rattle.nl_io.proofs.lemmas.Outcomes.{at_err}
 use Rattle.session_commands.proofs.OutcomeTexts.{none_carried, drop_carried, drop_cut, counts_cut, outcome_carried, outcome_put, outcome_cut}
 use Rattle.session_commands.proofs.telling.put_outcome.Goals as goal
 

@@ -1,7 +1,7 @@
 use Rattle.std.proofs.Common.{ℕ, List, refl, subst}
 use Rattle.source_tokens.specs.Forms.{is_comment_tail, is_comment_body}
 use Rattle.source_tokens.specs.Reading.{EndsLongest}
-use Rattle.source_tokens.proofs.Passing.{passes-none, ends-nothing, longest-front}
+use Rattle.source_tokens.proofs.lemmas.Passing.{passes-none, ends-nothing, longest-front}
 use Rattle.source_tokens.proofs.comment.past_comment.Goals as goal
 
 pub returns-in-empty-clause-longest : goal.returns-in-empty-clause-longest

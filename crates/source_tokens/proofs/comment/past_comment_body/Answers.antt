@@ -1,7 +1,7 @@
 use Rattle.std.proofs.Common.{◌≡◌, false, ◌&&◌, ◌==◌, get_or, sym, subst, arith, ne_eqb}
 use Rattle.std.proofs.lemmas.Bool.{and_left, and_right}
 use Rattle.source_tokens.specs.Forms.{is_comment_body}
-use Rattle.source_tokens.proofs.Passing.{Passes, passes-none}
+use Rattle.source_tokens.proofs.lemmas.Passing.{Passes, passes-none}
 use Rattle.source_tokens.proofs.Comments.{left_of, comment-front, comment-ends, comment-nothing}
 use Rattle.source_tokens.proofs.comment.past_comment_body.Goals as goal
 use Rattle.source_tokens.proofs.comment.past_comment_body.Goals.{else-star-via-then-star+else-byte-eq47, else-star-via-else-star}

@@ -1,7 +1,7 @@
 use Rattle.std.proofs.Common.{◌≤◌, length}
 use Rattle.source_tokens.specs.Forms.{is_comment_body}
 use Rattle.source_tokens.proofs.Comments.{left_of}
-use Rattle.source_tokens.proofs.Passing.{Passes}
+use Rattle.source_tokens.proofs.lemmas.Passing.{Passes}
 use Rattle.source_tokens.proofs.comment.past_comment_body.Given as goal
 
 abbrev pub invariant-loop-rest : goal.invariant-loop-rest

@@ -1,4 +1,4 @@
-use Rattle.source_tokens.proofs.Joining.{tokens-join, parts-join}
+use Rattle.source_tokens.proofs.lemmas.Joining.{tokens-join, parts-join}
 use Rattle.source_tokens.proofs.laws.one_join.Goals as goal
 
 pub returns-clause-tokens : goal.returns-clause-tokens

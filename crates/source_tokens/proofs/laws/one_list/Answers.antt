@@ -1,5 +1,5 @@
-use Rattle.source_tokens.proofs.Unique.{tokens_once}
-use Rattle.source_tokens.proofs.UniqueParts.{parts_once}
+use Rattle.source_tokens.proofs.lemmas.Unique.{tokens_once}
+use Rattle.source_tokens.proofs.lemmas.UniqueParts.{parts_once}
 use Rattle.source_tokens.proofs.laws.one_list.Goals as goal
 
 pub returns-clause-tokens : goal.returns-clause-tokens

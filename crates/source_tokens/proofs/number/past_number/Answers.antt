@@ -2,7 +2,7 @@ use Rattle.std.proofs.Common.{◌≡◌, true, false, get_or, sym, ◌∙◌, su
 use Rattle.std.proofs.lemmas.Bool.{both_ways}
 use Rattle.source_tokens.specs.Bytes.{is_number_byte}
 use Rattle.source_tokens.specs.Forms.{is_number_tail}
-use Rattle.source_tokens.proofs.Passing.{Passes, passes-none}
+use Rattle.source_tokens.proofs.lemmas.Passing.{Passes, passes-none}
 use Rattle.source_tokens.proofs.Numbers.{goes_on_alone, number-front, number-pair, number-nothing, number-ends}
 use Rattle.source_tokens.proofs.number.past_number.Goals as goal
 

@@ -1,6 +1,6 @@
 use Rattle.std.proofs.Common.{◌≤◌, length}
 use Rattle.source_tokens.specs.Forms.{is_number_tail}
-use Rattle.source_tokens.proofs.Passing.{Passes}
+use Rattle.source_tokens.proofs.lemmas.Passing.{Passes}
 use Rattle.source_tokens.proofs.number.past_number.Given as goal
 
 abbrev pub invariant-loop-rest : goal.invariant-loop-rest

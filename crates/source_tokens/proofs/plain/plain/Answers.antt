@@ -1,5 +1,5 @@
 use Rattle.std.proofs.Common.{refl, ap}
-use Rattle.source_tokens.proofs.Passing.{alone}
+use Rattle.source_tokens.proofs.lemmas.Passing.{alone}
 use Rattle.source_tokens.proofs.Standings.{goes_on_as}
 use Rattle.source_tokens.proofs.plain.plain.Goals as goal
 use Rattle.source_tokens.proofs.plain.plain.Goals.{in-Space, in-NewLine, in-LineComment, in-BlockComment, in-Identifier, in-Number, in-Punctuator}

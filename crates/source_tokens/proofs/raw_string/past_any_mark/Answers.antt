@@ -1,6 +1,6 @@
 use Rattle.std.proofs.Common.{◌∷◌, sym, ◌∙◌}
 use Rattle.std.proofs.lemmas.Bool.{both_ways}
-use Rattle.source_tokens.proofs.Prefixes.{prefix-letter}
+use Rattle.source_tokens.proofs.lemmas.Prefixes.{prefix-letter}
 use Rattle.source_tokens.proofs.raw_string.past_any_mark.Goals as goal
 
 pub returns-then-not-begins_prefix : goal.returns-then-not-begins_prefix

@@ -1,6 +1,6 @@
 use Rattle.std.proofs.Common.{◌≡◌, ◌∷◌, length, get_or, ap, arith}
-use Rattle.source_tokens.proofs.Texts.{reads-none}
-use Rattle.source_tokens.proofs.Prefixes.{letter-more, letter-missing, letter-other, behind-prefix}
+use Rattle.source_tokens.proofs.lemmas.Texts.{reads-none}
+use Rattle.source_tokens.proofs.lemmas.Prefixes.{letter-more, letter-missing, letter-other, behind-prefix}
 use Rattle.source_tokens.proofs.raw_string.past_mark.Goals as goal
 
 pub loop-letter-init : goal.loop-letter-init

@@ -1,4 +1,4 @@
-use Rattle.source_tokens.proofs.Prefixes.{not_raw, stands_raw}
+use Rattle.source_tokens.proofs.lemmas.Prefixes.{not_raw, stands_raw}
 use Rattle.source_tokens.proofs.raw_string.raw_string.Goals as goal
 
 pub returns-in_err-len : goal.returns-in_err-len

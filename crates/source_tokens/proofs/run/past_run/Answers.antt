@@ -3,7 +3,7 @@ use Rattle.std.specs.List.{list_all}
 use Rattle.source_tokens.specs.Bytes.{is_of_class}
 use Rattle.source_tokens.specs.Splices.{past_splices}
 use Rattle.source_tokens.specs.Reading.{EndsLongest}
-use Rattle.source_tokens.proofs.Passing.{Passes, back_of, passes-none, passes-front, ends-nothing, ends-front}
+use Rattle.source_tokens.proofs.lemmas.Passing.{Passes, back_of, passes-none, passes-front, ends-nothing, ends-front}
 use Rattle.source_tokens.proofs.run.past_run.Goals as goal
 
 run-front : (test : ℕ → Bool) (bytes rest : List ℕ) → Passes (list_all test) (list_all test) bytes rest → 1 ≤ length rest → test (get_or rest 0 0) ≡ true → Passes (list_all test) (list_all test) bytes (past_splices (back_of rest))

@@ -1,7 +1,7 @@
 use Rattle.std.proofs.Common.{◌≤◌, length}
 use Rattle.std.specs.List.{list_all}
 use Rattle.source_tokens.specs.Bytes.{is_of_class}
-use Rattle.source_tokens.proofs.Passing.{Passes}
+use Rattle.source_tokens.proofs.lemmas.Passing.{Passes}
 use Rattle.source_tokens.proofs.run.past_run.Given as goal
 
 abbrev pub invariant-loop-rest : goal.invariant-loop-rest

@@ -2,7 +2,7 @@ use Rattle.std.proofs.Common.{◌≡◌, false}
 use Rattle.std.proofs.lemmas.List.Elements.{All-from_recursion}
 use Rattle.stamp_merge.specs.Merging.{stamp_before}
 use Rattle.stamp_merge.specs.Mergers.{pushed_to, last_or}
-use Rattle.stamp_merge.proofs.MergeKeys.{key_at}
+use Rattle.stamp_merge.proofs.lemmas.MergeKeys.{key_at}
 use Rattle.stamp_merge.proofs.Later.{open_behind}
 use Rattle.stamp_merge.proofs.laws.open_lists_stand_behind.Goals as goal
 

@@ -1,5 +1,5 @@
 use Rattle.std.proofs.Common.{arith}
-use Rattle.stamp_merge.proofs.MergeKeys.{merged-rises}
+use Rattle.stamp_merge.proofs.lemmas.MergeKeys.{merged-rises}
 use Rattle.stamp_merge.proofs.laws.orders_are_merged.Goals as goal
 
 pub returns : goal.returns

@@ -1,4 +1,4 @@
-use Rattle.stamp_merge.proofs.MergeKeys.{merge_order-counts}
+use Rattle.stamp_merge.proofs.lemmas.MergeKeys.{merge_order-counts}
 use Rattle.stamp_merge.proofs.laws.orders_take_each_stamp_once.Goals as goal
 
 pub returns : goal.returns

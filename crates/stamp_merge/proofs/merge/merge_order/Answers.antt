@@ -3,7 +3,7 @@ use Rattle.std.proofs.lemmas.List.{take_all, append-nil}
 use Rattle.std.specs.List.Sorted.{IsPermutation}
 use Rattle.stamp_merge.specs.declared.merge.MergeKey.{MergeKey}
 use Rattle.stamp_merge.specs.Merging.{keys_of, list_keys}
-use Rattle.stamp_merge.proofs.MergeKeys.{keys_from, keys_from-more, keys_from-none, keys_sorted}
+use Rattle.stamp_merge.proofs.lemmas.MergeKeys.{keys_from, keys_from-more, keys_from-none, keys_sorted}
 use Rattle.stamp_merge.proofs.merge.merge_order.Goals as goal
 
 pub loop-list-preserved : goal.loop-list-preserved

@@ -1,6 +1,6 @@
 use Rattle.std.proofs.Common.{◌≡◌, ◌++◌, map, take}
 use Rattle.stamp_merge.specs.Merging.{keys_of}
-use Rattle.stamp_merge.proofs.MergeKeys.{keys_from}
+use Rattle.stamp_merge.proofs.lemmas.MergeKeys.{keys_from}
 use Rattle.stamp_merge.proofs.merge.merge_order.Given as goal
 
 -- the keys so far and those of the lists that are left are all

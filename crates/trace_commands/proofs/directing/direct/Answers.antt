@@ -8,7 +8,7 @@ use Rattle.command_base.specs.Tasks.{text_alone}
 use Rattle.trace_commands.specs.Traces.{IsRefusedAt}
 use Rattle.trace_commands.specs.Texts.{direct_text}
 use Rattle.trace_commands.specs.Tasks.{GivesLines, direct_task}
-use Rattle.trace_commands.proofs.Soundness.{direct_sound}
+use Rattle.trace_commands.proofs.lemmas.Soundness.{direct_sound}
 use Rattle.trace_commands.proofs.directing.direct.Goals as goal
 
 pub returns-in_err-run-clause-ends : goal.returns-in_err-run-clause-ends

@@ -7,7 +7,7 @@ use Rattle.command_base.specs.EffectLaws.{ended_as, nothing_came, streamed_done,
 use Rattle.command_base.specs.Scenes.{Scene, scene}
 use Rattle.command_base.specs.Tasks.{text_alone}
 use Rattle.trace_commands.specs.Tasks.{generate_task}
-use Rattle.trace_commands.proofs.Soundness.{generate_sound}
+use Rattle.trace_commands.proofs.lemmas.Soundness.{generate_sound}
 use Rattle.trace_commands.proofs.generating.generate.Goals as goal
 
 pub returns-in_err-trace-clause-ends : goal.returns-in_err-trace-clause-ends

@@ -2,7 +2,7 @@ use Rattle.std.proofs.Common.{[], ◌++◌, List, ℕ, refl, sym, ap, subst, ◌
 use Rattle.std.proofs.lemmas.List.{append-nil}
 use Rattle.direct_printf.specs.Lines.{Line}
 use Rattle.nl_io.specs.TextWriters.{Carries, IsCutOff}
-use Rattle.nl_io.proofs.TextWriters.{carries_held, carries_more, carries_all, carries_front, cut_held, cut_more}
+use Rattle.nl_io.proofs.lemmas.TextWriters.{carries_held, carries_more, carries_all, carries_front, cut_held, cut_more}
 use Rattle.command_base.specs.Endings.{Ending}
 use Rattle.command_base.specs.Printing.{Prints}
 use Rattle.command_base.specs.EffectLaws.{ended_as}

@@ -6,7 +6,7 @@ use Rattle.trace_text.specs.Recordings.{Recording}
 use Rattle.trace_text.specs.Canonical.{HasText}
 use Rattle.trace_text.specs.CallReading.{with_call}
 use Rattle.trace_generator.specs.Generated.{generated_messages, generated_clock, drawn_call, after_call, generator_at, Generated}
-use Rattle.trace_text.proofs.RunSteps.{start_of}
+use Rattle.trace_text.proofs.lemmas.RunSteps.{start_of}
 use Rattle.trace_generator.proofs.GeneratedCalls.{generator_below, stamp_within, generated_none, generated_next, generated_writer}
 use Rattle.trace_generator.proofs.GeneratedTexts.{has_text}
 use Rattle.trace_generator.proofs.generating.generate.Goals as goal

@@ -1,7 +1,7 @@
 use Rattle.std.proofs.Common.{[], ◌++◌, Ok, ap, ◌∙◌, subst}
 use Rattle.std.specs.Prelude.{IsErrOf}
 use Rattle.nl_io.specs.Content.{with_end}
-use Rattle.roaming_consumer.proofs.Sending.{with_end-append}
+use Rattle.roaming_consumer.proofs.lemmas.Sending.{with_end-append}
 use Rattle.trace_text.specs.Recordings.{Recording}
 use Rattle.trace_session.specs.Sessions.{IsSession}
 use Rattle.trace_session.proofs.Sessions.{ready_begun}

@@ -1,6 +1,6 @@
 use Rattle.trace_text.specs.Dictionaries.{DictionaryText, DictionaryBreak}
 use Rattle.trace_text.proofs.OnlyAnswers.{only_one}
-use Rattle.trace_text.proofs.OneDictionary.{dictionaries_apart}
+use Rattle.trace_text.proofs.lemmas.OneDictionary.{dictionaries_apart}
 use Rattle.trace_text.proofs.dictionaries.read_dictionary.Goals as goal
 
 pub returns-clause-only : goal.returns-clause-only

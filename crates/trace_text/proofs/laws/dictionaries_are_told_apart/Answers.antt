@@ -1,5 +1,5 @@
 use Rattle.trace_text.proofs.DictionaryLaws.{dictionary_or_not}
-use Rattle.trace_text.proofs.OneDictionary.{dictionaries_apart}
+use Rattle.trace_text.proofs.lemmas.OneDictionary.{dictionaries_apart}
 use Rattle.trace_text.proofs.laws.dictionaries_are_told_apart.Goals as goal
 
 pub returns : goal.returns

@@ -1,4 +1,4 @@
-use Rattle.trace_text.proofs.RecordingLaws.{two_messages_recorded, slowest_recorded, writers_recorded, calls_recorded, no_writer}
+use Rattle.trace_text.proofs.lemmas.RecordingLaws.{two_messages_recorded, slowest_recorded, writers_recorded, calls_recorded, no_writer}
 use Rattle.trace_text.proofs.laws.recordings_are_within_limits.Goals as goal
 
 pub returns-clause-worked : goal.returns-clause-worked

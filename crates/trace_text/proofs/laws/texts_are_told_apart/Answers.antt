@@ -1,6 +1,6 @@
 use Rattle.trace_text.proofs.OneOutcome.{one_outcome}
 use Rattle.trace_text.proofs.SomeOutcome.{some_outcome}
-use Rattle.trace_text.proofs.ToldApart.{one_holds, not_broken, one_run, one_break}
+use Rattle.trace_text.proofs.lemmas.ToldApart.{one_holds, not_broken, one_run, one_break}
 use Rattle.trace_text.proofs.laws.texts_are_told_apart.Goals as goal
 
 pub returns-clause-one_holds : goal.returns-clause-one_holds

@@ -6,7 +6,7 @@ use Rattle.trace_text.specs.Recordings.{Recording}
 use Rattle.trace_text.specs.Canonical.{HasText}
 use Rattle.trace_text.specs.Reading.{calls, ended}
 use Rattle.trace_text.specs.Progress.{progress, IsRefusal}
-use Rattle.trace_text.proofs.CallRuns.{CanFollow}
+use Rattle.trace_text.proofs.lemmas.CallRuns.{CanFollow}
 use Rattle.trace_text.proofs.SpelledRuns.{text_after}
 use Rattle.trace_text.proofs.CallSteps.{breaks_call, can_follow, writer_is_there, one_call_more}
 use Rattle.trace_text.proofs.Steps.{leads, leads_on, refused_on, refused_as, finished_on, ends_here}

@@ -1,4 +1,4 @@
-use Rattle.trace_text.proofs.ToldApart.{only_answer}
+use Rattle.trace_text.proofs.lemmas.ToldApart.{only_answer}
 use Rattle.trace_text.proofs.reading.read_text.Goals as goal
 
 pub returns-clause-only : goal.returns-clause-only

@@ -1,4 +1,4 @@
-use Rattle.trace_text.proofs.ToldApart.{only_told}
+use Rattle.trace_text.proofs.lemmas.ToldApart.{only_told}
 use Rattle.trace_text.proofs.reading.read_trace.Goals as goal
 
 pub returns-in-Ok-clause-only : goal.returns-in-Ok-clause-only

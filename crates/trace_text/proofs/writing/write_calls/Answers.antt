@@ -1,5 +1,5 @@
 use Rattle.std.proofs.Common.{ℕ, ◌+◌, List, ◌++◌, drop, refl, sym, ap, ◌∙◌}
-use Rattle.nl_io.proofs.TextWriters.{carries_held, carries_more}
+use Rattle.nl_io.proofs.lemmas.TextWriters.{carries_held, carries_more}
 use Rattle.trace_text.specs.declared.writing.WriteTraceFault.TheVariants.{Failed, NoMemory}
 use Rattle.trace_text.proofs.CallTexts.{calls_text, calls_more, calls_all, fresh_line, cut_on, memory_wanted, goes_on_fault}
 use Rattle.trace_text.proofs.writing.write_calls.Goals as goal

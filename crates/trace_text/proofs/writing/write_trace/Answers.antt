@@ -1,5 +1,5 @@
 use Rattle.std.proofs.Common.{◌∙◌}
-use Rattle.nl_io.proofs.TextWriters.{carries_all}
+use Rattle.nl_io.proofs.lemmas.TextWriters.{carries_all}
 use Rattle.trace_text.specs.declared.writing.WriteTraceFault.TheVariants.{Failed}
 use Rattle.trace_text.specs.Canonical.{front_text, Canonical}
 use Rattle.trace_text.proofs.CallTexts.{fresh_line, front_put, front_cut, calls_put, calls_cut, end_put, end_cut, flush_cut, writes_fault}

@@ -2,7 +2,7 @@ use Rattle.std.proofs.Common.{List, length, refl, sym, ap, subst, arith, Ok}
 use Rattle.log_dictionary.specs.declared.message.Message.{Message}
 use Rattle.log_dictionary.specs.declared.dictionary.Added.{Added}
 use Rattle.log_dictionary.specs.Messages.{HasMessage, HasId}
-use Rattle.log_dictionary.proofs.Distinct.{id_is_there, old_is_added}
+use Rattle.log_dictionary.proofs.lemmas.Distinct.{id_is_there, old_is_added}
 use Rattle.log_dictionary.proofs.dictionary.Dictionary.add.Goals as goal
 
 pub returns-in_default-clause-old : goal.returns-in_default-clause-old

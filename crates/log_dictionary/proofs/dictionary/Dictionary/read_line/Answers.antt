@@ -8,8 +8,8 @@ use Rattle.log_dictionary.specs.declared.dictionary.Added.{Added}
 use Rattle.log_dictionary.specs.declared.dictionary.Added.TheVariants.{Old, New}
 use Rattle.log_dictionary.specs.Messages.{HasMessage, HasId, SpellsMessage}
 use Rattle.log_dictionary.specs.Additions.{IsAdded, ReadsLine}
-use Rattle.log_dictionary.proofs.Distinct.{id_is_there}
-use Rattle.log_dictionary.proofs.LineMessages.{stopped, old_is_not_new, added_next, added_old}
+use Rattle.log_dictionary.proofs.lemmas.Distinct.{id_is_there}
+use Rattle.log_dictionary.proofs.lemmas.LineMessages.{stopped, old_is_not_new, added_next, added_old}
 use Rattle.log_dictionary.proofs.dictionary.Dictionary.read_line.Goals as goal
 use Rattle.log_dictionary.proofs.dictionary.Dictionary.read_line.Goals.{in-Ok-New, in-Ok-Old, in-Err-insert}
 

@@ -4,7 +4,7 @@ use Rattle.log_dictionary.specs.declared.message.Message.{Message}
 use Rattle.printf_grammar.specs.Spelling.{Spells}
 use Rattle.log_dictionary.specs.Messages.{AreDistinct, AreFormed}
 use Rattle.log_dictionary.specs.Places.{ArePlaces}
-use Rattle.log_dictionary.proofs.Distinct.{still_distinct}
+use Rattle.log_dictionary.proofs.lemmas.Distinct.{still_distinct}
 use Rattle.log_dictionary.proofs.Places.{one_more_place, popped, same_places, place_is}
 use Rattle.log_dictionary.proofs.message_set.MessageSet.insert.Goals as goal
 

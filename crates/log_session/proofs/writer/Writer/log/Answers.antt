@@ -1,7 +1,7 @@
 use Rattle.std.proofs.Common.{rules, ◌≡◌, ◌+◌, ◌≤◌, ◌++◌, length, map, ◌∷◌, [], ℕ, List, sym, subst, ap, ◌∙◌, arith}
 use Rattle.std.specs.Prelude.{take}
 use Rattle.arg_records.specs.Frames.{Frame, FrameLen}
-use Rattle.arg_records.proofs.Lengths.{length-Frame}
+use Rattle.arg_records.proofs.lemmas.Lengths.{length-Frame}
 use Rattle.ring_core.specs.Plans.{AreFramesOf, Lawful}
 use Rattle.ring_core.specs.Positions.{Need}
 use Rattle.log_session.specs.Writers.{WriterView, Knows}

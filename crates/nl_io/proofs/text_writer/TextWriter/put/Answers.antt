@@ -1,5 +1,5 @@
 use Rattle.std.proofs.Common.{List, ℕ, ◌++◌, ap, ◌∙◌}
-use Rattle.nl_io.proofs.TextWriters.{carries_held}
+use Rattle.nl_io.proofs.lemmas.TextWriters.{carries_held}
 use Rattle.nl_io.proofs.text_writer.TextWriter.put.Goals as goal
 
 pub returns-in-Ok-clause-ok : goal.returns-in-Ok-clause-ok

@@ -1,6 +1,6 @@
 use Rattle.std.proofs.Common.{List, ℕ, ◌++◌, ap, ◌∙◌}
-use Rattle.nl_io.proofs.Outcomes.{at_ok, at_err}
-use Rattle.nl_io.proofs.TextWriters.{behind_put, cut_before, all_told, cut_told}
+use Rattle.nl_io.proofs.lemmas.Outcomes.{at_ok, at_err}
+use Rattle.nl_io.proofs.lemmas.TextWriters.{behind_put, cut_before, all_told, cut_told}
 use Rattle.nl_io.proofs.text_writer.TextWriter.put_held.Goals as goal
 use Rattle.nl_io.proofs.text_writer.TextWriter.put_held.Goals.{in-Ok, in-Err}
 

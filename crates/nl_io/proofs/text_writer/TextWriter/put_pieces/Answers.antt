@@ -1,7 +1,7 @@
 use Rattle.std.proofs.Common.{refl, sym, ◌∙◌}
 use Rattle.std.proofs.lemmas.List.{append-nil, take_all}
-use Rattle.nl_io.proofs.Outcomes.{at_err}
-use Rattle.nl_io.proofs.TextWriters.{carries_held, carries_more, cut_more, pieces_more, pieces_cut}
+use Rattle.nl_io.proofs.lemmas.Outcomes.{at_err}
+use Rattle.nl_io.proofs.lemmas.TextWriters.{carries_held, carries_more, cut_more, pieces_more, pieces_cut}
 use Rattle.nl_io.proofs.text_writer.TextWriter.put_pieces.Goals as goal
 
 pub loop-piece-init : goal.loop-piece-init

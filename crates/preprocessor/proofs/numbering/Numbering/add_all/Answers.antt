@@ -3,7 +3,7 @@ use Rattle.std.specs.List.{AllByRecursion}
 use Rattle.std.specs.Vec.Iter.{into_iter_items}
 use Rattle.preprocessor.specs.Findings.{Finding, IsNamed}
 use Rattle.preprocessor.specs.Numbering.{HoldsFindings}
-use Rattle.preprocessor.proofs.Finding.{findings_split}
+use Rattle.preprocessor.proofs.lemmas.Finding.{findings_split}
 use Rattle.preprocessor.proofs.numbering.Numbering.add_all.Goals as goal
 
 pub loop-one-preserved : goal.loop-one-preserved

@@ -1,7 +1,7 @@
 use Rattle.std.proofs.Common.{◌∷◌, []}
 use Rattle.std.proofs.lemmas.Result.{IfOk-weaker}
 use Rattle.preprocessor.proofs.Holding.{still_stopped}
-use Rattle.preprocessor.proofs.Finding.{statement_held, bad_held}
+use Rattle.preprocessor.proofs.lemmas.Finding.{statement_held, bad_held}
 use Rattle.preprocessor.proofs.numbering.Numbering.add_one.Goals as goal
 
 pub returns-then-self : goal.returns-then-self

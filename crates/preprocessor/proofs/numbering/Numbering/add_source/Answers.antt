@@ -1,5 +1,5 @@
 use Rattle.std.proofs.lemmas.Result.{IfOk-weaker}
-use Rattle.preprocessor.proofs.Finding.{statements_are_named}
+use Rattle.preprocessor.proofs.lemmas.Finding.{statements_are_named}
 use Rattle.preprocessor.proofs.Counting.{stays_stopped, scanned_counted}
 use Rattle.preprocessor.proofs.numbering.Numbering.add_source.Goals as goal
 

@@ -7,7 +7,7 @@ use Rattle.ring_core.specs.declared.stored_out.Entry.TheVariants.{Frame as Frame
 use Rattle.ring_core.specs.Plans.{Plan, plan_of, AreFramesOf, MayFollow, call_of, frame_of}
 use Rattle.ring_core.specs.Stored.{stored_frames}
 use Rattle.ring_core.specs.StoredInside.{entry_words}
-use Rattle.ring_core.proofs.Frames.{AreFramesOf-push, last_stamp-push}
+use Rattle.ring_core.proofs.lemmas.Frames.{AreFramesOf-push, last_stamp-push}
 use Rattle.ring_core.proofs.Storing.{frames-push}
 use Rattle.ring_core.proofs.stored_out.StoredOut.push.Goals as goal
 

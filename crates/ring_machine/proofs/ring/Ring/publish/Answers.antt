@@ -4,8 +4,8 @@ use Rattle.ring_machine.specs.Streams.{walk}
 use Rattle.ring_machine.specs.RingStates.{RingState, written, sent, RingOk}
 use Rattle.ring_machine.specs.Steps.{after_step}
 use Rattle.ring_machine.specs.RingInside.{ring_state}
-use Rattle.ring_machine.proofs.StepLaws.{RingOk-publish}
-use Rattle.ring_machine.proofs.Schedules.{sent-published}
+use Rattle.ring_machine.proofs.lemmas.StepLaws.{RingOk-publish}
+use Rattle.ring_machine.proofs.lemmas.Schedules.{sent-published}
 use Rattle.ring_machine.proofs.ring.Ring.publish.Goals as goal
 
 pub invariant_of-self : goal.invariant_of-self

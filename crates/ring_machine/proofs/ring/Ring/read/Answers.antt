@@ -6,8 +6,8 @@ use Rattle.ring_machine.specs.Tracks.{Tracked}
 use Rattle.ring_machine.specs.RingStates.{RingState, taken, RingOk}
 use Rattle.ring_machine.specs.Steps.{after_step, next_word}
 use Rattle.ring_machine.specs.RingInside.{ring_state}
-use Rattle.ring_machine.proofs.Walks.{FitsWithin-may}
-use Rattle.ring_machine.proofs.StepLaws.{RingOk-read, reads_next}
+use Rattle.ring_machine.proofs.lemmas.Walks.{FitsWithin-may}
+use Rattle.ring_machine.proofs.lemmas.StepLaws.{RingOk-read, reads_next}
 use Rattle.ring_machine.proofs.ring.Ring.read.Goals as goal
 
 pub push-requires-clause-may : goal.push-requires-clause-may

@@ -4,8 +4,8 @@ use Rattle.ring_machine.specs.Tracks.{Tracked}
 use Rattle.ring_machine.specs.RingStates.{RingState, written, sent, RingOk}
 use Rattle.ring_machine.specs.Steps.{stored}
 use Rattle.ring_machine.specs.RingInside.{ring_state}
-use Rattle.ring_machine.proofs.StepLaws.{RingOk-stored}
-use Rattle.ring_machine.proofs.Schedules.{sent-stored}
+use Rattle.ring_machine.proofs.lemmas.StepLaws.{RingOk-stored}
+use Rattle.ring_machine.proofs.lemmas.Schedules.{sent-stored}
 use Rattle.ring_machine.proofs.ring.Ring.store.Goals as goal
 
 pub invariant_of-self-2 : goal.invariant_of-self-2

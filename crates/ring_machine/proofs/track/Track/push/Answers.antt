@@ -2,7 +2,7 @@ use Rattle.std.proofs.Common.{sym, ap, ◌∙◌, subst}
 use Rattle.ring_machine.specs.Streams.{Walk, MayCome, walk}
 use Rattle.ring_machine.specs.Reaches.{IsReach}
 use Rattle.ring_machine.specs.Tracks.{Tracked, walk_of}
-use Rattle.ring_machine.proofs.Walks.{walk-push}
+use Rattle.ring_machine.proofs.lemmas.Walks.{walk-push}
 use Rattle.ring_machine.proofs.track.Track.push.Goals as goal
 
 pub invariant_of-self-2 : goal.invariant_of-self-2

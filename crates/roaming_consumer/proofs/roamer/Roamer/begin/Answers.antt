@@ -2,7 +2,7 @@ use Rattle.std.proofs.Common.{refl, ap, ◌∙◌}
 use Rattle.nl_io.specs.Content.{with_end}
 use Rattle.checkpoint_io.specs.declared.header.Header.{Header}
 use Rattle.checkpoint_io.specs.Blocks.{header_bytes}
-use Rattle.roaming_consumer.proofs.Sending.{sent_whole}
+use Rattle.roaming_consumer.proofs.lemmas.Sending.{sent_whole}
 use Rattle.roaming_consumer.proofs.Standing.{begun}
 use Rattle.roaming_consumer.proofs.roamer.Roamer.begin.Goals as goal
 

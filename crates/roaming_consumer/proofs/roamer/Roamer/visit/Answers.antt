@@ -1,7 +1,7 @@
 use Rattle.std.proofs.Common.{ap}
 use Rattle.roaming_consumer.specs.Growth.{LogProgress}
 use Rattle.roaming_consumer.specs.Roamers.{is_faulted}
-use Rattle.roaming_consumer.proofs.Marking.{marks_stay}
+use Rattle.roaming_consumer.proofs.lemmas.Marking.{marks_stay}
 use Rattle.roaming_consumer.proofs.Standing.{false_is_not_true, threw, planned_after, count_after}
 use Rattle.roaming_consumer.proofs.roamer.Roamer.visit.Goals as goal
 

@@ -1,7 +1,7 @@
 use Rattle.std.proofs.Common.{List, ℕ, ◌++◌, length, take, subst}
 use Rattle.nl_io.specs.Content.{PutsFront}
 use Rattle.checkpoint_io.specs.Blocks.{extent_head_bytes}
-use Rattle.roaming_consumer.proofs.Sending.{sends_err, extent_stops_early, extent_behind}
+use Rattle.roaming_consumer.proofs.lemmas.Sending.{sends_err, extent_stops_early, extent_behind}
 use Rattle.roaming_consumer.proofs.roamer.Roamer.write_draft.Goals as goal
 
 pub returns-in_err-write_fragments-clause-sent : goal.returns-in_err-write_fragments-clause-sent

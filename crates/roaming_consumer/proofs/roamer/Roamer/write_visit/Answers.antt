@@ -1,9 +1,9 @@
 use Rattle.std.proofs.Common.{Bool, true, false, List, length, get_or, sym, ap, ◌∙◌, arith}
 use Rattle.std.specs.Prelude.{slice_set}
-use Rattle.roaming_consumer.proofs.Sending.{ok_of, extent_sent, sent_whole}
+use Rattle.roaming_consumer.proofs.lemmas.Sending.{ok_of, extent_sent, sent_whole}
 use Rattle.roaming_consumer.proofs.Standing.{draft_some, draft_ids, writes_extent, wrote_extent, wrote_nothing, wrote_mark}
 use Rattle.roaming_consumer.specs.Growth.{LogProgress}
-use Rattle.roaming_consumer.proofs.Marking.{marks_stay, mark_written}
+use Rattle.roaming_consumer.proofs.lemmas.Marking.{marks_stay, mark_written}
 use Rattle.roaming_consumer.proofs.Stopping.{stopped_in_extent}
 use Rattle.roaming_consumer.proofs.roamer.Roamer.write_visit.Goals as goal
 use Rattle.roaming_consumer.proofs.roamer.Roamer.write_visit.Goals.{else-not-self-writer-via-then-not-self-writer+else-is_err-2, else-not-self-writer-via-else-not-self-writer}

@@ -4,7 +4,7 @@ use Rattle.std.proofs.lemmas.List.{get_or_read}
 use Rattle.stamp_merge.specs.declared.merger.ListState.{ListState}
 use Rattle.stamp_merge.specs.Mergers.{no_list, list_at, wants}
 use Rattle.stamp_merge.proofs.Heaps.{where_ok, some_wants, push_keeps}
-use Rattle.stamp_merge.proofs.Mergers.{wanting_is_there}
+use Rattle.stamp_merge.proofs.lemmas.Mergers.{wanting_is_there}
 use Rattle.stamp_merge.proofs.merger.Merger.push.Goals as goal
 
 pub invariant_of-self : goal.invariant_of-self

@@ -2,7 +2,7 @@ use Rattle.std.proofs.Common.{sym, subst}
 use Rattle.trace_text.specs.Recordings.{Recording}
 use Rattle.trace_text.specs.Canonical.{HasText}
 use Rattle.trace_text.specs.CallReading.{with_call}
-use Rattle.trace_text.proofs.RunSteps.{pushed}
+use Rattle.trace_text.proofs.lemmas.RunSteps.{pushed}
 use Rattle.trace_text.proofs.trace.Trace.push_call.Goals as goal
 
 pub invariant_of-self : goal.invariant_of-self

@@ -1,7 +1,7 @@
 use Rattle.std.proofs.Common.{◌≡◌, ◌<◌, List, length, sym, subst, set, OnOk}
 use Rattle.arg_records.specs.declared.call.Call.{Call}
 use Rattle.trace_text.specs.CallReading.{with_call_of}
-use Rattle.trace_text.proofs.RunSteps.{written}
+use Rattle.trace_text.proofs.lemmas.RunSteps.{written}
 use Rattle.trace_text.proofs.writer_calls.WriterCalls.push_call.Goals as goal
 
 pub returns-clause-ok : goal.returns-clause-ok

@@ -2,7 +2,7 @@ use Rattle.std.proofs.Common.{◌≡◌, ℕ, ◌+◌, ◌≤◌, List, length, 
 use Rattle.nl_io.specs.Count.{counted}
 use Rattle.ring_core.specs.declared.limits.TheConstants.{MAX_POSITION}
 use Rattle.ring_core.specs.Positions.{need_from, Need}
-use Rattle.ring_core.proofs.Needs.{Need-most}
+use Rattle.ring_core.proofs.lemmas.Needs.{Need-most}
 use Rattle.ring_machine.specs.Streams.{Walk}
 use Rattle.word_ring.specs.declared.known.Known.{Known}
 use Rattle.word_ring.specs.declared.word_in.WordIn.TheInside.{Inside}

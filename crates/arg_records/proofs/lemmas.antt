@@ -1,0 +1,4 @@
+pub mod Fitted
+pub mod Lengths
+pub mod Places
+pub mod TextWords

@@ -1,0 +1,2 @@
+pub mod BodyCases
+pub mod Codes

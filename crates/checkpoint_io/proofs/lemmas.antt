@@ -1,0 +1,9 @@
+pub mod BlockLaws
+pub mod BreakLaws
+pub mod FileLaws
+pub mod FrontLaws
+pub mod LimitLaws
+pub mod LogLaws
+pub mod ValidityLaws
+pub mod Wholeness
+pub mod Worked

@@ -1,0 +1,2 @@
+pub mod DecompressionLaws
+pub mod TextLaws

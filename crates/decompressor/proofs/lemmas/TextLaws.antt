@@ -1,0 +1,51 @@
+-- A log of calls that were taken stands for the lines of these calls.
+use Rattle.std.proofs.Common.{◌≡◌, ℕ, zero, suc, ◌+◌, List, [], ◌∷◌, ◌++◌, length, map, refl, sym, ap, subst, ◌∙◌}
+use Rattle.std.specs.Prelude.{slice_get, option_map}
+use Rattle.std.specs.List.{AllByRecursion, flat_map, filter_map, enumerate_from, range_with_len, cons_option}
+use Rattle.log_dictionary.specs.declared.clock.Clock.{Clock}
+use Rattle.log_dictionary.specs.declared.message.Message.{Message}
+use Rattle.arg_records.specs.declared.call.Call.{Call}
+use Rattle.arg_records.specs.Calls.{IsCall, log_call, writer_calls, calls_by_writer}
+use Rattle.checkpoint_io.specs.Blocks.{messages_of}
+use Rattle.checkpoint_io.specs.Validity.{records_of}
+use Rattle.checkpoint_io.proofs.lemmas.ValidityLaws.{slice_get-front, records_fit}
+use Rattle.checkpoint_io.specs.Logs.{LogOf}
+use Rattle.direct_printf.specs.Lines.{Direct}
+use Rattle.decompressor.specs.Decompression.{CallsOf, all_calls, Decompressed}
+use Rattle.decompressor.proofs.lemmas.DecompressionLaws.{whole_is_text}
+
+-- messages behind those that the records name change no call
+pub same_calls : (messages more : List Message) (writer from : ℕ) (entries : List Call) → AllByRecursion (IsCall messages) entries → filter_map (log_call messages writer) (enumerate_from from entries) ≡ filter_map (log_call (messages ++ more) writer) (enumerate_from from entries)
+same_calls messages more writer from [] all = refl
+same_calls messages more writer from (entry ∷ entries) all =
+    let is = all.0 in
+    let known : slice_get messages entry.id ≡ slice_get (messages ++ more) entry.id = is.known ∙ sym (slice_get-front messages more entry.id is.message is.known) in
+    let others = same_calls messages more writer (from + 1) entries all.1 in
+    λ i. cons_option (option_map (λ message. record { writer = writer; ordinal = from; stamp = entry.stamp; message = message; args = entry.args }) (known i)) (others i)
+
+pub same_flat : {X Y : Type 0} (f g : X → List Y) (xs : List X) → ((x : X) → f x ≡ g x) → flat_map f xs ≡ flat_map g xs
+same_flat f g [] same = refl
+same_flat f g (x ∷ xs) same = λ i. same x i ++ same_flat f g xs same i
+
+-- lists that a function gives for numbers, each with its number
+pub numbered : {X Y : Type 0} (f : ℕ × X → List Y) (g : ℕ → X) (from n : ℕ) → flat_map f (enumerate_from from (map g (range_with_len from n))) ≡ flat_map (λ k. f (k, g k)) (range_with_len from n)
+numbered f g from zero = refl
+numbered f g from (suc n) = ap (λ l. f (from, g from) ++ l) (numbered f g (from + 1) n)
+
+-- the calls of the log are those that were taken
+pub taken_are : (bytes : List ℕ) (taken : List (List Call)) (dictionary : List Message) (clock : Clock) (batch : ℕ) → (log : LogOf bytes taken dictionary clock batch) → all_calls log.header log.blocks ≡ calls_by_writer dictionary taken
+taken_are bytes taken dictionary clock batch log =
+    let own : (writer : ℕ) → CallsOf log.blocks writer ≡ writer_calls dictionary (writer, records_of writer log.blocks) =
+    λ writer. same_calls (messages_of log.blocks) log.undefined writer 0 (records_of writer log.blocks) (records_fit log.header log.blocks writer log.valid)
+    ∙ ap (λ (m : List Message). writer_calls m (writer, records_of writer log.blocks)) (sym log.messages_are) in
+    ap (λ (n : ℕ). flat_map (CallsOf log.blocks) (range_with_len 0 n)) log.writers_are
+    ∙ same_flat (CallsOf log.blocks) (λ (writer : ℕ). writer_calls dictionary (writer, records_of writer log.blocks)) (range_with_len 0 (length taken)) own
+    ∙ sym (numbered (writer_calls dictionary) (λ (writer : ℕ). records_of writer log.blocks) 0 (length taken))
+    ∙ ap (λ (t : List (List Call)). flat_map (writer_calls dictionary) (enumerate_from 0 t)) (sym log.records_are)
+
+-- the log stands for the lines of the calls that were taken
+pub log_is_text : (bytes : List ℕ) (taken : List (List Call)) (dictionary : List Message) (clock : Clock) (batch : ℕ) → LogOf bytes taken dictionary clock batch → Decompressed bytes (Direct clock (calls_by_writer dictionary taken))
+log_is_text bytes taken dictionary clock batch log =
+    let calls = taken_are bytes taken dictionary clock batch log in
+    let text : Direct log.header.clock (all_calls log.header log.blocks) ≡ Direct clock (calls_by_writer dictionary taken) = λ i. Direct (log.clock_is i) (calls i) in
+    subst (Decompressed bytes) text (whole_is_text log.header log.blocks bytes log.file log.valid)

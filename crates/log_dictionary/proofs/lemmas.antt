@@ -1,0 +1,16 @@
+pub mod Appending
+pub mod BinaryCases
+pub mod BinaryLaws
+pub mod BinaryWorked
+pub mod Distinct
+pub mod FieldLemmas
+pub mod LineLaws
+pub mod LineMessages
+pub mod LineWorked
+pub mod Lines
+pub mod NumberLaws
+pub mod Putting
+pub mod SameMessages
+pub mod Splits
+pub mod TextLaws
+pub mod Written

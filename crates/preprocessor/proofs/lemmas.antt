@@ -1,0 +1,4 @@
+pub mod Behind
+pub mod Finding
+pub mod Once
+pub mod Told

@@ -1,0 +1,3 @@
+pub mod Headlines
+pub mod Soundness
+pub mod WholeRuns

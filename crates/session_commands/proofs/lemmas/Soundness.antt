@@ -1,0 +1,37 @@
+-- The commands that run sessions are sound.
+use Rattle.std.proofs.Common.{◌≡◌, ℕ, List, Some, refl}
+use Rattle.nl_io.specs.Desk.{Desk}
+use Rattle.trace_generator.specs.Generated.{Generated}
+use Rattle.trace_text.specs.Traces.{TraceText}
+use Rattle.session_options.specs.declared.options.Options.{Options}
+use Rattle.command_base.specs.Endings.{Ending, IsDone, Done, Refused}
+use Rattle.command_base.specs.HeldFiles.{Holds}
+use Rattle.command_base.specs.HeldLaws.{such_there}
+use Rattle.command_base.specs.Readings.{never}
+use Rattle.command_base.specs.Soundness.{IsSound}
+use Rattle.command_base.specs.SoundTasks.{file_sound, free_sound}
+use Rattle.command_base.specs.Tasks.{Product, WhileReading, UntilBegun, text_alone}
+use Rattle.trace_commands.specs.Traces.{IsTrace}
+use Rattle.trace_commands.proofs.lemmas.Soundness.{right_trace}
+use Rattle.session_commands.specs.Replays.{ReplayGives, LeavesLog, replay_task}
+use Rattle.session_commands.specs.Selftests.{selftest_line, selftest_task}
+
+session_done : (trace : List ℕ) (options : Options) (desk : Desk) (product : Product) (ending : Ending)
+    → Holds desk trace IsTrace → ReplayGives trace options desk product ending → IsDone ending
+session_done trace options desk product Done holds gives = refl
+session_done trace options desk product (Refused name line cause) holds gives =
+    absurd (right_trace trace desk product name line cause holds gives)
+session_done trace options desk product ending holds gives = absurd gives
+
+pub replay_sound : (trace log : List ℕ) (options : Options) → IsSound (replay_task trace log options)
+replay_sound trace log options =
+    file_sound trace UntilBegun (ReplayGives trace options) never IsTrace (Some log) (LeavesLog trace)
+    (record {
+      done = session_done trace options;
+      streams = λ desk text begun. absurd begun;
+      there = λ desk bytes left. such_there desk trace (λ bytes. TraceText bytes left.0) left.1;
+    })
+
+pub selftest_sound : (seed calls writers : ℕ) → IsSound (selftest_task seed calls writers)
+selftest_sound seed calls writers =
+    free_sound WhileReading (λ product. product ≡ text_alone (selftest_line (Generated seed calls writers)))

@@ -1,0 +1,5 @@
+pub mod Comparing
+pub mod MergeKeys
+pub mod Mergers
+pub mod Ordering
+pub mod Sorted
