@@ -25,23 +25,12 @@ moved_all f made (x ∷ rest) all joined none = absurd (omega arith)
 pub one_less : {A : Type 0} (rest more : List A) (x : A) (len less : ℕ) → length rest ≡ len → rest ≡ x ∷ more → less + 1 ≡ len → length more ≡ less
 one_less rest more x len less long is next = let e = ap length is in omega (arith, e, long, next)
 
--- the lists are of one length
-pub zip_length : {A B : Type 0} (R : A → B → Type 0) (xs : List A) (ys : List B) → AllZip R xs ys → length xs ≡ length ys
-zip_length R [] [] all = refl
-zip_length R [] (y ∷ ys) all = absurd all
-zip_length R (x ∷ xs) [] all = absurd all
-zip_length R (x ∷ xs) (y ∷ ys) all = omega (arith, zip_length R xs ys all.1)
-
 -- what follows for each of the first list
 pub zip_first : {A B : Type 0} (R : A → B → Type 0) (P : A → Type 0) → ((x : A) (y : B) → R x y → P x) → (xs : List A) (ys : List B) → AllZip R xs ys → All P xs
 zip_first R P then [] [] all = All-nil P
 zip_first R P then [] (y ∷ ys) all = absurd all
 zip_first R P then (x ∷ xs) [] all = absurd all
 zip_first R P then (x ∷ xs) (y ∷ ys) all = All-cons P x xs (then x y all.0) (zip_first R P then xs ys all.1)
-
-pub no_items : {A : Type 0} (xs : List A) → length xs ≡ 0 → xs ≡ []
-no_items [] none = refl
-no_items (x ∷ xs) none = absurd (omega arith)
 
 -- ---- places
 
@@ -70,7 +59,3 @@ zip_images f R [] [] all = tt
 zip_images f R [] (y ∷ ys) all = absurd all
 zip_images f R (x ∷ xs) [] all = absurd all
 zip_images f R (x ∷ xs) (y ∷ ys) all = (all.0, zip_images f R xs ys all.1)
-
--- one more of which it holds
-pub all_more : {A : Type 0} (P : A → Type 0) (xs : List A) (x : A) → All P xs → P x → All P (xs ++ x ∷ [])
-all_more P xs x all more = All-append P xs (x ∷ []) all (All-cons P x [] more (All-nil P))

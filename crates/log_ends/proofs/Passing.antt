@@ -11,13 +11,13 @@ use Rattle.roaming_consumer.specs.declared.visit.Visit.{Visit}
 use Rattle.roaming_consumer.specs.declared.visit.Visit.TheVariants as visits
 use Rattle.roaming_consumer.specs.Roamers.{is_marked, IsSameRun}
 use Rattle.log_ends.specs.declared.consumer.ConsumerEnd.{ConsumerEnd}
-use Rattle.log_ends.specs.Consumers.{StandsFor, consumer_ends, waiting, is_over, GoesOn, FoundNone}
-use Rattle.log_ends.specs.Rounds.{Answers, IsVisited, Passes}
+use Rattle.log_ends.specs.Consumers.{HasPut, consumer_ends, waiting, is_over, EndGoesOn, FoundNone}
+use Rattle.log_ends.specs.Rounds.{VisitAnswers, IsVisited, Passes}
 
 -- The writers from the first one up to this one were visited, and nothing waits.
 pub record IsPassing (old : ConsumerEnd) (first upto : ℕ) (all_ended : Bool) (new : ConsumerEnd) : Type 0 where
-  pub ends : AllZip GoesOn (consumer_ends old) (consumer_ends new)
-  pub stands : (wrote : List ℕ) → StandsFor old.roamer wrote → StandsFor new.roamer wrote
+  pub ends : AllZip EndGoesOn (consumer_ends old) (consumer_ends new)
+  pub stands : (wrote : List ℕ) → HasPut old.roamer wrote → HasPut new.roamer wrote
   pub none : waiting new ≡ []
   pub found : (writer : ℕ) (before after : WordRoamerEnd) → first ≤ writer → writer < upto → slice_get (consumer_ends old) writer ≡ Some before → slice_get (consumer_ends new) writer ≡ Some after → FoundNone before after
   pub untouched : (writer : ℕ) → upto ≤ writer → slice_get (consumer_ends new) writer ≡ slice_get (consumer_ends old) writer
@@ -31,10 +31,10 @@ pub record IsPassing (old : ConsumerEnd) (first upto : ℕ) (all_ended : Bool) (
 
 -- ---- ends that go on
 
-goes_on_same : (end : WordRoamerEnd) → GoesOn end end
+goes_on_same : (end : WordRoamerEnd) → EndGoesOn end end
 goes_on_same end = record { same_pair = refl; same_plan = refl; loads_never_fall = omega arith; front = ([], sym (append-nil end.got)) }
 
-goes_on_then : (a b c : WordRoamerEnd) → GoesOn a b → GoesOn b c → GoesOn a c
+goes_on_then : (a b c : WordRoamerEnd) → EndGoesOn a b → EndGoesOn b c → EndGoesOn a c
 goes_on_then a b c first second = record {
   same_pair = second.same_pair ∙ first.same_pair;
   same_plan = second.same_plan ∙ first.same_plan;
@@ -45,11 +45,11 @@ goes_on_then a b c first second = record {
   );
 }
 
-pub all_go_on_same : (ends : List WordRoamerEnd) → AllZip GoesOn ends ends
+pub all_go_on_same : (ends : List WordRoamerEnd) → AllZip EndGoesOn ends ends
 all_go_on_same [] = tt
 all_go_on_same (end ∷ ends) = (goes_on_same end, all_go_on_same ends)
 
-pub all_go_on_then : (xs ys zs : List WordRoamerEnd) → AllZip GoesOn xs ys → AllZip GoesOn ys zs → AllZip GoesOn xs zs
+pub all_go_on_then : (xs ys zs : List WordRoamerEnd) → AllZip EndGoesOn xs ys → AllZip EndGoesOn ys zs → AllZip EndGoesOn xs zs
 all_go_on_then [] [] [] first second = tt
 all_go_on_then [] [] (c ∷ zs) first second = absurd second
 all_go_on_then [] (b ∷ ys) zs first second = absurd first
@@ -58,10 +58,10 @@ all_go_on_then (a ∷ xs) (b ∷ ys) [] first second = absurd second
 all_go_on_then (a ∷ xs) (b ∷ ys) (c ∷ zs) first second = (goes_on_then a b c first.0 second.0, all_go_on_then xs ys zs first.1 second.1)
 
 -- one of them does
-all_go_on_at : (ends : List WordRoamerEnd) (writer : ℕ) (before after : WordRoamerEnd) → slice_get ends writer ≡ Some before → GoesOn before after → AllZip GoesOn ends (slice_set ends writer after)
+all_go_on_at : (ends : List WordRoamerEnd) (writer : ℕ) (before after : WordRoamerEnd) → slice_get ends writer ≡ Some before → EndGoesOn before after → AllZip EndGoesOn ends (slice_set ends writer after)
 all_go_on_at [] writer before after was on = tt
 all_go_on_at (end ∷ ends) zero before after was on =
-    (subst (λ (e : WordRoamerEnd). GoesOn e after) (sym (same_Some end before was)) on, all_go_on_same ends)
+    (subst (λ (e : WordRoamerEnd). EndGoesOn e after) (sym (same_Some end before was)) on, all_go_on_same ends)
 all_go_on_at (end ∷ ends) (suc writer) before after was on = (goes_on_same end, all_go_on_at ends writer before after was on)
 
 -- ---- from writer to writer
@@ -89,13 +89,13 @@ passing_none old first none = record {
   same_over = refl;
 }
 
-answers_none : (answer : Visit) (before after : WordRoamerEnd) (bytes : List ℕ) → Answers answer before after bytes → bytes ≡ [] → FoundNone before after
+answers_none : (answer : Visit) (before after : WordRoamerEnd) (bytes : List ℕ) → VisitAnswers answer before after bytes → bytes ≡ [] → FoundNone before after
 answers_none (visits.Wrote n) before after bytes answers none = absurd (answers none)
 answers_none visits.Idle before after bytes answers none = answers.0
 answers_none visits.Ended before after bytes answers none = answers.0
 answers_none (visits.Discarded n) before after bytes answers none = absurd answers
 
-answers_open : (answer : Visit) (before after : WordRoamerEnd) (bytes : List ℕ) → answer ≢ visits.Ended → Answers answer before after bytes → bytes ≡ [] → after.ended ≡ false
+answers_open : (answer : Visit) (before after : WordRoamerEnd) (bytes : List ℕ) → answer ≢ visits.Ended → VisitAnswers answer before after bytes → bytes ≡ [] → after.ended ≡ false
 answers_open (visits.Wrote n) before after bytes open_end answers none = absurd (answers none)
 answers_open visits.Idle before after bytes open_end answers none = answers.1
 answers_open visits.Ended before after bytes open_end answers none = absurd (open_end refl)
@@ -113,10 +113,10 @@ module _ (old cur new : ConsumerEnd) (first writer : ℕ) (all_ended : Bool) (an
   elsewhere : (other : ℕ) → other ≢ writer → slice_get (consumer_ends new) other ≡ slice_get (consumer_ends cur) other
   elsewhere other apart = ap (λ (ends : List WordRoamerEnd). slice_get ends other) visited.now ∙ get_other (consumer_ends cur) writer other visited.after apart
 
-  ends_go_on : AllZip GoesOn (consumer_ends old) (consumer_ends new)
+  ends_go_on : AllZip EndGoesOn (consumer_ends old) (consumer_ends new)
   ends_go_on =
       all_go_on_then (consumer_ends old) (consumer_ends cur) (consumer_ends new) passing.ends
-      (subst (λ (ends : List WordRoamerEnd). AllZip GoesOn (consumer_ends cur) ends) (sym visited.now) (all_go_on_at (consumer_ends cur) writer visited.before visited.after visited.was visited.goes_on))
+      (subst (λ (ends : List WordRoamerEnd). AllZip EndGoesOn (consumer_ends cur) ends) (sym visited.now) (all_go_on_at (consumer_ends cur) writer visited.before visited.after visited.was visited.goes_on))
 
   none_found : waiting new ≡ [] → (other : ℕ) (before after : WordRoamerEnd) → first ≤ other → other < writer + 1 → slice_get (consumer_ends old) other ≡ Some before → slice_get (consumer_ends new) other ≡ Some after → FoundNone before after
   none_found none other before after from below was now =
@@ -150,7 +150,7 @@ module _ (old cur new : ConsumerEnd) (first writer : ℕ) (all_ended : Bool) (an
   pub passing_one : waiting new ≡ [] → (all_now : Bool) → AllEnded all_ended all_now answer → IsPassing old first (writer + 1) all_now new
   passing_one none all_now told = record {
     ends = ends_go_on;
-    stands = λ wrote stands. subst (λ (bytes : List ℕ). StandsFor new.roamer bytes) (ap (λ (back : List ℕ). wrote ++ back) none ∙ append-nil wrote) (visited.stands wrote (passing.stands wrote stands));
+    stands = λ wrote stands. subst (λ (bytes : List ℕ). HasPut new.roamer bytes) (ap (λ (back : List ℕ). wrote ++ back) none ∙ append-nil wrote) (visited.stands wrote (passing.stands wrote stands));
     none = none;
     found = none_found none;
     untouched = λ other from. elsewhere other (λ here. omega (arith, here)) ∙ passing.untouched other (omega arith);
@@ -180,7 +180,7 @@ module _ (old cur new : ConsumerEnd) (first writer : ℕ) (all_ended : Bool) (an
 pub passed : (old new : ConsumerEnd) (first upto : ℕ) (all_ended : Bool) → length (consumer_ends new) ≤ upto → IsPassing old first upto all_ended new → Passes old first all_ended new
 passed old new first upto all_ended all passing = record {
   ends = passing.ends;
-  stands = λ wrote stands. subst (λ (bytes : List ℕ). StandsFor new.roamer bytes) (sym (ap (λ (back : List ℕ). wrote ++ back) passing.none ∙ append-nil wrote)) (passing.stands wrote stands);
+  stands = λ wrote stands. subst (λ (bytes : List ℕ). HasPut new.roamer bytes) (sym (ap (λ (back : List ℕ). wrote ++ back) passing.none ∙ append-nil wrote)) (passing.stands wrote stands);
   below = passing.below;
   found = λ none writer before after from was now. passing.found writer before after from (omega (arith, all, slice_get_within (consumer_ends new) writer after now)) was now;
   over = λ is. (passing.none, λ writer from below. passing.over is writer from (omega (arith, all, below)));

@@ -8,16 +8,17 @@ use Rattle.std.proofs.lemmas.Bool.{cases_lt}
 use Rattle.word_ring.specs.Ends.{WordRoamerEnd}
 use Rattle.roaming_consumer.specs.declared.roamer.Roamer.{Roamer}
 use Rattle.log_ends.specs.declared.consumer.ConsumerEnd.{ConsumerEnd}
-use Rattle.log_ends.specs.Consumers.{StandsFor, consumer_ends, waiting, GoesOn, FoundNone}
+use Rattle.log_ends.specs.Consumers.{HasPut, consumer_ends, waiting, EndGoesOn, FoundNone}
 use Rattle.log_ends.specs.Rounds.{Passes, Seeks}
 use Rattle.log_ends.proofs.Passing.{all_go_on_same, all_go_on_then, run_then}
-use Rattle.log_ends.proofs.Lists.{zip_length, by_place}
+use Rattle.std.proofs.lemmas.List.Elements.{length_all_zip}
+use Rattle.log_ends.proofs.Lists.{by_place}
 
 -- the one from which an end came
-came_from : (xs ys : List WordRoamerEnd) (i : ℕ) (y : WordRoamerEnd) → AllZip GoesOn xs ys → slice_get ys i ≡ Some y → (x : WordRoamerEnd) × (slice_get xs i ≡ Some x) × GoesOn x y
+came_from : (xs ys : List WordRoamerEnd) (i : ℕ) (y : WordRoamerEnd) → AllZip EndGoesOn xs ys → slice_get ys i ≡ Some y → (x : WordRoamerEnd) × (slice_get xs i ≡ Some x) × EndGoesOn x y
 came_from xs [] i y all there = absurd cc
 came_from [] (z ∷ ys) i y all there = absurd all
-came_from (x ∷ xs) (z ∷ ys) zero y all there = (x, refl, subst (λ (e : WordRoamerEnd). GoesOn x e) (same_Some z y there) all.0)
+came_from (x ∷ xs) (z ∷ ys) zero y all there = (x, refl, subst (λ (e : WordRoamerEnd). EndGoesOn x e) (same_Some z y there) all.0)
 came_from (x ∷ xs) (z ∷ ys) (suc i) y all there = came_from xs ys i y all.1 there
 
 found_twice : (a b c : WordRoamerEnd) → a.loads ≤ b.loads → FoundNone a b → FoundNone b c → FoundNone a c
@@ -26,13 +27,13 @@ found_twice a b c never_fell first second = record {
   looked = elim second.looked [ inl over ↦ inl over | inr rose ↦ inr (omega (arith, rose, never_fell)) ];
 }
 
-nothing_more : {roamer : Roamer WordRoamerEnd} {back : List ℕ} (given : List ℕ) → back ≡ [] → StandsFor roamer (given ++ back) → StandsFor roamer given
-nothing_more {roamer} given none stands = subst (λ (bytes : List ℕ). StandsFor roamer bytes) (ap (λ (more : List ℕ). given ++ more) none ∙ append-nil given) stands
+nothing_more : {roamer : Roamer WordRoamerEnd} {back : List ℕ} (given : List ℕ) → back ≡ [] → HasPut roamer (given ++ back) → HasPut roamer given
+nothing_more {roamer} given none stands = subst (λ (bytes : List ℕ). HasPut roamer bytes) (ap (λ (more : List ℕ). given ++ more) none ∙ append-nil given) stands
 
 -- ---- two passes
 
 module _ (old cur new : ConsumerEnd) (first : ℕ) (one two : Bool) (before : Passes old first one cur) (after : Passes cur 0 two new) where
-  ends_go_on : AllZip GoesOn (consumer_ends old) (consumer_ends new)
+  ends_go_on : AllZip EndGoesOn (consumer_ends old) (consumer_ends new)
   ends_go_on = all_go_on_then (consumer_ends old) (consumer_ends cur) (consumer_ends new) before.ends after.ends
 
   found_at : waiting cur ≡ [] → waiting new ≡ [] → (writer : ℕ) (x y : WordRoamerEnd) → slice_get (consumer_ends old) writer ≡ Some x → slice_get (consumer_ends new) writer ≡ Some y → FoundNone x y
@@ -51,7 +52,7 @@ module _ (old cur new : ConsumerEnd) (first : ℕ) (one two : Bool) (before : Pa
   sought_twice none_yet none_then = record {
     ends = ends_go_on;
     stands = λ given stands. after.stands given (nothing_more given none_then (before.stands given (nothing_more given none_yet stands)));
-    found = λ none. by_place FoundNone (consumer_ends old) (consumer_ends new) (zip_length GoesOn (consumer_ends old) (consumer_ends new) ends_go_on) (found_at none_then none);
+    found = λ none. by_place FoundNone (consumer_ends old) (consumer_ends new) (length_all_zip EndGoesOn (consumer_ends old) (consumer_ends new) ends_go_on) (found_at none_then none);
     over = λ is. let all = after.over is in (λ writer below. all.1 writer (omega arith) below, all.0);
     some_open = after.some_open;
     same_run = run_then old cur new before.same_run after.same_run;

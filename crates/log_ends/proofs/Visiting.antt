@@ -15,8 +15,8 @@ use Rattle.roaming_consumer.specs.Visits.{VisitTells, KeepsRing, Marks, IsWritte
 use Rattle.log_ends.specs.declared.consumer.ConsumerEnd.{ConsumerEnd}
 use Rattle.log_ends.specs.declared.held.Held.{Held}
 use Rattle.log_ends.specs.Helds.{held_back}
-use Rattle.log_ends.specs.Consumers.{StandsFor, waiting, GoesOn}
-use Rattle.log_ends.specs.Rounds.{Answers, IsVisited}
+use Rattle.log_ends.specs.Consumers.{HasPut, waiting, EndGoesOn}
+use Rattle.log_ends.specs.Rounds.{VisitAnswers, IsVisited}
 
 abbrev got : WordRoamerEnd → List (List ℕ)
 got end = end.got
@@ -40,7 +40,7 @@ came_behind visits.Idle before after tells = ([], tells.0 ∙ sym (append-nil be
 came_behind visits.Ended before after tells = ([], tells.0 ∙ sym (append-nil before.got))
 came_behind (visits.Discarded n) before after (some, came) = (came.0, came.1)
 
-goes_on : (visit : Visit) (before after : WordRoamerEnd) → Tells visit before after → Keeps before after → GoesOn before after
+goes_on : (visit : Visit) (before after : WordRoamerEnd) → Tells visit before after → Keeps before after → EndGoesOn before after
 goes_on visit before after tells keeps = record {
   same_pair = keeps.same_pair;
   same_plan = keeps.same_plan;
@@ -50,7 +50,7 @@ goes_on visit before after tells keeps = record {
 
 answers : (visit : Visit) (old new : Roamer WordRoamerEnd) (held held_after : Held) (writer : ℕ) (before after first last : WordRoamerEnd) → held_back held ≡ [] → IsWritten visit → Tells visit before after
     → VisitWrites got ended loads old writer (Some (held_back held)) (Some (held_back held_after)) visit first last
-    → Answers visit before after (held_back held_after)
+    → VisitAnswers visit before after (held_back held_after)
 answers (visits.Wrote n) old new held held_after writer before after first last none_yet written tells writes =
     λ none.
     let put = ap length (same_Some _ _ writes.puts) in
@@ -65,10 +65,10 @@ answers visits.Ended old new held held_after writer before after first last none
 answers (visits.Discarded n) old new held held_after writer before after first last none_yet written tells writes = absurd written
 
 pub stands_after : (old new : Roamer WordRoamerEnd) (held held_after : Held) → held_back held ≡ [] → AppendsToLog got ended old new (Some (held_back held)) (Some (held_back held_after))
-    → (wrote : List ℕ) → StandsFor old wrote → StandsFor new (wrote ++ held_back held_after)
+    → (wrote : List ℕ) → HasPut old wrote → HasPut new (wrote ++ held_back held_after)
 stands_after old new held held_after none appends wrote stands =
     let same : held_back held_after ≡ appends.bytes = same_Some _ _ appends.put_is ∙ ap (λ (front : List ℕ). front ++ appends.bytes) none in
-    subst (λ (bytes : List ℕ). StandsFor new (wrote ++ bytes)) (sym same) (appends.stands wrote stands)
+    subst (λ (bytes : List ℕ). HasPut new (wrote ++ bytes)) (sym same) (appends.stands wrote stands)
 
 marks_kept : (old new : Roamer WordRoamerEnd) (writer : ℕ) (outcome : Result Visit SinkFault) → Marks outcome writer old new → (other : ℕ) → is_marked old other ≡ true → is_marked new other ≡ true
 marks_kept old new writer outcome marks other marked =

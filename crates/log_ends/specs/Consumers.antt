@@ -12,8 +12,8 @@ use Rattle.log_ends.specs.declared.consumer.Pumped.TheVariants as pumped
 use Rattle.log_ends.specs.Helds.{held_back}
 
 -- the roamer's calls have put these bytes
-abbrev pub StandsFor : Roamer WordRoamerEnd → List ℕ → Type 0
-StandsFor roamer wrote = RoamerStandsFor (λ (end : WordRoamerEnd). end.got) (λ (end : WordRoamerEnd). end.ended) roamer wrote
+abbrev pub HasPut : Roamer WordRoamerEnd → List ℕ → Type 0
+HasPut roamer wrote = RoamerStandsFor (λ (end : WordRoamerEnd). end.got) (λ (end : WordRoamerEnd). end.ended) roamer wrote
 
 -- the roamer's ends of the rings, by the numbers of their writers
 abbrev pub consumer_ends : ConsumerEnd → List WordRoamerEnd
@@ -25,11 +25,11 @@ waiting consumer = held_back consumer.held
 
 -- These bytes were given so far. With those that wait behind them they are the log of the calls whose frames were taken.
 abbrev pub HasGiven : ConsumerEnd → List ℕ → Type 0
-HasGiven consumer given = StandsFor consumer.roamer (given ++ waiting consumer)
+HasGiven consumer given = HasPut consumer.roamer (given ++ waiting consumer)
 
 -- the log has the close mark of each writer, and all of it was given
-abbrev pub IsAtEnd : ConsumerEnd → Type 0
-IsAtEnd consumer = AreMarked consumer.roamer × (waiting consumer ≡ [])
+abbrev pub IsAllGiven : ConsumerEnd → Type 0
+IsAllGiven consumer = AreMarked consumer.roamer × (waiting consumer ≡ [])
 
 -- it was told so
 abbrev pub is_over : ConsumerEnd → Bool
@@ -38,7 +38,7 @@ is_over consumer = consumer.over
 -- ---- the ends of the rings
 
 -- An end of a ring stays one of that ring, and frames came behind those that were taken before.
-pub record GoesOn (before after : WordRoamerEnd) : Type 0 where
+pub record EndGoesOn (before after : WordRoamerEnd) : Type 0 where
   pub same_pair : after.pair ≡ before.pair
   pub same_plan : after.plan ≡ before.plan
   pub loads_never_fall : before.loads ≤ after.loads
@@ -80,10 +80,10 @@ pub record Pumps (old : ConsumerEnd) (into : List ℕ) (answer : Pumped) (new : 
   pub none_found : answer ≡ pumped.Nothing → AllZip FoundNone (consumer_ends old) (consumer_ends new)
   pub one_open : answer ≡ pumped.Nothing
       → (writer : ℕ) × (end : WordRoamerEnd) × (slice_get (consumer_ends new) writer ≡ Some end) × (end.ended ≡ false)
-  pub at_end : answer ≡ pumped.AtEnd → IsAtEnd new
+  pub at_end : answer ≡ pumped.AtEnd → IsAllGiven new
   -- once it is told that all is over, nothing changes any more, and it is told again
   pub told : (is_over new ≡ true) ↔ ((is_over old ≡ true) ⊎ (answer ≡ pumped.AtEnd))
   pub again : is_over old ≡ true → (new ≡ old) × ((answer ≡ pumped.AtEnd) ⊎ (answer ≡ pumped.NoRoom))
   -- the same run, of the same rings
-  pub ends : AllZip GoesOn (consumer_ends old) (consumer_ends new)
+  pub ends : AllZip EndGoesOn (consumer_ends old) (consumer_ends new)
   pub same_run : IsSameRun old.roamer new.roamer

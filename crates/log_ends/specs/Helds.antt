@@ -16,7 +16,7 @@ pub record IsSameRoom (old new : Held) : Type 0 where
   pub given : new.given ≡ old.given
 
 -- As many of the bytes as fit went to the front of where the caller wants them, and no longer are held back.
-pub record Gives (old : Held) (into : List ℕ) (count : ℕ) (new : Held) (into_after : List ℕ) : Type 0 where
+pub record GivesHeld (old : Held) (into : List ℕ) (count : ℕ) (new : Held) (into_after : List ℕ) : Type 0 where
   pub count_is : count ≡ min (length (held_back old)) (length into)
   pub put : into_after ≡ take count (held_back old) ++ drop count into
   pub left : held_back new ≡ drop count (held_back old)

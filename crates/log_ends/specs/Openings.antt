@@ -23,7 +23,7 @@ use Rattle.log_ends.specs.Sessions.{writers_left, has_ended}
 use Rattle.log_ends.specs.Consumers.{consumer_ends, is_over, HasGiven}
 
 -- a session may have these numbers
-pub record IsInRange (setup : Setup) : Type 0 where
+pub record IsSetupInRange (setup : Setup) : Type 0 where
   pub least_ring : MIN_RING ≤ setup.ring
   pub most_ring : setup.ring ≤ MAX_RING
   pub some_writer : 1 ≤ setup.writers
@@ -33,8 +33,8 @@ pub record IsInRange (setup : Setup) : Type 0 where
   pub rate : 1 ≤ setup.clock.rate
 
 -- the text is refused at this line
-abbrev pub IsRefusedAt : List ℕ → ℕ → Type 0
-IsRefusedAt text line = (cause : TraceCause) × DictionaryBreak text line cause
+abbrev pub IsTextRefusedAt : List ℕ → ℕ → Type 0
+IsTextRefusedAt text line = (cause : TraceCause) × DictionaryBreak text line cause
 
 -- why there is no session where a text isn't read
 abbrev pub open_fault : TraceFault → OpenFault

@@ -6,15 +6,15 @@ use Rattle.roaming_consumer.specs.declared.visit.Visit.TheVariants as visits
 use Rattle.word_ring.specs.Ends.{WordRoamerEnd}
 use Rattle.roaming_consumer.specs.Roamers.{is_marked, IsSameRun}
 use Rattle.log_ends.specs.declared.consumer.ConsumerEnd.{ConsumerEnd}
-use Rattle.log_ends.specs.Consumers.{StandsFor, consumer_ends, waiting, HasGiven, IsAtEnd, is_over, GoesOn, FoundNone}
+use Rattle.log_ends.specs.Consumers.{HasPut, consumer_ends, waiting, HasGiven, IsAllGiven, is_over, EndGoesOn, FoundNone}
 
 -- What a visit of a writer answers, of what its end was and is, and of the bytes that wait then: calls were taken, and
 -- bytes wait; it had none, and none wait; or it has ended.
-abbrev pub Answers : Visit → WordRoamerEnd → WordRoamerEnd → List ℕ → Type 0
-Answers (visits.Wrote n) before after bytes = (bytes ≡ []) → ⊥
-Answers visits.Idle before after bytes = FoundNone before after × (after.ended ≡ false) × (bytes ≡ [])
-Answers visits.Ended before after bytes = FoundNone before after × (after.ended ≡ true)
-Answers (visits.Discarded n) before after bytes = ⊥
+abbrev pub VisitAnswers : Visit → WordRoamerEnd → WordRoamerEnd → List ℕ → Type 0
+VisitAnswers (visits.Wrote n) before after bytes = (bytes ≡ []) → ⊥
+VisitAnswers visits.Idle before after bytes = FoundNone before after × (after.ended ≡ false) × (bytes ≡ [])
+VisitAnswers visits.Ended before after bytes = FoundNone before after × (after.ended ≡ true)
+VisitAnswers (visits.Discarded n) before after bytes = ⊥
 
 -- A visit of one writer: its end goes on, all others stay. What is written waits.
 pub record IsVisited (old : ConsumerEnd) (writer : ℕ) (answer : Visit) (new : ConsumerEnd) : Type 0 where
@@ -22,9 +22,9 @@ pub record IsVisited (old : ConsumerEnd) (writer : ℕ) (answer : Visit) (new : 
   pub after : WordRoamerEnd
   pub was : slice_get (consumer_ends old) writer ≡ Some before
   pub now : consumer_ends new ≡ slice_set (consumer_ends old) writer after
-  pub goes_on : GoesOn before after
-  pub answers : Answers answer before after (waiting new)
-  pub stands : (wrote : List ℕ) → StandsFor old.roamer wrote → StandsFor new.roamer (wrote ++ waiting new)
+  pub goes_on : EndGoesOn before after
+  pub answers : VisitAnswers answer before after (waiting new)
+  pub stands : (wrote : List ℕ) → HasPut old.roamer wrote → HasPut new.roamer (wrote ++ waiting new)
   pub marked : answer ≡ visits.Ended → is_marked new.roamer writer ≡ true
   pub kept : (other : ℕ) → is_marked old.roamer other ≡ true → is_marked new.roamer other ≡ true
   pub same_run : IsSameRun old.roamer new.roamer
@@ -33,8 +33,8 @@ pub record IsVisited (old : ConsumerEnd) (writer : ℕ) (answer : Visit) (new : 
 
 -- The writers from the first one on were visited, up to one of which bytes wait. All ends go on, and what was written waits.
 pub record Passes (old : ConsumerEnd) (first : ℕ) (all_ended : Bool) (new : ConsumerEnd) : Type 0 where
-  pub ends : AllZip GoesOn (consumer_ends old) (consumer_ends new)
-  pub stands : (wrote : List ℕ) → StandsFor old.roamer wrote → StandsFor new.roamer (wrote ++ waiting new)
+  pub ends : AllZip EndGoesOn (consumer_ends old) (consumer_ends new)
+  pub stands : (wrote : List ℕ) → HasPut old.roamer wrote → HasPut new.roamer (wrote ++ waiting new)
   pub below : (writer : ℕ) → writer < first
       → slice_get (consumer_ends new) writer ≡ slice_get (consumer_ends old) writer
   -- where none wait, none of these writers had a frame, and the answer is whether all of them have ended
@@ -51,10 +51,10 @@ pub record Passes (old : ConsumerEnd) (first : ℕ) (all_ended : Bool) (new : Co
 
 -- Bytes wait, or no writer had a frame and it is told whether all is over. What was given stays the front of what is there.
 pub record Seeks (old : ConsumerEnd) (at_end : Bool) (new : ConsumerEnd) : Type 0 where
-  pub ends : AllZip GoesOn (consumer_ends old) (consumer_ends new)
+  pub ends : AllZip EndGoesOn (consumer_ends old) (consumer_ends new)
   pub stands : (given : List ℕ) → HasGiven old given → HasGiven new given
   pub found : waiting new ≡ [] → AllZip FoundNone (consumer_ends old) (consumer_ends new)
-  pub over : at_end ≡ true → IsAtEnd new
+  pub over : at_end ≡ true → IsAllGiven new
   pub some_open : at_end ≡ false → waiting new ≡ []
       → (writer : ℕ) × (end : WordRoamerEnd) × (slice_get (consumer_ends new) writer ≡ Some end) × (end.ended ≡ false)
   pub same_run : IsSameRun old.roamer new.roamer

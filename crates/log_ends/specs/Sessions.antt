@@ -15,8 +15,8 @@ abbrev pub has_ended : SessionEnd → Bool
 has_ended session = session.ended
 
 -- no writer is given out
-abbrev pub IsSpent : SessionEnd → Type 0
-IsSpent session = (has_ended session ≡ true) ⊎ (writers_left session ≡ [])
+abbrev pub HasNoneLeft : SessionEnd → Type 0
+HasNoneLeft session = (has_ended session ≡ true) ⊎ (writers_left session ≡ [])
 
 -- it is the same session, of which as many writers are left
 abbrev pub IsSameSession : SessionEnd → SessionEnd → Type 0

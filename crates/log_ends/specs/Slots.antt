@@ -13,43 +13,47 @@ use Rattle.log_ends.specs.declared.consumer.ConsumerEnd.{ConsumerEnd}
 use Rattle.log_ends.specs.declared.setup.Setup.{Setup}
 use Rattle.log_ends.specs.declared.opening.OpenFault.{OpenFault}
 use Rattle.log_ends.specs.declared.opening.OpenFault.TheVariants as opens
-use Rattle.log_ends.specs.Sessions.{writers_left, has_ended, IsSpent, IsSameSession}
-use Rattle.log_ends.specs.Openings.{IsInRange, IsRefusedAt, IsOpened}
+use Rattle.log_ends.specs.Sessions.{writers_left, has_ended, HasNoneLeft, IsSameSession}
+use Rattle.log_ends.specs.Openings.{IsSetupInRange, IsTextRefusedAt, IsOpened}
 
 -- the end that a slot holds
 abbrev pub end_in : Option (Box End Global) → Option End
 end_in slot = option_map (λ (boxed : Box End Global). boxed.value) slot
 
+abbrev pub writer_in : Option End → Option WriterEnd
+writer_in (Some (ends.Writer writer)) = Some writer
+writer_in _ = None
+
+abbrev pub session_in : Option End → Option SessionEnd
+session_in (Some (ends.Session session)) = Some session
+session_in _ = None
+
+abbrev pub consumer_in : Option End → Option ConsumerEnd
+consumer_in (Some (ends.Consumer consumer)) = Some consumer
+consumer_in _ = None
+
 -- ---- what a call does to an end of the kind that it wants
 
--- Where a writer is held, a writer is held afterwards, and the step leads from the one to the other. Else what is held
--- stays, and the other holds.
+-- Where an end of the kind is held, one of it is held afterwards, and the step leads from the one to the other. Else what
+-- is held stays, and the other holds.
+abbrev pub OnEnd : {A : Type 0} → (A → End) → (Option End → Option A) → Option End → Option End → (A → A → Type 0)
+    → Type 0 → Type 0
+OnEnd {A} make held before after Step Other =
+    MatchOption (held before) ((after ≡ before) × Other)
+    (λ old. (new : A) × (after ≡ Some (make new)) × Step old new)
+
 abbrev pub OnWriter : Option End → Option End → (WriterEnd → WriterEnd → Type 0) → Type 0 → Type 0
-OnWriter (Some (ends.Writer old)) after Step Other =
-    (new : WriterEnd) × (after ≡ Some (ends.Writer new)) × Step old new
-OnWriter (Some (ends.Session session)) after Step Other = (after ≡ Some (ends.Session session)) × Other
-OnWriter (Some (ends.Consumer consumer)) after Step Other = (after ≡ Some (ends.Consumer consumer)) × Other
-OnWriter None after Step Other = (after ≡ None) × Other
+OnWriter = OnEnd ends.Writer writer_in
 
--- the same of a session
 abbrev pub OnSession : Option End → Option End → (SessionEnd → SessionEnd → Type 0) → Type 0 → Type 0
-OnSession (Some (ends.Session old)) after Step Other =
-    (new : SessionEnd) × (after ≡ Some (ends.Session new)) × Step old new
-OnSession (Some (ends.Writer writer)) after Step Other = (after ≡ Some (ends.Writer writer)) × Other
-OnSession (Some (ends.Consumer consumer)) after Step Other = (after ≡ Some (ends.Consumer consumer)) × Other
-OnSession None after Step Other = (after ≡ None) × Other
+OnSession = OnEnd ends.Session session_in
 
--- the same of a consumer
 abbrev pub OnConsumer : Option End → Option End → (ConsumerEnd → ConsumerEnd → Type 0) → Type 0 → Type 0
-OnConsumer (Some (ends.Consumer old)) after Step Other =
-    (new : ConsumerEnd) × (after ≡ Some (ends.Consumer new)) × Step old new
-OnConsumer (Some (ends.Writer writer)) after Step Other = (after ≡ Some (ends.Writer writer)) × Other
-OnConsumer (Some (ends.Session session)) after Step Other = (after ≡ Some (ends.Session session)) × Other
-OnConsumer None after Step Other = (after ≡ None) × Other
+OnConsumer = OnEnd ends.Consumer consumer_in
 
 -- there is an answer, of which this holds
-abbrev pub Answers : {A : Type 0} → Option A → (A → Type 0) → Type 0
-Answers answer P = MatchOption answer ⊥ P
+abbrev pub IsAnswered : {A : Type 0} → Option A → (A → Type 0) → Type 0
+IsAnswered answer P = MatchOption answer ⊥ P
 
 -- ---- giving out a writer
 
@@ -59,7 +63,7 @@ pub record GivesInto (old new : SessionEnd) (outcome : Result (Unit {0}) WriterF
   pub given : OnOk outcome ((writer : WriterEnd) × (after ≡ Some (ends.Writer writer))
       × (writers_left old ≡ writer ∷ writers_left new) × (has_ended old ≡ false) × (has_ended new ≡ false))
   pub none : OnErr outcome ((after ≡ None) × IsSameSession old new)
-  pub spent : IsErrOf outcome faults.NoWriter ↔ IsSpent old
+  pub spent : IsErrOf outcome faults.NoWriter ↔ HasNoneLeft old
 
 -- ---- opening
 
@@ -70,7 +74,7 @@ pub record OpensInto (text : List ℕ) (setup : Setup) (outcome : Result (Unit {
       × (session ≡ Some (ends.Session ours)) × (consumer ≡ Some (ends.Consumer theirs))
       × DictionaryText text messages × IsOpened messages setup ours theirs)
   pub none : OnErr outcome ((session ≡ None) × (consumer ≡ None))
-  pub out_of_range : IsErrOf outcome opens.OutOfRange ↔ (¬ (IsInRange setup))
-  pub refused : (line : ℕ) → IsErrOf outcome (opens.BadDictionary line) → IsRefusedAt text line
-  pub only : IsInRange setup → (line : ℕ) → IsRefusedAt text line
+  pub out_of_range : IsErrOf outcome opens.OutOfRange ↔ (¬ (IsSetupInRange setup))
+  pub refused : (line : ℕ) → IsErrOf outcome (opens.BadDictionary line) → IsTextRefusedAt text line
+  pub only : IsSetupInRange setup → (line : ℕ) → IsTextRefusedAt text line
       → IsErrOf outcome (opens.BadDictionary line) ⊎ IsErrOf outcome opens.NoMemory

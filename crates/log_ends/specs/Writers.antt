@@ -99,7 +99,7 @@ pub record IsFinishedFrom (old new : WriterEnd) : Type 0 where
   pub same : IsSameWriter old new
 
 -- The writer is finished, and it was told whether it wasn't before.
-pub record Finishes (old : WriterEnd) (outcome : Bool) (new : WriterEnd) : Type 0 where
+pub record FinishesWriter (old : WriterEnd) (outcome : Bool) (new : WriterEnd) : Type 0 where
   pub finished : IsFinishedFrom old new
   pub first : (outcome ≡ true) ↔ (is_finished old ≡ false)
   pub again : outcome ≡ false → new ≡ old

@@ -2,7 +2,7 @@
 
 ghost use Rattle.std.specs.Prelude.{◌≡◌, ◌↔◌, ◌∷◌, false, OnErr, IfOk, IsErrOf};
 ghost use Rattle.log_ends.specs.declared.end.End.TheVariants.{Writer};
-ghost use Rattle.log_ends.specs.Sessions.{writers_left, has_ended, IsSpent, IsSameSession, GivesBoxed};
+ghost use Rattle.log_ends.specs.Sessions.{writers_left, has_ended, HasNoneLeft, IsSameSession, GivesBoxed};
 
 use crate::end::End;
 use crate::session::{SessionEnd, WriterFault};
@@ -17,7 +17,7 @@ impl SessionEnd {
     pub fn next_writer(&mut self, alloc: Global) -> Result<Box<End>, WriterFault>
         ensures given { IfOk result (λ end. GivesBoxed self.old end.value self.new) }
         ensures none { OnErr result (IsSameSession self.old self.new) }
-        ensures spent { IsErrOf result WriterFault.NoWriter ↔ IsSpent self.old }
+        ensures spent { IsErrOf result WriterFault.NoWriter ↔ HasNoneLeft self.old }
     {
         if self.ended {
             return Err(WriterFault::NoWriter);

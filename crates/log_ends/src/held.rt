@@ -23,7 +23,7 @@ pub(crate) struct Held {
 }
 
 impl Held {
-    ghost use Rattle.log_ends.specs.Helds.{held_back, room_len, Gives};
+    ghost use Rattle.log_ends.specs.Helds.{held_back, room_len, GivesHeld};
 
     /// An empty one, with room for so many bytes.
     pub(crate) fn make(alloc: Global, room: usize) -> Result<Held, AllocError>
@@ -48,7 +48,7 @@ impl Held {
 
     /// Gives as many bytes as there are, and as fit.
     pub(crate) fn give(&mut self, into: &mut [u8]) -> usize
-        ensures gives { Gives self.old into.old result self.new into.new }
+        ensures gives { GivesHeld self.old into.old result self.new into.new }
         ensures bound { result < 2 ^ 63 }
     {
         let count = into.len().min(self.end - self.given);

@@ -6,6 +6,7 @@ mod consumer;
 mod end;
 mod giving;
 mod held;
+pub mod laws;
 mod opening;
 mod pumping;
 mod rooms;

@@ -3,7 +3,7 @@
 ghost use Rattle.std.specs.Prelude.{◌≡◌, ◌⊎◌, ◌↔◌, ℕ, List, Err, map, All, IfOk, IsErrOf, IsTrue};
 ghost use Rattle.log_dictionary.specs.declared.message.Message.{Message};
 ghost use Rattle.trace_text.specs.Dictionaries.{DictionaryText};
-ghost use Rattle.log_ends.specs.Openings.{IsInRange, IsRefusedAt, IsOpened, open_fault};
+ghost use Rattle.log_ends.specs.Openings.{IsSetupInRange, IsTextRefusedAt, IsOpened, open_fault};
 ghost use Rattle.log_ends.specs.Ends.{IsWriterFor};
 
 use crate::consumer::ConsumerEnd;
@@ -43,8 +43,8 @@ fn fault_of(fault: TraceFault) -> OpenFault
 /// The dictionary of the text, which is kept for ever.
 fn kept_dictionary(alloc: Global, text: &[u8]) -> Result<&'static Dictionary, OpenFault>
     ensures found { IfOk result (λ dictionary. DictionaryText text.now dictionary.now) }
-    ensures refused { (line : ℕ) → result ≡ Err (OpenFault.BadDictionary line) → IsRefusedAt text.now line }
-    ensures only { (line : ℕ) → IsRefusedAt text.now line
+    ensures refused { (line : ℕ) → result ≡ Err (OpenFault.BadDictionary line) → IsTextRefusedAt text.now line }
+    ensures only { (line : ℕ) → IsTextRefusedAt text.now line
         → (result ≡ Err (OpenFault.BadDictionary line)) ⊎ (result ≡ Err OpenFault.NoMemory) }
     ensures in_range { ¬ (IsErrOf result OpenFault.OutOfRange) }
 {
@@ -81,7 +81,7 @@ fn session_over(
     setup: Setup,
     dictionary: &'static Dictionary,
 ) -> Result<(SessionEnd, ConsumerEnd), AllocError>
-    requires { IsInRange setup }
+    requires { IsSetupInRange setup }
     ensures { IfOk result (λ ends. IsOpened dictionary.now setup ends.0 ends.1) }
 {
     let Ok((writers, mut roamer)) = start::<WordRing>(
@@ -123,9 +123,9 @@ pub fn open(
 ) -> Result<(SessionEnd, ConsumerEnd), OpenFault>
     ensures opened { IfOk result (λ ends. (messages : List Message) × DictionaryText text.now messages
         × IsOpened messages setup ends.0 ends.1) }
-    ensures out_of_range { IsErrOf result OpenFault.OutOfRange ↔ (¬ (IsInRange setup)) }
-    ensures refused { (line : ℕ) → result ≡ Err (OpenFault.BadDictionary line) → IsRefusedAt text.now line }
-    ensures only { IsInRange setup → (line : ℕ) → IsRefusedAt text.now line
+    ensures out_of_range { IsErrOf result OpenFault.OutOfRange ↔ (¬ (IsSetupInRange setup)) }
+    ensures refused { (line : ℕ) → result ≡ Err (OpenFault.BadDictionary line) → IsTextRefusedAt text.now line }
+    ensures only { IsSetupInRange setup → (line : ℕ) → IsTextRefusedAt text.now line
         → (result ≡ Err (OpenFault.BadDictionary line)) ⊎ (result ≡ Err OpenFault.NoMemory) }
 {
     if !setup.is_in_range() {

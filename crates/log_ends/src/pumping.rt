@@ -5,7 +5,7 @@ ghost use Rattle.std.specs.List.{AllZip};
 ghost use Rattle.word_ring.specs.Ends.{WordRoamerEnd};
 ghost use Rattle.roaming_consumer.specs.declared.visit.Visit.TheVariants as visits;
 ghost use Rattle.roaming_consumer.specs.Roamers.{is_marked, IsSameRun, ChangesOne};
-ghost use Rattle.log_ends.specs.Consumers.{StandsFor, consumer_ends, waiting, HasGiven, is_over, IsAtEnd, GoesOn, FoundNone, Pumps, IfGave};
+ghost use Rattle.log_ends.specs.Consumers.{HasPut, consumer_ends, waiting, HasGiven, is_over, IsAllGiven, EndGoesOn, FoundNone, Pumps, IfGave};
 ghost use Rattle.log_ends.specs.Rounds.{IsVisited, Passes, Seeks};
 
 use crate::consumer::{ConsumerEnd, Pumped};

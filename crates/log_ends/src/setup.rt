@@ -18,11 +18,11 @@ pub struct Setup {
 }
 
 impl Setup {
-    ghost use Rattle.log_ends.specs.Openings.{IsInRange};
+    ghost use Rattle.log_ends.specs.Openings.{IsSetupInRange};
 
     /// Whether each of its numbers is in its range.
     pub(crate) fn is_in_range(self) -> bool
-        ensures { IsTrue result ↔ IsInRange self }
+        ensures { IsTrue result ↔ IsSetupInRange self }
     {
         self.ring >= MIN_RING
             && self.ring <= MAX_RING

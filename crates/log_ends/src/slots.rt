@@ -2,10 +2,10 @@
 
 ghost use Rattle.std.specs.Prelude.{◌≡◌, ◌<◌, ◌^◌, true, false, None, map, MatchOption, IfSome};
 ghost use Rattle.log_ends.specs.Arguments.{argument_given};
-ghost use Rattle.log_ends.specs.Writers.{LogsCall, Finishes};
+ghost use Rattle.log_ends.specs.Writers.{LogsCall, FinishesWriter};
 ghost use Rattle.log_ends.specs.Sessions.{EndsSession};
 ghost use Rattle.log_ends.specs.Consumers.{Pumps, IfGave};
-ghost use Rattle.log_ends.specs.Slots.{end_in, OnWriter, OnSession, OnConsumer, Answers, GivesInto, OpensInto};
+ghost use Rattle.log_ends.specs.Slots.{end_in, OnWriter, OnSession, OnConsumer, IsAnswered, GivesInto, OpensInto};
 
 use crate::argument::Argument;
 use crate::consumer::Pumped;
@@ -61,7 +61,7 @@ pub fn give_writer(
 ) -> Option<Result<(), WriterFault>>
     ensures empty { end_in writer.old ≡ None
         → OnSession (end_in session.old) (end_in session.new) (λ old new.
-        Answers result (λ outcome. GivesInto old new outcome (end_in writer.new)))
+        IsAnswered result (λ outcome. GivesInto old new outcome (end_in writer.new)))
         ((result ≡ None) × (end_in writer.new ≡ None)) }
     ensures held { ¬ (end_in writer.old ≡ None)
         → (result ≡ None) × (end_in session.new ≡ end_in session.old) × (end_in writer.new ≡ end_in writer.old) }
@@ -92,7 +92,7 @@ pub fn log_call(
     args: &[Argument<'_>],
 ) -> Option<Result<(), LogFault>>
     ensures { OnWriter (end_in writer.old) (end_in writer.new) (λ old new.
-        Answers result (λ outcome. LogsCall old stamp id (map argument_given args.now) outcome new)) (result ≡ None) }
+        IsAnswered result (λ outcome. LogsCall old stamp id (map argument_given args.now) outcome new)) (result ≡ None) }
 {
     let Some(end) = writer.as_mut() else {
         return None;
@@ -106,7 +106,7 @@ pub fn log_call(
 /// Finishes the writer, and answers whether it wasn't finished before. There is no answer where there is none.
 pub fn finish_writer(writer: &mut Slot) -> Option<bool>
     ensures { OnWriter (end_in writer.old) (end_in writer.new) (λ old new.
-        Answers result (λ outcome. Finishes old outcome new)) (result ≡ None) }
+        IsAnswered result (λ outcome. FinishesWriter old outcome new)) (result ≡ None) }
 {
     let Some(end) = writer.as_mut() else {
         return None;
@@ -135,7 +135,7 @@ pub fn end_session(session: &mut Slot) -> bool
 /// Pumps bytes of the log out of the consumer. There is no answer, and nothing is done, where there is none.
 pub fn pump_log(consumer: &mut Slot, into: &mut [u8]) -> Option<Pumped>
     ensures pumps { OnConsumer (end_in consumer.old) (end_in consumer.new) (λ old new.
-        Answers result (λ answer. Pumps old into.old answer new into.new))
+        IsAnswered result (λ answer. Pumps old into.old answer new into.new))
         ((result ≡ None) × (into.new ≡ into.old)) }
     ensures bound { IfSome result (λ answer. IfGave answer (λ n. n < 2 ^ 63)) }
 {

@@ -36,7 +36,7 @@ pub enum LogFault {
 
 impl WriterEnd {
     ghost use Rattle.log_ends.specs.Arguments.{argument_given};
-    ghost use Rattle.log_ends.specs.Writers.{LogsCall, Finishes};
+    ghost use Rattle.log_ends.specs.Writers.{LogsCall, FinishesWriter};
 
     /// Logs a call, unless there is a cause not to; of several causes the first of [`LogFault`] is told. It waits for
     /// nobody, and takes no memory.
@@ -68,7 +68,7 @@ impl WriterEnd {
 
     /// Finishes the writer, so that nothing more is logged. It answers whether it wasn't finished before.
     pub fn finish(&mut self) -> bool
-        ensures { Finishes self.old result self.new }
+        ensures { FinishesWriter self.old result self.new }
     {
         if self.writer.is_closed() {
             return false;

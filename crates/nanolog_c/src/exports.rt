@@ -6,7 +6,7 @@ ghost use Rattle.log_ends.specs.declared.session.WriterFault.{WriterFault};
 ghost use Rattle.log_ends.specs.declared.writer.LogFault.{LogFault};
 ghost use Rattle.log_ends.specs.declared.consumer.Pumped.{Pumped};
 ghost use Rattle.log_ends.specs.Arguments.{argument_given};
-ghost use Rattle.log_ends.specs.Writers.{LogsCall, Finishes};
+ghost use Rattle.log_ends.specs.Writers.{LogsCall, FinishesWriter};
 ghost use Rattle.log_ends.specs.Sessions.{EndsSession};
 ghost use Rattle.log_ends.specs.Consumers.{Pumps};
 ghost use Rattle.log_ends.specs.Slots.{OnWriter, OnSession, OnConsumer, GivesInto, OpensInto};
@@ -120,7 +120,7 @@ pub extern "C" fn nanolog_log(
 #[unsafe(no_mangle)]
 pub extern "C" fn nanolog_finish(alloc: Global, writer: &mut Handle) -> i32
     ensures { OnWriter writer.old.value writer.new.value (λ old new.
-        (outcome : _) × (result ≡ finish_code (Some outcome)) × Finishes old outcome new) (result ≡ BAD_HANDLE) }
+        (outcome : _) × (result ≡ finish_code (Some outcome)) × FinishesWriter old outcome new) (result ≡ BAD_HANDLE) }
 {
     let mut end = writer.take(alloc);
     let outcome = finish_writer(&mut end);

@@ -3,7 +3,8 @@ use Rattle.ring_core.specs.Plans.{Plan, plan_of}
 use Rattle.word_ring.specs.Ends.{WordRoamerEnd}
 use Rattle.roaming_consumer.specs.Roamers.{roamer_header}
 use Rattle.log_ends.specs.Ends.{IsWriterFor}
-use Rattle.log_ends.proofs.Lists.{zip_length, zip_first}
+use Rattle.std.proofs.lemmas.Slice.Zip.{AllZip-long}
+use Rattle.log_ends.proofs.Lists.{zip_first}
 use Rattle.log_ends.proofs.Consumers.{planned_same}
 use Rattle.log_ends.proofs.Faultless.{header_succeeds, no_error}
 use Rattle.log_ends.proofs.Visiting.{stands_after}
@@ -23,7 +24,7 @@ unreachable-requires c =
 
 pub invariant_of-consumer-clause-counted : goal.invariant_of-consumer-clause-counted
 invariant_of-consumer-clause-counted c =
-    ap length c.begin.ensures.same_ends ∙ sym (zip_length _ _ _ c.in-Ok.ensures.rings) ∙ c.in-Ok.ensures.count
+    ap length c.begin.ensures.same_ends ∙ AllZip-long _ _ _ c.in-Ok.ensures.rings ∙ c.in-Ok.ensures.count
 
 pub invariant_of-consumer-clause-planned : goal.invariant_of-consumer-clause-planned
 invariant_of-consumer-clause-planned c =

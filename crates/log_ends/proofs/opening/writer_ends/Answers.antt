@@ -5,7 +5,8 @@ use Rattle.log_session.specs.Writers.{WriterView}
 use Rattle.word_ring.specs.Ends.{WordWriterEnd}
 use Rattle.log_ends.specs.declared.writer.WriterEnd.{WriterEnd}
 use Rattle.log_ends.specs.Ends.{IsWriterFor}
-use Rattle.log_ends.proofs.Lists.{all_next, moved_next, moved_all, one_less, all_more}
+use Rattle.std.proofs.lemmas.List.Elements.{All-push}
+use Rattle.log_ends.proofs.Lists.{all_next, moved_next, moved_all, one_less}
 use Rattle.log_ends.proofs.opening.writer_ends.Goals as goal
 
 pub loop-writer-init : goal.loop-writer-init
@@ -32,7 +33,7 @@ loop-writer-preserved c =
       joined = ap (λ (made : List WriterEnd). map (λ (end : WriterEnd). end.writer) made ++ c.next.new.self.rest.items) c.in_ok-push_back.ensures.items
           ∙ moved_next (λ (end : WriterEnd). end.writer) c.loop-writer.left.items _ _ _ _ c.loop-writer.invariant.joined next;
       planned = (all_next (IsWriterFor c.args.dictionary.now) _ _ c.in-Some.writer next c.loop-writer.invariant.planned).1;
-      named = subst (λ (made : List WriterEnd). All (λ (end : WriterEnd). end.dictionary.now ≡ c.args.dictionary.now) made) (sym c.in_ok-push_back.ensures.items) (all_more (λ (end : WriterEnd). end.dictionary.now ≡ c.args.dictionary.now) c.loop-writer.left.items _ c.loop-writer.invariant.named refl);
+      named = subst (λ (made : List WriterEnd). All (λ (end : WriterEnd). end.dictionary.now ≡ c.args.dictionary.now) made) (sym c.in_ok-push_back.ensures.items) (All-push (λ (end : WriterEnd). end.dictionary.now ≡ c.args.dictionary.now) c.loop-writer.left.items _ c.loop-writer.invariant.named refl);
       long = one_less _ _ c.in-Some.writer _ _ c.loop-writer.invariant.long next c.in-Some.ensures.steps.1;
     }
 

@@ -2,13 +2,15 @@ use mir.Val.{to_z, of_z}
 use Rattle.std.proofs.Common.{◌≡◌, Option, Result, ◌∙◌, w32}
 use Rattle.std.proofs.lemmas.Int.{to_z-of_z}
 use Rattle.log_ends.specs.declared.writer.LogFault.{LogFault}
+use Rattle.log_ends.specs.declared.end.End.TheVariants as ends
+use Rattle.log_ends.specs.Slots.{writer_in}
 use Rattle.nanolog_c.specs.Codes.{log_code, need_after, room_after}
-use Rattle.nanolog_c.proofs.Through.{answered_thrice, unanswered, on_writer}
+use Rattle.nanolog_c.proofs.Through.{answered_thrice, unanswered, through}
 use Rattle.nanolog_c.proofs.exports.nanolog_log.Goals as goal
 
 pub returns : goal.returns
 returns c =
-    on_writer _ _ _ _ _ _ _ _ c.take-end.ensures.value c.put.ensures
+    through ends.Writer writer_in _ _ _ _ _ _ _ _ c.take-end.ensures.value c.put.ensures
     (λ old new. answered_thrice c.log_call-outcome.result Is Needs Frees _ code c.log_answer.ensures.need c.log_answer.ensures.room)
     (λ none. (unanswered c.log_call-outcome.result Is code none, unanswered c.log_call-outcome.result Needs c.log_answer.ensures.need none, unanswered c.log_call-outcome.result Frees c.log_answer.ensures.room none)) c.log_call-outcome.ensures
   where

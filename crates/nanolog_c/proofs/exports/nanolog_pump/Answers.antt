@@ -2,13 +2,15 @@ use mir.Val.{to_z, of_z}
 use Rattle.std.proofs.Common.{◌≡◌, Option, ◌∙◌, w64}
 use Rattle.std.proofs.lemmas.Int.{to_z-of_z}
 use Rattle.log_ends.specs.declared.consumer.Pumped.{Pumped}
+use Rattle.log_ends.specs.declared.end.End.TheVariants as ends
+use Rattle.log_ends.specs.Slots.{consumer_in}
 use Rattle.nanolog_c.specs.Codes.{pump_code}
-use Rattle.nanolog_c.proofs.Through.{answered, unanswered, on_consumer}
+use Rattle.nanolog_c.proofs.Through.{answered, unanswered, through}
 use Rattle.nanolog_c.proofs.exports.nanolog_pump.Goals as goal
 
 pub returns : goal.returns
 returns c =
-    on_consumer _ _ _ _ _ _ _ _ c.take-end.ensures.value c.put.ensures
+    through ends.Consumer consumer_in _ _ _ _ _ _ _ _ c.take-end.ensures.value c.put.ensures
     (λ old new. answered c.pump_log-outcome.result Is _ code)
     (λ other. (unanswered c.pump_log-outcome.result Is code other.0, other.1)) c.pump_log-outcome.ensures.pumps
   where

@@ -2,7 +2,7 @@ use Rattle.std.proofs.Common.{◌≡◌, ◌==◌, false, ℕ, List, [], ◌∷�
 use borrow.Author.Tests.{eqb-true}
 use Rattle.std.proofs.lemmas.List.{append-nil}
 use Rattle.log_ends.proofs.Passing.{all_go_on_same}
-use Rattle.log_ends.proofs.Lists.{no_items}
+use Rattle.std.proofs.lemmas.List.{nil_from_length}
 use Rattle.log_ends.specs.Consumers.{consumer_ends, HasGiven}
 use Rattle.log_ends.proofs.consumer.ConsumerEnd.pump.Goals as goal
 
@@ -11,7 +11,7 @@ returns-then-is_empty-clause-pumps c = record {
   gave = tt;
   rest = refl;
   more = λ given stands. subst (λ (front : List ℕ). HasGiven c.args.self.now front) (sym (append-nil given)) stands;
-  no_room = (λ is. no_items c.args.into.now (eqb-true (length c.args.into.now) 0 (sym c.if-is_empty.ensures)), λ is. refl);
+  no_room = (λ is. nil_from_length c.args.into.now (eqb-true (length c.args.into.now) 0 (sym c.if-is_empty.ensures)), λ is. refl);
   unchanged = λ is. refl;
   none_waiting = λ is. absurd cc;
   none_found = λ is. absurd cc;

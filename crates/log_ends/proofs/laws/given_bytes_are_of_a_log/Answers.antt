@@ -1,0 +1,13 @@
+use Rattle.std.proofs.Common.{List, ℕ, ◌++◌, ap, ◌∙◌, subst}
+use Rattle.std.proofs.lemmas.List.{append-nil}
+use Rattle.word_ring.specs.Ends.{WordRoamerEnd}
+use Rattle.roaming_consumer.specs.Roamers.{IsLogOfEnds}
+use Rattle.log_ends.proofs.laws.given_bytes_are_of_a_log.Goals as goal
+
+pub returns-clause-front : goal.returns-clause-front
+returns-clause-front c = λ consumer given has. has.lawful consumer.begun consumer.unfaulted
+
+pub returns-clause-all : goal.returns-clause-all
+returns-clause-all c = λ consumer given has is.
+    subst (IsLogOfEnds (λ (end : WordRoamerEnd). end.got) (λ (end : WordRoamerEnd). end.ended) consumer.roamer)
+    (ap (λ (more : List ℕ). given ++ more) is.1 ∙ append-nil given) (has.lawful consumer.begun consumer.unfaulted)
