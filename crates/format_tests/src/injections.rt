@@ -42,20 +42,29 @@ fn injection_told(alloc: Global, row: &str) -> Result<String, Fail> {
 }
 
 /// The same with what stands behind the text of before, and the number of statements behind it or what is refused.
-const INJECTIONS: &str = r##"
-message 0 NOTICE 4 "m.cc" "a%lu"§=>// NANO_LOG(NOTICE, "no");␊#define L NANO_LOG(NOTICE, "no")␊auto s = R"x(NANO_LOG(NOTICE, "no"))x";␊NANO_LOG(NOTICE, "a" "%" PRIu64, f(1, 2));␊|before // NANO_LOG(NOTICE, "no");␊#define L NANO_LOG(NOTICE, "no")␊auto s = R"x(NANO_LOG(NOTICE, "no"))x";␊NANO_LOG_CALL(0, f(1, 2));␊ 1
-=>␊␊␊NANO_LOG(NOTICE, "a%lu", f(1, 2));|before nanolog: m.cc:4: refused: 9 NotInDictionary␊
+const INJECTIONS: &str = "\
+message 0 NOTICE 4 \"m.cc\" \"a%lu\"§=>// NANO_LOG(NOTICE, \"no\");␊#define L NANO_LOG(NOTICE, \"no\")␊\
+auto s = R\"x(NANO_LOG(NOTICE, \"no\"))x\";␊NANO_LOG(NOTICE, \"a\" \"%\" PRIu64, f(1, 2));␊|\
+before // NANO_LOG(NOTICE, \"no\");␊#define L NANO_LOG(NOTICE, \"no\")␊\
+auto s = R\"x(NANO_LOG(NOTICE, \"no\"))x\";␊NANO_LOG_CALL(0, f(1, 2));␊ 1
+=>␊␊␊NANO_LOG(NOTICE, \"a%lu\", f(1, 2));|before nanolog: m.cc:4: refused: 9 NotInDictionary␊
 =>int a;|before int a; 0;;=>|before  0
-message 0 DEBUG 1 "m.cc" "%d"§message 1 NOTICE 2 "m.cc" "y"§message 2 ERROR 1 "m.cc" "x"§=>a(); NANO_LOG(ERROR, "x"); NANO_LOG(DEBUG, "%d", n);␊NANO_LOG(NOTICE, // "z", 1␊  "y");␊|before a(); NANO_LOG_CALL(2); NANO_LOG_CALL(0, n);␊NANO_LOG_CALL(1␊);␊ 3
-message 0 ERROR 1 "m.cc" "x"§=>NANO_LOG /* ( */ (␊␊ERROR ,"x" /*,*/ , /*␊*/ a, (b, c) /*)*/)|before NANO_LOG_CALL(0␊␊, /*␊*/ a, (b, c) /*)*/) 1
-message 0 ERROR 1 "m.cc" "x"§=>NANO_LOG(ERROR,"x",)NANO_LOG(ERROR,"x" )|before NANO_LOG_CALL(0,)NANO_LOG_CALL(0) 2
-message 0 ERROR 1 "m.cc" "x"§=>NANO_LOG(ERROR, "x");NANO_LOG(ERROR, "y");␊NANO_LOG(FATAL, "x"); NANO_LOG(ERROR, "x");␊NANO_LOG(|before nanolog: m.cc:1: refused: 9 NotInDictionary␊nanolog: m.cc:2: refused: 1 Severity␊nanolog: m.cc:2: refused: 9 NotInDictionary␊nanolog: m.cc:3: refused: 5 Unclosed␊
-message 0 ERROR 7 "h.h" "x"§=># 7 "h.h"␊NANO_LOG(ERROR, "x");|before # 7 "h.h"␊NANO_LOG_CALL(0); 1
-"##;
+message 0 DEBUG 1 \"m.cc\" \"%d\"§message 1 NOTICE 2 \"m.cc\" \"y\"§message 2 ERROR 1 \"m.cc\" \"x\"§\
+=>a(); NANO_LOG(ERROR, \"x\"); NANO_LOG(DEBUG, \"%d\", n);␊NANO_LOG(NOTICE, // \"z\", 1␊  \"y\");␊|\
+before a(); NANO_LOG_CALL(2); NANO_LOG_CALL(0, n);␊NANO_LOG_CALL(1␊);␊ 3
+message 0 ERROR 1 \"m.cc\" \"x\"§=>NANO_LOG /* ( */ (␊␊ERROR ,\"x\" /*,*/ , /*␊*/ a, (b, c) /*)*/)|\
+before NANO_LOG_CALL(0␊␊, /*␊*/ a, (b, c) /*)*/) 1
+message 0 ERROR 1 \"m.cc\" \"x\"§=>NANO_LOG(ERROR,\"x\",)NANO_LOG(ERROR,\"x\" )|\
+before NANO_LOG_CALL(0,)NANO_LOG_CALL(0) 2
+message 0 ERROR 1 \"m.cc\" \"x\"§=>NANO_LOG(ERROR, \"x\");NANO_LOG(ERROR, \"y\");␊\
+NANO_LOG(FATAL, \"x\"); NANO_LOG(ERROR, \"x\");␊NANO_LOG(|\
+before nanolog: m.cc:1: refused: 9 NotInDictionary␊nanolog: m.cc:2: refused: 1 Severity␊\
+nanolog: m.cc:2: refused: 9 NotInDictionary␊nanolog: m.cc:3: refused: 5 Unclosed␊
+message 0 ERROR 7 \"h.h\" \"x\"§=># 7 \"h.h\"␊NANO_LOG(ERROR, \"x\");|before # 7 \"h.h\"␊NANO_LOG_CALL(0); 1";
 
 #[test]
 fn sources_are_rewritten(rt: HostRuntime) -> Result<(), Fail> {
-    check_rows(&rt, INJECTIONS.trim(), injection_told)
+    check_rows(&rt, INJECTIONS, injection_told)
 }
 
 fn header_told(alloc: Global, lines: &str) -> Result<String, Fail> {
@@ -66,13 +75,17 @@ fn header_told(alloc: Global, lines: &str) -> Result<String, Fail> {
 }
 
 /// Message lines, and their header.
-const HEADERS: &str = r#"
-|before /* nanolog-header 1 */␊#define NANO_LOG_MESSAGES 0␊static const char *const nano_log_types[] = {␊0};␊static const unsigned char nano_log_severity[] = {␊0};␊
-message 0 NOTICE 4 "m.cc" "a%lu"§|before /* nanolog-header 1 */␊#define NANO_LOG_MESSAGES 1␊static const char *const nano_log_types[] = {␊"m",␊0};␊static const unsigned char nano_log_severity[] = {␊3,␊0};␊
-message 0 ERROR 1 "a" ""§message 1 DEBUG 2 "a" "%d%u%ld%p%*.*s"§message 2 WARNING 3 "a" "%c%%%x%zu"§|before /* nanolog-header 1 */␊#define NANO_LOG_MESSAGES 3␊static const char *const nano_log_types[] = {␊"",␊"iulmwps",␊"ium",␊0};␊static const unsigned char nano_log_severity[] = {␊1,␊4,␊2,␊0};␊
-"#;
+const HEADERS: &str = "\
+|before /* nanolog-header 1 */␊#define NANO_LOG_MESSAGES 0␊static const char *const nano_log_types[] = {␊0};␊\
+static const unsigned char nano_log_severity[] = {␊0};␊
+message 0 NOTICE 4 \"m.cc\" \"a%lu\"§|\
+before /* nanolog-header 1 */␊#define NANO_LOG_MESSAGES 1␊static const char *const nano_log_types[] = {␊\"m\",␊\
+0};␊static const unsigned char nano_log_severity[] = {␊3,␊0};␊
+message 0 ERROR 1 \"a\" \"\"§message 1 DEBUG 2 \"a\" \"%d%u%ld%p%*.*s\"§message 2 WARNING 3 \"a\" \"%c%%%x%zu\"§\
+|before /* nanolog-header 1 */␊#define NANO_LOG_MESSAGES 3␊static const char *const nano_log_types[] = {␊\"\",␊\
+\"iulmwps\",␊\"ium\",␊0};␊static const unsigned char nano_log_severity[] = {␊1,␊4,␊2,␊0};␊";
 
 #[test]
 fn headers_are_written(rt: HostRuntime) -> Result<(), Fail> {
-    check_rows(&rt, HEADERS.trim(), header_told)
+    check_rows(&rt, HEADERS, header_told)
 }
