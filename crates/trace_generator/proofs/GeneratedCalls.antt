@@ -4,6 +4,7 @@ use Rattle.std.proofs.Math.Nat.{mod-lt}
 use Rattle.std.specs.Prelude.{Some, slice_get, sum_by}
 use Rattle.std.specs.List.{AllByRecursion, range_with_len}
 use Rattle.std.proofs.lemmas.List.{length-replicate}
+use Rattle.std.proofs.lemmas.List.FromFn.{map-range_with_len_more}
 use Rattle.printf_grammar.specs.Types.{IsText}
 use Rattle.log_dictionary.specs.declared.message.Message.{Message}
 use Rattle.log_dictionary.specs.declared.dictionary.Added.{Added}
@@ -94,25 +95,14 @@ added before after message (New id) (none, place, is) later = is
 
 -- ---- one call more
 
-range-push : (from n : ℕ) → range_with_len from (suc n) ≡ range_with_len from n ++ (from + n) ∷ []
-range-push from zero = ap (λ (k : ℕ). k ∷ []) (omega arith)
-range-push from (suc n) =
-    ap (λ (ks : List ℕ). from ∷ ks) (range-push (from + 1) n)
-    ∙ ap (λ (k : ℕ). from ∷ (range_with_len (from + 1) n ++ k ∷ [])) (omega arith)
-
-map-push : {A B : Type 0} (f : A → B) (xs : List A) (x : A) → map f (xs ++ x ∷ []) ≡ map f xs ++ f x ∷ []
-map-push f [] x = refl
-map-push f (y ∷ xs) x = ap (λ ys. f y ∷ ys) (map-push f xs x)
-
 writers_with-push : (writers : List (List Call)) (calls : List WriterCall) (made : WriterCall) → writers_with writers (calls ++ made ∷ []) ≡ with_call_of (writers_with writers calls) made.writer made.call
 writers_with-push writers [] made = refl
 writers_with-push writers (first ∷ calls) made = writers_with-push (with_call_of writers first.writer first.call) calls made
 
 calls-push : (seed k writers : ℕ) → generated_calls seed (suc k) writers ≡ generated_calls seed k writers ++ generated_call seed writers k ∷ []
 calls-push seed k writers =
-    ap (map (generated_call seed writers)) (range-push 0 k)
-    ∙ map-push (generated_call seed writers) (range_with_len 0 k) (0 + k)
-    ∙ ap (λ (n : ℕ). generated_calls seed k writers ++ generated_call seed writers n ∷ []) (omega arith)
+    let next : suc k ≡ k + 1 = omega arith in
+    ap (λ (n : ℕ). generated_calls seed n writers) next ∙ map-range_with_len_more (generated_call seed writers) 0 k k (omega arith)
 
 generated_is : (seed k writers : ℕ) → Generated seed k writers ≡ with_calls (start_of generated_messages generated_clock writers) (generated_calls seed k writers)
 generated_is seed k writers = ap (λ (lists : List (List Call)). record { dictionary = generated_messages; clock = generated_clock; writers = lists }) (sym (writers_are writers (generated_calls seed k writers)))

@@ -5,8 +5,7 @@ use Rattle.std.specs.Int.{w32, w64}
 use Rattle.std.specs.Fmt.{signed_decimal}
 use Rattle.std.specs.List.{AllByRecursion, list_any}
 use Rattle.std.specs.Option.{option_map, ok_or}
-use Rattle.std.proofs.lemmas.Bool.{eqb-true, eqb-false, ne_eqb, and_parts, leb-true, le-leb, ltb-true, lt-ltb, cond-true}
-use Rattle.std.proofs.lemmas.Bool.Decides.{nat_tests}
+use Rattle.std.proofs.lemmas.Bool.{eqb-true, eqb-false, ne_eqb, and_parts, leb-true, le-leb, ltb-true, lt-ltb, cond-true, le-ltb}
 use Rattle.std.proofs.lemmas.Fmt.{decimal_nonempty}
 use Rattle.std.proofs.lemmas.Option.{some_pair_parts}
 use Rattle.printf_grammar.specs.declared.arg_type.ArgType.{ArgType}
@@ -145,11 +144,8 @@ no_zero : (bytes : List ℕ) → AllByRecursion (λ byte. byte ≢ 0) bytes → 
 no_zero [] all = refl
 no_zero (byte ∷ bytes) all = rw (ne_eqb byte 0 all.0) (no_zero bytes all.1)
 
-not_over : (n limit : ℕ) → n ≤ limit → ltb limit n ≡ false
-not_over n limit h = grind (arith, nat_tests)
-
 text_value_read : (bytes : List ℕ) → IsText bytes → checked_text bytes ≡ Ok (values.Text bytes)
-text_value_read bytes is = rw (no_zero bytes is.no_nul, not_over (length bytes) MAX_TEXT is.short) refl
+text_value_read bytes is = rw (no_zero bytes is.no_nul, le-ltb MAX_TEXT (length bytes) is.short) refl
 
 least_int : (z : ℤ) → FitsSigned w32 z → int_le (negsuc 2147483647) z ≡ true
 least_int (pos n) fits = refl

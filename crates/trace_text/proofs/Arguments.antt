@@ -1,10 +1,10 @@
 -- The arguments of a line that is right fit the types that they are read by.
 use Rattle.std.proofs.Common.{◌≡◌, ℕ, ◌<◌, ◌^◌, Bool, true, false, cond, List, [], ◌∷◌, length, Option, Some, None, Result, Ok, Err, ℤ, pos, negsuc, FitsSigned, refl, sym, subst, arith, T}
-use Rattle.std.specs.Prelude.{◌&&◌, ◌||◌, nat_lt, int_le, ◌≤ℤ◌}
+use Rattle.std.specs.Prelude.{◌&&◌, nat_lt, int_le, ◌≤ℤ◌}
 use Rattle.std.specs.Int.{w32, w64}
 use Rattle.std.specs.Option.{ok_or}
 use Rattle.std.specs.List.{AllByRecursion}
-use Rattle.std.proofs.lemmas.Bool.{ltb-true, ltb-false, leb-true, eqb-false}
+use Rattle.std.proofs.lemmas.Bool.{ltb-true, ltb-false, leb-true, eqb-false, and_parts, or_parts}
 use Rattle.printf_grammar.specs.declared.arg_type.ArgType.{ArgType}
 use Rattle.printf_grammar.specs.declared.arg_type.ArgType.TheVariants as types
 use Rattle.printf_grammar.specs.declared.argument.Value.{Value}
@@ -34,24 +34,16 @@ pub holds_back : {A : Type 0} (test : Bool) (cause : TraceCause) (r : Result A T
 holds_back true cause r a e = absurd cc
 holds_back false cause r a e = (refl, e)
 
-both : (a b : Bool) → (a && b) ≡ true → (a ≡ true) × (b ≡ true)
-both true b e = (refl, e)
-both false b e = absurd cc
-
-neither : (a b : Bool) → (a || b) ≡ false → (a ≡ false) × (b ≡ false)
-neither true b e = absurd cc
-neither false b e = (refl, e)
-
 no_nul : (bytes : List ℕ) → has_nul bytes ≡ false → AllByRecursion (λ (byte : ℕ). byte ≡ 0 → ⊥) bytes
 no_nul [] e = tt
-no_nul (b ∷ bytes) e = let apart = neither _ _ e in (eqb-false _ _ apart.0, no_nul bytes apart.1)
+no_nul (b ∷ bytes) e = let apart = or_parts _ _ e in (eqb-false _ _ apart.0, no_nul bytes apart.1)
 
 -- ---- one argument
 
 signed_fits : (type : ArgType) (least most z : ℤ) (value : Value) → (int_le least z ≡ true → int_le z most ≡ true → FitsType (values.Signed z) type) → signed_within least most z ≡ Ok value → FitsType value type
 signed_fits type least most z value fits e =
     let passed = passes (int_le least z && int_le z most) (values.Signed z) value ArgRange e in
-    let within = both (int_le least z) (int_le z most) passed.0 in
+    let within = and_parts (int_le least z) (int_le z most) passed.0 in
     subst (λ (v : Value). FitsType v type) passed.1 (fits within.0 within.1)
 
 unsigned_fits : (type : ArgType) (limit : ℕ) (z : ℤ) (value : Value) → ((n : ℕ) → n < limit → FitsType (values.Unsigned n) type) → unsigned_below limit z ≡ Ok value → FitsType value type

@@ -2,6 +2,7 @@
 use Rattle.std.proofs.Common.{◌≡◌, ◌≢◌, ℕ, ◌<◌, ◌≤◌, ◌^◌, Bool, true, false, leb, ltb, List, ◌∷◌, ◌++◌, length, Option, Some, Ok, refl, sym, ap, ◌∙◌, subst, append_assoc, arith}
 use Rattle.std.specs.Prelude.{codes, decimal, ◌&&◌, slice_get, sum_by}
 use Rattle.std.specs.Option.{ok_or}
+use Rattle.std.proofs.lemmas.Bool.{le-ltb}
 use Rattle.std.proofs.lemmas.Bool.Decides.{nat_tests}
 use Rattle.std.proofs.lemmas.Option.{slice_get_within, same_Some}
 use Rattle.printf_grammar.specs.Types.{Types}
@@ -101,9 +102,6 @@ head_taken line head e =
 
 -- ---- a line that is spelled is read
 
-not_less : (m n : ℕ) → n ≤ m → ltb m n ≡ false
-not_less m n h = grind (arith, nat_tests)
-
 not_full : (begins : Bool) (most n : ℕ) → n < most → (begins && leb most n) ≡ false
 not_full true most n h = grind (arith, nat_tests)
 not_full false most n h = refl
@@ -123,11 +121,11 @@ call_read run line made recorded few spells next =
     bind-Ok (refused_if (begins_with (codes "call ") line && leb MAX_CALLS (sum_by length run.writers)) TooMany) tt (λ _. when_few run line) (let_pass _ TooMany (not_full (begins_with (codes "call ") line) MAX_CALLS (sum_by length run.writers) next.few))
     ∙ bind-Ok (ok_or (head_at line) CallForm) head (with_head run) (ap (λ (o : Option CallHead). ok_or o CallForm) headed)
     ∙ bind-Ok (ok_or (slice_get run.writers head.writer) Writer) next.calls (with_calls run head) (ap (λ (o : Option (List Call)). ok_or o Writer) next.known)
-    ∙ bind-Ok (refused_if (ltb head.stamp run.clock.tick) BeforeClock) tt (λ _. when_ticked run head next.calls) (let_pass _ BeforeClock (not_less head.stamp run.clock.tick ticked))
-    ∙ bind-Ok (refused_if (ltb head.stamp (last_stamp run.clock.tick next.calls)) StampFalls) tt (λ _. when_risen run head) (let_pass _ StampFalls (not_less head.stamp (last_stamp run.clock.tick next.calls) next.risen))
+    ∙ bind-Ok (refused_if (ltb head.stamp run.clock.tick) BeforeClock) tt (λ _. when_ticked run head next.calls) (let_pass _ BeforeClock (le-ltb head.stamp run.clock.tick ticked))
+    ∙ bind-Ok (refused_if (ltb head.stamp (last_stamp run.clock.tick next.calls)) StampFalls) tt (λ _. when_risen run head) (let_pass _ StampFalls (le-ltb head.stamp (last_stamp run.clock.tick next.calls) next.risen))
     ∙ bind-Ok (ok_or (slice_get run.dictionary head.id) Id) message (with_message head) (ap (λ (o : Option Message). ok_or o Id) next.is_call.known)
     ∙ bind-Ok (arguments_at (Types message.format.pieces) head.fields) made.call.args (with_args head) (arguments_read (Types message.format.pieces) spells.fields made.call.args spells.arguments next.is_call.fits)
-    ∙ bind-Ok (refused_if (ltb MAX_FRAME_WORDS (FrameLen made.call.args)) TooLong) tt (λ _. Ok (made_of head made.call.args)) (let_pass _ TooLong (not_less MAX_FRAME_WORDS (FrameLen made.call.args) next.is_call.short))
+    ∙ bind-Ok (refused_if (ltb MAX_FRAME_WORDS (FrameLen made.call.args)) TooLong) tt (λ _. Ok (made_of head made.call.args)) (let_pass _ TooLong (le-ltb MAX_FRAME_WORDS (FrameLen made.call.args) next.is_call.short))
 
 -- ---- a line that is read is spelled
 

@@ -1,5 +1,5 @@
 -- The canonical text of a run is one of its texts.
-use Rattle.std.proofs.Common.{◌≡◌, ℕ, zero, suc, ◌+◌, ◌<◌, ◌≤◌, Bool, true, false, cond, eqb, List, [], ◌∷◌, ◌++◌, map, length, Option, Some, None, refl, ap, sym, subst, ◌∙◌, add-zero, append_assoc, arith}
+use Rattle.std.proofs.Common.{◌≡◌, ℕ, suc, ◌+◌, ◌<◌, ◌≤◌, Bool, true, false, cond, eqb, List, [], ◌∷◌, ◌++◌, map, length, Option, Some, None, refl, ap, sym, ◌∙◌, add-zero, append_assoc, arith}
 use Rattle.std.specs.Prelude.{filter, slice_get, codes, option_and_then}
 use Rattle.std.specs.Option.{option_map}
 use Rattle.std.specs.List.{AllByRecursion, flat_map, filter_map, cons_option, enumerate_from, range_with_len}
@@ -22,15 +22,10 @@ use Rattle.trace_text.specs.Order.{call_place}
 use Rattle.trace_text.specs.Lines.{WriterCall, first_line, last_line, clock_line, writers_line, SpellsArgumentFields, SpellsCall, SpellsMessages, SpellsCalls, text_of_lines}
 use Rattle.trace_text.specs.Traces.{TraceText, calls_by}
 use Rattle.trace_text.specs.Canonical.{argument_text, call_line, call_text, made_by, made_at, calls_in_order, Canonical, HasCallLine, HasText}
+use Rattle.trace_text.proofs.lemmas.CallRuns.{all_at}
 use Rattle.trace_text.proofs.lemmas.OwnCalls.{is_of, own_in_order}
 
 -- ---- what stands at a place
-
--- what holds of all items holds of the one at a place
-pub item_has : {A : Type 0} (P : A → Type 0) (items : List A) (i : ℕ) (x : A) → AllByRecursion P items → slice_get items i ≡ Some x → P x
-item_has P [] i x all at = absurd cc
-item_has P (y ∷ items) zero x all at = subst P (same_Some y x at) all.0
-item_has P (y ∷ items) (suc i) x all at = item_has P items i x all.1 at
 
 -- a call that was made has a place among its writer's
 record IsMade (run : Recording) (made : WriterCall) : Type 0 where
@@ -99,8 +94,8 @@ module _ (run : Recording) (writer : ℕ) where
     own_again : HasText run → calls_by (calls_in_order run) writer ≡ calls
     own_again has =
         let all = has.recorded.calls in
-        let own = item_has (AllByRecursion (IsCall run.dictionary)) run.writers writer calls all known in
-        ap (map (λ (made : WriterCall). made.call)) (own_places (in_order (calls_of run)) ∙ ap (λ (cs : List LogCall). filter_map (made_at run) (map call_place cs)) (own_in_order run.dictionary run.writers writer run.clock.tick calls known all own (item_has (NeverFalls run.clock.tick) run.writers writer calls has.recorded.stamps known)))
+        let own = all_at (AllByRecursion (IsCall run.dictionary)) run.writers writer calls known all in
+        ap (map (λ (made : WriterCall). made.call)) (own_places (in_order (calls_of run)) ∙ ap (λ (cs : List LogCall). filter_map (made_at run) (map call_place cs)) (own_in_order run.dictionary run.writers writer run.clock.tick calls known all own (all_at (NeverFalls run.clock.tick) run.writers writer calls known has.recorded.stamps)))
         ∙ own_found 0 calls (λ k. let same : 0 + k ≡ k = omega arith in ap (slice_get calls) same) own
 
 restored : (f : ℕ → List Call) (n : ℕ) (writers : List (List Call)) → ((k : ℕ) (calls : List Call) → slice_get writers k ≡ Some calls → f (n + k) ≡ calls) → writers ≡ map f (range_with_len n (length writers))
@@ -173,7 +168,7 @@ canonical_spells run has short =
       distinct = has.messages.distinct;
       few_messages = has.messages.few;
       clock_fits = has.clock_fits;
-      calls_spelled = spells_calls calls (all_made run (λ made. HasCallLine made.call) (λ made is. item_has HasCallLine is.calls is.ordinal made.call (item_has (AllByRecursion HasCallLine) run.writers made.writer is.calls has.calls is.of_writer) is.at_ordinal) _);
+      calls_spelled = spells_calls calls (all_made run (λ made. HasCallLine made.call) (λ made is. all_at HasCallLine is.calls is.ordinal made.call is.at_ordinal (all_at (AllByRecursion HasCallLine) run.writers made.writer is.calls is.of_writer has.calls)) _);
       known_writers = all_made run (λ made. made.writer < length run.writers) (λ made is. slice_get_within run.writers made.writer is.calls is.of_writer) _;
       by_writer = restored (calls_by calls) 0 run.writers (λ k cs at. let same : 0 + k ≡ k = omega arith in ap (calls_by calls) same ∙ own_again run k cs at has);
       recorded = has.recorded;

@@ -2,7 +2,7 @@
 use Rattle.std.proofs.Common.{◌≡◌, ◌≢◌, ℕ, ◌+◌, ◌≤◌, true, false, eqb, List, [], ◌∷◌, ◌++◌, length, All, Err, Ok, refl, sym, ap, subst, ◌∙◌, inl, inr, append_assoc, append-nil, arith}
 use Rattle.std.specs.Prelude.{codes}
 use Rattle.std.proofs.lemmas.Bool.{eqb-true}
-use Rattle.std.proofs.lemmas.List.{length-append}
+use Rattle.std.proofs.lemmas.List.{length-append, nil_from_length}
 use Rattle.std.proofs.lemmas.List.Elements.{recursion_from_All}
 use Rattle.log_dictionary.specs.declared.message.Message.{Message}
 use Rattle.log_dictionary.specs.declared.dictionary.LineFault.{LineFault}
@@ -99,13 +99,9 @@ pub last_line_cut : (text : List ℕ) (messages : List Message) (lines : Lines) 
     → DictionaryBreak text lines.number causes.Message
 last_line_cut text messages lines short was none some = refused_there text messages lines causes.Message short was (inr (some_left lines.bytes.now some, recursion_from_All (λ byte. byte ≢ 10) lines.bytes.now none, refl))
 
-nothing_left : (bytes : List ℕ) → eqb (length bytes) 0 ≡ true → bytes ≡ []
-nothing_left [] none = refl
-nothing_left (byte ∷ bytes) none = absurd (omega (arith, eqb-true _ _ none))
-
 pub all_read : (text : List ℕ) (messages : List Message) (lines : Lines) → length text ≤ MAX_TRACE → ReadTo text messages lines → eqb (length lines.bytes.now) 0 ≡ true → DictionaryText text messages
 all_read text messages lines short was none =
-    let whole : text ≡ was.front = was.parted ∙ ap (λ (b : List ℕ). was.front ++ b) (nothing_left lines.bytes.now none) ∙ append-nil was.front in
+    let whole : text ≡ was.front = was.parted ∙ ap (λ (b : List ℕ). was.front ++ b) (nil_from_length lines.bytes.now (eqb-true _ _ none)) ∙ append-nil was.front in
     (short, subst (λ (b : List ℕ). SpellsDictionary b messages) (sym whole) was.spelled)
 
 -- the fault tells the refusal

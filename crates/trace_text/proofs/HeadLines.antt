@@ -2,6 +2,7 @@
 use Rattle.std.proofs.Common.{◌≡◌, ◌≢◌, ℕ, ◌<◌, ◌≤◌, ◌^◌, Bool, true, false, cond, eqb, leb, List, ◌∷◌, ◌++◌, Option, Some, None, refl, sym, ap, ◌∙◌, subst, append_assoc, inl, arith}
 use Rattle.std.specs.Prelude.{codes, decimal, ◌&&◌}
 use Rattle.std.proofs.lemmas.Bool.{eqb-false, ne_eqb, and_parts, leb-true, le-leb}
+use Rattle.std.proofs.lemmas.Option.{cond_some}
 use Rattle.log_dictionary.specs.declared.clock.Clock.{Clock}
 use Rattle.log_dictionary.specs.Fields.{◌>>=◌, after, split_at_first}
 use Rattle.log_dictionary.proofs.lemmas.Splits.{split_again, split_takes, after_takes}
@@ -107,16 +108,12 @@ pub record SaysWriters (line : List ℕ) (count : ℕ) : Type 0 where
   pub some : 1 ≤ count
   pub few : count ≤ MAX_WRITERS
 
-counted : (b : Bool) (found count : ℕ) → cond b (Some found) None ≡ Some count → (b ≡ true) × (found ≡ count)
-counted true found count e = (refl, cc)
-counted false found count e = absurd cc
-
 -- the line of which a number of writers is read is that number's
 pub writers_taken : (line : List ℕ) (count : ℕ) → writers_at line ≡ Some count → SaysWriters line count
 writers_taken line count e =
     let number = found (after (codes "writers ") line >>= field_number) writer_count count e in
     let field = found (after (codes "writers ") line) field_number number.x number.first in
-    let last = counted (leb 1 number.x && leb number.x MAX_WRITERS) number.x count number.second in
+    let last = cond_some (leb 1 number.x && leb number.x MAX_WRITERS) number.x count number.second in
     let both = and_parts (leb 1 number.x) (leb number.x MAX_WRITERS) last.0 in
     let is = number_taken field.x number.x field.second in
     let spelled : line ≡ writers_line number.x = after_takes (codes "writers ") line field.x field.first ∙ ap (λ back. codes "writers " ++ back) is.0 in

@@ -5,7 +5,7 @@ use Rattle.std.specs.Option.{is_some}
 use Rattle.std.specs.List.{starts_with}
 use Rattle.std.specs.Cmp.Lexicographic.{pointwise, bytes_decides}
 use Rattle.std.proofs.lemmas.Bool.Decides.{Decides-eqb, same_from_decides}
-use Rattle.std.proofs.lemmas.Bool.{false≢true}
+use Rattle.std.proofs.lemmas.Bool.{false≢true, not-true, not-false}
 use Rattle.log_dictionary.specs.Fields.{after}
 use Rattle.trace_text.proofs.HeadLines.{found}
 use Rattle.trace_text.specs.LineFields.{begins_with, CallHead, head_of, head_at}
@@ -37,22 +37,15 @@ same_line line other e = (bytes_decides line other).0 e
 pub other_line : (line other : List ℕ) → pointwise eqb line other ≡ false → line ≢ other
 other_line line other e is = false≢true (sym e ∙ (bytes_decides line other).1 is)
 
-turned : (test : Bool) → not test ≡ true → test ≡ false
-turned true e = absurd cc
-turned false e = refl
-
-turned_back : (test : Bool) → not test ≡ false → test ≡ true
-turned_back true e = refl
-turned_back false e = absurd cc
-
 -- what a test that the line is another one says
 pub line_differs : (line other : List ℕ) (test : Bool) → test ≡ not (pointwise eqb line other) → test ≡ true → line ≢ other
-line_differs line other test is e = other_line line other (turned _ (sym is ∙ e))
+line_differs line other test is e = other_line line other (not-true _ (sym is ∙ e))
 
 pub line_equals : (line other : List ℕ) (test : Bool) → test ≡ not (pointwise eqb line other) → test ≡ false → line ≡ other
-line_equals line other test is e = same_line line other (turned_back _ (sym is ∙ e))
+line_equals line other test is e = same_line line other (not-false _ (sym is ∙ e))
 
-abbrev message_word : List ℕ
+-- what a line of a message begins with
+abbrev pub message_word : List ℕ
 message_word = codes "message "
 
 -- what a test of the front says of lines of messages

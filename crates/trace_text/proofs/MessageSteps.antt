@@ -1,6 +1,6 @@
 -- What reading a line of a message says of the text.
 use Rattle.std.proofs.Common.{◌≡◌, ℕ, true, List, length, Ok, Err, refl, ap, inl, inr, arith}
-use Rattle.std.specs.Prelude.{codes, ⊤}
+use Rattle.std.specs.Prelude.{⊤}
 use Rattle.log_dictionary.specs.declared.message.Message.{Message}
 use Rattle.log_dictionary.specs.declared.dictionary.LineFault.{LineFault}
 use Rattle.log_dictionary.specs.declared.dictionary.LineFault.TheVariants as faults
@@ -12,12 +12,10 @@ use Rattle.trace_text.specs.declared.lines.Lines.{Lines}
 use Rattle.trace_text.specs.LineFields.{begins_with}
 use Rattle.trace_text.specs.Reading.{messages, FollowsMessages, BreaksMessages}
 use Rattle.trace_text.specs.Progress.{progress, IsRefusal, message_fault}
+use Rattle.trace_text.proofs.LineFronts.{message_word}
 use Rattle.trace_text.proofs.Steps.{refused_here}
 
 -- ---- what the reader of a message line says
-
-abbrev message_word : List ℕ
-message_word = codes "message "
 
 pub follows_read : (before after : List Message) (line : List ℕ) → begins_with message_word line ≡ true → ReadsLine before line after (Ok tt) → FollowsMessages before line (messages after)
 follows_read before after line begun read = (begun, read.2, (read.0, read.1, ap messages read.3))

@@ -4,7 +4,9 @@ use Rattle.std.specs.Prelude.{Some, slice_get, sum_by}
 use Rattle.std.specs.List.{AllByRecursion, filter, range_with_len}
 use Rattle.std.proofs.lemmas.Bool.{ne_eqb}
 use Rattle.std.proofs.lemmas.List.{append-nil, length-append}
+use Rattle.std.proofs.lemmas.List.Elements.{All-get_or, All-push, All-from_recursion, recursion_from_All}
 use Rattle.std.proofs.lemmas.List.Sums.{sum_by-cons}
+use Rattle.std.proofs.lemmas.Option.{slice_get_within, get_or_from_slice_get}
 use Rattle.log_dictionary.specs.declared.message.Message.{Message}
 use Rattle.arg_records.specs.declared.call.Call.{Call}
 use Rattle.arg_records.specs.Calls.{IsCall, NeverFalls}
@@ -65,17 +67,16 @@ module _ (P : List Call → Type 0) where
       (subst (λ list. P (list ++ call ∷ [])) same longer, all.1)
   all_after (first ∷ writers) (suc writer) call calls known longer all = (all.0, all_after writers writer call calls known longer all.1)
 
-  pub all_at : (writers : List (List Call)) (writer : ℕ) (calls : List Call) → slice_get writers writer ≡ Some calls → AllByRecursion P writers → P calls
-  all_at [] writer calls known all = absurd cc
-  all_at (first ∷ writers) zero calls known all = let same : first ≡ calls = cc in subst P same all.0
-  all_at (first ∷ writers) (suc writer) calls known all = all_at writers writer calls known all.1
+-- what holds of all items holds of the one at a place
+pub all_at : {A : Type 0} (P : A → Type 0) (items : List A) (place : ℕ) (item : A) → slice_get items place ≡ Some item → AllByRecursion P items → P item
+all_at P items place item there all =
+    subst P (get_or_from_slice_get items place item item there) (All-get_or P items place item (slice_get_within items place item there) (All-from_recursion P items all))
 
 -- ---- calls of messages, and stamps
 
 -- what holds of each item and of one more
 pub all-push : {A : Type 0} (P : A → Type 0) (items : List A) (item : A) → AllByRecursion P items → P item → AllByRecursion P (items ++ item ∷ [])
-all-push P [] item all is = (is, tt)
-all-push P (first ∷ items) item all is = (all.0, all-push P items item all.1 is)
+all-push P items item all is = recursion_from_All P (items ++ item ∷ []) (All-push P items item (All-from_recursion P items all) is)
 
 calls-before : (messages : List Message) (calls : List Call) (call : Call) → AllByRecursion (IsCall messages) (calls ++ call ∷ []) → AllByRecursion (IsCall messages) calls × IsCall messages call
 calls-before messages [] call all = (tt, all.0)
