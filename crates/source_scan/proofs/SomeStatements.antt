@@ -1,6 +1,7 @@
 -- A source has statements.
 use Rattle.std.proofs.Common.{◌≡◌, ◌≢◌, ℕ, zero, suc, ◌⊎◌, List, [], ◌∷◌, Option, Some, None, refl, sym, ap, ◌∙◌, inl, inr, arith, drop, length}
 use Rattle.std.proofs.lemmas.Bool.{cases_Bool, cases_lt, false≢true}
+use Rattle.std.proofs.lemmas.Option.{none-some, same_Some}
 use Rattle.std.specs.Str.{bytes_eq}
 use Rattle.std.proofs.lemmas.Slice.Eq.{bytes_eq-Decides}
 use Rattle.printf_grammar.specs.declared.piece.Piece.{Piece}
@@ -27,7 +28,6 @@ use Rattle.source_scan.specs.Statements.{SourceText, begins, in_force, reading_o
 use Rattle.source_scan.proofs.FoundLists.{other-front, found-front}
 use Rattle.source_scan.proofs.SomeTokens.{HaveTokens}
 use Rattle.source_scan.proofs.SomeChanges.{some_changes}
-use Rattle.source_scan.proofs.lemmas.Unique.{some_once, not_none}
 
 -- ---- what a statement has or doesn't have
 
@@ -78,10 +78,10 @@ severity_or_not : (source : List ℕ) (reading : Parted) → HasSeverity source 
 severity_or_not source reading =
     let name : Option Token = last_name (without_scope reading.severity) in
     elim (none_or_some name) [
-      | inl none ↦ inr (λ has. not_none name has.1.0 none has.1.1)
+      | inl none ↦ inr (λ has. none-some has.1.0 (sym none ∙ has.1.1))
       | inr one ↦ elim (name_or_not (unspliced (bytes_of source one.0))) [
         | inl named ↦ inl (named.0, (one.0, one.1, named.1))
-        | inr apart ↦ inr (λ has. apart has.0 (ap (λ (token : Token). unspliced (bytes_of source token)) (some_once name one.0 has.1.0 one.1 has.1.1) ∙ has.1.2))
+        | inr apart ↦ inr (λ has. apart has.0 (ap (λ (token : Token). unspliced (bytes_of source token)) (same_Some one.0 has.1.0 (sym one.1 ∙ has.1.1)) ∙ has.1.2))
       ]
     ]
 

@@ -1,11 +1,11 @@
 -- The bytes of each part of a source have tokens, if what stands at the front of its rests has.
-use Rattle.std.proofs.Common.{◌≡◌, ℕ, ◌+◌, ◌-◌, ◌<◌, ◌≤◌, List, [], take, drop, length, sym, subst, ap, ◌∙◌, inl, inr, arith}
+use Rattle.std.proofs.Common.{◌≡◌, ℕ, ◌+◌, ◌-◌, ◌<◌, ◌≤◌, List, take, drop, length, sym, subst, ap, ◌∙◌, inl, inr, arith}
 use Rattle.std.proofs.lemmas.Bool.{cases_lt}
 use Rattle.std.proofs.lemmas.List.{take_all, take-take, drop_all, drop-drop, length-take-le, length-drop}
 use Rattle.source_tokens.specs.declared.token.Token.{Token}
 use Rattle.source_tokens.specs.Tokens.{Tokens}
 use Rattle.source_scan.specs.Texts.{bytes_of}
-use Rattle.source_scan.proofs.Fronts.{behind}
+use Rattle.source_scan.proofs.Fronts.{behind, nothing}
 
 -- so many bytes at the front have tokens
 abbrev pub FrontHasTokens : List ℕ → ℕ → Type 0
@@ -92,14 +92,11 @@ rests-shorter source rest some to have =
       longer = λ start more n. rest-too source rest to have start (omega (arith, count, more, some)) n;
     }
 
-empty : (list : List ℕ) → length list < 1 → list ≡ []
-empty list none = drop_all 0 list (omega (arith, none))
-
 pub rests-all : (source rest : List ℕ) → length rest < 1 → RestsTo source rest → ((n : ℕ) → FrontHasTokens rest n) → HaveTokens source
 rests-all source rest none to have part =
     elim (cases_lt (length source) part.start) [
       | inr within ↦ rest-too source rest to have part.start (omega (arith, none, within)) (part.end - part.start)
       | inl past ↦
-          let same : rest ≡ drop part.start source = empty rest none ∙ sym (drop_all part.start source (omega (arith, past))) in
+          let same : rest ≡ drop part.start source = nothing rest none ∙ sym (drop_all part.start source (omega (arith, past))) in
           subst (λ (list : List ℕ). FrontHasTokens list (part.end - part.start)) same (have (part.end - part.start))
     ]

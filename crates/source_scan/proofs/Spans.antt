@@ -4,6 +4,7 @@ use Rattle.std.specs.Prelude.{MatchBool, MatchOption}
 use Rattle.std.specs.Option.{option_map}
 use Rattle.std.proofs.lemmas.Bool.{cases_Bool, cases_lt, false≢true}
 use Rattle.std.proofs.lemmas.List.{get_or_at, length-append}
+use Rattle.std.proofs.lemmas.Option.{none-some}
 use Rattle.source_tokens.specs.declared.token.Token.{Token}
 use Rattle.source_tokens.specs.Directives.{Parts}
 use Rattle.source_scan.specs.declared.position.PlacedChange.{PlacedChange}
@@ -56,9 +57,6 @@ pub record Has (text : SourceText) (token : Token) (inside : List Token) (one : 
   pub file : file_of one ≡ (in_force text token).name
   pub line : line_number_of one ≡ line_number_at text.bytes (in_force text token) token.start
 
-some_end : {A : Type 0} {end : Option A} {place : A} → end ≡ Some place → end ≡ None → ⊥
-some_end some none = cc
-
 found_has : (text : SourceText) (token : Token) (inside : List Token) (closing : Option ℕ) (one : Found) → closing_from 0 inside ≡ closing → IsFoundAt text token inside closing one → Has text token inside one
 found_has text token inside None (found.Statement statement) closes at = absurd at
 found_has text token inside None (found.Bad bad) closes at = record { span = ((λ e. ap (option_map _) closes), λ e. at.cause); file = at.file; line = at.line_is }
@@ -66,7 +64,7 @@ found_has text token inside (Some place) (found.Statement statement) closes at =
 found_has text token inside (Some place) (found.Bad bad) closes at =
     let reading = reading_of (in_force text token).name (line_number_at text.bytes (in_force text token) token.start) token inside place in
     record {
-      span = ((λ e. absurd (subst (HasCause text.bytes reading) e at.1)), (λ none. absurd (some_end (ap (option_map _) closes) none)));
+      span = ((λ e. absurd (subst (HasCause text.bytes reading) e at.1)), (λ none. absurd (none-some _ (sym none ∙ ap (option_map _) closes))));
       file = at.0.file;
       line = at.0.line;
     }

@@ -20,11 +20,6 @@ earlier from later [] to before stand = omega (arith, before, stand)
 earlier from later (found.Statement statement ∷ list) to before stand = (omega (arith, before, stand.0), stand.1, stand.2, stand.3)
 earlier from later (found.Bad bad ∷ list) to before stand = earlier from later list to before stand
 
-rise_ends : (from : ℕ) (tokens : List Token) (to : ℕ) → RiseFrom from tokens to → from ≤ to
-unfolding RiseFrom
-rise_ends from [] to rise = rise
-rise_ends from (token ∷ tokens) to rise = omega (arith, rise.0, rise.1, rise_ends token.end tokens to rise.2)
-
 -- one that begins with a token, and the others behind it
 first_stands : (text : SourceText) (token next : Token) (inside : List Token) (closing : Option ℕ) (one : Found) (others : List Found) (from to : ℕ) → closing_from 0 inside ≡ closing → IsFoundAt text token inside closing one → RiseFrom from (token ∷ next ∷ inside) to
     → ((last : ℕ) → RiseFrom last (drop (own_tokens inside closing) inside) to → StandFrom last others to) → StandFrom from (one ∷ others) to

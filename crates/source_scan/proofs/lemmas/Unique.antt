@@ -1,6 +1,7 @@
 -- A source has one list of statements.
 use Rattle.std.proofs.Common.{◌≡◌, ℕ, zero, suc, ◌+◌, Bool, true, false, List, [], ◌∷◌, Option, Some, None, refl, sym, subst, ap, ◌∙◌, arith, drop, length}
 use Rattle.std.specs.Prelude.{MatchBool}
+use Rattle.std.proofs.lemmas.Option.{none-some, same_Some}
 use Rattle.printf_grammar.specs.declared.piece.Piece.{Piece}
 use Rattle.printf_grammar.specs.declared.fault.FormatCause.{FormatCause}
 use Rattle.printf_grammar.specs.Spelling.{Spells}
@@ -24,7 +25,6 @@ use Rattle.source_scan.specs.declared.line_change.LineChange.{LineChange}
 use Rattle.source_scan.specs.declared.position.PlacedChange.{PlacedChange}
 use Rattle.source_scan.specs.Texts.{unspliced, bytes_of, significant}
 use Rattle.source_scan.specs.Severities.{NamesSeverity}
-use Rattle.source_scan.specs.Items.{format_bytes}
 use Rattle.source_scan.specs.LineChanges.{ReadsDirective, directive_change}
 use Rattle.source_scan.specs.Positions.{has_next_line, with_change, Changes}
 use Rattle.source_scan.specs.Readings.{Parted, HasFormat, HasCause, IsGood, IsRead}
@@ -58,20 +58,14 @@ changes_once source (part ∷ parts) changes others here there =
 
 -- ---- one statement
 
-pub some_once : {A : Type 0} (found : Option A) (x y : A) → found ≡ Some x → found ≡ Some y → x ≡ y
-some_once found x y here there = cc
-
-pub not_none : {A : Type 0} (found : Option A) (x : A) → found ≡ None → found ≡ Some x → ⊥
-not_none found x none some = cc
-
 severity_once : (source : List ℕ) (tokens : List Token) (severity other : Severity) → NamesSeverity source tokens severity → NamesSeverity source tokens other → severity ≡ other
 severity_once source tokens severity other here there =
-    let name : here.0 ≡ there.0 = some_once _ here.0 there.0 here.1 there.1 in
+    let name : here.0 ≡ there.0 = same_Some here.0 there.0 (sym here.1 ∙ there.1) in
     same_names severity other (sym here.2 ∙ ap (λ (token : Token). unspliced (bytes_of source token)) name ∙ there.2)
 
 -- the bytes of a format
 format_once : (source : List ℕ) (reading : Parted) (bytes other : List ℕ) → HasFormat source reading bytes → HasFormat source reading other → bytes ≡ other
-format_once source reading bytes other here there = some_once (format_bytes source reading.format) bytes other here there
+format_once source reading bytes other here there = same_Some bytes other (sym here ∙ there)
 
 -- a format that breaks is none
 never_broken : (source : List ℕ) (reading : Parted) (bytes other : List ℕ) (pieces : List Piece) (cause : FormatCause) (place : ℕ) → HasFormat source reading bytes → Spells bytes pieces → HasFormat source reading other → FormatBreak other cause place → ⊥
@@ -98,11 +92,11 @@ cause_once source reading causes.Severity causes.TooFew here there = absurd (her
 cause_once source reading causes.FormatNotLiteral causes.FileName here there = absurd (there here.0)
 cause_once source reading causes.FormatNotLiteral causes.Severity here there = absurd (there.1 here.1)
 cause_once source reading causes.FormatNotLiteral causes.FormatNotLiteral here there = refl
-cause_once source reading causes.FormatNotLiteral (causes.Format cause place) here there = absurd (not_none _ there.2.0 here.2 there.2.1)
-cause_once source reading causes.FormatNotLiteral causes.TooFew here there = absurd (not_none _ there.2.bytes here.2 there.2.has)
+cause_once source reading causes.FormatNotLiteral (causes.Format cause place) here there = absurd (none-some there.2.0 (sym here.2 ∙ there.2.1))
+cause_once source reading causes.FormatNotLiteral causes.TooFew here there = absurd (none-some there.2.bytes (sym here.2 ∙ there.2.has))
 cause_once source reading (causes.Format cause place) causes.FileName here there = absurd (there here.0)
 cause_once source reading (causes.Format cause place) causes.Severity here there = absurd (there.1 here.1)
-cause_once source reading (causes.Format cause place) causes.FormatNotLiteral here there = absurd (not_none _ here.2.0 there.2 here.2.1)
+cause_once source reading (causes.Format cause place) causes.FormatNotLiteral here there = absurd (none-some here.2.0 (sym there.2 ∙ here.2.1))
 cause_once source reading (causes.Format cause place) (causes.Format other at) here there =
     let bytes : there.2.0 ≡ here.2.0 = format_once source reading there.2.0 here.2.0 there.2.1 here.2.1 in
     let same = breaks_once here.2.0 cause other place at here.2.2 (subst (λ (list : List ℕ). FormatBreak list other at) bytes there.2.2) in
@@ -110,7 +104,7 @@ cause_once source reading (causes.Format cause place) (causes.Format other at) h
 cause_once source reading (causes.Format cause place) causes.TooFew here there = absurd (never_broken source reading there.2.bytes here.2.0 there.2.pieces cause place there.2.has there.2.spells here.2.1 here.2.2)
 cause_once source reading causes.TooFew causes.FileName here there = absurd (there here.0)
 cause_once source reading causes.TooFew causes.Severity here there = absurd (there.1 here.1)
-cause_once source reading causes.TooFew causes.FormatNotLiteral here there = absurd (not_none _ here.2.bytes there.2 here.2.has)
+cause_once source reading causes.TooFew causes.FormatNotLiteral here there = absurd (none-some here.2.bytes (sym there.2 ∙ here.2.has))
 cause_once source reading causes.TooFew (causes.Format cause place) here there = absurd (never_broken source reading here.2.bytes there.2.0 here.2.pieces cause place here.2.has here.2.spells there.2.1 there.2.2)
 cause_once source reading causes.TooFew causes.TooFew here there = refl
 
@@ -119,7 +113,7 @@ never_bad : (source : List ℕ) (reading : Parted) (statement : Statement) (caus
 never_bad source reading statement causes.Unclosed good has = has
 never_bad source reading statement causes.FileName good has = has good.named
 never_bad source reading statement causes.Severity good has = has.1 (statement.severity, good.severity)
-never_bad source reading statement causes.FormatNotLiteral good has = not_none _ statement.format.bytes has.2 good.format
+never_bad source reading statement causes.FormatNotLiteral good has = none-some statement.format.bytes (sym has.2 ∙ good.format)
 never_bad source reading statement (causes.Format cause place) good has = never_broken source reading statement.format.bytes has.2.0 statement.format.pieces cause place good.format good.spells has.2.1 has.2.2
 never_bad source reading statement causes.TooFew good has =
     let few = has.2 in
@@ -187,9 +181,6 @@ found_once source name line token inside (Some place) one other here there = rea
 
 -- ---- all statements
 
-front_same : (one other : Found) (found others : List Found) → one ≡ other → found ≡ others → one ∷ found ≡ other ∷ others
-front_same one other found others first rest = cc
-
 finds_once : (source : SourceText) (own : ℕ) (tokens : List Token) (found others : List Found) → Finds source own tokens found → Finds source own tokens others → found ≡ others
 unfolding Finds
 finds_once source own [] found others here there = here ∙ sym there
@@ -201,7 +192,7 @@ finds_once source zero (token ∷ tokens) found others here there =
     λ p q.
     let first : p.0 ≡ q.0 = found_once source.bytes _ _ token (drop 1 tokens) (closing_from 0 (drop 1 tokens)) p.0 q.0 p.3 q.3 in
     let rest : p.1 ≡ q.1 = finds_once source (own_length tokens) tokens p.1 q.1 p.4 q.4 in
-    p.2 ∙ front_same p.0 q.0 p.1 q.1 first rest ∙ sym q.2 in
+    p.2 ∙ (λ i. first i ∷ rest i) ∙ sym q.2 in
     match_once (begins source.bytes token tokens) From (Finds source zero tokens) found others both (finds_once source zero tokens found others) here there
 
 -- the statements of a source are those among its significant parts, under its line directives
