@@ -5,7 +5,7 @@ use Rattle.std.specs.List.{flat_map, AllByRecursion}
 use Rattle.std.proofs.lemmas.Grind.{flat_map-append}
 use Rattle.std.proofs.lemmas.List.{append-nil, length-map, take_all}
 use Rattle.std.proofs.lemmas.List.Concat.{flat_map-cons}
-use Rattle.std.proofs.lemmas.Option.{slice_get_within}
+use Rattle.std.proofs.lemmas.Option.{slice_get_within, same_Some}
 use Rattle.log_dictionary.specs.declared.clock.Clock.{Clock}
 use Rattle.log_dictionary.specs.Calls.{LogCall}
 use Rattle.direct_printf.specs.Lines.{Line, in_order, Direct}
@@ -15,10 +15,8 @@ use Rattle.trace_text.specs.declared.order.CallPlace.{CallPlace}
 use Rattle.trace_text.specs.Recordings.{Recording, IsRecording, calls_of}
 use Rattle.trace_text.specs.Order.{call_place, places_in_order}
 use Rattle.trace_text.proofs.lemmas.CallPlaces.{IsAtPlace, all_at_places}
+use Rattle.trace_text.proofs.lemmas.CallRuns.{all_at}
 use Rattle.trace_commands.specs.Texts.{direct_text, HasCall}
-
-some_same : {A : Type 0} (a b : A) → Some a ≡ Some b → a ≡ b
-some_same a b e = cc
 
 -- ---- lines
 
@@ -103,14 +101,9 @@ all_lines run places i are past =
 
 -- ---- the call at a place
 
-item_has : {A : Type 0} (P : A → Type 0) (items : List A) (i : ℕ) (x : A) → AllByRecursion P items → slice_get items i ≡ Some x → P x
-item_has P [] i x all at = absurd cc
-item_has P (y ∷ items) zero x all at = subst P (some_same y x at) all.0
-item_has P (y ∷ items) (suc i) x all at = item_has P items i x all.1 at
-
 later_at : (least : ℕ) (calls : List Call) (i : ℕ) (call : Call) → NeverFalls least calls → slice_get calls i ≡ Some call → least ≤ call.stamp
 later_at least [] i call h e = absurd cc
-later_at least (c ∷ calls) zero call h e = omega (arith, ap (λ (x : Call). x.stamp) (some_same c call e), h.0)
+later_at least (c ∷ calls) zero call h e = omega (arith, ap (λ (x : Call). x.stamp) (same_Some c call e), h.0)
 later_at least (c ∷ calls) (suc i) call h e = omega (arith, h.0, later_at c.stamp calls i call h.1 e)
 
 -- the place is that of a call of the run
@@ -125,7 +118,7 @@ writer_there seen run place same at = slice_get_within seen.writers place.writer
 
 pub call_there_at : (seen run : Recording) (place : CallPlace) (calls : List Call) → seen ≡ run → IsPlace run place → slice_get seen.writers place.writer ≡ Some calls → place.ordinal < length calls
 call_there_at seen run place calls same at by =
-    let is : calls ≡ at.1.calls = some_same calls at.1.calls (sym by ∙ writer_of seen run place same at) in
+    let is : calls ≡ at.1.calls = same_Some calls at.1.calls (sym by ∙ writer_of seen run place same at) in
     slice_get_within calls place.ordinal at.1.call (ap (λ (cs : List Call). slice_get cs place.ordinal) is ∙ ap (λ (p : CallPlace). slice_get at.1.calls p.ordinal) at.2 ∙ at.1.at_ordinal)
 
 -- what is found at the place of a run's call
@@ -136,11 +129,11 @@ pub record Found (run : Recording) (place : CallPlace) (call : Call) : Type 0 wh
 
 found_in : (run : Recording) (place : CallPlace) (calls : List Call) (call : Call) → IsRecording run → slice_get run.writers place.writer ≡ Some calls → slice_get calls place.ordinal ≡ Some call → Found run place call
 found_in run place calls call recorded by at = record {
-  named = item_has (IsCall run.dictionary) calls place.ordinal call (item_has (AllByRecursion (IsCall run.dictionary)) run.writers place.writer calls recorded.calls by) at;
-  later = later_at run.clock.tick calls place.ordinal call (item_has (NeverFalls run.clock.tick) run.writers place.writer calls recorded.stamps by) at;
+  named = all_at (IsCall run.dictionary) calls place.ordinal call at (all_at (AllByRecursion (IsCall run.dictionary)) run.writers place.writer calls by recorded.calls);
+  later = later_at run.clock.tick calls place.ordinal call (all_at (NeverFalls run.clock.tick) run.writers place.writer calls by recorded.stamps) at;
   is = λ made has is.
-      let same_calls : has.calls ≡ calls = some_same has.calls calls (sym has.of_writer ∙ ap (λ (p : CallPlace). slice_get run.writers p.writer) (sym is) ∙ by) in
-      let same : has.call ≡ call = some_same has.call call (sym has.at_ordinal ∙ ap (λ (cs : List Call). slice_get cs made.ordinal) same_calls ∙ ap (λ (p : CallPlace). slice_get calls p.ordinal) (sym is) ∙ at) in
+      let same_calls : has.calls ≡ calls = same_Some has.calls calls (sym has.of_writer ∙ ap (λ (p : CallPlace). slice_get run.writers p.writer) (sym is) ∙ by) in
+      let same : has.call ≡ call = same_Some has.call call (sym has.at_ordinal ∙ ap (λ (cs : List Call). slice_get cs made.ordinal) same_calls ∙ ap (λ (p : CallPlace). slice_get calls p.ordinal) (sym is) ∙ at) in
       subst (λ (c : Call). log_call run.dictionary made.writer (made.ordinal, c) ≡ Some made) same has.is;
 }
 
