@@ -5,24 +5,17 @@ use Rattle.std.specs.List.{AllZip}
 use Rattle.std.proofs.lemmas.List.{length-append}
 use Rattle.std.proofs.lemmas.List.Elements.{All-nil, All-cons}
 use Rattle.std.proofs.lemmas.List.Sums.{sum_by_push, sum_by-cons}
+use Rattle.std.proofs.lemmas.Slice.Zip.{all_zipped_more}
 use Rattle.log_session.specs.Starts.{AllZipMore}
 use Rattle.log_session.specs.Settling.{AllZip3}
-use Rattle.log_session.proofs.lemmas.Walks.{AllZip-snoc}
 
 -- with one pair more it holds of all, and there is one more
 pub zip_more : {A B : Type 0} (R : A → B → Type 0) (xs : List A) (ys : List B) (more_xs : List A) (more_ys : List B) → AllZip R xs ys → AllZipMore R xs ys more_xs more_ys → AllZip R more_xs more_ys
 zip_more {A} {B} R xs ys more_xs more_ys all more =
-    subst (λ (lists : List A × List B). AllZip R lists.0 lists.1) (λ i. (sym more.ours_are i, sym more.theirs_are i)) (AllZip-snoc R xs ys more.one more.other all more.holds)
+    subst (λ (lists : List A × List B). AllZip R lists.0 lists.1) (λ i. (sym more.ours_are i, sym more.theirs_are i)) (all_zipped_more R xs ys more.one more.other all more.holds)
 
 pub one_longer : {A B : Type 0} (R : A → B → Type 0) (xs : List A) (ys : List B) (more_xs : List A) (more_ys : List B) (n : ℕ) → length xs ≡ n → AllZipMore R xs ys more_xs more_ys → length more_xs ≡ n + 1
 one_longer R xs ys more_xs more_ys n count more = ap length more.ours_are ∙ omega (arith, length-append xs (more.one ∷ []), count)
-
--- the lists are of one length
-pub zip_length : {A B : Type 0} (R : A → B → Type 0) (xs : List A) (ys : List B) → AllZip R xs ys → length xs ≡ length ys
-zip_length R [] [] all = refl
-zip_length R [] (b ∷ ys) all = absurd all
-zip_length R (a ∷ xs) [] all = absurd all
-zip_length R (a ∷ xs) (b ∷ ys) all = omega (arith, zip_length R xs ys all.1)
 
 -- what follows for each of the second list
 pub zip_second : {A B : Type 0} (R : A → B → Type 0) (P : B → Type 0) → ((x : A) (y : B) → R x y → P y) → (xs : List A) (ys : List B) → AllZip R xs ys → All P ys
@@ -51,10 +44,6 @@ pub zip_ends : {A B : Type 0} (R : A → B → Type 0) (xs : List A) (ys : List 
 zip_ends R [] [] none all = refl
 zip_ends R [] (b ∷ ys) none all = absurd all
 zip_ends R (a ∷ xs) ys none all = absurd (omega arith)
-
-pub no_items : {A : Type 0} (xs : List A) → length xs ≡ 0 → xs ≡ []
-no_items [] none = refl
-no_items (x ∷ xs) none = absurd (omega arith)
 
 pub zip_goes_on : {A B : Type 0} (R : A → B → Type 0) (xs more_xs : List A) (x : A) → xs ≡ x ∷ more_xs → AllZip R xs [] → ⊥
 zip_goes_on {A} {B} R xs more_xs x is all = subst (λ (list : List A). AllZip R list []) is all

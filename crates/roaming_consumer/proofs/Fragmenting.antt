@@ -9,11 +9,12 @@ use Rattle.log_dictionary.specs.declared.message.Message.{Message}
 use Rattle.log_dictionary.specs.BinaryEntries.{entry_bytes, SpellsEntry}
 use Rattle.nl_io.specs.Count.{Rose}
 use Rattle.nl_io.specs.Content.{Told, with_end, PutsFront}
+use Rattle.nl_io.proofs.lemmas.Contents.{with_end-none, with_end-both}
 use Rattle.checkpoint_io.specs.Blocks.{Fragment, fragment_head_bytes, SpellsEntries, SpellsFragment}
 use Rattle.checkpoint_io.specs.Logs.{AreFragments}
 use Rattle.roaming_consumer.specs.Growth.{FragmentsFor}
 use Rattle.roaming_consumer.specs.Sinks.{SendsFragments}
-use Rattle.roaming_consumer.proofs.lemmas.Sending.{with_end-nil, with_end-append, sends_then, sends_stop}
+use Rattle.roaming_consumer.proofs.lemmas.Sending.{sends_then, sends_stop}
 use Rattle.checkpoint_io.proofs.lemmas.BlockLaws.{le_length}
 
 pub entries_push : (messages : List Message) (message : Message) (bytes entry : List ℕ) → SpellsEntries messages bytes → SpellsEntry entry message → SpellsEntries (messages ++ message ∷ []) (bytes ++ entry)
@@ -105,7 +106,7 @@ pub record Goes (dictionary : List Message) (first next end : ℕ) (put put_afte
   pub goes : (up_to : ℕ) (more : List ℕ) → next ≤ up_to → up_to ≤ end → FragmentsFor next (drop next (take up_to dictionary)) more → FragmentsFor first (drop first (take up_to dictionary)) (bytes ++ more)
 
 pub goes_from : (dictionary : List Message) (first end : ℕ) (put : Told) → first ≤ end → Goes dictionary first first end put put
-goes_from dictionary first end put within = record { within = within; bytes = []; joined = with_end-nil put; goes = λ up_to more below inside are. are }
+goes_from dictionary first end put within = record { within = within; bytes = []; joined = with_end-none [] put; goes = λ up_to more below inside are. are }
 
 -- as many as a fragment takes, and no more than are left
 fragment_count : (next end count : ℕ) → next < end → count ≡ min (end - next) 16 → (1 ≤ count) × (count ≤ 16) × (next + count ≤ end) × ((count ≡ 16) ⊎ (next + count ≡ end))
@@ -123,7 +124,7 @@ goes_on dictionary first next end count front put put_mid put_after was left kno
     record {
       within = counts.2;
       bytes = was.bytes ++ front;
-      joined = more ∙ ap (with_end front) was.joined ∙ with_end-append was.bytes front put;
+      joined = more ∙ ap (with_end front) was.joined ∙ with_end-both was.bytes front put;
       goes = λ up_to back below inside others.
           let full : (count ≡ 16) ⊎ (next + count ≡ up_to) = elim counts.3 [ inl sixteen ↦ inl sixteen | inr last ↦ inr (omega (arith, last, below, inside)) ] in
           subst (FragmentsFor first (drop first (take up_to dictionary))) (sym (append_assoc was.bytes front back))

@@ -1,8 +1,9 @@
 -- How the log of a run grows.
-use Rattle.std.proofs.Common.{◌≡◌, ℕ, ◌+◌, ◌-◌, ◌<◌, ◌≤◌, Bool, true, false, ◌||◌, List, [], ◌∷◌, ◌++◌, length, map, get_or, take, drop, refl, sym, ap, subst, ◌∙◌, append_assoc, inl, inr, arith}
+use Rattle.std.proofs.Common.{◌≡◌, ℕ, ◌+◌, ◌-◌, ◌<◌, ◌≤◌, Bool, true, false, ◌||◌, List, [], ◌∷◌, ◌++◌, length, map, get_or, take, drop, refl, sym, ap, subst, ◌∙◌, append_assoc, inl, inr, arith, true≢false}
 use Rattle.std.specs.Prelude.{max, slice_set, replicate}
 use Rattle.std.specs.List.{AllByRecursion, list_any, range_with_len}
 use Rattle.std.proofs.Math.ListN.{length-set}
+use Rattle.std.proofs.Math.Bool.{or-false, or-true}
 use Rattle.std.proofs.lemmas.Bool.Decides.{eqb_tells}
 use Rattle.std.proofs.lemmas.List.{append-nil, length-append, length-take, take-append-drop, length-replicate, get_or-set_same, get_or-set_other}
 use Rattle.std.proofs.lemmas.List.Folds.{list_any-append}
@@ -59,13 +60,6 @@ fragments_right header first messages (Fragment id front ∷ blocks) before (bac
     )
 
 -- ---- what fragments leave as it was
-
-or_false : (b : Bool) → (b || false) ≡ b
-or_false true = refl
-or_false false = refl
-
-true_is_not_false : true ≡ false → ⊥
-true_is_not_false e = cc
 
 fragments_close_none : (writer first : ℕ) (messages : List Message) (blocks : List Block) → AreFragments first messages blocks → list_any (closes writer) blocks ≡ false
 fragments_close_none writer first messages [] are = refl
@@ -130,14 +124,11 @@ records_now writer blocks fragments first messages are =
 closed_now : (writer : ℕ) (blocks fragments : List Block) (first : ℕ) (messages : List Message) → AreFragments first messages fragments → list_any (closes writer) (blocks ++ fragments) ≡ list_any (closes writer) blocks
 closed_now writer blocks fragments first messages are =
     list_any-append (closes writer) blocks fragments ∙ ap (λ (b : Bool). list_any (closes writer) blocks || b) (fragments_close_none writer first messages fragments are)
-    ∙ or_false (list_any (closes writer) blocks)
+    ∙ or-false (list_any (closes writer) blocks)
 
 same_taken : (wrote : List ℕ) (taken : List (List Call)) (dictionary : List Message) (clock : Clock) (batch writer : ℕ) → (log : LogOf wrote taken dictionary clock batch) → writer < length taken → get_or taken writer [] ≡ records_of writer log.blocks
 same_taken wrote taken dictionary clock batch writer log known =
     ap (λ (l : List (List Call)). get_or l writer []) log.records_are ∙ get_or-map-range_with_len (λ w. records_of w log.blocks) 0 (length taken) writer writer [] known (omega arith)
-
-set_length : {A : Type 0} (items : List A) (place : ℕ) (item : A) → length (slice_set items place item) ≡ length items
-set_length items place item = length-set items place item
 
 pub grown : (wrote : List ℕ) (taken : List (List Call)) (dictionary : List Message) (clock : Clock) (batch : ℕ) (progress : LogProgress) (writer : ℕ) (entries : List Call) (fragments extent_bytes : List ℕ) → IsLogSoFar wrote taken dictionary clock batch progress → AreDistinct dictionary → length dictionary ≤ 65536
     → IsNext taken dictionary clock.tick batch progress writer entries fragments extent_bytes
@@ -159,7 +150,7 @@ grown wrote taken dictionary clock batch progress writer entries fragments exten
     let same_calls : get_or taken writer [] ≡ records_of writer (blocks ++ front) =
     same_taken wrote taken dictionary clock batch writer log next.known ∙ sym (records_now writer blocks front first new are) in
     let unclosed : ¬ (IsClosed writer (blocks ++ front)) =
-    λ closed. true_is_not_false (sym closed ∙ closed_now writer blocks front first new are ∙ sym (so_far.closed writer next.known) ∙ next.not_closed) in
+    λ closed. true≢false (sym closed ∙ closed_now writer blocks front first new are ∙ sym (so_far.closed writer next.known) ∙ next.not_closed) in
     let distinct_fronts : AreDistinct (messages_of blocks ++ new) = distinct_front (messages_of blocks ++ new) grow.undefined (subst AreDistinct grow.whole distinct) in
     let few_fronts : length (messages_of blocks ++ new) ≤ 65536 = omega (arith, few, ap length grow.whole, length-append (messages_of blocks ++ new) grow.undefined) in
     let front_valid : Valid header (blocks ++ front) = record {
@@ -179,7 +170,7 @@ grown wrote taken dictionary clock batch progress writer entries fragments exten
     (subst (λ (l : List Message). SpellsRecords l clock.tick entries e.body) whole e.body_spelled)) in
     let extent_spelled : SpellsExtent (messages_of (blocks ++ front)) header.clock.tick writer entries extent_bytes =
     record { body = e.body; some = e.some; short = e.short; writer_fits = e.writer_fits; body_spelled = body_spelled; joined = e.joined } in
-    let length_now : length (with_calls taken writer entries) ≡ length taken = set_length taken writer (get_or taken writer [] ++ entries) in
+    let length_now : length (with_calls taken writer entries) ≡ length taken = length-set taken writer (get_or taken writer [] ++ entries) in
     let records_all : (w : ℕ) → records_of w (with_extent blocks front writer entries) ≡ records_of w blocks ++ at_one writer entries w =
     λ w. records-push w (blocks ++ front) (Extent writer entries) ∙ ap (λ (l : List Call). l ++ at_one writer entries w) (records_now w blocks front first new are) in
     let records_are : with_calls taken writer entries ≡ map (λ w. records_of w (with_extent blocks front writer entries)) (range_with_len 0 (length (with_calls taken writer entries))) =
@@ -207,24 +198,20 @@ grown wrote taken dictionary clock batch progress writer entries fragments exten
       defined = grow.counted ∙ ap length (sym all_messages);
       closed = λ w within.
           so_far.closed w (subst (λ (n : ℕ). w < n) length_now within) ∙ sym (closed_now w blocks front first new are)
-          ∙ sym (list_any-append (closes w) (blocks ++ front) (Extent writer entries ∷ []) ∙ or_false (list_any (closes w) (blocks ++ front)));
+          ∙ sym (list_any-append (closes w) (blocks ++ front) (Extent writer entries ∷ []) ∙ or-false (list_any (closes w) (blocks ++ front)));
     }
 
 -- ---- a close mark
-
-or_true : (b : Bool) → (b || true) ≡ true
-or_true true = refl
-or_true false = refl
 
 closed_behind : (closed : List Bool) (blocks : List Block) (writer w : ℕ) → writer < length closed → get_or closed w false ≡ list_any (closes w) blocks → get_or (slice_set closed writer true) w false ≡ list_any (closes w) (blocks ++ Close writer ∷ [])
 closed_behind closed blocks writer w within before =
     elim (eqb_tells writer w) [
       | inl same ↦
           let here : get_or (slice_set closed writer true) w false ≡ true = ap (λ (n : ℕ). get_or (slice_set closed writer true) n false) (sym same.1) ∙ get_or-set_same closed writer true false within in
-          here ∙ sym (list_any-append (closes w) blocks (Close writer ∷ []) ∙ ap (λ (b : Bool). list_any (closes w) blocks || (b || false)) same.0 ∙ or_true (list_any (closes w) blocks))
+          here ∙ sym (list_any-append (closes w) blocks (Close writer ∷ []) ∙ ap (λ (b : Bool). list_any (closes w) blocks || (b || false)) same.0 ∙ or-true (list_any (closes w) blocks))
       | inr differs ↦
           get_or-set_other closed writer w true false (λ same. differs.1 (sym same)) ∙ before
-          ∙ sym (list_any-append (closes w) blocks (Close writer ∷ []) ∙ ap (λ (b : Bool). list_any (closes w) blocks || (b || false)) differs.0 ∙ or_false (list_any (closes w) blocks))
+          ∙ sym (list_any-append (closes w) blocks (Close writer ∷ []) ∙ ap (λ (b : Bool). list_any (closes w) blocks || (b || false)) differs.0 ∙ or-false (list_any (closes w) blocks))
     ]
 
 pub closing : (wrote : List ℕ) (taken : List (List Call)) (dictionary : List Message) (clock : Clock) (batch : ℕ) (progress : LogProgress) (writer : ℕ) → IsLogSoFar wrote taken dictionary clock batch progress → writer < length taken → get_or progress.closed writer false ≡ false → writer < length progress.closed → IsLogSoFar (wrote ++ close_bytes writer) taken dictionary clock batch (progress_closing progress writer)
@@ -235,7 +222,7 @@ closing wrote taken dictionary clock batch progress writer so_far known not_clos
     let few = log.valid.header_right.few_writers in
     let messages : messages_of (blocks ++ Close writer ∷ []) ≡ messages_of blocks = messages-push blocks (Close writer) ∙ append-nil (messages_of blocks) in
     let records : (w : ℕ) → records_of w (blocks ++ Close writer ∷ []) ≡ records_of w blocks = λ w. records-push w blocks (Close writer) ∙ append-nil (records_of w blocks) in
-    let unclosed : ¬ (IsClosed writer blocks) = λ closed. true_is_not_false (sym closed ∙ sym (so_far.closed writer known) ∙ not_closed) in
+    let unclosed : ¬ (IsClosed writer blocks) = λ closed. true≢false (sym closed ∙ sym (so_far.closed writer known) ∙ not_closed) in
     let spelled : SpellsClose writer (close_bytes writer) = record { writer_fits = omega (arith, known, log.writers_are, few); joined = refl } in
     record {
       log = record {

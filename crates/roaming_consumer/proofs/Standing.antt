@@ -1,13 +1,14 @@
 -- The bytes for which a roamer stands, from call to call.
-use Rattle.std.proofs.Common.{◌≡◌, ◌≢◌, ℕ, zero, suc, ◌-◌, ◌<◌, ◌≤◌, Bool, true, false, List, [], ◌∷◌, ◌++◌, length, get_or, Some, refl, sym, ap, subst, ◌∙◌, append_assoc, inl, inr, arith}
+use Rattle.std.proofs.Common.{◌≡◌, ℕ, zero, suc, ◌-◌, ◌<◌, ◌≤◌, Bool, true, false, List, [], ◌∷◌, ◌++◌, length, get_or, Some, refl, sym, ap, subst, ◌∙◌, append_assoc, inl, inr, arith}
 use Rattle.std.specs.Prelude.{All, slice_get, slice_set, replicate, max, take, drop}
-use Rattle.std.proofs.lemmas.Bool.{cases_lt}
+use Rattle.std.proofs.lemmas.Bool.{cases_lt, both_ways, false_from_ne_true}
 use Rattle.std.proofs.lemmas.Bool.Decides.{eqb_tells}
-use Rattle.std.proofs.lemmas.List.{append-nil, length-append, length-take, length-take-le, drop_all, set-get_or, get_or-set_same, get_or-set_other}
+use Rattle.std.proofs.lemmas.List.{append-nil, length-append, length-take, length-take-le, drop_all, set-get_or, get_or-set_same, get_or-set_other, nil_from_length}
 use Rattle.std.proofs.Math.ListN.{length-set}
 use Rattle.std.proofs.lemmas.List.Elements.{All-head, All-tail}
 use Rattle.std.proofs.lemmas.Option.{same_Some, slice_get_within, get_or_from_slice_get}
 use Rattle.nl_io.specs.Content.{Told, with_end}
+use Rattle.nl_io.proofs.lemmas.Contents.{with_end-none}
 use Rattle.log_dictionary.specs.declared.clock.Clock.{Clock}
 use Rattle.log_dictionary.specs.declared.message.Message.{Message}
 use Rattle.log_dictionary.specs.Messages.{AreDistinct}
@@ -27,11 +28,9 @@ use Rattle.roaming_consumer.specs.Gathering.{DraftsFrames, StopsTaking}
 use Rattle.roaming_consumer.specs.Roamers.{ends_of, roamer_messages, roamer_clock, roamer_batch, roamer_progress, is_begun, is_faulted, plan_of_roamer, ArePlanned, IsSameRun, KeepsLog, EndAfterTaking, ChangesOne, FramesAreTaken, IsLogOfEnds, RoamerStandsFor, roamer_header, AppendsToLog}
 use Rattle.roaming_consumer.specs.Visits.{WritesExtent}
 use Rattle.roaming_consumer.proofs.Used.{ids_known}
-use Rattle.roaming_consumer.proofs.lemmas.Sending.{with_end-nil, ExtentSent}
+use Rattle.roaming_consumer.proofs.lemmas.OnePlace.{get_set_other, get_set_same}
+use Rattle.roaming_consumer.proofs.lemmas.Sending.{ExtentSent}
 use Rattle.roaming_consumer.proofs.Growth.{grown, closing, beginning}
-
-pub false_is_not_true : {A : Type 0} (b : Bool) → b ≡ false → b ≡ true → A
-false_is_not_true b is_false is_true = absurd cc
 
 same_log : (wrote others : List ℕ) (taken : List (List Call)) (messages names : List Message) (clock watch : Clock) (batch size : ℕ) (progress now : LogProgress) → wrote ≡ others → messages ≡ names → clock ≡ watch → batch ≡ size → progress ≡ now → IsLogSoFar wrote taken messages clock batch progress → IsLogSoFar others taken names watch size now
 same_log wrote others taken messages names clock watch batch size progress now bytes same_messages same_clock same_batch same_progress log =
@@ -85,10 +84,10 @@ begun {S} got ended old new put put_after unbegun now same_ends same_run same_pr
       let plan : plan_of_roamer old ≡ plan_of_roamer new = λ i. plan_of (sym same_run.messages i) (sym same_run.clock i).tick in
       let taken = taken_none (plan_of_roamer old) got (ends_of old) (was.untaken unbegun) in
       record {
-        nothing = λ unset. false_is_not_true (is_begun new) unset now;
-        untaken = λ unset. false_is_not_true (is_begun new) unset now;
-        undefined = λ unset. false_is_not_true (is_begun new) unset now;
-        unclosed = λ unset. false_is_not_true (is_begun new) unset now;
+        nothing = λ unset. absurd (both_ways (is_begun new) unset now);
+        untaken = λ unset. absurd (both_ways (is_begun new) unset now);
+        undefined = λ unset. absurd (both_ways (is_begun new) unset now);
+        unclosed = λ unset. absurd (both_ways (is_begun new) unset now);
         lawful = λ yes right_so_far. record {
           taken = replicate (length (ends_of old)) [];
           frames =
@@ -98,7 +97,7 @@ begun {S} got ended old new put put_after unbegun now same_ends same_run same_pr
               same_log (header_bytes (roamer_header old)) (wrote ++ header_bytes (roamer_header old)) (replicate (length (ends_of old)) []) (roamer_messages old) (roamer_messages new) (roamer_clock old) (roamer_clock new) (roamer_batch old) (roamer_batch new) (record { defined = 0; closed = (roamer_progress new).closed }) (roamer_progress new)
               (ap (λ (l : List ℕ). l ++ header_bytes (roamer_header old)) (sym none)) (sym same_run.messages) (sym same_run.clock) (sym same_run.batch)
               (ap (λ (n : ℕ). record { defined = n; closed = (roamer_progress new).closed }) (sym (ap (λ (p : LogProgress). p.defined) same_progress ∙ was.undefined unbegun))) first;
-          closed = λ writer end there is_closed. false_is_not_true (get_or (roamer_progress new).closed writer false) (closed writer) is_closed;
+          closed = λ writer end there is_closed. absurd (both_ways (get_or (roamer_progress new).closed writer false) (closed writer) is_closed);
         };
       };
 }
@@ -108,24 +107,6 @@ pub false_everywhere : (count place : ℕ) → get_or (replicate count false) pl
 false_everywhere zero place = refl
 false_everywhere (suc count) zero = refl
 false_everywhere (suc count) (suc place) = false_everywhere count place
-
--- ---- places
-
-not_true : (b : Bool) → (b ≡ true → ⊥) → b ≡ false
-not_true true not = absurd (not refl)
-not_true false not = refl
-
-get_set_other : {A : Type 0} (items : List A) (place other : ℕ) (item : A) → other ≢ place → slice_get (slice_set items place item) other ≡ slice_get items other
-get_set_other [] place other item differs = refl
-get_set_other (x ∷ items) zero zero item differs = absurd (differs refl)
-get_set_other (x ∷ items) zero (suc other) item differs = refl
-get_set_other (x ∷ items) (suc place) zero item differs = refl
-get_set_other (x ∷ items) (suc place) (suc other) item differs = get_set_other items place other item (λ same. differs (ap suc same))
-
-get_set_same : {A : Type 0} (items : List A) (place : ℕ) (item found : A) → slice_get (slice_set items place item) place ≡ Some found → item ≡ found
-get_set_same [] place item found there = absurd cc
-get_set_same (x ∷ items) zero item found there = same_Some item found there
-get_set_same (x ∷ items) (suc place) item found there = get_set_same items place item found there
 
 -- the messages that are wanted are those up to the greater number
 same_new : (messages : List Message) (defined used : ℕ) → drop defined (take (max defined used) messages) ≡ drop defined (take used messages)
@@ -159,12 +140,8 @@ draft_ids messages tick before after draft body was = omega (arith, was.drafted.
 -- nothing came where there is no record
 pub none_came : (messages : List Message) (tick : ℕ) (before after : List (List ℕ)) (draft : Draft) (body : List ℕ) → DraftsFrames messages tick before after draft body → draft.records ≡ 0 → after ≡ before
 none_came messages tick before after draft body was none =
-    let entries : was.entries ≡ [] = empty was.entries (omega (arith, was.drafted.records, none)) in
+    let entries : was.entries ≡ [] = nil_from_length was.entries (omega (arith, was.drafted.records, none)) in
     was.comes.joined ∙ ap (λ (calls : List Call). before ++ frames_of calls) entries ∙ append-nil before
-  where
-    empty : (calls : List Call) → length calls ≡ 0 → calls ≡ []
-    empty [] none = refl
-    empty (call ∷ calls) none = absurd (omega (arith, none))
 
 -- ---- an extent
 
@@ -217,7 +194,7 @@ extent_stands {S} got ended old new writer before after draft body fragments ext
     let are = taken_of plan got (ends_of old) log.taken writer before log.frames moved.was in
     let now = moved.gathers.comes.lawful calls are in
     let open_writer : get_or (roamer_progress old).closed writer false ≡ false =
-    not_true (get_or (roamer_progress old).closed writer false) (λ closed. omega (arith, some, going (log.closed writer before moved.was closed))) in
+    false_from_ne_true (get_or (roamer_progress old).closed writer false) (λ closed. omega (arith, some, going (log.closed writer before moved.was closed))) in
     let new_are = wanted_new (roamer_messages old) (roamer_progress old).defined entries draft.ids drafted.ids in
     let records = drafted.records in
     let next : IsNext log.taken (roamer_messages old) (roamer_clock old).tick (roamer_batch old) (roamer_progress old) writer entries fragments extent = record {
@@ -241,7 +218,7 @@ extent_stands {S} got ended old new writer before after draft body fragments ext
       closed = λ w end there closed.
           let closed_before : get_or (roamer_progress old).closed w false ≡ true = ap (λ (l : List Bool). get_or l w false) (sym closed_is) ∙ closed in
           elim (eqb_tells w writer) [
-            | inl same ↦ false_is_not_true (get_or (roamer_progress old).closed w false) (ap (λ (n : ℕ). get_or (roamer_progress old).closed n false) same.1 ∙ open_writer) closed_before
+            | inl same ↦ absurd (both_ways (get_or (roamer_progress old).closed w false) (ap (λ (n : ℕ). get_or (roamer_progress old).closed n false) same.1 ∙ open_writer) closed_before)
             | inr differs ↦ log.closed w end (sym (get_set_other (ends_of old) writer w after differs.1) ∙ ap (λ (es : List S). slice_get es w) (sym moved.ends) ∙ there) closed_before
           ];
     }
@@ -311,21 +288,21 @@ mark_stands {S} got ended old new writer before after draft body moved none prog
 
 pub stands_begun : {S : Type 0} (got : S → List (List ℕ)) (ended : S → Bool) (roamer : Roamer S) (wrote : List ℕ) → is_begun roamer ≡ true → IsLogOfEnds got ended roamer wrote → RoamerStandsFor got ended roamer wrote
 stands_begun got ended roamer wrote now log = record {
-  nothing = λ unset. false_is_not_true (is_begun roamer) unset now;
-  untaken = λ unset. false_is_not_true (is_begun roamer) unset now;
-  undefined = λ unset. false_is_not_true (is_begun roamer) unset now;
-  unclosed = λ unset. false_is_not_true (is_begun roamer) unset now;
+  nothing = λ unset. absurd (both_ways (is_begun roamer) unset now);
+  untaken = λ unset. absurd (both_ways (is_begun roamer) unset now);
+  undefined = λ unset. absurd (both_ways (is_begun roamer) unset now);
+  unclosed = λ unset. absurd (both_ways (is_begun roamer) unset now);
   lawful = λ yes unfaulted. log;
 }
 
 -- after a fault it stands for whatever went out
 pub stands_faulted : {S : Type 0} (got : S → List (List ℕ)) (ended : S → Bool) (roamer : Roamer S) (wrote : List ℕ) → is_begun roamer ≡ true → is_faulted roamer ≡ true → RoamerStandsFor got ended roamer wrote
 stands_faulted got ended roamer wrote now faulted = record {
-  nothing = λ unset. false_is_not_true (is_begun roamer) unset now;
-  untaken = λ unset. false_is_not_true (is_begun roamer) unset now;
-  undefined = λ unset. false_is_not_true (is_begun roamer) unset now;
-  unclosed = λ unset. false_is_not_true (is_begun roamer) unset now;
-  lawful = λ yes unfaulted. false_is_not_true (is_faulted roamer) unfaulted faulted;
+  nothing = λ unset. absurd (both_ways (is_begun roamer) unset now);
+  untaken = λ unset. absurd (both_ways (is_begun roamer) unset now);
+  undefined = λ unset. absurd (both_ways (is_begun roamer) unset now);
+  unclosed = λ unset. absurd (both_ways (is_begun roamer) unset now);
+  lawful = λ yes unfaulted. absurd (both_ways (is_faulted roamer) unfaulted faulted);
 }
 
 -- ---- what a visit adds
@@ -411,7 +388,7 @@ wrote_nothing got ended loads pair plan old new writer draft all body p now unfa
     record { was = one.was; ends = one.now; gathers = one.step.0; same_run = keeps.same_run; begun = now; unfaulted = unfaulted } in
     record {
       bytes = [];
-      put_is = with_end-nil p;
+      put_is = with_end-none [] p;
       stands = λ wrote stood.
           stands_begun got ended new (wrote ++ []) (keeps.begun ∙ now)
           (idle_stands got ended old new writer one.before one.after draft body moved none keeps.progress (λ own over. one.step.1.none none ∙ (one.step.1.stays_ended over).1) wrote stood);
@@ -442,7 +419,7 @@ wrote_mark got ended loads pair plan old mid new writer draft all body p q now u
 pub threw : {S : Type 0} (got : S → List (List ℕ)) (ended : S → Bool) (old new : Roamer S) (p : Told) → is_begun old ≡ true → is_faulted old ≡ true → KeepsLog old new → AppendsToLog got ended old new p p
 threw got ended old new p now faulted keeps = record {
   bytes = [];
-  put_is = with_end-nil p;
+  put_is = with_end-none [] p;
   stands = λ wrote stood. stands_faulted got ended new (wrote ++ []) (keeps.begun ∙ now) (keeps.faulted ∙ faulted);
 }
 

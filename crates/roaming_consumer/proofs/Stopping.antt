@@ -63,11 +63,8 @@ stopped_in_extent got ended loads pair plan old mid ends_now writer draft all bo
 
 -- ---- no more frames
 
-rises_from : (loads between loads_after : ℕ) → loads ≤ between → Rose between loads_after → Rose loads loads_after
-rises_from loads between loads_after less rose = omega (arith, less, rose)
-
 pub goes_on_while_room : {S : Type 0} (got : S → List (List ℕ)) (ended : S → Bool) (loads : S → ℕ) (batch taken free : ℕ) (before after : S) → StopsTaking got ended loads batch taken free before after → taken < batch → 8192 ≤ free → (ended after ≡ true) ⊎ Rose (loads before) (loads after)
 goes_on_while_room got ended loads batch taken free before after (batch_is_full full) few room = absurd (omega (arith, full, few))
 goes_on_while_room got ended loads batch taken free before after (body_is_full full) few room = absurd (omega (arith, full, room))
-goes_on_while_room got ended loads batch taken free before after (nothing_is_there last less found) few room = inr (rises_from (loads before) (loads last) (loads after) less found.2)
+goes_on_while_room got ended loads batch taken free before after (nothing_is_there last less found) few room = inr (omega (arith, less, found.2))
 goes_on_while_room got ended loads batch taken free before after (all_has_ended over) few room = inl over

@@ -1,8 +1,8 @@
 -- A frame more is taken.
 use Rattle.std.proofs.Common.{◌≡◌, ℕ, zero, suc, ◌+◌, ◌≤◌, List, [], ◌∷◌, ◌++◌, Some, refl, sym, ap, subst, ◌∙◌, append_assoc, arith}
 use Rattle.std.specs.Prelude.{slice_get}
-use Rattle.std.specs.List.{AllByRecursion}
 use Rattle.std.proofs.lemmas.List.{append-nil, map-append, length-append}
+use Rattle.std.proofs.lemmas.List.Elements.{All-push, All-from_recursion, recursion_from_All}
 use Rattle.std.proofs.lemmas.Option.{same_Some}
 use Rattle.printf_grammar.specs.declared.arg_type.ArgType.{ArgType}
 use Rattle.printf_grammar.specs.Types.{Types, Fits}
@@ -29,10 +29,6 @@ planned_call : (messages : List Message) (call : Call) → IsPlanned (types_by_i
 planned_call messages call planned =
     let found = message_of_types messages call.id planned.types planned.known in
     record { message = found.0; known = found.1; fits = subst (Fits call.args) (sym found.2) planned.fits; short = planned.staged.within }
-
-All_push : {A : Type 0} (P : A → Type 0) (items : List A) (item : A) → AllByRecursion P items → P item → AllByRecursion P (items ++ item ∷ [])
-All_push P [] item all last = (last, tt)
-All_push P (x ∷ items) item all last = (all.0, All_push P items item all.1 last)
 
 -- ---- stamps
 
@@ -98,7 +94,7 @@ gathers_more messages tick before after draft now body body_now frame was lawful
     record {
       entries = was.entries ++ next.call ∷ [];
       comes = next.comes;
-      right = All_push (IsCall messages) was.entries next.call was.right next.is.named;
+      right = recursion_from_All (IsCall messages) (was.entries ++ next.call ∷ []) (All-push (IsCall messages) was.entries next.call (All-from_recursion (IsCall messages) was.entries was.right) next.is.named);
       drafted = puts next.call tick was.entries next.is was.drafted;
     }
 

@@ -5,6 +5,7 @@ use Rattle.std.specs.List.{AllZip, enumerate_from}
 use Rattle.std.proofs.lemmas.List.{append-nil, length-append, length-map, length-take-le, length_push, map-append, take-map, take_all, take_more}
 use Rattle.std.proofs.lemmas.List.Elements.{All-append, All-weaker}
 use Rattle.std.proofs.lemmas.List.Sums.{sum_by-append, sum_by-cons, sum_by-take-le, sum_by_push, length-filter, count_by-le-length}
+use Rattle.std.proofs.lemmas.Slice.Zip.{all_zipped_more}
 use Rattle.log_dictionary.specs.declared.severity.Severity.{Severity}
 use Rattle.session_options.specs.declared.options.Options.{Options}
 use Rattle.session_options.specs.declared.options.Policy.{Policy}
@@ -18,7 +19,6 @@ use Rattle.trace_session.specs.Drops.{taken_of, calls_at, call_count, LawfulDrop
 use Rattle.trace_session.specs.Workers.{WorkerProgress, WorkerView, WriterTask, Work, task_calls, accepted_before, kept_before, HasWorked, state_of, work_of}
 use Rattle.trace_session.specs.Finishing.{task_at, work_at, works_of, taken_front, HasSent, FinishedView, AreDone}
 use Rattle.log_session.specs.Writers.{WriterView}
-use Rattle.log_session.proofs.lemmas.Walks.{AllZip-snoc}
 use Rattle.trace_session.proofs.Taking.{numbered_push, lawful_append, taken_of-before, taken_of-own}
 use Rattle.trace_session.proofs.Working.{worked_all}
 
@@ -31,7 +31,7 @@ calls_within seen rest left all calls most joined next few =
     omega (arith, few, ap (λ (l : List (List Call)). call_count l) whole, sum_by-append length seen (calls ∷ left), sum_by-cons length calls left)
 
 -- a level keeps no more calls than there are
-fewer_kept : (p : Call → Bool) (writers : List (List Call)) → call_count (map (filter p) writers) ≤ call_count writers
+pub fewer_kept : (p : Call → Bool) (writers : List (List Call)) → call_count (map (filter p) writers) ≤ call_count writers
 fewer_kept p [] = omega arith
 fewer_kept p (calls ∷ writers) =
     omega (
@@ -128,7 +128,7 @@ done_more {S} plan words sent at seen closed done writer progress were worked ri
           (All-weaker (λ (d : Dropped). d.writer ≡ n) (λ (d : Dropped). d.writer < length after) (λ d own. omega (arith, own, longer)) more p.own);
       waits = λ waits. both_none done.drops more (were.waits waits) (p.waits waits);
       sent_are = subst (AllZip (HasSent run_plan sent closed) after) (sym fronts)
-          (AllZip-snoc (HasSent run_plan sent closed) done.writers (taken_front run level done.drops n) writer calls were.sent_are (record {
+          (all_zipped_more (HasSent run_plan sent closed) done.writers (taken_front run level done.drops n) writer calls were.sent_are (record {
             frames = frames;
             closed_is = worked.closed_is ∙ shut;
             counted = worked.counted ∙ ap (λ (l : List (List ℕ)). length l) frames.frames_are ∙ length-map {B = List ℕ} calls frame_of;

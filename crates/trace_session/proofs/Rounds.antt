@@ -1,12 +1,13 @@
 -- What rounds of visits do.
-use Rattle.std.proofs.Common.{◌≡◌, ◌≢◌, ℕ, zero, suc, ◌+◌, ◌<◌, ◌≤◌, Bool, true, false, true≢false, List, [], ◌∷◌, ◌++◌, length, map, Some, refl, sym, ap, subst, ◌∙◌, append_assoc, inl, inr, ⊎_elim, arith}
+use Rattle.std.proofs.Common.{◌≡◌, ◌≢◌, ℕ, ◌+◌, ◌<◌, ◌≤◌, Bool, true, false, true≢false, List, [], ◌++◌, length, map, Some, refl, sym, ap, subst, ◌∙◌, append_assoc, inl, inr, ⊎_elim, arith}
 use Rattle.std.specs.Prelude.{◌⊎◌, Result, Ok, Err, OnOk, OnErr, slice_get, slice_set}
 use Rattle.std.proofs.Math.Seq.{map-set_same}
 use Rattle.std.proofs.lemmas.Bool.{cases_lt}
 use Rattle.std.proofs.lemmas.List.{append-nil, length-map}
-use Rattle.std.proofs.lemmas.Option.{same_Some, get_or_from_slice_get}
+use Rattle.std.proofs.lemmas.Option.{get_or_from_slice_get}
 use Rattle.nl_io.specs.Count.{Rose}
 use Rattle.nl_io.specs.Content.{Told, with_end}
+use Rattle.nl_io.proofs.lemmas.Contents.{with_end-none, with_end-both}
 use Rattle.ring_core.specs.Plans.{Plan}
 use Rattle.roaming_consumer.specs.declared.roamer.Roamer.{Roamer}
 use Rattle.roaming_consumer.specs.declared.visit.Visit.{Visit}
@@ -14,7 +15,7 @@ use Rattle.roaming_consumer.specs.declared.visit.Visit.TheVariants.{Ended}
 use Rattle.roaming_consumer.specs.declared.visit.SinkFault.{SinkFault}
 use Rattle.roaming_consumer.specs.Roamers.{ends_of, is_begun, is_faulted, is_marked, ArePlanned, IsSameRun, ChangesOne, RoamerStandsFor, AppendsToLog}
 use Rattle.roaming_consumer.specs.Visits.{VisitTells, KeepsRing, Marks}
-use Rattle.roaming_consumer.proofs.lemmas.Sending.{with_end-append, with_end-nil}
+use Rattle.roaming_consumer.proofs.lemmas.OnePlace.{get_set_other, get_set_same}
 use Rattle.trace_session.specs.Rounds.{Roams, IsOverUpTo}
 
 -- ---- what the sink was given
@@ -22,14 +23,14 @@ use Rattle.trace_session.specs.Rounds.{Roams, IsOverUpTo}
 adds_none : {S : Type 0} (got : S → List (List ℕ)) (ended : S → Bool) (roamer : Roamer S) (put : Told) → AppendsToLog got ended roamer roamer put put
 adds_none got ended roamer put = record {
   bytes = [];
-  put_is = with_end-nil put;
+  put_is = with_end-none [] put;
   stands = λ wrote was. subst (RoamerStandsFor got ended roamer) (sym (append-nil wrote)) was;
 }
 
 adds_then : {S : Type 0} {got : S → List (List ℕ)} {ended : S → Bool} {old mid new : Roamer S} {put put_mid put_new : Told} → AppendsToLog got ended old mid put put_mid → AppendsToLog got ended mid new put_mid put_new → AppendsToLog got ended old new put put_new
 adds_then {got = got} {ended = ended} {new = new} {put = put} first second = record {
   bytes = first.bytes ++ second.bytes;
-  put_is = second.put_is ∙ ap (with_end second.bytes) first.put_is ∙ with_end-append first.bytes second.bytes put;
+  put_is = second.put_is ∙ ap (with_end second.bytes) first.put_is ∙ with_end-both first.bytes second.bytes put;
   stands = λ wrote was. subst (RoamerStandsFor got ended new) (append_assoc wrote first.bytes second.bytes) (second.stands (wrote ++ first.bytes) (first.stands wrote was));
 }
 
@@ -47,12 +48,6 @@ roams_none got ended pair plan roamer put faults planned begun = record {
   unfaulted = λ fine. (fine, refl);
   faulted = λ failed. inl failed;
 }
-
-rose_before : (faults faults_mid faults_new : ℕ) → Rose faults faults_mid → faults_mid ≤ faults_new → Rose faults faults_new
-rose_before faults faults_mid faults_new rose more = omega (arith, rose, more)
-
-rose_after : (faults faults_mid faults_new : ℕ) → faults ≤ faults_mid → Rose faults_mid faults_new → Rose faults faults_new
-rose_after faults faults_mid faults_new more rose = omega (arith, rose, more)
 
 -- some, and then others
 pub roams_then : {S : Type 0} {got : S → List (List ℕ)} {ended : S → Bool} {pair : S → List ℕ} {plan : S → Plan} {old mid new : Roamer S} {put put_mid put_new : Told} {faults faults_mid faults_new : ℕ} → Roams got ended pair plan old mid put put_mid faults faults_mid
@@ -77,9 +72,9 @@ roams_then {old = old} {faults = faults} {faults_mid = faults_mid} {faults_new =
         | inl was ↦
             elim (first.faulted was) as (λ _. (is_faulted old ≡ true) ⊎ Rose faults faults_new) [
               | inl before ↦ inl before
-              | inr rose ↦ inr (rose_before faults faults_mid faults_new rose second.count)
+              | inr rose ↦ inr (omega (arith, rose, second.count))
             ]
-        | inr rose ↦ inr (rose_after faults faults_mid faults_new first.count rose)
+        | inr rose ↦ inr (omega (arith, first.count, rose))
       ];
 }
 
@@ -119,18 +114,6 @@ over_none ended roamer = record {
   marked = λ fine writer below. absurd (omega (arith, below));
 }
 
-at_other : {A : Type 0} (items : List A) (place other : ℕ) (item : A) → other ≢ place → slice_get (slice_set items place item) other ≡ slice_get items other
-at_other [] place other item differs = refl
-at_other (x ∷ items) zero zero item differs = absurd (differs refl)
-at_other (x ∷ items) zero (suc other) item differs = refl
-at_other (x ∷ items) (suc place) zero item differs = refl
-at_other (x ∷ items) (suc place) (suc other) item differs = at_other items place other item (λ same. differs (ap suc same))
-
-at_same : {A : Type 0} (items : List A) (place : ℕ) (item found : A) → slice_get (slice_set items place item) place ≡ Some found → item ≡ found
-at_same [] place item found there = absurd cc
-at_same (x ∷ items) zero item found there = same_Some item found there
-at_same (x ∷ items) (suc place) item found there = at_same items place item found there
-
 -- of all below the next number: of those below this one, and of this one
 below_next : (P : ℕ → Type 0) (n : ℕ) → ((k : ℕ) → k < n → P k) → P n → (k : ℕ) → k < n + 1 → P k
 below_next P n others here k below =
@@ -151,10 +134,10 @@ over_more {S} got ended loads pair plan visit old new writer is one marks same b
           ⊎_elim
           (λ (less : place < writer).
           let differs : place ≢ writer = omega (arith, less) in
-          before.ends place end less (sym (at_other (ends_of old) writer place one.after differs) ∙ at))
+          before.ends place end less (sym (get_set_other (ends_of old) writer place one.after differs) ∙ at))
           (λ (not : writer ≤ place).
           let here : place ≡ writer = omega (arith, not, below) in
-          let found = at_same (ends_of old) writer one.after end (ap (λ (n : ℕ). slice_get (slice_set (ends_of old) writer one.after) n) (sym here) ∙ at) in
+          let found = get_set_same (ends_of old) writer one.after end (ap (λ (n : ℕ). slice_get (slice_set (ends_of old) writer one.after) n) (sym here) ∙ at) in
           ap ended (sym found) ∙ told.1)
           (cases_lt place writer);
       marked = λ fine.

@@ -1,8 +1,8 @@
 -- From what a session's parts say at its end to what the session came to.
-use Rattle.std.proofs.Common.{◌≡◌, ℕ, suc, ◌+◌, ◌-◌, ◌<◌, ◌≤◌, Bool, true, false, cond, List, [], ◌∷◌, ◌++◌, map, length, take, drop, refl, sym, ap, ◌∙◌, subst, append_assoc, arith}
+use Rattle.std.proofs.Common.{◌≡◌, ℕ, suc, ◌+◌, ◌-◌, ◌<◌, ◌≤◌, Bool, true, false, List, [], ◌∷◌, ◌++◌, map, length, take, drop, refl, sym, ap, ◌∙◌, subst, append_assoc, arith}
 use Rattle.std.specs.Prelude.{All, Some, filter, slice_get, sum_by}
 use Rattle.std.specs.List.{AllZip, enumerate_from}
-use Rattle.std.proofs.lemmas.List.{append-nil, map-append, length-map, take_all}
+use Rattle.std.proofs.lemmas.List.{append-nil, map-append, length-map, take_all, take_at}
 use Rattle.std.proofs.lemmas.List.Sums.{sum_by-cons}
 use Rattle.std.proofs.lemmas.Option.{slice_get_within}
 use Rattle.log_dictionary.specs.declared.clock.Clock.{Clock}
@@ -25,6 +25,7 @@ use Rattle.trace_session.specs.Drops.{taken_of, Taken, LawfulDrops, call_count}
 use Rattle.trace_session.specs.declared.outcome.Outcome.{Outcome}
 use Rattle.trace_session.specs.Finishing.{work_at, works_of, taken_front, HasSent, FinishedView, AreDone}
 use Rattle.trace_session.proofs.NewWorkers.{works_count}
+use Rattle.trace_session.proofs.Leaving.{fewer_kept}
 use Rattle.trace_session.specs.Rounds.{Roams, IsOverUpTo}
 use Rattle.trace_session.specs.Running.{AreReady}
 use Rattle.trace_session.specs.Sessions.{IsWholeLog, IsSession}
@@ -36,20 +37,8 @@ use Rattle.log_session.specs.Writers.{WriterView}
 
 -- ---- counts
 
-few_kept : {X : Type 0} (p : X → Bool) (xs : List X) → length (filter p xs) ≤ length xs
-few_kept p [] = omega arith
-few_kept p (x ∷ xs) = one_kept (p x) x (filter p xs) xs (few_kept p xs)
-  where
-    one_kept : {X : Type 0} (b : Bool) (x : X) (kept xs : List X) → length kept ≤ length xs → length (cond b (x ∷ kept) kept) ≤ length (x ∷ xs)
-    one_kept true x kept xs few = omega (arith, few)
-    one_kept false x kept xs few = omega (arith, few)
-
-few_filtered : {X : Type 0} (p : X → Bool) (lists : List (List X)) → sum_by length (map (filter p) lists) ≤ sum_by length lists
-few_filtered p [] = omega arith
-few_filtered p (xs ∷ lists) = omega (arith, sum_by-cons length (filter p xs) (map (filter p) lists), sum_by-cons length xs lists, few_kept p xs, few_filtered p lists)
-
 pub kept_within : (run : Recording) (level : Severity) → call_count (Kept run level) ≤ call_count run.writers
-kept_within run level = few_filtered (keeps run.dictionary level) run.writers
+kept_within run level = fewer_kept (keeps run.dictionary level) run.writers
 
 -- ---- where all writers are done
 
@@ -195,14 +184,6 @@ zip_from_maps f h [] (y ∷ ys) same = absurd cc
 zip_from_maps f h (x ∷ xs) [] same = absurd cc
 zip_from_maps f h (x ∷ xs) (y ∷ ys) same = (cc same, zip_from_maps f h xs ys (cc same))
 
--- a list that is written back over one of the same length
-pub written_back : {A : Type 0} (new olds : List A) (len : ℕ) → length new ≡ len → take len (new ++ drop (length new) olds) ≡ new
-written_back {A} new olds len same = ap (λ (n : ℕ). take n (new ++ drop (length new) olds)) (sym same) ∙ front new (drop (length new) olds)
-  where
-    front : (xs ys : List A) → take (length xs) (xs ++ ys) ≡ xs
-    front [] ys = refl
-    front (x ∷ xs) ys = ap (λ (l : List A). x ∷ l) (front xs ys)
-
 pub as_many_seats : {S G : Type 0} (pair : S → List ℕ) (words : S → ℕ) (seats others : List (Seat S G)) → works_at pair words seats ≡ works_at pair words others → length seats ≡ length others
 as_many_seats {S} {G} pair words seats others same =
     let work : Seat S G → Work = λ seat. work_of pair words (worker_of seat) in
@@ -212,7 +193,7 @@ as_many_seats {S} {G} pair words seats others same =
 pub works_kept : {S G : Type 0} (pair : S → List ℕ) (words : S → ℕ) (starts lent seats : List (Seat S G)) (len : ℕ) (works : List Work) → works_at pair words starts ≡ works → lent ≡ starts → length lent ≡ len
     → works_at pair words seats ≡ works_at pair words lent → works_at pair words (take len (seats ++ drop (length seats) starts)) ≡ works
 works_kept pair words starts lent seats len works started value many same =
-    ap (works_at pair words) (written_back seats starts len (as_many_seats pair words seats lent same ∙ many))
+    ap (works_at pair words) (take_at seats (drop (length seats) starts) len (as_many_seats pair words seats lent same ∙ many))
     ∙ same
     ∙ ap (works_at pair words) value
     ∙ started

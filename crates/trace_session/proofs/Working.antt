@@ -23,6 +23,7 @@ use Rattle.ring_core.proofs.lemmas.Frames.{last_stamp-push}
 use Rattle.ring_core.proofs.lemmas.Needs.{Need-most, position_from-push}
 use Rattle.trace_text.specs.declared.trace.TheConstants.{MAX_CALLS}
 use Rattle.trace_text.specs.Recordings.{Recording, IsRecording}
+use Rattle.trace_text.proofs.lemmas.CallRuns.{all_at}
 use Rattle.trace_session.specs.declared.drops.Dropped.{Dropped}
 use Rattle.trace_session.specs.Levels.{keeps}
 use Rattle.trace_session.specs.Drops.{is_listed, taken_call, taken_of, calls_at, position_at, released_at, LacksRoom, IsDrop}
@@ -30,11 +31,6 @@ use Rattle.trace_session.specs.Workers.{WriterTask, WorkerProgress, WriterState,
 use Rattle.trace_session.proofs.Taking.{taken_calls-passed, taken_calls-accepted, taken_calls-dropped, taken_calls-same, is_listed-below, is_listed-last, is_listed-earlier, released_at-same, lawful_more}
 
 -- ---- calls of a run that is recorded
-
-at_place : {X : Type 0} (P : X → Type 0) (items : List X) (place : ℕ) (item : X) → AllByRecursion P items → slice_get items place ≡ Some item → P item
-at_place P [] place item all is = absurd cc
-at_place P (x ∷ items) zero item all is = subst P (same_Some x item is) all.0
-at_place P (x ∷ items) (suc place) item all is = at_place P items place item all.1 is
 
 -- a known writer has its calls
 pub calls_known : (run : Recording) (writer : ℕ) → writer < length run.writers → slice_get run.writers writer ≡ Some (calls_at run writer)
@@ -53,10 +49,10 @@ next_found task run calls next found same known is =
 
 -- the calls of a writer, and their stamps
 all_called : (run : Recording) (writer : ℕ) → IsRecording run → writer < length run.writers → AllByRecursion (IsCall run.dictionary) (calls_at run writer)
-all_called run writer recorded known = at_place (AllByRecursion (IsCall run.dictionary)) run.writers writer (calls_at run writer) recorded.calls (calls_known run writer known)
+all_called run writer recorded known = all_at (AllByRecursion (IsCall run.dictionary)) run.writers writer (calls_at run writer) (calls_known run writer known) recorded.calls
 
 all_rising : (run : Recording) (writer : ℕ) → IsRecording run → writer < length run.writers → NeverFalls run.clock.tick (calls_at run writer)
-all_rising run writer recorded known = at_place (NeverFalls run.clock.tick) run.writers writer (calls_at run writer) recorded.stamps (calls_known run writer known)
+all_rising run writer recorded known = all_at (NeverFalls run.clock.tick) run.writers writer (calls_at run writer) (calls_known run writer known) recorded.stamps
 
 -- the last of the calls before a place isn't later than the call there
 last_before : (least : ℕ) (calls : List Call) (place : ℕ) (call : Call) → NeverFalls least calls → slice_get calls place ≡ Some call → last_stamp least (take place calls) ≤ call.stamp
@@ -149,7 +145,7 @@ worked_state {task} {progress} h same = subst (HasWorked task progress) (sym sam
 -- the call at the next place
 pub worked_call : {task : WriterTask} {progress : WorkerProgress} {writer : WriterState} → HasWorked task progress writer → (call : Call) → slice_get (task_calls task) progress.next ≡ Some call → IsCall task.run.dictionary call
 worked_call {task} {progress} h call is =
-    at_place (IsCall task.run.dictionary) (task_calls task) progress.next call (all_called task.run task.number h.recorded h.progress_is.known) is
+    all_at (IsCall task.run.dictionary) (task_calls task) progress.next call is (all_called task.run task.number h.recorded h.progress_is.known)
 
 -- isn't earlier than the last one that was accepted
 pub worked_last : {task : WriterTask} {progress : WorkerProgress} {writer : WriterState} → HasWorked task progress writer → (call : Call) → slice_get (task_calls task) progress.next ≡ Some call → writer.last ≤ call.stamp

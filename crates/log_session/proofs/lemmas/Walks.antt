@@ -1,6 +1,5 @@
--- Lists that are walked through, and two that grow side by side.
+-- Lists that are walked through.
 use Rattle.std.proofs.Common.{◌≡◌, ℕ, ◌+◌, List, [], ◌∷◌, ◌++◌, length, append_assoc, sym, ap, ◌∙◌, arith}
-use Rattle.std.specs.List.{AllZip}
 use Rattle.std.proofs.lemmas.List.{append-nil}
 
 -- the item that is taken stands behind those before
@@ -13,10 +12,3 @@ walked_all {A} seen (x ∷ rest) all joined none = absurd (omega arith)
 
 pub one_less : {A : Type 0} (rest more : List A) (x : A) (len less : ℕ) → length rest ≡ len → rest ≡ x ∷ more → less + 1 ≡ len → length more ≡ less
 one_less rest more x len less long is next = let e = ap length is in omega (arith, e, long, next)
-
--- where two lists hold place by place, they do with one item more in each
-pub AllZip-snoc : {A B : Type 0} (R : A → B → Type 0) (xs : List A) (ys : List B) (x : A) (y : B) → AllZip R xs ys → R x y → AllZip R (xs ++ x ∷ []) (ys ++ y ∷ [])
-AllZip-snoc R [] [] x y all is = (is, tt)
-AllZip-snoc R [] (b ∷ ys) x y all is = absurd all
-AllZip-snoc R (a ∷ xs) [] x y all is = absurd all
-AllZip-snoc R (a ∷ xs) (b ∷ ys) x y all is = (all.0, AllZip-snoc R xs ys x y all.1 is)

@@ -1,6 +1,7 @@
 -- Close marks, from call to call.
 use Rattle.std.proofs.Common.{◌≡◌, ℕ, ◌<◌, Bool, true, false, List, length, get_or, refl, sym, ap, ◌∙◌, arith}
 use Rattle.std.specs.Prelude.{slice_set, Result, Ok}
+use Rattle.std.proofs.lemmas.Bool.{both_ways}
 use Rattle.std.proofs.lemmas.List.{get_or-set_same, get_or-set_other}
 use Rattle.roaming_consumer.specs.declared.visit.Visit.{Visit}
 use Rattle.roaming_consumer.specs.declared.visit.Visit.TheVariants.{Ended}
@@ -8,7 +9,7 @@ use Rattle.roaming_consumer.specs.declared.visit.SinkFault.{SinkFault}
 use Rattle.roaming_consumer.specs.declared.roamer.Roamer.{Roamer}
 use Rattle.roaming_consumer.specs.Roamers.{ends_of, roamer_progress, is_begun, is_faulted, plan_of_roamer, is_marked, AreMarked, IsClosedLogOfEnds, RoamerStandsFor}
 use Rattle.roaming_consumer.specs.Visits.{Marks}
-use Rattle.roaming_consumer.proofs.Standing.{false_is_not_true, taken_length}
+use Rattle.roaming_consumer.proofs.Standing.{taken_length}
 
 -- no mark was written, and the answer is that the writer has ended only where its mark stands
 pub marks_stay : {S : Type 0} (outcome : Result Visit SinkFault) (writer : ℕ) (old new : Roamer S) → (roamer_progress new).closed ≡ (roamer_progress old).closed → (is_faulted old ≡ false → outcome ≡ Ok Ended → is_marked old writer ≡ true) → Marks outcome writer old new
@@ -18,7 +19,7 @@ marks_stay outcome writer old new same stands =
       others = λ other differs. each other;
       kept = λ marked. each writer ∙ marked;
       written = λ unfaulted is. each writer ∙ stands unfaulted is;
-      new_where = λ unmarked marked. false_is_not_true (is_marked old writer) unmarked (sym (each writer) ∙ marked);
+      new_where = λ unmarked marked. absurd (both_ways (is_marked old writer) unmarked (sym (each writer) ∙ marked));
     }
 
 -- the mark was written

@@ -1,43 +1,18 @@
 -- What a sink took in several calls, one after another.
-use Rattle.std.proofs.Common.{◌≡◌, ℕ, suc, ◌+◌, ◌≤◌, List, [], ◌∷◌, ◌++◌, length, take, drop, Some, None, refl, sym, ap, subst, ◌∙◌, append_assoc, inl, inr, arith}
+use Rattle.std.proofs.Common.{◌≡◌, ℕ, ◌+◌, ◌≤◌, List, [], ◌++◌, length, take, drop, refl, ap, subst, ◌∙◌, inl, inr, arith}
 use Rattle.std.specs.Prelude.{Result, Ok, Err, IsErr, is_err, OnOk, OnErr, false}
-use Rattle.std.proofs.lemmas.List.{append-nil, length-append, take-append-le}
 use Rattle.nl_io.specs.Count.{Rose}
 use Rattle.nl_io.specs.Content.{Told, with_end, PutsFront}
+use Rattle.nl_io.proofs.lemmas.Contents.{with_end-both, front-first, front-second}
 use Rattle.log_dictionary.specs.declared.message.Message.{Message}
 use Rattle.checkpoint_io.specs.Blocks.{extent_head_bytes}
 use Rattle.roaming_consumer.specs.Growth.{FragmentsFor}
 use Rattle.roaming_consumer.specs.Sinks.{Sends, SendsFragments, SendsExtent}
 
-pub with_end-append : (front back : List ℕ) (told : Told) → with_end back (with_end front told) ≡ with_end (front ++ back) told
-with_end-append front back None = refl
-with_end-append front back (Some content) = ap Some (append_assoc content front back)
-
-pub with_end-nil : (told : Told) → told ≡ with_end [] told
-with_end-nil None = refl
-with_end-nil (Some content) = ap Some (sym (append-nil content))
-
--- as many bytes more as stand in front
-pub take_behind : (front back : List ℕ) (n : ℕ) → take (length front + n) (front ++ back) ≡ front ++ take n back
-take_behind [] back n = let same : 0 + n ≡ n = omega arith in ap (λ (k : ℕ). take k back) same
-take_behind (x ∷ front) back n =
-    let same : length (x ∷ front) + n ≡ suc (length front + n) = omega arith in
-    ap (λ (k : ℕ). take k (x ∷ (front ++ back))) same ∙ ap (λ (l : List ℕ). x ∷ l) (take_behind front back n)
-
-puts_behind : (front back : List ℕ) (p q s : Told) → q ≡ with_end front p → PutsFront back q s → PutsFront (front ++ back) p s
-puts_behind front back p q s first (n, within, is) = (
-  length front + n,
-  omega (arith, within, length-append front back),
-  is ∙ ap (with_end (take n back)) first ∙ with_end-append front (take n back) p ∙ ap (λ (l : List ℕ). with_end l p) (sym (take_behind front back n)),
-)
-
-puts_more : (front back : List ℕ) (p q : Told) → PutsFront front p q → PutsFront (front ++ back) p q
-puts_more front back p q (n, within, is) = (n, omega (arith, within, length-append front back), is ∙ ap (λ (l : List ℕ). with_end l p) (sym (take-append-le n front back within)))
-
 -- behind bytes that went out
 pub sends_then : {T E : Type 0} (r : Result T E) (front back : List ℕ) (p q s : Told) (f g h : ℕ) → q ≡ with_end front p → g ≡ f → Sends r back q s g h → Sends r (front ++ back) p s f h
 sends_then (Ok x) front back p q s f g h first same sent = record {
-  ok = sent.ok ∙ ap (with_end back) first ∙ with_end-append front back p;
+  ok = sent.ok ∙ ap (with_end back) first ∙ with_end-both front back p;
   counted = sent.counted ∙ same;
   err = tt;
   cause = tt;
@@ -46,7 +21,7 @@ sends_then (Ok x) front back p q s f g h first same sent = record {
 sends_then (Err e) front back p q s f g h first same sent = record {
   ok = tt;
   counted = tt;
-  err = puts_behind front back p q s first sent.err;
+  err = front-second front back p q s first sent.err;
   cause = subst (λ (n : ℕ). Rose n h) same sent.cause;
   count = omega (arith, same, sent.count);
 }
@@ -57,7 +32,7 @@ sends_stop (Ok x) front back p q f g failed puts rose count = absurd cc
 sends_stop (Err e) front back p q f g failed puts rose count = record {
   ok = tt;
   counted = tt;
-  err = puts_more front back p q puts;
+  err = front-first front back p q puts;
   cause = rose;
   count = count;
 }

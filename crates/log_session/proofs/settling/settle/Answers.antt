@@ -1,10 +1,10 @@
 use Rattle.std.proofs.Common.{rules, ◌≡◌, List, [], ◌∷◌, ◌++◌, length, refl, sym, ap, subst, ◌∙◌, append_assoc, arith}
 use Rattle.std.specs.List.{AllZip}
-use Rattle.std.proofs.lemmas.List.{append-nil}
+use Rattle.std.proofs.lemmas.List.{append-nil, nil_from_length}
 use Rattle.log_session.specs.Writers.{WriterView}
 use Rattle.log_session.specs.Starts.{ShareRings}
 use Rattle.log_session.specs.Settling.{IsRejoined, AllZip3}
-use Rattle.log_session.proofs.Rings.{AllZip3-snoc, zip_head, zip_ends, zip_goes_on, no_items, sum_more, sum_less}
+use Rattle.log_session.proofs.Rings.{AllZip3-snoc, zip_head, zip_ends, zip_goes_on, sum_more, sum_less}
 use Rattle.log_session.proofs.lemmas.Walks.{walked, walked_all, one_less}
 use Rattle.log_session.proofs.settling.settle.Goals as goal
 use Rattle.log_session.proofs.settling.settle.Goals.{in-None, in-Some+in_default}
@@ -66,7 +66,7 @@ returns g c =
           )
       | in-Some+in_default w ↦
           let none : length c.loop-writer.ends.rest.items ≡ 0 = ends_long ∙ w.in_default.ensures.cases.0 in
-          let nil = no_items c.loop-writer.ends.rest.items none in
+          let nil = nil_from_length c.loop-writer.ends.rest.items none in
           absurd (zip_goes_on _ _ _ w.in-Some.writer w.in-Some.ensures.steps.0
           (subst (λ (list : List g.row.S-Out.Denot). ShareRings g.S.In.StageIn.pair g.S.Out.StageOut.pair c.loop-writer.writer-iterator.rest.items list) nil shared))
     ]

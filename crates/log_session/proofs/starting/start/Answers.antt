@@ -1,17 +1,18 @@
 use Rattle.std.proofs.Common.{◌≡◌, [], arith}
+use Rattle.std.proofs.lemmas.Slice.Zip.{AllZip-long}
 use Rattle.ring_core.specs.Plans.{plan_of}
 use Rattle.log_session.proofs.Logging.{dictionary_plan}
-use Rattle.log_session.proofs.Rings.{zip_length, zip_second}
+use Rattle.log_session.proofs.Rings.{zip_second}
 use Rattle.log_session.proofs.starting.start.Goals as goal
 
 pub open_rings-requires-clause-plan : goal.open_rings-requires-clause-plan
 open_rings-requires-clause-plan g c κs within = dictionary_plan c.args.dictionary.now c.args.clock.tick (omega (arith, c.len.ensures.value, c.len.ensures.bound)) c.len.ensures.formed
 
 pub make-requires-clause-some_end : goal.make-requires-clause-some_end
-make-requires-clause-some_end g c = let same = zip_length _ _ _ c.in-Ok.ensures.1 in omega (arith, same, c.in-Ok.ensures.0, c.requires.writers.0)
+make-requires-clause-some_end g c = let same = AllZip-long _ _ _ c.in-Ok.ensures.1 in omega (arith, same, c.in-Ok.ensures.0, c.requires.writers.0)
 
 pub make-requires-clause-few_ends : goal.make-requires-clause-few_ends
-make-requires-clause-few_ends g c = let same = zip_length _ _ _ c.in-Ok.ensures.1 in omega (arith, same, c.in-Ok.ensures.0, c.requires.writers.1)
+make-requires-clause-few_ends g c = let same = AllZip-long _ _ _ c.in-Ok.ensures.1 in omega (arith, same, c.in-Ok.ensures.0, c.requires.writers.1)
 
 pub make-requires-clause-untaken : goal.make-requires-clause-untaken
 make-requires-clause-untaken g c = zip_second _ (λ end. g.S.Out.StageOut.got end ≡ []) (λ writer end ring. ring.none_got) _ _ c.in-Ok.ensures.1

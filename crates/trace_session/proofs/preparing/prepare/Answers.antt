@@ -1,7 +1,7 @@
 use Rattle.std.proofs.Common.{◌≡◌, ℕ, List, map, length, ap, ◌∙◌, arith}
-use Rattle.std.specs.Prelude.{Ok, IsErrOf}
 use Rattle.std.specs.Arc.{arc_value}
 use Rattle.std.proofs.lemmas.List.{length-map}
+use Rattle.std.proofs.lemmas.Result.{IfErr-at_err}
 use Rattle.ring_core.specs.Plans.{Plan, plan_of}
 use Rattle.roaming_consumer.specs.Roamers.{ends_of}
 use Rattle.trace_text.specs.Recordings.{Recording}
@@ -23,11 +23,8 @@ make_workers-requires-clause-new g c κs within =
     (λ writer end ring. record { size_is = ring.size_is; plan_is = ring.plan_is ∙ plan_is; unused = ring.unused; new = record { last = ring.new.last ∙ ap (λ (plan : Plan). plan.first) plan_is; accepted = ring.new.accepted; unasked = ring.new.unasked } })
     c.in_ok-writers.writers.items (ends_of c.in_ok-writers.roamer) c.in_ok-writers.ensures.rings
 
-never_both : {T E : Type 0} (x : T) (e : E) → IsErrOf (Ok x) e → ⊥
-never_both x e is = absurd cc
-
 pub returns-in-Ok-clause-bad_size : goal.returns-in-Ok-clause-bad_size
-returns-in-Ok-clause-bad_size g c = (λ is. absurd (never_both _ _ is), λ bad. absurd (never_both _ _ (c.in_ok-writers.ensures.bad_size.1 bad)))
+returns-in-Ok-clause-bad_size g c = (λ is. absurd (IfErr-at_err (λ _. ⊥) is tt), λ bad. absurd (IfErr-at_err (λ _. ⊥) (c.in_ok-writers.ensures.bad_size.1 bad) tt))
 
 pub returns-in-Ok-clause-ready : goal.returns-in-Ok-clause-ready
 returns-in-Ok-clause-ready g c =

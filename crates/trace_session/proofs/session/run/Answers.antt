@@ -1,14 +1,11 @@
-use Rattle.std.proofs.Common.{[], ◌++◌, Ok, ap, ◌∙◌, subst}
-use Rattle.std.specs.Prelude.{IsErrOf}
+use Rattle.std.proofs.Common.{[], ◌++◌, ap, ◌∙◌, subst}
+use Rattle.std.proofs.lemmas.Result.{IfErr-at_err}
 use Rattle.nl_io.specs.Content.{with_end}
-use Rattle.roaming_consumer.proofs.lemmas.Sending.{with_end-append}
+use Rattle.nl_io.proofs.lemmas.Contents.{with_end-both}
 use Rattle.trace_text.specs.Recordings.{Recording}
 use Rattle.trace_session.specs.Sessions.{IsSession}
 use Rattle.trace_session.proofs.Sessions.{ready_begun}
 use Rattle.trace_session.proofs.session.run.Goals as goal
-
-never_both : {T E : Type 0} (x : T) (e : E) → IsErrOf (Ok x) e → ⊥
-never_both x e is = absurd cc
 
 pub run_begun-requires-clause-ready : goal.run_begun-requires-clause-ready
 run_begun-requires-clause-ready g c κs within =
@@ -20,13 +17,13 @@ returns-in-Ok-run_begun-clause-ok g c =
     let wrote = c.begin.ensures.wrote in
     let (bytes, put, session) = c.in-Ok-run_begun.ensures.ok in (
       wrote.bytes ++ bytes,
-      put ∙ ap (with_end bytes) wrote.put_is ∙ with_end-append wrote.bytes bytes (g.K.Sink.put c.args.sink.now),
+      put ∙ ap (with_end bytes) wrote.put_is ∙ with_end-both wrote.bytes bytes (g.K.Sink.put c.args.sink.now),
       subst (λ (r : Recording). IsSession g.S.Done.StageDone.sent g.S.Done.StageDone.got r c.args.options.now c.in-Ok-run_begun.outcome (wrote.bytes ++ bytes)) c.deref-2.ensures
           (session wrote.bytes (wrote.stands [] c.in-Ok.ensures.stands.1)),
     )
 
 pub returns-in-Ok-run_begun-clause-bad_size : goal.returns-in-Ok-run_begun-clause-bad_size
-returns-in-Ok-run_begun-clause-bad_size g c = (λ is. absurd (never_both _ _ is), λ bad. absurd (never_both _ _ (c.in-Ok.ensures.bad_size.1 bad)))
+returns-in-Ok-run_begun-clause-bad_size g c = (λ is. absurd (IfErr-at_err (λ _. ⊥) is tt), λ bad. absurd (IfErr-at_err (λ _. ⊥) (c.in-Ok.ensures.bad_size.1 bad) tt))
 
 pub returns-in-Ok-run_begun-clause-counted : goal.returns-in-Ok-run_begun-clause-counted
 returns-in-Ok-run_begun-clause-counted g c = c.in-Ok-run_begun.ensures.counted ∙ c.in-Ok-begin.ensures.sent.counted
@@ -35,7 +32,7 @@ pub returns-in-Ok-run_begun-clause-grew : goal.returns-in-Ok-run_begun-clause-gr
 returns-in-Ok-run_begun-clause-grew g c =
     let wrote = c.begin.ensures.wrote in
     let (bytes, put) = c.run_begun.ensures.grew in
-    (wrote.bytes ++ bytes, put ∙ ap (with_end bytes) wrote.put_is ∙ with_end-append wrote.bytes bytes (g.K.Sink.put c.args.sink.now))
+    (wrote.bytes ++ bytes, put ∙ ap (with_end bytes) wrote.put_is ∙ with_end-both wrote.bytes bytes (g.K.Sink.put c.args.sink.now))
 
 pub returns-in-Ok-run_begun-clause-others : goal.returns-in-Ok-run_begun-clause-others
 returns-in-Ok-run_begun-clause-others g c = g.met.K.Sink.rest_then _ _ _ c.begin.ensures.others c.run_begun.ensures.others
@@ -44,10 +41,10 @@ pub returns-in-Err-clause-grew : goal.returns-in-Err-clause-grew
 returns-in-Err-clause-grew g c =
     let wrote = c.begin.ensures.wrote in
     let (bytes, put) = c.run_begun.ensures.grew in
-    (wrote.bytes ++ bytes, put ∙ ap (with_end bytes) wrote.put_is ∙ with_end-append wrote.bytes bytes (g.K.Sink.put c.args.sink.now))
+    (wrote.bytes ++ bytes, put ∙ ap (with_end bytes) wrote.put_is ∙ with_end-both wrote.bytes bytes (g.K.Sink.put c.args.sink.now))
 
 pub returns-in-Err-clause-others : goal.returns-in-Err-clause-others
 returns-in-Err-clause-others g c = g.met.K.Sink.rest_then _ _ _ c.begin.ensures.others c.run_begun.ensures.others
 
 pub returns-in-Err-clause-bad_size : goal.returns-in-Err-clause-bad_size
-returns-in-Err-clause-bad_size g c = (λ is. let never = is in absurd cc, λ bad. absurd (never_both _ _ (c.in-Ok.ensures.bad_size.1 bad)))
+returns-in-Err-clause-bad_size g c = (λ is. let never = is in absurd cc, λ bad. absurd (IfErr-at_err (λ _. ⊥) (c.in-Ok.ensures.bad_size.1 bad) tt))

@@ -1,8 +1,9 @@
 use Rattle.std.proofs.Common.{ap}
+use Rattle.std.proofs.lemmas.Bool.{both_ways}
 use Rattle.roaming_consumer.specs.Growth.{LogProgress}
 use Rattle.roaming_consumer.specs.Roamers.{is_faulted}
 use Rattle.roaming_consumer.proofs.lemmas.Marking.{marks_stay}
-use Rattle.roaming_consumer.proofs.Standing.{false_is_not_true, threw, planned_after, count_after}
+use Rattle.roaming_consumer.proofs.Standing.{threw, planned_after, count_after}
 use Rattle.roaming_consumer.proofs.roamer.Roamer.visit.Goals as goal
 
 pub returns-then-self-clause-wrote : goal.returns-then-self-clause-wrote
@@ -26,7 +27,7 @@ returns-clause-same_count g c = count_after _ _ _ c.write_visit.ensures.visits
 
 pub returns-then-self-clause-marks : goal.returns-then-self-clause-marks
 returns-then-self-clause-marks g c =
-    marks_stay _ c.args.writer c.args.self.now c.throw_visit.new.self (ap (λ (p : LogProgress). p.closed) c.throw_visit.ensures.others.progress) (λ unfaulted is. false_is_not_true (is_faulted c.args.self.now) unfaulted c.if-self.true)
+    marks_stay _ c.args.writer c.args.self.now c.throw_visit.new.self (ap (λ (p : LogProgress). p.closed) c.throw_visit.ensures.others.progress) (λ unfaulted is. absurd (both_ways (is_faulted c.args.self.now) unfaulted c.if-self.true))
 
 pub returns-then-self-clause-writes : goal.returns-then-self-clause-writes
 returns-then-self-clause-writes g c = c.throw_visit.ensures.writes _
