@@ -59,6 +59,9 @@ pub heads_few : (rewrites : List Rewrite) (from to : ℕ) → HeadsFrom from rew
 heads_few [] from to heads = omega (arith, heads)
 heads_few (rewrite ∷ rewrites) from to heads = omega (arith, heads.0, heads.1, heads_few rewrites rewrite.head to heads.2)
 
+pub heads_end : (rewrites : List Rewrite) (from to : ℕ) → HeadsFrom from rewrites to → from ≤ to
+heads_end rewrites from to heads = omega (arith, heads_few rewrites from to heads)
+
 -- ---- refusals
 
 pub refusal_same : (file name : List ℕ) (line number : ℕ) (cause : RefusalCause) → file ≡ name → line ≡ number → (let a : SourceRefusal = record { file = file; line = line; cause = cause } in let b : SourceRefusal = record { file = name; line = number; cause = cause } in a ≡ b)

@@ -1,12 +1,8 @@
 -- Sources that are rewritten head by head.
-use Rattle.std.proofs.Common.{◌≡◌, ℕ, ◌+◌, ◌<◌, ◌≤◌, List, [], ◌∷◌, ◌++◌, length, drop, get_or, sym, subst, ap, ◌∙◌, append_assoc, arith}
+use Rattle.std.proofs.Common.{◌≡◌, ℕ, ◌+◌, ◌<◌, ◌≤◌, List, ◌++◌, length, drop, get_or, sym, subst, ap, ◌∙◌, append_assoc}
 use Rattle.std.proofs.lemmas.List.{drop_more, drop_all}
 use Rattle.code_inject.specs.declared.rewrite.Rewrite.{Rewrite}
 use Rattle.code_inject.specs.Rewrites.{rewritten_head, rewritten_from, HeadsFrom}
-
-pub heads_end : (rewrites : List Rewrite) (from to : ℕ) → HeadsFrom from rewrites to → from ≤ to
-heads_end [] from to heads = heads
-heads_end (rewrite ∷ rewrites) from to heads = omega (arith, heads.0, heads.1, heads_end rewrites rewrite.head to heads.2)
 
 -- the next head, and the others
 pub next_head : (rewrites : List Rewrite) (i : ℕ) (d : Rewrite) (from to : ℕ) → i < length rewrites → HeadsFrom from (drop i rewrites) to

@@ -1,5 +1,5 @@
 -- The messages that stand first, with one more behind them.
-use Rattle.std.proofs.Common.{◌≡◌, Bool, true, false, cond, ◌||◌, List, [], ◌∷◌, ◌++◌, refl, sym, ap, ◌∙◌}
+use Rattle.std.proofs.Common.{◌≡◌, Bool, true, false, cond, ◌||◌, List, [], ◌∷◌, ◌++◌, refl, sym, ap, ◌∙◌, append-nil}
 use Rattle.std.specs.Prelude.{not, filter}
 use Rattle.std.specs.List.{list_any}
 use Rattle.std.proofs.lemmas.Bool.{false≢true}
@@ -71,11 +71,7 @@ others_with_new first message messages false apart =
 others_without_new : (first message : Message) (messages : List Message) (there : Bool) → is_same first message ≡ true → others first (with_new there messages message) ≡ others first messages
 others_without_new first message messages true same = refl
 others_without_new first message messages false same =
-    filter-append (λ (other : Message). not (is_same first other)) messages (message ∷ []) ∙ ap (λ (l : List Message). others first messages ++ l) (others_cons first message [] true same) ∙ nothing_more (others first messages)
-  where
-    nothing_more : (l : List Message) → l ++ [] ≡ l
-    nothing_more [] = refl
-    nothing_more (x ∷ xs) = ap (λ (rest : List Message). x ∷ rest) (nothing_more xs)
+    filter-append (λ (other : Message). not (is_same first other)) messages (message ∷ []) ∙ ap (λ (l : List Message). others first messages ++ l) (others_cons first message [] true same) ∙ append-nil (others first messages)
 
 -- a message behind others stands first exactly where none of them equals it
 pub firsts-push : (messages : List Message) (message : Message) → firsts (messages ++ message ∷ []) ≡ with_new (list_any (is_same message) (firsts messages)) (firsts messages) message

@@ -9,14 +9,14 @@ use Rattle.std.specs.List.{AllByRecursion, flat_map}
 use Rattle.std.proofs.lemmas.Bool.{false≢true}
 use Rattle.std.proofs.lemmas.Grind.{flat_map-append}
 use Rattle.std.proofs.lemmas.List.{take-append-drop, take_all, take_more, append-nil, map-append, length-replicate}
+use Rattle.std.proofs.lemmas.List.Elements.{All-push, All-from_recursion, recursion_from_All}
 use Rattle.nl_io.specs.Desk.{Desk, Held, IsAbsent}
 use Rattle.preprocessor.specs.declared.numbering.Numbering.{Numbering}
 use Rattle.source_scan.specs.declared.statement.TheConstants.{MAX_SOURCE}
-use Rattle.preprocessor.specs.declared.refusal.SourceRefusal.{SourceRefusal}
 use Rattle.preprocessor.specs.Causes.{refusal_line}
 use Rattle.preprocessor.specs.Findings.{SourceFile}
 use Rattle.preprocessor.specs.Numbering.{refusals_of, excess_refusal, Numbered, Refusals, NumbersSources}
-use Rattle.preprocessor.proofs.lemmas.Told.{numbering_refuses, numbering_numbers}
+use Rattle.preprocessor.proofs.lemmas.Told.{numbering_refuses, numbering_numbers, not_empty}
 use Rattle.command_base.specs.declared.refusal.Refusal.{Refusal}
 use Rattle.command_base.specs.declared.refusal.Refusal.TheVariants.{NoMemory as WantsMemory}
 use Rattle.command_base.specs.Endings.{Ending, Done, StillOpen, Usage, Absent, ReadFault, Refused, RefusedSources, Damaged, WriteFault, NoMemory, refusal_ending}
@@ -47,10 +47,6 @@ pub stopped_some : (sources : List SourceFile) (numbering : Numbering) → Numbe
 stopped_some sources numbering (NumbersSources.all_read findings have holds) stopped none = absurd (false≢true (sym holds.goes_on ∙ stopped))
 stopped_some sources numbering (NumbersSources.stopped read unread findings joined have holds) stopped none =
     not_empty (refusals_of holds.front) (excess_refusal holds.message) (sym holds.refusals ∙ none)
-  where
-    not_empty : (list : List SourceRefusal) (last : SourceRefusal) → list ++ last ∷ [] ≡ [] → ⊥
-    not_empty [] last e = cc
-    not_empty (first ∷ list) last e = cc
 
 -- none is one too many where it isn't
 pub going_on : (sources : List SourceFile) (numbering : Numbering) → NumbersSources sources numbering → numbering.is_stopped ≡ false → HaveNoExcess sources
@@ -73,11 +69,6 @@ name_next names i d within =
     ap contents next
 
 -- ---- what was read
-
--- what holds of the items that were seen, and of the next
-pub all_more : {A : Type 0} (P : A → Type 0) (seen : List A) (x : A) → AllByRecursion P seen → P x → AllByRecursion P (seen ++ x ∷ [])
-all_more P [] x all here = (here, tt)
-all_more P (y ∷ seen) x all here = (all.0, all_more P seen x all.1 here)
 
 -- of the first i names these sources were read
 pub record ReadSoFar (desk : Desk) (names : List (Bor (List ℕ))) (i : ℕ) (sources : List SourceFile) : Type 0 where
@@ -107,10 +98,11 @@ pub read_more : (desk : Desk) (names : List (Bor (List ℕ))) (i : ℕ) (d : Bor
     → IsHeld desk (get_or names i d).now bytes → ReadSoFar desk names (i + 1) (sources ++ record { name = (get_or names i d).now; bytes = bytes } ∷ [])
 read_more desk names i d sources bytes read within held =
     let source : SourceFile = record { name = (get_or names i d).now; bytes = bytes } in
+    let is_held : SourceFile → Type 0 = λ (s : SourceFile). IsHeld desk s.name s.bytes in
     record {
       named = ap contents (take_more names i d within) ∙ contents-append (take i names) (get_or names i d ∷ [])
           ∙ ap (λ (l : List (List ℕ)). l ++ (get_or names i d).now ∷ []) read.named ∙ sym (map-append source_name sources (source ∷ []));
-      held = all_more (λ (s : SourceFile). IsHeld desk s.name s.bytes) sources source read.held held;
+      held = recursion_from_All is_held (sources ++ source ∷ []) (All-push is_held sources source (All-from_recursion is_held sources read.held) held);
     }
 
 -- ---- what a name held

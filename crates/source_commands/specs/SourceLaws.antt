@@ -1,19 +1,21 @@
 -- Commands over sources are sound.
-use Rattle.std.proofs.Common.{◌≡◌, ◌≢◌, ℕ, ◌≤◌, List, [], ◌∷◌, ◌++◌, length, map, Option, Some, None, refl, sym, ap, subst, ◌∙◌, append_assoc, append-nil, length-append, inl, inr, arith}
-use Rattle.std.specs.Prelude.{◌⊎◌, IfSome, Contains}
+use Rattle.std.proofs.Common.{◌≡◌, ◌≢◌, ℕ, ◌≤◌, List, [], ◌∷◌, ◌++◌, length, map, Option, Some, None, refl, sym, ap, subst, ◌∙◌, append-nil, length-append, inl, inr, arith}
+use Rattle.std.specs.Prelude.{◌⊎◌, Contains, ⊤}
 use Rattle.std.specs.FinMap as map
 use Rattle.std.specs.List.{AllByRecursion}
 use Rattle.std.proofs.Math.Seq.{get_or-append_seam}
 use Rattle.std.proofs.lemmas.Grind.{flat_map-append}
+use Rattle.std.proofs.lemmas.Option.{MatchOption-at_some, none-some, same_Some}
 use Rattle.nl_io.specs.Count.{Rose}
 use Rattle.nl_io.specs.Desk.{Desk, Held, OnlyReadFaults, IsAbsent}
 use Rattle.log_dictionary.specs.declared.message.Message.{Message}
 use Rattle.log_dictionary.specs.declared.dictionary.TheConstants.{MAX_MESSAGES}
 use Rattle.preprocessor.specs.declared.refusal.SourceRefusal.{SourceRefusal}
-use Rattle.preprocessor.specs.Findings.{SourceFile, Finding, AllHave}
+use Rattle.preprocessor.specs.Findings.{SourceFile, Finding}
 use Rattle.preprocessor.specs.Numbering.{finding_messages, stated_messages, finding_refusals, refusals_of, firsts, numbered, excess_refusal, Refusals}
 use Rattle.preprocessor.proofs.lemmas.Behind.{grown_behind}
-use Rattle.preprocessor.proofs.lemmas.Once.{refusals_once}
+use Rattle.preprocessor.proofs.lemmas.Once.{refusals_once, have_front}
+use Rattle.preprocessor.proofs.lemmas.Told.{not_empty}
 use Rattle.command_base.specs.Endings.{Ending, Done, StillOpen, Usage, Absent, ReadFault, Refused, RefusedSources, Damaged, WriteFault, NoMemory, status_of}
 use Rattle.command_base.specs.HeldFiles.{IsHeld}
 use Rattle.command_base.specs.Tasks.{Product, nothing, WhileReading}
@@ -22,26 +24,7 @@ use Rattle.command_base.specs.Soundness.{FailsToRead, IsSound}
 use Rattle.source_commands.specs.Sources.{source_name, AreRead, EndsReading, AreTaken, AreRight, AreRefused, IsReached, GiveNothing, ReadsSources, source_task}
 use Rattle.source_commands.specs.Sources.EndsReading.{all_read, too_many, absent, failed}
 
-some_same : {A : Type 0} (a b : A) → Some a ≡ Some b → a ≡ b
-some_same a b e = cc
-
 -- ---- what names hold
-
--- what is told that a name holds
-told_bytes : (told : Option Held) (held : Held) (name bytes : List ℕ) → told ≡ Some held → IfSome told (λ h. map.get h name ≡ Some bytes) → map.get held name ≡ Some bytes
-told_bytes None held name bytes is has = absurd cc
-told_bytes (Some h) held name bytes is has = subst (λ (m : Held). map.get m name ≡ Some bytes) (some_same h held is) has
-
-told_absent : (told : Option Held) (held : Held) (name : List ℕ) → told ≡ Some held → IfSome told (λ h. map.get h name ≡ None) → map.get held name ≡ None
-told_absent None held name is has = absurd cc
-told_absent (Some h) held name is has = subst (λ (m : Held). map.get m name ≡ None) (some_same h held is) has
-
-told_there : (told : Option Held) (held : Held) (name : List ℕ) → told ≡ Some held → IfSome told (λ h. map.get h name ≢ None) → map.get held name ≢ None
-told_there None held name is has = absurd cc
-told_there (Some h) held name is has = subst (λ (m : Held). map.get m name ≢ None) (some_same h held is) has
-
-not_both : (found : Option (List ℕ)) (bytes : List ℕ) → found ≡ Some bytes → found ≡ None → ⊥
-not_both found bytes some none = cc
 
 -- the sources hold what their names hold
 abbrev pub AreHeld : Desk → List SourceFile → Type 0
@@ -52,7 +35,7 @@ same_source a b name bytes = λ i. record { name = name i; bytes = bytes i }
 
 one_held : (held : Held) (a b : SourceFile) → a.name ≡ b.name → map.get held a.name ≡ Some a.bytes → map.get held b.name ≡ Some b.bytes → a ≡ b
 one_held held a b name first second =
-    same_source a b name (some_same a.bytes b.bytes (sym first ∙ ap (map.get held) name ∙ second))
+    same_source a b name (same_Some a.bytes b.bytes (sym first ∙ ap (map.get held) name ∙ second))
 
 -- sources that stand at the front of others by their names are these
 sources_begin : (desk : Desk) (held : Held) → desk.held ≡ Some held → (front all : List SourceFile) (unread : List (List ℕ)) → map source_name front ++ unread ≡ map source_name all → AreHeld desk front → AreHeld desk all
@@ -63,7 +46,7 @@ sources_begin desk held told (source ∷ front) (other ∷ all) unread named fir
     let name : source_name source ≡ source_name other = cc in
     let later : map source_name front ++ unread ≡ map source_name all = cc in
     let rest = sources_begin desk held told front all unread later first.1 holds.1 in
-    let same = one_held held source other name (told_bytes desk.held held source.name source.bytes told first.0) (told_bytes desk.held held other.name other.bytes told holds.0) in
+    let same = one_held held source other name (MatchOption-at_some ⊤ (λ (names : Held). map.get names source.name ≡ Some source.bytes) held told first.0) (MatchOption-at_some ⊤ (λ (names : Held). map.get names other.name ≡ Some other.bytes) held told holds.0) in
     (rest.0, ap (λ (s : SourceFile). s ∷ all) (sym same) ∙ ap (λ (l : List SourceFile). source ∷ l) rest.1, rest.2)
 
 -- a name behind the front of sources holds something
@@ -77,20 +60,9 @@ behind_held desk (source ∷ front) rest name others named holds = behind_held d
 
 -- ---- what is refused
 
-not_nil : (list : List SourceRefusal) (last : SourceRefusal) → [] ≡ list ++ last ∷ [] → ⊥
-not_nil [] last e = cc
-not_nil (first ∷ list) last e = cc
-
 first_nil : (list more : List SourceRefusal) → [] ≡ list ++ more → list ≡ []
 first_nil [] more e = refl
 first_nil (first ∷ list) more e = absurd cc
-
--- the findings of sources begin with those of the first ones
-have_front : (front rest : List SourceFile) (findings : List Finding) → AllHave (front ++ rest) findings → (first : List Finding) × (others : List Finding) × (findings ≡ first ++ others) × AllHave front first
-have_front [] rest findings have = ([], findings, refl, refl)
-have_front (file ∷ front) rest findings (here, others, joined, is, later) =
-    let parts = have_front front rest others later in
-    (here ++ parts.0, parts.1, joined ∙ ap (λ (l : List Finding). here ++ l) parts.2 ∙ sym (append_assoc here parts.0 parts.1), (here, parts.0, refl, is, parts.3))
 
 fewer : (first others findings : List Finding) → findings ≡ first ++ others → length (numbered findings) ≤ MAX_MESSAGES → length (numbered first) ≤ MAX_MESSAGES
 fewer first others findings joined few =
@@ -105,7 +77,7 @@ front_right front rest refusals (Refusals.all_read findings have few is) told =
     let parts = have_front front rest findings have in
     refusals_once front refusals (refusals_of parts.0) told (Refusals.all_read parts.0 parts.3 (fewer parts.0 parts.1 findings parts.2 few) refl)
     ∙ first_nil (refusals_of parts.0) (refusals_of parts.1) (is ∙ ap refusals_of parts.2 ∙ flat_map-append finding_refusals parts.0 parts.1)
-front_right front rest refusals (Refusals.stopped read unread findings joined have before message stops is) told = absurd (not_nil (refusals_of before) (excess_refusal message) is)
+front_right front rest refusals (Refusals.stopped read unread findings joined have before message stops is) told = absurd (not_empty (refusals_of before) (excess_refusal message) (sym is))
 
 none_refused : (refusals : List SourceRefusal) → Refusals [] refusals → refusals ≡ []
 unfolding firsts
@@ -167,7 +139,7 @@ right_there : (names : List (List ℕ)) (old : Desk) (name : List ℕ) → AreRi
 right_there names old name right reached gone =
     let begun = sources_begin old right.held right.told reached.sources right.taken.sources (name ∷ reached.others) (sym reached.read.named ∙ right.taken.read.named ∙ append-nil (map source_name right.taken.sources)) reached.read.held right.taken.read.held in
     let found = behind_held old reached.sources begun.0 name reached.others begun.2 (subst (AreHeld old) begun.1 right.taken.read.held) in
-    not_both (map.get right.held name) found.0 (told_bytes old.held right.held name found.0 right.told found.1) (told_absent old.held right.held name right.told gone)
+    none-some found.0 (sym (MatchOption-at_some ⊤ (λ (names : Held). map.get names name ≡ None) right.held right.told gone) ∙ MatchOption-at_some ⊤ (λ (names : Held). map.get names name ≡ Some found.0) right.held right.told found.1)
 
 right_taken : (names : List (List ℕ)) (old new : Desk) (ending : Ending) → GiveNothing names old new ending → AreRight old names → ¬ (Rose old.read_faults new.read_faults) → ending ≡ NoMemory
 right_taken names old new (Absent name) gave right r = absurd (right_there names old name right gave.0 gave.1)
@@ -185,7 +157,7 @@ none_read desk names [] unread name others held read is told none = (refl, sym r
 none_read desk names (source ∷ sources) unread name others held read is told none =
     let begins : source.name ∷ (map source_name sources ++ unread) ≡ name ∷ others = sym read.named ∙ is in
     let same : source.name ≡ name = cc in
-    absurd (not_both (map.get held name) source.bytes (subst (λ (n : List ℕ). map.get held n ≡ Some source.bytes) same (told_bytes desk.held held source.name source.bytes told read.held.0)) none)
+    absurd (none-some source.bytes (sym none ∙ subst (λ (n : List ℕ). map.get held n ≡ Some source.bytes) same (MatchOption-at_some ⊤ (λ (names : Held). map.get names source.name ≡ Some source.bytes) held told read.held.0)))
 
 none_told : (names : List (List ℕ)) (old new : Desk) (lines name : List ℕ) (others : List (List ℕ)) (held : Held) → AreRefused names old new lines → names ≡ name ∷ others → old.held ≡ Some held → map.get held name ≡ None → ⊥
 none_told names old new lines name others held refused is told none =
@@ -204,7 +176,7 @@ first_absent names old new (Absent found) name others held gave is told none r =
 first_absent names old new (ReadFault found) name others held gave is told none r = absurd (r gave.2)
 first_absent names old new (RefusedSources lines) name others held gave is told none r = absurd (none_told names old new lines name others held gave is told none)
 first_absent names old new NoMemory name others held gave is told none r = elim gave [
-  | inl lack ↦ absurd (told_there old.held held name told (lack.there name others (none_read old names lack.sources lack.unread name others held lack.read is told none).1) none)
+  | inl lack ↦ absurd (MatchOption-at_some ⊤ (λ (names : Held). map.get names name ≢ None) held told (lack.there name others (none_read old names lack.sources lack.unread name others held lack.read is told none).1) none)
   | inr refused ↦ absurd (none_told names old new refused.0 name others held refused.1 is told none)
 ]
 first_absent names old new ending name others held gave is told none r = absurd gave

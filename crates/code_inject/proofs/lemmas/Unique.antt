@@ -5,22 +5,18 @@ use Rattle.std.proofs.lemmas.Option.{slice_get_within, get_or_from_slice_get}
 use Rattle.log_dictionary.specs.declared.message.Message.{Message}
 use Rattle.log_dictionary.specs.Messages.{SameMessage, HasMessage, HasId, AreDistinct}
 use Rattle.log_dictionary.proofs.lemmas.Distinct.{id_is_there}
-use Rattle.log_dictionary.proofs.lemmas.SameMessages.{same_message}
 use Rattle.source_scan.specs.declared.found.Found.{Found}
 use Rattle.source_scan.specs.declared.found.Found.TheVariants as found
 use Rattle.source_scan.specs.declared.found.Statement.{Statement}
 use Rattle.source_scan.proofs.lemmas.Unique.{statements_once}
 use Rattle.preprocessor.specs.declared.refusal.SourceRefusal.{SourceRefusal}
-use Rattle.preprocessor.specs.Findings.{IsMessageOf}
+use Rattle.preprocessor.proofs.lemmas.Finding.{message_once}
 use Rattle.code_inject.specs.declared.rewrite.Rewrite.{Rewrite}
 use Rattle.code_inject.specs.Rewrites.{rewritten_from}
 use Rattle.code_inject.specs.Outcomes.{Outcome, IsKnown, IsUnknown, IsOutcome, AreOutcomes, rewrites_of, refusals_of}
 use Rattle.code_inject.specs.Injected.{InjectsSource, RefusesSource}
 
 -- ---- one message
-
-message_once : (statement : Statement) (a b : Message) → IsMessageOf statement a → IsMessageOf statement b → a ≡ b
-message_once statement a b here there = same_message a b (here.file ∙ sym there.file) (here.line ∙ sym there.line) (here.severity ∙ sym there.severity) (here.format ∙ sym there.format)
 
 -- of two ids of a message the first isn't the lower one
 not_below : (dictionary : List Message) (message : Message) (i j : ℕ) → AreDistinct dictionary → HasId dictionary message i → HasId dictionary message j → i < j → ⊥
@@ -64,13 +60,12 @@ outcome_once dictionary (found.Bad bad) (Outcome.rewritten a) b distinct here th
 outcome_once dictionary (found.Bad bad) (Outcome.refused a) (Outcome.rewritten b) distinct here there = absurd there
 outcome_once dictionary (found.Bad bad) (Outcome.refused a) (Outcome.refused b) distinct here there = ap Outcome.refused (here ∙ sym there)
 
-front_same : (a b : Outcome) (others more : List Outcome) → a ≡ b → others ≡ more → a ∷ others ≡ b ∷ more
-front_same a b others more first rest = cc
-
 outcomes_once : (dictionary : List Message) (list : List Found) (outcomes others : List Outcome) → AreDistinct dictionary → AreOutcomes dictionary list outcomes → AreOutcomes dictionary list others → outcomes ≡ others
 outcomes_once dictionary [] outcomes others distinct here there = here ∙ sym there
 outcomes_once dictionary (one ∷ list) outcomes others distinct (a, behind_a, joined_a, is_a, here) (b, behind_b, joined_b, is_b, there) =
-    joined_a ∙ front_same a b behind_a behind_b (outcome_once dictionary one a b distinct is_a is_b) (outcomes_once dictionary list behind_a behind_b distinct here there) ∙ sym joined_b
+    let first = outcome_once dictionary one a b distinct is_a is_b in
+    let rest = outcomes_once dictionary list behind_a behind_b distinct here there in
+    joined_a ∙ (λ i. first i ∷ rest i) ∙ sym joined_b
 
 -- the same of one source
 same_outcomes : (dictionary : List Message) (list more : List Found) (outcomes others : List Outcome) → AreDistinct dictionary → list ≡ more → AreOutcomes dictionary list outcomes → AreOutcomes dictionary more others → outcomes ≡ others

@@ -1,6 +1,7 @@
 -- Lists that begin alike, and what stands first in longer ones.
-use Rattle.std.proofs.Common.{◌≡◌, ◌⊎◌, inl, inr, ◌+◌, ◌≤◌, Bool, true, false, List, [], ◌∷◌, ◌++◌, length, get_or, refl, sym, ap, subst, ◌∙◌, append_assoc, append-nil, length-append, arith}
+use Rattle.std.proofs.Common.{◌≡◌, ◌⊎◌, inl, inr, ◌+◌, ◌≤◌, Bool, true, false, List, [], ◌∷◌, ◌++◌, length, refl, sym, ap, subst, ◌∙◌, append_assoc, append-nil, length-append, arith}
 use Rattle.std.specs.List.{list_any}
+use Rattle.printf_grammar.proofs.lemmas.Shortening.{cons_parts}
 use Rattle.log_dictionary.specs.declared.message.Message.{Message}
 use Rattle.log_dictionary.specs.Messages.{is_same, HasMessage, AreDistinct}
 use Rattle.log_dictionary.proofs.lemmas.Distinct.{there_from_test, none_from_test, still_distinct}
@@ -9,25 +10,11 @@ use Rattle.preprocessor.proofs.Firsts.{with_new, firsts-push}
 
 -- ---- lists that begin alike
 
-pub head_same : {X : Type 0} (x y : X) (us vs : List X) → x ∷ us ≡ y ∷ vs → x ≡ y
-head_same {X} x y us vs e = ap (λ (l : List X). get_or l 0 x) e
-
-tail_same : {X : Type 0} (x y : X) (us vs : List X) → x ∷ us ≡ y ∷ vs → us ≡ vs
-tail_same {X} x y us vs e = ap tail e
-  where
-    tail : List X → List X
-    tail [] = []
-    tail (first ∷ rest) = rest
-
-pub cancel : {X : Type 0} (xs us vs : List X) → xs ++ us ≡ xs ++ vs → us ≡ vs
-cancel [] us vs e = e
-cancel (x ∷ xs) us vs e = cancel xs us vs (tail_same x x (xs ++ us) (xs ++ vs) e)
-
 -- of two fronts of one list one goes on from the other
 pub fronts_meet : {X : Type 0} (xs ys us vs : List X) → xs ++ us ≡ ys ++ vs → ((zs : List X) × (ys ≡ xs ++ zs)) ⊎ ((zs : List X) × (xs ≡ ys ++ zs))
 fronts_meet [] ys us vs e = inl (ys, refl)
 fronts_meet (x ∷ xs) [] us vs e = inr (x ∷ xs, refl)
-fronts_meet {X} (x ∷ xs) (y ∷ ys) us vs e = with_head (fronts_meet xs ys us vs (tail_same x y _ _ e)) (head_same x y _ _ e)
+fronts_meet {X} (x ∷ xs) (y ∷ ys) us vs e = let parts = cons_parts x y _ _ e in with_head (fronts_meet xs ys us vs parts.1) parts.0
   where
     with_head : ((zs : List X) × (ys ≡ xs ++ zs)) ⊎ ((zs : List X) × (xs ≡ ys ++ zs)) → x ≡ y → ((zs : List X) × (y ∷ ys ≡ x ∷ xs ++ zs)) ⊎ ((zs : List X) × (x ∷ xs ≡ y ∷ ys ++ zs))
     with_head (inl (zs, is)) same = inl (zs, ap (λ (z : X). z ∷ ys) (sym same) ∙ ap (λ (l : List X). x ∷ l) is)

@@ -63,25 +63,27 @@ findings_split (x ∷ list) one findings (first, others, joined, is, later) =
     let split = findings_split list one others later in
     (first ∷ split.0, split.1, joined ∙ ap (λ (l : List Finding). first ∷ l) split.2, (first, split.0, refl, is, split.3), split.4)
 
--- ---- one finding more
-
 -- a statement has one message
-same_finding : (statement : Statement) (message : Message) (finding : Finding) → IsMessageOf statement message → IsFinding (found.Statement statement) finding → finding ≡ Finding.stated message
-same_finding statement message (Finding.stated other) is also =
-    ap Finding.stated (same_message other message (also.file ∙ sym is.file) (also.line ∙ sym is.line) (also.severity ∙ sym is.severity) (also.format ∙ sym is.format))
-same_finding statement message (Finding.refused refusal) is also = absurd also
+pub message_once : (statement : Statement) (a b : Message) → IsMessageOf statement a → IsMessageOf statement b → a ≡ b
+message_once statement a b is also = same_message a b (is.file ∙ sym also.file) (is.line ∙ sym also.line) (is.severity ∙ sym also.severity) (is.format ∙ sym also.format)
+
+-- what was found has one finding
+pub finding_once : (one : Found) (a b : Finding) → IsFinding one a → IsFinding one b → a ≡ b
+finding_once (found.Statement statement) (Finding.stated a) (Finding.stated b) is also = ap Finding.stated (message_once statement a b is also)
+finding_once (found.Statement statement) (Finding.stated a) (Finding.refused b) is also = absurd also
+finding_once (found.Statement statement) (Finding.refused a) b is also = absurd is
+finding_once (found.Bad bad) (Finding.stated a) b is also = absurd is
+finding_once (found.Bad bad) (Finding.refused a) (Finding.stated b) is also = absurd also
+finding_once (found.Bad bad) (Finding.refused a) (Finding.refused b) is also = ap Finding.refused (is ∙ sym also)
+
+-- ---- one finding more
 
 pub statement_held : (one : Found) (statement : Statement) (message : Message) (now next : Numbering) → one ≡ found.Statement statement → IsMessageOf statement message → ((before : List Finding) → HoldsFindings before now → HoldsFindings (before ++ Finding.stated message ∷ []) next)
     → (before : List Finding) (finding : Finding) → IsFinding one finding → HoldsFindings before now → HoldsFindings (before ++ finding ∷ []) next
 statement_held one statement message now next one_is is holds before finding also held =
-    subst (λ (last : Finding). HoldsFindings (before ++ last ∷ []) next) (sym (same_finding statement message finding is (subst (λ (f : Found). IsFinding f finding) one_is also))) (holds before held)
-
--- a bad one has one refusal
-same_refusal : (bad : BadStatement) (finding : Finding) → IsFinding (found.Bad bad) finding → finding ≡ Finding.refused (bad_refusal bad)
-same_refusal bad (Finding.stated message) is = absurd is
-same_refusal bad (Finding.refused refusal) is = ap Finding.refused is
+    subst (λ (last : Finding). HoldsFindings (before ++ last ∷ []) next) (finding_once (found.Statement statement) (Finding.stated message) finding is (subst (λ (f : Found). IsFinding f finding) one_is also)) (holds before held)
 
 pub bad_held : (one : Found) (bad : BadStatement) (now next : Numbering) → one ≡ found.Bad bad → ((before : List Finding) → HoldsFindings before now → HoldsFindings (before ++ Finding.refused (bad_refusal bad) ∷ []) next)
     → (before : List Finding) (finding : Finding) → IsFinding one finding → HoldsFindings before now → HoldsFindings (before ++ finding ∷ []) next
 bad_held one bad now next one_is holds before finding is held =
-    subst (λ (last : Finding). HoldsFindings (before ++ last ∷ []) next) (sym (same_refusal bad finding (subst (λ (f : Found). IsFinding f finding) one_is is))) (holds before held)
+    subst (λ (last : Finding). HoldsFindings (before ++ last ∷ []) next) (finding_once (found.Bad bad) (Finding.refused (bad_refusal bad)) finding refl (subst (λ (f : Found). IsFinding f finding) one_is is)) (holds before held)

@@ -1,31 +1,23 @@
 -- Sources have one list of findings, and one of refusals.
 use Rattle.std.proofs.Common.{◌≡◌, ◌⊎◌, inl, inr, ◌+◌, ◌≤◌, List, [], ◌∷◌, ◌++◌, length, refl, sym, ap, subst, ◌∙◌, append_assoc, append-nil, arith}
 use Rattle.std.proofs.lemmas.Grind.{flat_map-append}
+use Rattle.std.proofs.lemmas.List.{append_cancel_left}
+use Rattle.printf_grammar.proofs.lemmas.Shortening.{cons_parts}
 use Rattle.log_dictionary.specs.declared.message.Message.{Message}
 use Rattle.log_dictionary.specs.declared.dictionary.TheConstants.{MAX_MESSAGES}
 use Rattle.log_dictionary.specs.Messages.{HasMessage}
-use Rattle.log_dictionary.proofs.lemmas.SameMessages.{same_message}
 use Rattle.source_scan.specs.declared.found.Found.{Found}
-use Rattle.source_scan.specs.declared.found.Found.TheVariants as found
 use Rattle.source_scan.proofs.lemmas.Unique.{statements_once}
 use Rattle.preprocessor.specs.declared.refusal.SourceRefusal.{SourceRefusal}
-use Rattle.preprocessor.specs.Findings.{SourceFile, Finding, IsFinding, AreFindings, HasFindings, AllHave}
+use Rattle.preprocessor.specs.Findings.{SourceFile, Finding, AreFindings, HasFindings, AllHave}
 use Rattle.preprocessor.specs.Findings.HasFindings.{too_large, scanned}
 use Rattle.preprocessor.specs.Numbering.{finding_messages, stated_messages, refusals_of, firsts, numbered, excess_refusal, IsFullAt, Refusals}
 use Rattle.preprocessor.specs.Numbering.Refusals.{all_read, stopped}
-use Rattle.preprocessor.proofs.lemmas.Behind.{head_same, cancel, fronts_meet, grown_behind, one_longer}
+use Rattle.preprocessor.proofs.lemmas.Behind.{fronts_meet, grown_behind, one_longer}
+use Rattle.preprocessor.proofs.lemmas.Finding.{finding_once}
 use Rattle.preprocessor.proofs.Holding.{stops_later}
 
 -- ---- findings
-
-finding_once : (one : Found) (a b : Finding) → IsFinding one a → IsFinding one b → a ≡ b
-finding_once (found.Statement statement) (Finding.stated a) (Finding.stated b) is also =
-    ap Finding.stated (same_message a b (is.file ∙ sym also.file) (is.line ∙ sym also.line) (is.severity ∙ sym also.severity) (is.format ∙ sym also.format))
-finding_once (found.Statement statement) (Finding.stated a) (Finding.refused b) is also = absurd also
-finding_once (found.Statement statement) (Finding.refused a) b is also = absurd is
-finding_once (found.Bad bad) (Finding.stated a) b is also = absurd is
-finding_once (found.Bad bad) (Finding.refused a) (Finding.stated b) is also = absurd also
-finding_once (found.Bad bad) (Finding.refused a) (Finding.refused b) is also = ap Finding.refused (is ∙ sym also)
 
 are_findings_once : (list : List Found) (a b : List Finding) → AreFindings list a → AreFindings list b → a ≡ b
 are_findings_once [] a b is also = is ∙ sym also
@@ -46,7 +38,7 @@ all_have_once (file ∷ files) a b (first, rest, joined, is, later) (other, othe
     joined ∙ ap (λ (l : List Finding). l ++ rest) (findings_once file first other is also) ∙ ap (λ (l : List Finding). other ++ l) (all_have_once files rest others later also_later) ∙ sym also_joined
 
 -- the findings of sources begin with those of the first ones
-have_front : (read unread : List SourceFile) (findings : List Finding) → AllHave (read ++ unread) findings → (front : List Finding) × (rest : List Finding) × (findings ≡ front ++ rest) × AllHave read front
+pub have_front : (read unread : List SourceFile) (findings : List Finding) → AllHave (read ++ unread) findings → (front : List Finding) × (rest : List Finding) × (findings ≡ front ++ rest) × AllHave read front
 have_front [] unread findings have = ([], findings, refl, refl)
 have_front (file ∷ read) unread findings (first, others, joined, is, later) =
     let parts = have_front read unread others later in
@@ -81,12 +73,12 @@ message_in other (Finding.refused refusal) = other
 -- one stop is at the other, where its front goes on from the other's
 stops_with : (findings front other : List Finding) (message last : Message) (a : IsFullAt findings front message) (b : IsFullAt findings other last) (more : List Finding) → other ≡ front ++ more → (front ≡ other) × (message ≡ last)
 stops_with findings front other message last a b more is =
-    by_more more is (cancel front (Finding.stated message ∷ a.rest) (more ++ Finding.stated last ∷ b.rest) (sym a.joined ∙ b.joined ∙ ap (λ (l : List Finding). l ++ Finding.stated last ∷ b.rest) is ∙ append_assoc front more (Finding.stated last ∷ b.rest)))
+    by_more more is (append_cancel_left front (Finding.stated message ∷ a.rest) (more ++ Finding.stated last ∷ b.rest) (sym a.joined ∙ b.joined ∙ ap (λ (l : List Finding). l ++ Finding.stated last ∷ b.rest) is ∙ append_assoc front more (Finding.stated last ∷ b.rest)))
   where
     by_more : (more : List Finding) → other ≡ front ++ more → Finding.stated message ∷ a.rest ≡ more ++ Finding.stated last ∷ b.rest → (front ≡ other) × (message ≡ last)
-    by_more [] is e = (sym (is ∙ append-nil front), ap (message_in message) (head_same (Finding.stated message) (Finding.stated last) a.rest b.rest e))
+    by_more [] is e = (sym (is ∙ append-nil front), ap (message_in message) (cons_parts (Finding.stated message) (Finding.stated last) a.rest b.rest e).0)
     by_more (one ∷ more) is e =
-        absurd (not_behind front more message other a.full a.new (is ∙ ap (λ (f : Finding). front ++ f ∷ more) (sym (head_same (Finding.stated message) one a.rest (more ++ Finding.stated last ∷ b.rest) e))) b.full)
+        absurd (not_behind front more message other a.full a.new (is ∙ ap (λ (f : Finding). front ++ f ∷ more) (sym (cons_parts (Finding.stated message) one a.rest (more ++ Finding.stated last ∷ b.rest) e).0)) b.full)
 
 stops_once : (findings front other : List Finding) (message last : Message) → IsFullAt findings front message → IsFullAt findings other last → (front ≡ other) × (message ≡ last)
 stops_once findings front other message last a b = by_meeting (fronts_meet front other (Finding.stated message ∷ a.rest) (Finding.stated last ∷ b.rest) (sym a.joined ∙ b.joined))

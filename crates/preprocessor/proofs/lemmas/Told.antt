@@ -18,7 +18,7 @@ pub numbering_refuses : (files : List SourceFile) (numbering : Numbering) → Nu
 numbering_refuses files numbering (NumbersSources.all_read findings have holds) = Refusals.all_read findings have holds.few holds.refusals
 numbering_refuses files numbering (NumbersSources.stopped read unread findings joined have holds) = Refusals.stopped read unread findings joined have holds.front holds.message holds.stops holds.refusals
 
-not_empty : (list : List SourceRefusal) (last : SourceRefusal) → list ++ last ∷ [] ≡ [] → ⊥
+pub not_empty : (list : List SourceRefusal) (last : SourceRefusal) → list ++ last ∷ [] ≡ [] → ⊥
 not_empty list last e = let longer = length-append list (last ∷ []) in let none = ap length e in absurd (omega (arith, longer, none))
 
 -- where it refuses nothing, its messages are those of the sources

@@ -1,7 +1,8 @@
 use Rattle.std.proofs.Common.{◌≡◌, ℕ, List, ◌++◌, take, vec_len, rules, ap, ◌∙◌}
 use Rattle.std.proofs.lemmas.List.{take_rest}
 use Rattle.log_dictionary.proofs.lemmas.Appending.{kept}
-use Rattle.code_inject.proofs.Rewriting.{heads_end, next_head, appended_again, head_appended, rest_appended}
+use Rattle.code_inject.proofs.Gathered.{heads_end}
+use Rattle.code_inject.proofs.Rewriting.{next_head, appended_again, head_appended, rest_appended}
 use Rattle.code_inject.proofs.rewrite.push_rewritten.Goals as goal
 
 pub push_head-requires-clause-within : goal.push_head-requires-clause-within
