@@ -1,8 +1,9 @@
 -- What `decompress` gives of a log that `replay` wrote.
 use Rattle.std.proofs.Common.{◌≡◌, ℕ, zero, suc, ◌+◌, ◌<◌, ◌≤◌, Bool, false, cond, List, [], ◌∷◌, length, Option, Some, None, Result, Ok, Err, refl, sym, ap, subst, ◌∙◌, inl, inr, arith}
-use Rattle.std.specs.Prelude.{◌⊎◌, not, filter, IfSome, is_some}
+use Rattle.std.specs.Prelude.{◌⊎◌, not, filter, is_some, ⊤}
 use Rattle.std.specs.List.{list_any, range_with_len}
 use Rattle.std.specs.FinMap as map
+use Rattle.std.proofs.lemmas.Option.{MatchOption-at_some, same_Some}
 use Rattle.nl_io.specs.Count.{Rose}
 use Rattle.nl_io.specs.Content.{with_end}
 use Rattle.nl_io.specs.Desk.{Desk, Held}
@@ -44,15 +45,6 @@ use Rattle.session_commands.specs.Headline.{taken_text, LogLawful, TextSame}
 use Rattle.session_commands.specs.Replays.{replay_task}
 use Rattle.session_commands.proofs.lemmas.Headlines.{only_log}
 use Rattle.session_commands.proofs.lemmas.WholeRuns.{whole_text}
-
-some_same : {A : Type 0} (a b : A) → Some a ≡ Some b → a ≡ b
-some_same a b e = cc
-
--- what is told that a name holds
-held_by : (told : Option Held) (held : Held) (name bytes : List ℕ) → told ≡ Some held
-    → IfSome told (λ names. map.get names name ≡ Some bytes) → map.get held name ≡ Some bytes
-held_by None held name bytes is has = absurd cc
-held_by (Some names) held name bytes is has = ap (λ (h : Held). map.get h name) (sym (some_same names held is)) ∙ has
 
 -- the log of a run stands for its lines
 pub lawful_text : (new : Desk) (log : List ℕ) (run : Recording) (options : Options) (drops : List Dropped)
@@ -103,7 +95,7 @@ module _ (log : List ℕ) (options : Options) (run : Recording) (drops : List Dr
     held = held;
     bytes = bytes;
     told = told;
-    there = held_by old.desk.held held log bytes told lawful.held;
+    there = MatchOption-at_some ⊤ (λ (names : Held). map.get names log ≡ Some bytes) held told lawful.held;
     formed = session_is_log run options.batch (Taken run options.level drops) bytes lawful.whole within;
   }
 
@@ -169,14 +161,6 @@ replayed log options run drops bytes old new ending held lawful within told effe
 
 -- ---- a replay in which all calls are taken
 
--- what is told of a name
-such_told : (told : Option Held) (held : Held) (name : List ℕ) (such : List ℕ → Type 0) → told ≡ Some held
-    → IfSome told (λ names. (bytes : List ℕ) × (map.get names name ≡ Some bytes) × such bytes)
-    → (bytes : List ℕ) × (map.get held name ≡ Some bytes) × such bytes
-such_told None held name such is holds = absurd cc
-such_told (Some names) held name such is holds =
-    subst (λ (h : Held). (bytes : List ℕ) × (map.get h name ≡ Some bytes) × such bytes) (some_same names held is) holds
-
 told_too : (told : Option Held) (other : Option Held) (held : Held) → is_some other ≡ is_some told → other ≡ Some held
     → (names : Held) × (told ≡ Some names)
 told_too None other held same is = absurd (let none : is_some (Some held) ≡ false = sym (ap is_some is) ∙ same in cc)
@@ -186,9 +170,9 @@ told_too (Some names) other held same is = (names, refl)
 same_run : (old other : Desk) (trace : List ℕ) (held : Held) (a b : Recording) → old.held ≡ Some held → other ≡ old
     → TraceRead old trace a → TraceRead other trace b → (a ≡ b) × IsRecording a
 same_run old other trace held a b told same read again =
-    let first = such_told old.held held trace (λ bytes. TraceText bytes a) told read in
-    let second = such_told other.held held trace (λ bytes. TraceText bytes b) (ap (λ (d : Desk). d.held) same ∙ told) again in
-    let bytes_are : second.0 ≡ first.0 = some_same second.0 first.0 (sym second.1 ∙ first.1) in
+    let first = MatchOption-at_some ⊤ (λ (names : Held). (bytes : List ℕ) × (map.get names trace ≡ Some bytes) × TraceText bytes a) held told read in
+    let second = MatchOption-at_some ⊤ (λ (names : Held). (bytes : List ℕ) × (map.get names trace ≡ Some bytes) × TraceText bytes b) held (ap (λ (d : Desk). d.held) same ∙ told) again in
+    let bytes_are : second.0 ≡ first.0 = same_Some second.0 first.0 (sym second.1 ∙ first.1) in
     (one_run first.0 a b first.2 (subst (λ (bytes : List ℕ). TraceText bytes b) bytes_are second.2), first.2.recorded)
 
 -- decompressing the log prints what `direct` prints
@@ -218,7 +202,7 @@ as_direct trace log options before after whole waits all held bytes told there w
     subst (λ (d : Desk). LogLawful d log run options drops given.bytes) (sym desk)
     (record { held = made.0; whole = given.session.whole }) in
     let bytes_are : given.bytes ≡ bytes =
-    some_same given.bytes bytes (sym (held_by after.desk.held held log given.bytes told made.0) ∙ there) in
+    same_Some given.bytes bytes (sym (MatchOption-at_some ⊤ (λ (names : Held). map.get names log ≡ Some given.bytes) held told made.0) ∙ there) in
     let short : length given.bytes ≤ MAX_LOG = omega (arith, ap length bytes_are, within) in
     let told_old = ap (λ (d : Desk). d.held) desk ∙ told in (
       text,
