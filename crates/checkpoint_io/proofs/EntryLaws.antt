@@ -1,6 +1,6 @@
 -- Entries that are read from a source.
 use Rattle.std.proofs.Common.{◌≡◌, ℕ, ◌+◌, ◌<◌, ◌≤◌, List, [], ◌∷◌, ◌++◌, length, take, drop, Some, None, refl, sym, ap, subst, ◌∙◌, inl, inr, ◌⊎◌, append_assoc, arith}
-use Rattle.std.specs.Prelude.{IfSome, IfErr, Result, Ok, Err}
+use Rattle.std.specs.Prelude.{IfSome, IfErr, IsErrOf, Result, Ok, Err}
 use Rattle.std.specs.Hash.{le_bytes}
 use Rattle.std.proofs.lemmas.List.{length-append, length-take, take-append-drop, append-nil}
 use Rattle.nl_io.specs.Content.{Told, IsAtEnd}
@@ -15,7 +15,7 @@ use Rattle.checkpoint_io.specs.declared.cause.Cause.{Cause}
 use Rattle.checkpoint_io.specs.declared.cause.Cause.TheVariants as causes
 use Rattle.checkpoint_io.specs.declared.fault.BlockFault.{BlockFault}
 use Rattle.checkpoint_io.specs.declared.fault.BlockFault.TheVariants.{Damaged, ReadFault, NoMemory}
-use Rattle.checkpoint_io.specs.Places.{UnreadBytes, LogPlace, with_front, log_place, further}
+use Rattle.checkpoint_io.specs.Places.{UnreadBytes, LogPlace, with_front, log_place, further, IsNoDamage}
 use Rattle.checkpoint_io.specs.Entries.{BeginsWithNone, BeginsWithOld, BreaksNoEntry, BreaksEntry, TakesEntry}
 use Rattle.log_dictionary.specs.Messages.{HasMessage}
 use Rattle.checkpoint_io.proofs.StepLaws.{front_taken}
@@ -55,14 +55,14 @@ no_entry_told told None bytes cause same there = subst (λ (t : Told). IfSome t 
 no_entry_told told (Some rest) bytes cause same there = subst (λ (t : Told). IfSome t (BeginsWithNone cause)) same (there rest refl)
 
 -- bytes that begin with a bad entry, whatever follows
-pub bad_entry : (from mid : UnreadBytes) (left now : Told) → with_front mid.bytes now ≡ with_front from.bytes left → IsBadEntry mid.bytes → BreaksNoEntry (log_place from left) (Damaged causes.BadEntry)
+pub bad_entry : (from mid : UnreadBytes) (left now : Told) → with_front mid.bytes now ≡ with_front from.bytes left → IsBadEntry mid.bytes → BreaksNoEntry (log_place from left) now (Damaged causes.BadEntry)
 bad_entry from mid left now same bad = no_entry_told (with_front from.bytes left) now mid.bytes causes.BadEntry same (λ rest is. inr (stays_bad mid.bytes rest bad, refl))
 
 apart : (told : Told) (rest : List ℕ) → told ≡ None → told ≡ Some rest → ⊥
 apart told rest none some = cc
 
 -- bytes that end inside an entry, at the end of the source
-pub cut_entry : (from mid to : UnreadBytes) (left now behind : Told) → with_front mid.bytes now ≡ with_front from.bytes left → with_front to.bytes behind ≡ with_front mid.bytes now → length to.bytes ≡ length mid.bytes → IsAtEnd behind → IsCutEntry mid.bytes → BreaksNoEntry (log_place from left) (Damaged causes.Cut)
+pub cut_entry : (from mid to : UnreadBytes) (left now behind : Told) → with_front mid.bytes now ≡ with_front from.bytes left → with_front to.bytes behind ≡ with_front mid.bytes now → length to.bytes ≡ length mid.bytes → IsAtEnd behind → IsCutEntry mid.bytes → BreaksNoEntry (log_place from left) behind (Damaged causes.Cut)
 cut_entry from mid to left None behind same step len at_end cut = no_entry_told (with_front from.bytes left) None mid.bytes causes.Cut same (λ rest is. absurd (apart None rest refl is))
 cut_entry from mid to left (Some rest) None same step len at_end cut = absurd (apart None (mid.bytes ++ rest) refl step)
 cut_entry from mid to left (Some rest) (Some others) same step len at_end cut =
@@ -76,20 +76,27 @@ cut_entry from mid to left (Some rest) (Some others) same step len at_end cut =
     nothing [] e = refl
     nothing (x ∷ xs) e = absurd (omega (arith, e))
 
+-- bytes that end inside an entry, where no more came
+pub entry_failed : {T : Type 0} (r : Result T BlockFault) (from mid : UnreadBytes) (left now behind : Told) → with_front mid.bytes now ≡ with_front from.bytes left → IsCutEntry mid.bytes → IfErr r IsNoDamage → (IsErrOf r ReadFault → behind ≡ now) → IfErr r (BreaksNoEntry (log_place from left) behind)
+entry_failed (Ok x) from mid left now behind same cut sound failed = tt
+entry_failed (Err (Damaged cause)) from mid left now behind same cut sound failed = absurd sound
+entry_failed (Err ReadFault) from mid left now behind same cut sound failed = (mid.bytes, sym same ∙ ap (with_front mid.bytes) (sym (failed refl)), cut)
+entry_failed (Err NoMemory) from mid left now behind same cut sound failed = tt
+
 -- ---- no new entry
 
-pub none_breaks : {T : Type 0} (r : Result T BlockFault) (defined : List Message) (from : LogPlace) → IfErr r (BreaksNoEntry from) → IfErr r (BreaksEntry defined from)
-none_breaks (Ok x) defined from none = tt
-none_breaks (Err (Damaged cause)) defined from none = told from.ahead none
+pub none_breaks : {T : Type 0} (r : Result T BlockFault) (defined : List Message) (from : LogPlace) (left : Told) → IfErr r (BreaksNoEntry from left) → IfErr r (BreaksEntry defined from left)
+none_breaks (Ok x) defined from left none = tt
+none_breaks (Err (Damaged cause)) defined from left none = told from.ahead none
   where
     told : (ahead : Told) → IfSome ahead (BeginsWithNone cause) → IfSome ahead (λ bytes. BeginsWithNone cause bytes ⊎ (BeginsWithOld defined bytes × (cause ≡ causes.BadEntry)))
     told None there = tt
     told (Some bytes) there = inl there
-none_breaks (Err ReadFault) defined from none = tt
-none_breaks (Err NoMemory) defined from none = tt
+none_breaks (Err ReadFault) defined from left cut = cut
+none_breaks (Err NoMemory) defined from left none = tt
 
 -- the message whose entry waits is there already
-pub old_entry : (defined : List Message) (message : Message) (len : ℕ) (from mid : UnreadBytes) (left now : Told) → with_front mid.bytes now ≡ with_front from.bytes left → SpellsEntry (take len mid.bytes) message → HasMessage defined message → BreaksEntry defined (log_place from left) (Damaged causes.BadEntry)
+pub old_entry : (defined : List Message) (message : Message) (len : ℕ) (from mid : UnreadBytes) (left now : Told) → with_front mid.bytes now ≡ with_front from.bytes left → SpellsEntry (take len mid.bytes) message → HasMessage defined message → BreaksEntry defined (log_place from left) now (Damaged causes.BadEntry)
 old_entry defined message len from mid left None same spelled there = subst (λ (t : Told). IfSome t (λ bytes. BeginsWithNone causes.BadEntry bytes ⊎ (BeginsWithOld defined bytes × (causes.BadEntry ≡ causes.BadEntry)))) same tt
 old_entry defined message len from mid left (Some rest) same spelled there =
     let joined : mid.bytes ++ rest ≡ take len mid.bytes ++ (drop len mid.bytes ++ rest) = ap (λ (b : List ℕ). b ++ rest) (sym (take-append-drop len mid.bytes)) ∙ append_assoc (take len mid.bytes) (drop len mid.bytes) rest in

@@ -12,10 +12,10 @@ use Rattle.checkpoint_io.specs.declared.fault.BlockFault.{BlockFault}
 use Rattle.checkpoint_io.specs.declared.fault.BlockFault.TheVariants.{Damaged, ReadFault, NoMemory}
 use Rattle.checkpoint_io.specs.declared.block.Block.TheVariants as read
 use Rattle.checkpoint_io.specs.Blocks.{Fragment}
-use Rattle.checkpoint_io.specs.Reading.{broken, ReadsEntries, IsBadCount, ReadsCount, ReadsFragment}
-use Rattle.checkpoint_io.specs.Places.{LogPlace, BytesBetween, StandsBetween, Refuses}
+use Rattle.checkpoint_io.specs.Reading.{broken, Unless, ReadsEntries, IsBadCount, ReadsCount, ReadsFragment}
+use Rattle.checkpoint_io.specs.Places.{LogPlace, BytesBetween, StandsBetween, Refuses, EndsBefore}
 use Rattle.checkpoint_io.specs.Entries.{BeginsWithNone, BeginsWithOld, BreaksEntry, TakesEntry, TakesEntries, TakesFragment}
-use Rattle.checkpoint_io.proofs.StepLaws.{GoesOnBehind, refused_behind, taken_behind, err_behind}
+use Rattle.checkpoint_io.proofs.StepLaws.{GoesOnBehind, refused_behind, taken_behind, err_behind, number_cut}
 
 -- ---- entries
 
@@ -45,20 +45,21 @@ entries_ok (Ok _) before read first count defined now after from mid to some tak
     (one_entry_more before first read (count - 1) after from mid to takes.message takes.front takes.passes takes.spelled new (others before (read ++ takes.message ∷ []) first all))
 entries_ok (Err fault) before read first count defined now after from mid to some takes others is = tt
 
-pub entries_err : (r : Result (Unit {0}) BlockFault) (before read : List Message) (first count : ℕ) (defined now : List Message) (from mid : LogPlace) → ¬ (count ≡ 0) → TakesEntry defined now from mid → ((b r' : List Message) (f : ℕ) → now ≡ b ++ r' → IfErr r (Refuses (ReadsEntries b f r' (count - 1)) mid)) → defined ≡ before ++ read → IfErr r (Refuses (ReadsEntries before first read count) from)
-entries_err (Ok _) before read first count defined now from mid some takes others is = tt
-entries_err (Err fault) before read first count defined now from mid some takes others is =
+pub entries_err : (r : Result (Unit {0}) BlockFault) (before read : List Message) (first count : ℕ) (defined now : List Message) (from mid : LogPlace) (left : Told) → ¬ (count ≡ 0) → TakesEntry defined now from mid → ((b r' : List Message) (f : ℕ) → now ≡ b ++ r' → IfErr r (Refuses (ReadsEntries b f r' (count - 1)) mid left)) → defined ≡ before ++ read → IfErr r (Refuses (ReadsEntries before first read count) from left)
+entries_err (Ok _) before read first count defined now from mid left some takes others is = tt
+entries_err (Err fault) before read first count defined now from mid left some takes others is =
     let all : now ≡ before ++ (read ++ takes.message ∷ []) = takes.added ∙ ap (λ (l : List Message). l ++ takes.message ∷ []) is ∙ append_assoc before read (takes.message ∷ []) in
     let new : ¬ (HasMessage (before ++ read) takes.message) = subst (λ (l : List Message). ¬ (HasMessage l takes.message)) is takes.new in
-    subst (λ (n : ℕ). Refuses (ReadsEntries before first read n) from fault) (sym (positive count some))
-    (refused_behind (ReadsEntries before first read (suc (count - 1))) (ReadsEntries before first (read ++ takes.message ∷ []) (count - 1)) takes.front from mid fault (entries_on before first read (count - 1) takes.message takes.front takes.spelled new) takes.passes (others before (read ++ takes.message ∷ []) first all))
+    subst (λ (n : ℕ). Refuses (ReadsEntries before first read n) from left fault) (sym (positive count some))
+    (refused_behind (ReadsEntries before first read (suc (count - 1))) (ReadsEntries before first (read ++ takes.message ∷ []) (count - 1)) takes.front from mid left fault (entries_on before first read (count - 1) takes.message takes.front takes.spelled new) takes.passes (others before (read ++ takes.message ∷ []) first all))
 
 -- where the next entry is broken
-pub entry_err : {T : Type 0} (r : Result T BlockFault) (before read : List Message) (first count : ℕ) (defined : List Message) (from : LogPlace) → ¬ (count ≡ 0) → IfErr r (BreaksEntry defined from) → defined ≡ before ++ read → IfErr r (Refuses (ReadsEntries before first read count) from)
-entry_err (Ok x) before read first count defined from some breaks is = tt
-entry_err (Err ReadFault) before read first count defined from some breaks is = tt
-entry_err (Err NoMemory) before read first count defined from some breaks is = tt
-entry_err (Err (Damaged cause)) before read first count defined from some breaks is =
+pub entry_err : {T : Type 0} (r : Result T BlockFault) (before read : List Message) (first count : ℕ) (defined : List Message) (from : LogPlace) (left : Told) → ¬ (count ≡ 0) → IfErr r (BreaksEntry defined from left) → defined ≡ before ++ read → IfErr r (Refuses (ReadsEntries before first read count) from left)
+entry_err (Ok x) before read first count defined from left some breaks is = tt
+entry_err (Err ReadFault) before read first count defined from left some (bytes, parted, cut) is =
+    (bytes, parted, subst (λ (n : ℕ). ReadsEntries before first read n bytes (broken causes.Cut)) (sym (positive count some)) (inl (cut, refl)))
+entry_err (Err NoMemory) before read first count defined from left some breaks is = tt
+entry_err (Err (Damaged cause)) before read first count defined from left some breaks is =
     subst (λ (n : ℕ). IfSome from.ahead (λ bytes. ReadsEntries before first read n bytes (broken cause))) (sym (positive count some)) (told from.ahead breaks)
   where
     one : (bytes : List ℕ) → BeginsWithNone cause bytes ⊎ (BeginsWithOld defined bytes × (cause ≡ causes.BadEntry)) → ReadsEntries before first read (suc (count - 1)) bytes (broken cause)
@@ -91,7 +92,13 @@ fragment_taken before after first count from mid start to fits count_fits is goo
       takes = taken_behind (ReadsFragment before) (ReadsCount before first) fragment (le_bytes 4 first) from mid to (first_on before first fits is) p counts;
     }
 
-pub fragment_err : {T : Type 0} (r : Result T BlockFault) (before : List Message) (first count : ℕ) (from mid start : LogPlace) → first < 256 ^ 4 → count < 256 ^ 2 → first ≡ length before → ¬ (IsBadCount before count) → BytesBetween (le_bytes 4 first) from mid → BytesBetween (le_bytes 2 count) mid start → IfErr r (Refuses (ReadsEntries before first [] count) start) → IfErr r (Refuses (ReadsFragment before) from)
-fragment_err r before first count from mid start fits count_fits is good p q refused =
-    err_behind r (ReadsFragment before) (ReadsCount before first) (le_bytes 4 first) from mid (first_on before first fits is) p
-    (err_behind r (ReadsCount before first) (ReadsEntries before first [] count) (le_bytes 2 count) mid start (count_on before first count count_fits good) q refused)
+-- where it is cut off behind the first id
+pub count_cut : {T : Type 0} (r : Result T BlockFault) (before : List Message) (first : ℕ) (from mid : LogPlace) (left : Told) → first < 256 ^ 4 → first ≡ length before → BytesBetween (le_bytes 4 first) from mid → IfErr r (EndsBefore 2 mid left) → IfErr r (Refuses (ReadsFragment before) from left)
+count_cut r before first from mid left fits is p cut =
+    err_behind r (ReadsFragment before) (ReadsCount before first) (le_bytes 4 first) from mid left (first_on before first fits is) p
+    (number_cut r 2 (λ count rest outcome. Unless (IsBadCount before count) causes.BadLength (ReadsEntries before first [] count rest) outcome) mid left cut)
+
+pub fragment_err : {T : Type 0} (r : Result T BlockFault) (before : List Message) (first count : ℕ) (from mid start : LogPlace) (left : Told) → first < 256 ^ 4 → count < 256 ^ 2 → first ≡ length before → ¬ (IsBadCount before count) → BytesBetween (le_bytes 4 first) from mid → BytesBetween (le_bytes 2 count) mid start → IfErr r (Refuses (ReadsEntries before first [] count) start left) → IfErr r (Refuses (ReadsFragment before) from left)
+fragment_err r before first count from mid start left fits count_fits is good p q refused =
+    err_behind r (ReadsFragment before) (ReadsCount before first) (le_bytes 4 first) from mid left (first_on before first fits is) p
+    (err_behind r (ReadsCount before first) (ReadsEntries before first [] count) (le_bytes 2 count) mid start left (count_on before first count count_fits good) q refused)

@@ -22,7 +22,7 @@ use Rattle.checkpoint_io.specs.Entries.{TakesFragment}
 use Rattle.checkpoint_io.specs.Writers.{WriterStates, AreStatesOf}
 use Rattle.checkpoint_io.specs.NextBlocks.{TakesClose, TakesExtent, TakesBlock}
 use Rattle.checkpoint_io.proofs.lemmas.ValidityLaws.{messages-push}
-use Rattle.checkpoint_io.proofs.StepLaws.{front_taken, GoesOnBehind, taken_behind, refused_behind}
+use Rattle.checkpoint_io.proofs.StepLaws.{front_taken, GoesOnBehind, taken_behind, refused_behind, err_behind}
 use Rattle.checkpoint_io.proofs.WriterLaws.{states_kept}
 
 -- ---- bodies
@@ -85,11 +85,11 @@ fragment_block (Ok told) header before defined after states tag from mid to is k
       states = states_kept states header.clock.tick before block (λ writer. refl) (λ writer. refl) are;
     }
 
-pub fragment_broken : (r : Result ReadBlock BlockFault) (header : Header) (before : List Block) (defined : List Message) (tag : ℕ) (from mid : LogPlace) → tag ≡ 1 → defined ≡ messages_of before → BytesBetween (tag ∷ []) from mid → IfErr r (Refuses (ReadsFragment defined) mid) → IfErr r (Refuses (ReadsBlock header before) from)
-fragment_broken (Ok told) header before defined tag from mid is known passes refused = tt
-fragment_broken (Err fault) header before defined tag from mid is known passes refused =
-    let behind : Refuses (ReadsFragment (messages_of before)) mid fault = subst (λ (m : List Message). Refuses (ReadsFragment m) mid fault) known refused in
-    refused_behind (ReadsBlock header before) (ReadsFragment (messages_of before)) (tag ∷ []) from mid fault (λ rest outcome goes. inr (tag, rest, refl, inl (is, goes))) passes behind
+pub fragment_broken : (r : Result ReadBlock BlockFault) (header : Header) (before : List Block) (defined : List Message) (tag : ℕ) (from mid : LogPlace) (left : Told) → tag ≡ 1 → defined ≡ messages_of before → BytesBetween (tag ∷ []) from mid → IfErr r (Refuses (ReadsFragment defined) mid left) → IfErr r (Refuses (ReadsBlock header before) from left)
+fragment_broken (Ok told) header before defined tag from mid left is known passes refused = tt
+fragment_broken (Err fault) header before defined tag from mid left is known passes refused =
+    let behind : Refuses (ReadsFragment (messages_of before)) mid left fault = subst (λ (m : List Message). Refuses (ReadsFragment m) mid left fault) known refused in
+    refused_behind (ReadsBlock header before) (ReadsFragment (messages_of before)) (tag ∷ []) from mid left fault (λ rest outcome goes. inr (tag, rest, refl, inl (is, goes))) passes behind
 
 pub extent_block : (header : Header) (before : List Block) (defined : List Message) (writer same : ℕ) (entries : List Call) (after : WriterStates) (tag : ℕ) (from mid to : LogPlace) → tag ≡ 2 → same ≡ writer → defined ≡ messages_of before → BytesBetween (tag ∷ []) from mid → TakesExtent header before writer entries after mid to → TakesBlock header before (read.Extent same entries) defined after from to
 extent_block header before defined writer same entries after tag from mid to is named known passes takes =
@@ -101,6 +101,10 @@ extent_block header before defined writer same entries after tag from mid to is 
       defined = known ∙ sym (messages-push before block ∙ append-nil (messages_of before));
       states = takes.states;
     }
+
+pub extent_broken : {T : Type 0} (r : Result T BlockFault) (header : Header) (before : List Block) (tag : ℕ) (from mid : LogPlace) (left : Told) → tag ≡ 2 → BytesBetween (tag ∷ []) from mid → IfErr r (Refuses (ReadsExtent header before) mid left) → IfErr r (Refuses (ReadsBlock header before) from left)
+extent_broken r header before tag from mid left is passes refused =
+    err_behind r (ReadsBlock header before) (ReadsExtent header before) (tag ∷ []) from mid left (λ rest outcome goes. inr (tag, rest, refl, inr (inl (is, goes)))) passes refused
 
 pub close_block : (header : Header) (before : List Block) (defined : List Message) (writer same : ℕ) (after : WriterStates) (tag : ℕ) (from mid to : LogPlace) → tag ≡ 4 → same ≡ writer → defined ≡ messages_of before → BytesBetween (tag ∷ []) from mid → TakesClose header before writer after mid to → TakesBlock header before (read.Closed same) defined after from to
 close_block header before defined writer same after tag from mid to is named known passes takes =

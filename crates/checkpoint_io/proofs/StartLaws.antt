@@ -8,13 +8,13 @@ use Rattle.session_options.specs.declared.limits.TheConstants.{MAX_WRITERS}
 use Rattle.checkpoint_io.specs.declared.cause.Cause.{Cause}
 use Rattle.checkpoint_io.specs.declared.cause.Cause.TheVariants as causes
 use Rattle.checkpoint_io.specs.declared.fault.BlockFault.{BlockFault}
-use Rattle.checkpoint_io.specs.declared.fault.BlockFault.TheVariants.{Damaged}
+use Rattle.checkpoint_io.specs.declared.fault.BlockFault.TheVariants.{ReadFault}
 use Rattle.checkpoint_io.specs.declared.header.Header.{Header}
 use Rattle.checkpoint_io.specs.Blocks.{header_bytes}
 use Rattle.checkpoint_io.specs.Validity.{IsHeader}
 use Rattle.checkpoint_io.specs.Reading.{found, broken, Reads, ReadsNoMore, Unless, MagicThen, header_of, ReadsRate, ReadsNanos, ReadsClock, ReadsWriters, ReadsVersion, ReadsHeader}
 use Rattle.checkpoint_io.specs.Fronts.{Break, at_header}
-use Rattle.checkpoint_io.specs.Places.{UnreadBytes, with_front, log_place, StandsBetween}
+use Rattle.checkpoint_io.specs.Places.{UnreadBytes, with_front, log_place, StandsBetween, TookSuch, Refuses}
 use Rattle.checkpoint_io.specs.Writers.{AreStatesOf}
 use Rattle.checkpoint_io.specs.Readers.{ReaderState, StandsFor}
 use Rattle.checkpoint_io.proofs.lemmas.BlockLaws.{le_length}
@@ -130,5 +130,10 @@ pub not_started : (bytes : List ℕ) (from : Told) (cause : Cause) → bytes ≡
 not_started bytes None cause none reads = tt
 not_started bytes (Some content) cause none reads = at_header cause (subst (λ (b : List ℕ). ReadsHeader (b ++ content) (broken cause)) none reads)
 
-pub told_fault : {T : Type 0} (r : Result T BlockFault) (P : BlockFault → Type 0) (cause : Cause) → r ≡ Err (Damaged cause) → IfErr r P → P (Damaged cause)
-told_fault r P cause is holds = subst (λ x. IfErr x P) is holds
+-- where a read failed inside it
+pub not_read : (none : UnreadBytes) (from behind : Told) → none.bytes ≡ [] → Refuses ReadsHeader (log_place none from) behind ReadFault → TookSuch (λ bytes. Break bytes 0 causes.Cut) from behind
+not_read none from behind no_bytes (bytes, parted, reads) =
+    (bytes, sym (ap (λ (b : List ℕ). with_front b from) no_bytes ∙ no_front from) ∙ parted, at_header causes.Cut reads)
+
+pub told_fault : {T : Type 0} (r : Result T BlockFault) (P : BlockFault → Type 0) (fault : BlockFault) → r ≡ Err fault → IfErr r P → P fault
+told_fault r P fault is holds = subst (λ x. IfErr x P) is holds

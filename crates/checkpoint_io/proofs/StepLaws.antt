@@ -16,7 +16,7 @@ use Rattle.checkpoint_io.specs.declared.fault.BlockFault.{BlockFault}
 use Rattle.checkpoint_io.specs.declared.fault.BlockFault.TheVariants.{Damaged, ReadFault, NoMemory}
 use Rattle.checkpoint_io.specs.declared.header.Header.{Header}
 use Rattle.checkpoint_io.specs.Reading.{ReadOutcome, found, broken, Reads, ReadsNoMore, Unless, NumberThen, MagicThen, header_of, ReadsRate, ReadsNanos, ReadsClock, ReadsWriters, ReadsVersion}
-use Rattle.checkpoint_io.specs.Places.{UnreadBytes, LogPlace, with_front, log_place, further, BytesBetween, StandsBetween, Refuses}
+use Rattle.checkpoint_io.specs.Places.{UnreadBytes, LogPlace, with_front, log_place, further, BytesBetween, StandsBetween, TookSuch, Refuses, EndsBefore}
 use Rattle.checkpoint_io.proofs.lemmas.BlockLaws.{le_length}
 
 -- ---- numbers at the front of bytes
@@ -71,10 +71,14 @@ refused_told : {A : Type 0} (reads tail : Reads A) (front : List ℕ) (from to :
 refused_told reads tail front from None cause is on refused = subst (λ (told : Told). IfSome told (λ bytes. reads bytes (broken cause))) (sym is) tt
 refused_told reads tail front from (Some bytes) cause is on refused = subst (λ (told : Told). IfSome told (λ bytes. reads bytes (broken cause))) (sym is) (on bytes (broken cause) refused)
 
-pub refused_behind : {A : Type 0} (reads tail : Reads A) (front : List ℕ) (from to : LogPlace) (fault : BlockFault) → GoesOnBehind reads front tail → BytesBetween front from to → Refuses tail to fault → Refuses reads from fault
-refused_behind reads tail front from to (Damaged cause) on passes refused = refused_told reads tail front from.ahead to.ahead cause passes.ahead on refused
-refused_behind reads tail front from to ReadFault on passes refused = tt
-refused_behind reads tail front from to NoMemory on passes refused = tt
+taken_told : {A : Type 0} (reads tail : Reads A) (front : List ℕ) (from to left : Told) (cause : Cause) → from ≡ with_front front to → GoesOnBehind reads front tail → TookSuch (λ bytes. tail bytes (broken cause)) to left → TookSuch (λ bytes. reads bytes (broken cause)) from left
+taken_told reads tail front from to left cause is on (bytes, parted, refused) =
+    (front ++ bytes, is ∙ ap (with_front front) parted ∙ sym (front_parted front bytes left), on bytes (broken cause) refused)
+
+pub refused_behind : {A : Type 0} (reads tail : Reads A) (front : List ℕ) (from to : LogPlace) (left : Told) (fault : BlockFault) → GoesOnBehind reads front tail → BytesBetween front from to → Refuses tail to left fault → Refuses reads from left fault
+refused_behind reads tail front from to left (Damaged cause) on passes refused = refused_told reads tail front from.ahead to.ahead cause passes.ahead on refused
+refused_behind reads tail front from to left ReadFault on passes taken = taken_told reads tail front from.ahead to.ahead left causes.Cut passes.ahead on taken
+refused_behind reads tail front from to left NoMemory on passes refused = tt
 
 further-add : (offset a b : ℕ) → further (further offset a) b ≡ further offset (a + b)
 further-add offset a b = omega arith
@@ -102,8 +106,8 @@ wrong_told None P always = tt
 wrong_told (Some bytes) P always = always bytes
 
 -- where a step is wrong it is refused, whatever follows
-pub wrong_refused : {A : Type 0} (wrong : Type 0) (cause : Cause) (next : Reads A) (from : LogPlace) → wrong → Refuses (λ bytes outcome. Unless wrong cause (next bytes) outcome) from (Damaged cause)
-wrong_refused wrong cause next from is = wrong_told from.ahead (λ bytes. Unless wrong cause (next bytes) (broken cause)) (λ bytes. inl (is, refl))
+pub wrong_refused : {A : Type 0} (wrong : Type 0) (cause : Cause) (next : Reads A) (from : LogPlace) (left : Told) → wrong → Refuses (λ bytes outcome. Unless wrong cause (next bytes) outcome) from left (Damaged cause)
+wrong_refused wrong cause next from left is = wrong_told from.ahead (λ bytes. Unless wrong cause (next bytes) (broken cause)) (λ bytes. inl (is, refl))
 
 -- nothing more is read
 pub gives_taken : {A : Type 0} (thing : A) (at : LogPlace) → at.offset < 2 ^ 64 → StandsBetween (λ bytes outcome. outcome ≡ found thing bytes) thing at at
@@ -119,9 +123,20 @@ pub ok_behind : {A : Type 0} (r : Result A BlockFault) (reads tail : Reads A) (f
 ok_behind (Ok thing) reads tail front from mid to on passes takes = taken_behind reads tail thing front from mid to on passes takes
 ok_behind (Err fault) reads tail front from mid to on passes takes = tt
 
-pub err_behind : {A T : Type 0} (r : Result T BlockFault) (reads tail : Reads A) (front : List ℕ) (from mid : LogPlace) → GoesOnBehind reads front tail → BytesBetween front from mid → IfErr r (Refuses tail mid) → IfErr r (Refuses reads from)
-err_behind (Ok thing) reads tail front from mid on passes refused = tt
-err_behind (Err fault) reads tail front from mid on passes refused = refused_behind reads tail front from mid fault on passes refused
+pub err_behind : {A T : Type 0} (r : Result T BlockFault) (reads tail : Reads A) (front : List ℕ) (from mid : LogPlace) (left : Told) → GoesOnBehind reads front tail → BytesBetween front from mid → IfErr r (Refuses tail mid left) → IfErr r (Refuses reads from left)
+err_behind (Ok thing) reads tail front from mid left on passes refused = tt
+err_behind (Err fault) reads tail front from mid left on passes refused = refused_behind reads tail front from mid left fault on passes refused
+
+-- the bytes ended inside a number, or a read failed there
+pub number_cut : {A T : Type 0} (r : Result T BlockFault) (size : ℕ) (next : ℕ → Reads A) (from : LogPlace) (left : Told) → IfErr r (EndsBefore size from left) → IfErr r (Refuses (NumberThen size next) from left)
+number_cut (Ok thing) size next from left ended = tt
+number_cut (Err (Damaged cause)) size next from left (is, short) = told from.ahead short
+  where
+    told : (ahead : Told) → IfSome ahead (λ bytes. length bytes < size) → IfSome ahead (λ bytes. NumberThen size next bytes (broken cause))
+    told None short = tt
+    told (Some bytes) short = inl (short, ap broken is)
+number_cut (Err ReadFault) size next from left (bytes, parted, short) = (bytes, parted, inl (short, refl))
+number_cut (Err NoMemory) size next from left ended = tt
 
 -- ---- the header
 
@@ -148,14 +163,24 @@ clock_taken writers tick nanos rate from first second to tick_fits nanos_fits ra
     let all_nanos : StandsBetween (ReadsNanos writers tick) header first to = taken_behind (ReadsNanos writers tick) (ReadsRate writers tick nanos) header (le_bytes 8 nanos) first second to (number_on 8 (ReadsRate writers tick) nanos nanos_fits) q rates in
     taken_behind (ReadsClock writers) (ReadsNanos writers tick) header (le_bytes 8 tick) from first to (number_on 8 (ReadsNanos writers) tick tick_fits) p all_nanos
 
--- and where it doesn't
-pub clock_refused : (writers tick nanos rate : ℕ) (from first second to : LogPlace) → tick < 2 ^ 64 → nanos < 2 ^ 64 → rate < 2 ^ 64 → rate ≡ 0 → BytesBetween (le_bytes 8 tick) from first → BytesBetween (le_bytes 8 nanos) first second → BytesBetween (le_bytes 8 rate) second to → Refuses (ReadsClock writers) from (Damaged causes.BadHeader)
-clock_refused writers tick nanos rate from first second to tick_fits nanos_fits rate_fits none p q r =
+-- where it is cut off behind the tick, and behind the nanoseconds
+pub nanos_cut : {T : Type 0} (r : Result T BlockFault) (writers tick : ℕ) (from first : LogPlace) (left : Told) → tick < 2 ^ 64 → BytesBetween (le_bytes 8 tick) from first → IfErr r (EndsBefore 8 first left) → IfErr r (Refuses (ReadsClock writers) from left)
+nanos_cut r writers tick from first left fits p cut = err_behind r (ReadsClock writers) (ReadsNanos writers tick) (le_bytes 8 tick) from first left (number_on 8 (ReadsNanos writers) tick fits) p (number_cut r 8 (ReadsRate writers tick) first left cut)
+
+pub rate_cut : {T : Type 0} (r : Result T BlockFault) (writers tick nanos : ℕ) (from first second : LogPlace) (left : Told) → tick < 2 ^ 64 → nanos < 2 ^ 64 → BytesBetween (le_bytes 8 tick) from first → BytesBetween (le_bytes 8 nanos) first second → IfErr r (EndsBefore 8 second left) → IfErr r (Refuses (ReadsClock writers) from left)
+rate_cut r writers tick nanos from first second left tick_fits nanos_fits p q cut =
     let next : ℕ → Reads Header = λ rate bytes outcome. Unless (rate ≡ 0) causes.BadHeader (ReadsNoMore (header_of writers tick nanos rate) bytes) outcome in
-    let end : Refuses (next rate) to (Damaged causes.BadHeader) = wrong_refused (rate ≡ 0) causes.BadHeader (ReadsNoMore (header_of writers tick nanos rate)) to none in
-    let rates : Refuses (ReadsRate writers tick nanos) second (Damaged causes.BadHeader) = refused_behind (ReadsRate writers tick nanos) (next rate) (le_bytes 8 rate) second to (Damaged causes.BadHeader) (number_on 8 next rate rate_fits) r end in
-    let all_nanos : Refuses (ReadsNanos writers tick) first (Damaged causes.BadHeader) = refused_behind (ReadsNanos writers tick) (ReadsRate writers tick nanos) (le_bytes 8 nanos) first second (Damaged causes.BadHeader) (number_on 8 (ReadsRate writers tick) nanos nanos_fits) q rates in
-    refused_behind (ReadsClock writers) (ReadsNanos writers tick) (le_bytes 8 tick) from first (Damaged causes.BadHeader) (number_on 8 (ReadsNanos writers) tick tick_fits) p all_nanos
+    err_behind r (ReadsClock writers) (ReadsNanos writers tick) (le_bytes 8 tick) from first left (number_on 8 (ReadsNanos writers) tick tick_fits) p
+    (err_behind r (ReadsNanos writers tick) (ReadsRate writers tick nanos) (le_bytes 8 nanos) first second left (number_on 8 (ReadsRate writers tick) nanos nanos_fits) q (number_cut r 8 next second left cut))
+
+-- and where it doesn't tick
+pub clock_refused : (writers tick nanos rate : ℕ) (from first second to : LogPlace) (left : Told) → tick < 2 ^ 64 → nanos < 2 ^ 64 → rate < 2 ^ 64 → rate ≡ 0 → BytesBetween (le_bytes 8 tick) from first → BytesBetween (le_bytes 8 nanos) first second → BytesBetween (le_bytes 8 rate) second to → Refuses (ReadsClock writers) from left (Damaged causes.BadHeader)
+clock_refused writers tick nanos rate from first second to left tick_fits nanos_fits rate_fits none p q r =
+    let next : ℕ → Reads Header = λ rate bytes outcome. Unless (rate ≡ 0) causes.BadHeader (ReadsNoMore (header_of writers tick nanos rate) bytes) outcome in
+    let end : Refuses (next rate) to left (Damaged causes.BadHeader) = wrong_refused (rate ≡ 0) causes.BadHeader (ReadsNoMore (header_of writers tick nanos rate)) to left none in
+    let rates : Refuses (ReadsRate writers tick nanos) second left (Damaged causes.BadHeader) = refused_behind (ReadsRate writers tick nanos) (next rate) (le_bytes 8 rate) second to left (Damaged causes.BadHeader) (number_on 8 next rate rate_fits) r end in
+    let all_nanos : Refuses (ReadsNanos writers tick) first left (Damaged causes.BadHeader) = refused_behind (ReadsNanos writers tick) (ReadsRate writers tick nanos) (le_bytes 8 nanos) first second left (Damaged causes.BadHeader) (number_on 8 (ReadsRate writers tick) nanos nanos_fits) q rates in
+    refused_behind (ReadsClock writers) (ReadsNanos writers tick) (le_bytes 8 tick) from first left (Damaged causes.BadHeader) (number_on 8 (ReadsNanos writers) tick tick_fits) p all_nanos
 
 -- the first of the letters, and the others
 pub letters_on : (letters : List ℕ) (byte : ℕ) → 1 ≤ length letters → byte ≡ get_or letters 0 0 → GoesOnBehind (MagicThen letters ReadsVersion) (byte ∷ []) (MagicThen (take (length letters - 1) (drop 1 letters)) ReadsVersion)

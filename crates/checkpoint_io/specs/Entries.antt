@@ -1,5 +1,6 @@
 -- What is said of an entry that is read from a source.
 use Rattle.std.specs.Prelude.{◌≡◌, ◌⊎◌, ℕ, List, [], ◌∷◌, ◌++◌, length, IfSome}
+use Rattle.nl_io.specs.Content.{Told}
 use Rattle.log_dictionary.specs.declared.message.Message.{Message}
 use Rattle.log_dictionary.specs.Messages.{HasMessage}
 use Rattle.log_dictionary.specs.BinaryEntries.{SpellsEntry, IsCutEntry, IsBadEntry}
@@ -10,7 +11,7 @@ use Rattle.checkpoint_io.specs.Blocks.{Fragment}
 use Rattle.checkpoint_io.specs.declared.block.Block.{Block as ReadBlock}
 use Rattle.checkpoint_io.specs.declared.block.Block.TheVariants as read
 use Rattle.checkpoint_io.specs.Reading.{ReadsEntries, ReadsFragment}
-use Rattle.checkpoint_io.specs.Places.{LogPlace, BytesBetween, StandsBetween, IfDamaged}
+use Rattle.checkpoint_io.specs.Places.{LogPlace, BytesBetween, StandsBetween, TookSuch, OfFault}
 
 -- the bytes begin with no entry, for this cause
 abbrev pub BeginsWithNone : Cause → List ℕ → Type 0
@@ -25,15 +26,17 @@ pub record BeginsWithOld (defined : List Message) (bytes : List ℕ) : Type 0 wh
   pub joined : bytes ≡ front ++ rest
   pub there : HasMessage defined message
 
--- no entry is ahead
-abbrev pub BreaksNoEntry : LogPlace → BlockFault → Type 0
-BreaksNoEntry from fault = IfDamaged (λ cause. IfSome from.ahead (BeginsWithNone cause)) fault
+-- no entry is ahead; where a read failed the bytes that were taken end inside one
+abbrev pub BreaksNoEntry : LogPlace → Told → BlockFault → Type 0
+BreaksNoEntry from left fault =
+    OfFault (λ cause. IfSome from.ahead (BeginsWithNone cause)) (TookSuch IsCutEntry from.ahead left) fault
 
--- no entry of a new message is ahead
-abbrev pub BreaksEntry : List Message → LogPlace → BlockFault → Type 0
-BreaksEntry defined from fault =
-    IfDamaged (λ cause. IfSome from.ahead (λ bytes.
-    BeginsWithNone cause bytes ⊎ (BeginsWithOld defined bytes × (cause ≡ causes.BadEntry)))) fault
+-- no entry of a new message is ahead; where a read failed the bytes that were taken end inside an entry
+abbrev pub BreaksEntry : List Message → LogPlace → Told → BlockFault → Type 0
+BreaksEntry defined from left fault =
+    OfFault (λ cause. IfSome from.ahead (λ bytes.
+    BeginsWithNone cause bytes ⊎ (BeginsWithOld defined bytes × (cause ≡ causes.BadEntry))))
+    (TookSuch IsCutEntry from.ahead left) fault
 
 -- the entry of a new message stands between the two places, which was added
 pub record TakesEntry (before after : List Message) (from to : LogPlace) : Type 0 where

@@ -1,6 +1,7 @@
 -- The front of a file: as much of it as is a log; and where and why a file goes on as no log.
-use Rattle.std.specs.Prelude.{◌≡◌, ℕ, ◌≤◌, List, ◌++◌, length}
+use Rattle.std.specs.Prelude.{◌≡◌, ◌⊎◌, ℕ, ◌≤◌, List, ◌++◌, length}
 use Rattle.checkpoint_io.specs.declared.cause.Cause.{Cause}
+use Rattle.checkpoint_io.specs.declared.cause.Cause.TheVariants as causes
 use Rattle.checkpoint_io.specs.declared.header.Header.{Header}
 use Rattle.checkpoint_io.specs.Blocks.{Block, FileOf}
 use Rattle.checkpoint_io.specs.Validity.{Valid}
@@ -36,3 +37,15 @@ pub data Break (bytes : List ℕ) : ℕ → Cause → Type 0 where
       → 1 ≤ length rest
       → ReadsBlock header blocks rest (broken cause)
       → Break bytes (length front) cause
+
+-- the bytes break nowhere, or by Cut alone
+abbrev pub BreaksByCutAlone : List ℕ → Type 0
+BreaksByCutAlone bytes = (offset : ℕ) (cause : Cause) → Break bytes offset cause → cause ≡ causes.Cut
+
+-- The bytes are a log up to this offset, and end there, or inside the block that stands there; or they end inside the
+-- header, and the offset is 0.
+abbrev pub IsCutAt : List ℕ → ℕ → Type 0
+IsCutAt bytes offset =
+    Break bytes offset causes.Cut
+    ⊎ ((header : Header) × (blocks : List Block) × FileOf header blocks bytes × Valid header blocks
+    × (offset ≡ length bytes))

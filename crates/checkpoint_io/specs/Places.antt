@@ -42,21 +42,32 @@ pub record StandsBetween {A : Type 0} (reads : Reads A) (thing : A) (from to : L
 
 -- ---- faults
 
--- where the fault is damage this is said of its cause; want of memory and a failed read say nothing of the file
-abbrev pub IfDamaged : (Cause → Type 0) → BlockFault → Type 0
-IfDamaged says (Damaged cause) = says cause
-IfDamaged says ReadFault = ⊤
-IfDamaged says NoMemory = ⊤
+-- such bytes of these were taken, and behind them stand those that the source has left
+abbrev pub TookSuch : (List ℕ → Type 0) → Told → Told → Type 0
+TookSuch such told left = (bytes : List ℕ) × (told ≡ with_front bytes left) × such bytes
 
--- the bytes ahead are broken so
-abbrev pub Refuses : {A : Type 0} → Reads A → LogPlace → BlockFault → Type 0
-Refuses reads from fault = IfDamaged (λ cause. IfSome from.ahead (λ bytes. reads bytes (broken cause))) fault
+-- damage says this of its cause, and a failed read this; want of memory says nothing of the file
+abbrev pub OfFault : (Cause → Type 0) → Type 0 → BlockFault → Type 0
+OfFault damaged failed (Damaged cause) = damaged cause
+OfFault damaged failed ReadFault = failed
+OfFault damaged failed NoMemory = ⊤
+
+-- the bytes ahead are broken so; where a read failed those of them that were taken end inside what is read there
+abbrev pub Refuses : {A : Type 0} → Reads A → LogPlace → Told → BlockFault → Type 0
+Refuses reads from left fault =
+    OfFault (λ cause. IfSome from.ahead (λ bytes. reads bytes (broken cause)))
+    (TookSuch (λ bytes. reads bytes (broken causes.Cut)) from.ahead left) fault
 
 -- the fault is no damage
 abbrev pub IsNoDamage : BlockFault → Type 0
-IsNoDamage fault = IfDamaged (λ cause. ⊥) fault
+IsNoDamage fault = OfFault (λ cause. ⊥) ⊤ fault
 
--- fewer bytes than this are ahead, and that is told as cut off
-abbrev pub EndsBefore : ℕ → LogPlace → BlockFault → Type 0
-EndsBefore count from fault =
-    IfDamaged (λ cause. (cause ≡ causes.Cut) × IfSome from.ahead (λ bytes. length bytes < count)) fault
+-- fewer bytes than this were taken of those ahead, and then a read failed
+abbrev pub TookFewer : ℕ → LogPlace → Told → Type 0
+TookFewer count from left = TookSuch (λ bytes. length bytes < count) from.ahead left
+
+-- fewer bytes than this are ahead, and that is told as cut off; or fewer were taken where a read failed
+abbrev pub EndsBefore : ℕ → LogPlace → Told → BlockFault → Type 0
+EndsBefore count from left fault =
+    OfFault (λ cause. (cause ≡ causes.Cut) × IfSome from.ahead (λ bytes. length bytes < count))
+    (TookFewer count from left) fault

@@ -33,7 +33,8 @@ fn take_writer<S: Source>(
         → IfOk result (λ writer. TakesWriter header.now before writer
         (log_place pending.old (S.left source.old)) (log_place pending.new (S.left source.new))) }
     ensures err { (before : List LogBlock) → AreStatesOf writers.now header.now.clock.tick before
-        → IfErr result (Refuses (ReadsWriter header.now before) (log_place pending.old (S.left source.old))) }
+        → IfErr result (Refuses (ReadsWriter header.now before)
+        (log_place pending.old (S.left source.old)) (S.left source.new)) }
     ensures read_fault { IsErrOf result BlockFault.ReadFault
         → Rose (S.faults source.old) (S.faults source.new) }
     ensures counted { ¬ (IsErrOf result BlockFault.ReadFault)
@@ -62,7 +63,8 @@ fn read_close<S: Source>(
         → IfOk result (λ writer. TakesClose header.now before writer writers.new
         (log_place pending.old (S.left source.old)) (log_place pending.new (S.left source.new))) }
     ensures err { (before : List LogBlock) → AreStatesOf writers.old header.now.clock.tick before
-        → IfErr result (Refuses (ReadsClose header.now before) (log_place pending.old (S.left source.old))) }
+        → IfErr result (Refuses (ReadsClose header.now before)
+        (log_place pending.old (S.left source.old)) (S.left source.new)) }
     ensures read_fault { IsErrOf result BlockFault.ReadFault
         → Rose (S.faults source.old) (S.faults source.new) }
     ensures counted { ¬ (IsErrOf result BlockFault.ReadFault)
@@ -89,7 +91,7 @@ fn take_body<S: Source>(
         StandsBetween (ReadsBody dictionary.now tick last writer len) (Extent writer records)
         (log_place pending.old (S.left source.old)) (log_place pending.new (S.left source.new))) }
     ensures err { (writer : ℕ) → IfErr result (Refuses (ReadsBody dictionary.now tick last writer len)
-        (log_place pending.old (S.left source.old))) }
+        (log_place pending.old (S.left source.old)) (S.left source.new)) }
     ensures read_fault { IsErrOf result BlockFault.ReadFault
         → Rose (S.faults source.old) (S.faults source.new) }
     ensures counted { ¬ (IsErrOf result BlockFault.ReadFault)
@@ -122,7 +124,7 @@ fn read_records<S: Source>(
         StandsBetween (ReadsRecords dictionary.now tick last writer) (Extent writer records)
         (log_place pending.old (S.left source.old)) (log_place pending.new (S.left source.new))) }
     ensures err { (writer : ℕ) → IfErr result (Refuses (ReadsRecords dictionary.now tick last writer)
-        (log_place pending.old (S.left source.old))) }
+        (log_place pending.old (S.left source.old)) (S.left source.new)) }
     ensures read_fault { IsErrOf result BlockFault.ReadFault
         → Rose (S.faults source.old) (S.faults source.new) }
     ensures counted { ¬ (IsErrOf result BlockFault.ReadFault)
@@ -152,7 +154,8 @@ fn read_extent<S: Source>(
         (log_place pending.old (S.left source.old)) (log_place pending.new (S.left source.new))) }
     ensures err { (before : List LogBlock) → dictionary.now ≡ messages_of before
         → AreStatesOf writers.old header.now.clock.tick before
-        → IfErr result (Refuses (ReadsExtent header.now before) (log_place pending.old (S.left source.old))) }
+        → IfErr result (Refuses (ReadsExtent header.now before)
+        (log_place pending.old (S.left source.old)) (S.left source.new)) }
     ensures read_fault { IsErrOf result BlockFault.ReadFault
         → Rose (S.faults source.old) (S.faults source.new) }
     ensures counted { ¬ (IsErrOf result BlockFault.ReadFault)
@@ -183,7 +186,8 @@ pub fn read_block<S: Source>(
         (log_place pending.old (S.left source.old)) (log_place pending.new (S.left source.new))) }
     ensures err { (before : List LogBlock) → dictionary.old ≡ messages_of before
         → AreStatesOf writers.old header.now.clock.tick before
-        → IfErr result (Refuses (ReadsBlock header.now before) (log_place pending.old (S.left source.old))) }
+        → IfErr result (Refuses (ReadsBlock header.now before)
+        (log_place pending.old (S.left source.old)) (S.left source.new)) }
     ensures defined { take (length dictionary.old) dictionary.new ≡ dictionary.old }
     ensures read_fault { IsErrOf result BlockFault.ReadFault
         → Rose (S.faults source.old) (S.faults source.new) }

@@ -30,7 +30,7 @@ fn next_entry<S: Source>(
     ensures offset { pending.new.offset ≡ pending.old.offset }
     ensures within { IfOk result (λ entry. entry.1 ≤ length pending.new.bytes) }
     ensures spelled { IfOk result (λ entry. SpellsEntry (take entry.1 pending.new.bytes) entry.0) }
-    ensures err { IfErr result (BreaksNoEntry (log_place pending.old (S.left source.old))) }
+    ensures err { IfErr result (BreaksNoEntry (log_place pending.old (S.left source.old)) (S.left source.new)) }
     ensures read_fault { IsErrOf result BlockFault.ReadFault
         → Rose (S.faults source.old) (S.faults source.new) }
     ensures counted { ¬ (IsErrOf result BlockFault.ReadFault)
@@ -62,7 +62,8 @@ fn take_entry<S: Source>(
     requires { length dictionary.old < MAX_MESSAGES }
     ensures ok { OnOk result (TakesEntry dictionary.old dictionary.new
         (log_place pending.old (S.left source.old)) (log_place pending.new (S.left source.new))) }
-    ensures err { IfErr result (BreaksEntry dictionary.old (log_place pending.old (S.left source.old))) }
+    ensures err { IfErr result (BreaksEntry dictionary.old
+        (log_place pending.old (S.left source.old)) (S.left source.new)) }
     ensures defined { take (length dictionary.old) dictionary.new ≡ dictionary.old }
     ensures read_fault { IsErrOf result BlockFault.ReadFault
         → Rose (S.faults source.old) (S.faults source.new) }
@@ -95,7 +96,7 @@ fn read_entries<S: Source>(
         (log_place pending.old (S.left source.old)) (log_place pending.new (S.left source.new))) }
     ensures err { (before read : List Message) (first : ℕ) → dictionary.old ≡ before ++ read
         → IfErr result (Refuses (ReadsEntries before first read count)
-        (log_place pending.old (S.left source.old))) }
+        (log_place pending.old (S.left source.old)) (S.left source.new)) }
     ensures defined { take (length dictionary.old) dictionary.new ≡ dictionary.old }
     ensures read_fault { IsErrOf result BlockFault.ReadFault
         → Rose (S.faults source.old) (S.faults source.new) }
@@ -129,7 +130,7 @@ pub fn read_fragment<S: Source>(
     ensures ok { IfOk result (λ block. TakesFragment dictionary.old block dictionary.new
         (log_place pending.old (S.left source.old)) (log_place pending.new (S.left source.new))) }
     ensures err { IfErr result (Refuses (ReadsFragment dictionary.old)
-        (log_place pending.old (S.left source.old))) }
+        (log_place pending.old (S.left source.old)) (S.left source.new)) }
     ensures defined { take (length dictionary.old) dictionary.new ≡ dictionary.old }
     ensures read_fault { IsErrOf result BlockFault.ReadFault
         → Rose (S.faults source.old) (S.faults source.new) }

@@ -22,7 +22,8 @@ fn read_clock<S: Source>(
 ) -> Result<Header, BlockFault>
     ensures ok { IfOk result (λ header. StandsBetween (ReadsClock writers) header
         (log_place pending.old (S.left source.old)) (log_place pending.new (S.left source.new))) }
-    ensures err { IfErr result (Refuses (ReadsClock writers) (log_place pending.old (S.left source.old))) }
+    ensures err { IfErr result (Refuses (ReadsClock writers)
+        (log_place pending.old (S.left source.old)) (S.left source.new)) }
     ensures read_fault { IsErrOf result BlockFault.ReadFault
         → Rose (S.faults source.old) (S.faults source.new) }
     ensures counted { ¬ (IsErrOf result BlockFault.ReadFault)
@@ -43,7 +44,7 @@ fn read_clock<S: Source>(
 fn read_writers<S: Source>(pending: &mut Pending, source: &mut S) -> Result<Header, BlockFault>
     ensures ok { IfOk result (λ header. StandsBetween ReadsWriters header
         (log_place pending.old (S.left source.old)) (log_place pending.new (S.left source.new))) }
-    ensures err { IfErr result (Refuses ReadsWriters (log_place pending.old (S.left source.old))) }
+    ensures err { IfErr result (Refuses ReadsWriters (log_place pending.old (S.left source.old)) (S.left source.new)) }
     ensures read_fault { IsErrOf result BlockFault.ReadFault
         → Rose (S.faults source.old) (S.faults source.new) }
     ensures counted { ¬ (IsErrOf result BlockFault.ReadFault)
@@ -61,7 +62,7 @@ fn read_writers<S: Source>(pending: &mut Pending, source: &mut S) -> Result<Head
 fn read_version<S: Source>(pending: &mut Pending, source: &mut S) -> Result<Header, BlockFault>
     ensures ok { IfOk result (λ header. StandsBetween ReadsVersion header
         (log_place pending.old (S.left source.old)) (log_place pending.new (S.left source.new))) }
-    ensures err { IfErr result (Refuses ReadsVersion (log_place pending.old (S.left source.old))) }
+    ensures err { IfErr result (Refuses ReadsVersion (log_place pending.old (S.left source.old)) (S.left source.new)) }
     ensures read_fault { IsErrOf result BlockFault.ReadFault
         → Rose (S.faults source.old) (S.faults source.new) }
     ensures counted { ¬ (IsErrOf result BlockFault.ReadFault)
@@ -84,7 +85,7 @@ fn read_letters<S: Source>(
     ensures ok { IfOk result (λ header. StandsBetween (MagicThen letters.now ReadsVersion) header
         (log_place pending.old (S.left source.old)) (log_place pending.new (S.left source.new))) }
     ensures err { IfErr result (Refuses (MagicThen letters.now ReadsVersion)
-        (log_place pending.old (S.left source.old))) }
+        (log_place pending.old (S.left source.old)) (S.left source.new)) }
     ensures read_fault { IsErrOf result BlockFault.ReadFault
         → Rose (S.faults source.old) (S.faults source.new) }
     ensures counted { ¬ (IsErrOf result BlockFault.ReadFault)
@@ -105,7 +106,7 @@ fn read_letters<S: Source>(
 pub fn read_header<S: Source>(pending: &mut Pending, source: &mut S) -> Result<Header, BlockFault>
     ensures ok { IfOk result (λ header. StandsBetween ReadsHeader header
         (log_place pending.old (S.left source.old)) (log_place pending.new (S.left source.new))) }
-    ensures err { IfErr result (Refuses ReadsHeader (log_place pending.old (S.left source.old))) }
+    ensures err { IfErr result (Refuses ReadsHeader (log_place pending.old (S.left source.old)) (S.left source.new)) }
     ensures read_fault { IsErrOf result BlockFault.ReadFault
         → Rose (S.faults source.old) (S.faults source.new) }
     ensures counted { ¬ (IsErrOf result BlockFault.ReadFault)

@@ -15,7 +15,7 @@ ghost use Rattle.checkpoint_io.specs.declared.header.Header.{Header};
 ghost use Rattle.checkpoint_io.specs.declared.heads.TheConstants.{MAX_FRAGMENT_MESSAGES, MAX_BODY, MAX_LOG};
 ghost use Rattle.checkpoint_io.specs.Blocks.{Block, Fragment, Extent, Close, IsFragment, messages_of, header_bytes, fragment_head_bytes, extent_head_bytes, close_bytes, SpellsEntries, SpellsFragment, SpellsExtent, SpellsClose, SpellsBlock, FileOf};
 ghost use Rattle.checkpoint_io.specs.Causes.{cause_number, cause_name};
-ghost use Rattle.checkpoint_io.specs.Fronts.{Front, HasNoHeader, Break};
+ghost use Rattle.checkpoint_io.specs.Fronts.{BeginsWithLog, Front, HasNoHeader, Break, BreaksByCutAlone, IsCutAt};
 ghost use Rattle.checkpoint_io.specs.Logs.{ids_used, new_messages, AreFragments, HasAtMost, IsLaidOut, LogOf};
 ghost use Rattle.checkpoint_io.specs.Reading.{ReadOutcome, found, ReadsHeader, ReadsBlock};
 ghost use Rattle.checkpoint_io.specs.Rows.{all_causes, row_header, row_blocks, row_bytes, row_record, full_record, late_fragments};
@@ -398,6 +398,18 @@ pub fn files_break_at_the_end_of_their_front()
         → FileOf header blocks bytes
         → Valid header blocks
         → ¬ (Break bytes offset cause) }
+{}
+
+/// Bytes that are cut off at an offset break by `Cut` alone, and only there. Where they are a log up to it that is
+/// their front.
+pub fn cut_bytes_break_by_cut_alone()
+    ensures alone { (bytes : List ℕ) (offset : ℕ) → IsCutAt bytes offset → BreaksByCutAlone bytes }
+    ensures there { (bytes : List ℕ) (offset other : ℕ) (cause : Cause) → IsCutAt bytes offset
+        → Break bytes other cause
+        → other ≡ offset }
+    ensures front { (bytes : List ℕ) (header : Header) (blocks : List Block) (offset : ℕ) → IsCutAt bytes offset
+        → BeginsWithLog bytes header blocks offset
+        → Front bytes header blocks offset }
 {}
 
 /// A file of bytes begins with a header and has a front, or it has no header.

@@ -3,7 +3,7 @@
 ghost use Rattle.std.specs.Prelude.{◌≡◌, ◌≤◌, [], length, drop, true, false, ◌+◌, ◌<◌, IfOk, IfErr, OnOk, IsErrOf};
 ghost use Rattle.nl_io.specs.Count.{Rose};
 ghost use Rattle.nl_io.specs.Content.{IsAtEnd};
-ghost use Rattle.checkpoint_io.specs.Places.{further, with_front, IsNoDamage};
+ghost use Rattle.checkpoint_io.specs.Places.{further, with_front, log_place, IsNoDamage, TookFewer};
 
 use crate::fault::BlockFault;
 use nl_io::Source;
@@ -87,6 +87,7 @@ impl Pending {
         ensures end { IfOk result (λ count. count ≡ 0 → IsAtEnd (S.left source.new)) }
         ensures offset { self.new.offset ≡ self.old.offset }
         ensures sound { IfErr result IsNoDamage }
+        ensures failed { IsErrOf result BlockFault.ReadFault → S.left source.new ≡ S.left source.old }
         ensures read_fault { IsErrOf result BlockFault.ReadFault
             → Rose (S.faults source.old) (S.faults source.new) }
         ensures counted { ¬ (IsErrOf result BlockFault.ReadFault)
@@ -117,6 +118,8 @@ impl Pending {
         ensures end { IfOk result (λ enough. enough ≡ false → IsAtEnd (S.left source.new)) }
         ensures offset { self.new.offset ≡ self.old.offset }
         ensures sound { IfErr result IsNoDamage }
+        ensures fewer { IsErrOf result BlockFault.ReadFault
+            → TookFewer want (log_place self.old (S.left source.old)) (S.left source.new) }
         ensures read_fault { IsErrOf result BlockFault.ReadFault
             → Rose (S.faults source.old) (S.faults source.new) }
         ensures counted { ¬ (IsErrOf result BlockFault.ReadFault)

@@ -5,9 +5,10 @@ ghost use Rattle.std.specs.List.{list_any};
 ghost use Rattle.nl_io.specs.Count.{Rose};
 ghost use Rattle.nl_io.specs.Content.{IsAtEnd};
 ghost use Rattle.checkpoint_io.specs.declared.cause.Cause.{Cause as LogCause};
-ghost use Rattle.checkpoint_io.specs.Places.{with_front};
+ghost use Rattle.checkpoint_io.specs.declared.cause.Cause.TheVariants.{Cut};
+ghost use Rattle.checkpoint_io.specs.Places.{with_front, TookSuch};
 ghost use Rattle.checkpoint_io.specs.Readers.{StandsFor};
-ghost use Rattle.checkpoint_io.specs.Fronts.{Break};
+ghost use Rattle.checkpoint_io.specs.Fronts.{Break, IsCutAt};
 ghost use Rattle.checkpoint_io.specs.Validity.{closes};
 ghost use Rattle.checkpoint_io.specs.NextBlocks.{AnswersNext, StopsAt};
 
@@ -66,6 +67,9 @@ impl Reader {
         ensures right { IfOk result (λ reader. reader.failed ≡ false) }
         ensures damaged { (cause : LogCause) → result ≡ Err (BlockFault.Damaged cause)
             → IfSome (S.left source.old) (λ bytes. Break bytes 0 cause) }
+        // The bytes that were taken end inside the header.
+        ensures cut { IsErrOf result BlockFault.ReadFault
+            → TookSuch (λ bytes. Break bytes 0 Cut) (S.left source.old) (S.left source.new) }
         ensures read_fault { IsErrOf result BlockFault.ReadFault
             → Rose (S.faults source.old) (S.faults source.new) }
         ensures counted { ¬ (IsErrOf result BlockFault.ReadFault)
@@ -96,6 +100,9 @@ impl Reader {
             → result ≡ Err (BlockFault.Damaged cause)
             → IfSome (with_front (taken ++ self.old.waiting.bytes) (S.left source.old))
             (λ bytes. StopsAt bytes self.old.offset cause) }
+        ensures cut { (taken : List ℕ) → StandsFor self.old taken → IsErrOf result BlockFault.ReadFault
+            → TookSuch (λ bytes. IsCutAt (taken ++ bytes) self.old.offset)
+            (with_front self.old.waiting.bytes (S.left source.old)) (S.left source.new) }
         ensures offset { OnErr result (self.new.offset ≡ self.old.offset) }
         ensures failed { self.new.failed ≡ self.old.failed }
         ensures header { self.new.header ≡ self.old.header }
@@ -142,6 +149,10 @@ impl Reader {
             → result ≡ Err (BlockFault.Damaged cause)
             → IfSome (with_front (taken ++ self.old.waiting.bytes) (S.left source.old))
             (λ bytes. StopsAt bytes self.old.offset cause) }
+        // With those that were taken since then the bytes are cut off there.
+        ensures cut { (taken : List ℕ) → StandsFor self.old taken → IsErrOf result BlockFault.ReadFault
+            → TookSuch (λ bytes. IsCutAt (taken ++ bytes) self.old.offset)
+            (with_front self.old.waiting.bytes (S.left source.old)) (S.left source.new) }
         ensures offset { OnErr result (self.new.offset ≡ self.old.offset) }
         ensures right { OnOk result (self.new.failed ≡ false) }
         ensures failed { OnErr result (self.new.failed ≡ true) }

@@ -15,7 +15,7 @@ use nl_io::Source;
 pub fn take_byte<S: Source>(pending: &mut Pending, source: &mut S) -> Result<u8, BlockFault>
     ensures ok { IfOk result (λ byte. BytesBetween (byte ∷ [])
         (log_place pending.old (S.left source.old)) (log_place pending.new (S.left source.new))) }
-    ensures err { IfErr result (EndsBefore 1 (log_place pending.old (S.left source.old))) }
+    ensures err { IfErr result (EndsBefore 1 (log_place pending.old (S.left source.old)) (S.left source.new)) }
     ensures read_fault { IsErrOf result BlockFault.ReadFault
         → Rose (S.faults source.old) (S.faults source.new) }
     ensures counted { ¬ (IsErrOf result BlockFault.ReadFault)
@@ -53,7 +53,7 @@ pub fn take_number<S: Source>(
     ensures fits { IfOk result (λ n. n < 256 ^ size) }
     ensures ok { IfOk result (λ n. BytesBetween (le_bytes size n)
         (log_place pending.old (S.left source.old)) (log_place pending.new (S.left source.new))) }
-    ensures err { IfErr result (EndsBefore size (log_place pending.old (S.left source.old))) }
+    ensures err { IfErr result (EndsBefore size (log_place pending.old (S.left source.old)) (S.left source.new)) }
     ensures read_fault { IsErrOf result BlockFault.ReadFault
         → Rose (S.faults source.old) (S.faults source.new) }
     ensures counted { ¬ (IsErrOf result BlockFault.ReadFault)

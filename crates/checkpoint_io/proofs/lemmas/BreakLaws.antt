@@ -3,11 +3,12 @@ use Rattle.std.proofs.Common.{◌≡◌, ℕ, ◌≤◌, List, [], ◌++◌, len
 use Rattle.std.proofs.lemmas.List.{length-append, append-nil}
 use Rattle.log_dictionary.proofs.lemmas.BinaryLaws.{same_fronts}
 use Rattle.checkpoint_io.specs.declared.cause.Cause.{Cause}
+use Rattle.checkpoint_io.specs.declared.cause.Cause.TheVariants as causes
 use Rattle.checkpoint_io.specs.declared.header.Header.{Header}
 use Rattle.checkpoint_io.specs.Blocks.{Block, FileOf}
 use Rattle.checkpoint_io.specs.Validity.{Valid}
 use Rattle.checkpoint_io.specs.Reading.{found, broken, ReadsHeader, ReadsBlock}
-use Rattle.checkpoint_io.specs.Fronts.{Front, HasNoHeader, Break, at_header, at_block}
+use Rattle.checkpoint_io.specs.Fronts.{Front, HasNoHeader, Break, at_header, at_block, BreaksByCutAlone, IsCutAt}
 use Rattle.checkpoint_io.proofs.lemmas.FrontLaws.{no_header, cut_is_front, whole_is_front, one_front, StopsAt}
 use Rattle.checkpoint_io.proofs.ReadingLaws.{one_header_read, one_block_read}
 use Rattle.checkpoint_io.proofs.ReadingForms.{not_broken, header_read, block_read}
@@ -57,3 +58,11 @@ whole_or_break header blocks bytes _ _ file valid (at_header cause breaks) = hea
 whole_or_break header blocks bytes _ _ file valid (at_block header2 others front rest cause joined file_too valid_too some breaks) =
     let one = one_front bytes header header2 blocks others (length bytes) (length front) (whole_is_front header blocks bytes file valid) (front_at_break header2 others bytes front rest cause joined file_too valid_too breaks) in
     shorter front rest (length bytes) (ap length joined) some one.2
+
+-- bytes that are cut off break there by Cut, or nowhere
+pub cut_breaks : (bytes : List ℕ) (offset other : ℕ) (cause : Cause) → IsCutAt bytes offset → Break bytes other cause → (other ≡ offset) × (cause ≡ causes.Cut)
+cut_breaks bytes offset other cause (inl cut) breaks = one_break bytes other offset cause causes.Cut breaks cut
+cut_breaks bytes offset other cause (inr (header, blocks, file, valid, ends)) breaks = absurd (whole_or_break header blocks bytes other cause file valid breaks)
+
+pub cut_alone : (bytes : List ℕ) (offset : ℕ) → IsCutAt bytes offset → BreaksByCutAlone bytes
+cut_alone bytes offset cut other cause breaks = (cut_breaks bytes offset other cause cut breaks).1

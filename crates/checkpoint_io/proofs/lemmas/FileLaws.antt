@@ -6,12 +6,13 @@ use Rattle.nl_io.specs.Content.{Told, IsAtEnd}
 use Rattle.log_dictionary.proofs.lemmas.BinaryLaws.{same_fronts}
 use Rattle.arg_records.specs.declared.call.Call.{Call}
 use Rattle.checkpoint_io.specs.declared.cause.Cause.{Cause}
+use Rattle.checkpoint_io.specs.declared.cause.Cause.TheVariants as causes
 use Rattle.checkpoint_io.specs.declared.header.Header.{Header}
 use Rattle.checkpoint_io.specs.declared.block.Block.{Block as ReadBlock}
 use Rattle.checkpoint_io.specs.declared.block.Block.TheVariants as read
 use Rattle.checkpoint_io.specs.Blocks.{Block, Fragment, Extent, Close, FileOf}
 use Rattle.checkpoint_io.specs.Validity.{Valid}
-use Rattle.checkpoint_io.specs.Fronts.{BeginsWithLog, Front, HasNoHeader, Break}
+use Rattle.checkpoint_io.specs.Fronts.{BeginsWithLog, Front, HasNoHeader, Break, IsCutAt}
 use Rattle.checkpoint_io.specs.Places.{with_front}
 use Rattle.checkpoint_io.specs.Readers.{ReaderState, StandsFor}
 use Rattle.checkpoint_io.specs.NextBlocks.{Describes, TakesNext, IsTooLarge}
@@ -25,12 +26,14 @@ with_front-both : (a b : List ℕ) (told : Told) → with_front (a ++ b) told �
 with_front-both a b None = refl
 with_front-both a b (Some content) = ap Some (append_assoc a b content)
 
+-- what stands behind what was taken stands there in the file
+pub file_behind : (taken waiting bytes : List ℕ) (left behind : Told) → with_front waiting left ≡ with_front bytes behind → with_front (taken ++ waiting) left ≡ with_front (taken ++ bytes) behind
+file_behind taken waiting bytes left behind same = with_front-both taken waiting left ∙ ap (with_front taken) same ∙ sym (with_front-both taken bytes behind)
+
 pub file_on : (taken front waiting more : List ℕ) (left behind : Told) → with_front waiting left ≡ with_front (front ++ more) behind
     → with_front (taken ++ waiting) left ≡ with_front ((taken ++ front) ++ more) behind
 file_on taken front waiting more left behind joined =
-    with_front-both taken waiting left
-    ∙ ap (with_front taken) joined
-    ∙ sym (with_front-both taken (front ++ more) behind)
+    file_behind taken waiting (front ++ more) left behind joined
     ∙ ap (λ (bytes : List ℕ). with_front bytes behind) (sym (append_assoc taken front more))
 
 -- the file begins with what was taken
@@ -79,6 +82,14 @@ broken_there bytes header blocks offset cause begun breaks = at_front (front_of_
     at_front (inr (other, others, front)) =
         let same = one_start bytes other header others blocks offset front.begins begun in
         subst (λ (h : Header). Front bytes h blocks offset) same.0 (subst (λ (bs : List Block). Front bytes other bs offset) same.1 front)
+
+-- so is that of bytes that are cut off behind it
+pub cut_there : (bytes : List ℕ) (header : Header) (blocks : List Block) (offset : ℕ) → BeginsWithLog bytes header blocks offset → IsCutAt bytes offset → Front bytes header blocks offset
+cut_there bytes header blocks offset begun (inl cut) = broken_there bytes header blocks offset causes.Cut begun cut
+cut_there bytes header blocks offset begun (inr (other, others, file, valid, ends)) =
+    let front : Front bytes other others offset = subst (Front bytes other others) (sym ends) (whole_is_front other others bytes file valid) in
+    let same = one_start bytes other header others blocks offset front.begins begun in
+    subst (λ (h : Header). Front bytes h blocks offset) same.0 (subst (λ (bs : List Block). Front bytes other bs offset) same.1 front)
 
 -- the block that ends past the most bytes stands behind such a start
 pub large_there : (bytes : List ℕ) (header : Header) (blocks : List Block) (offset : ℕ) → BeginsWithLog bytes header blocks offset → (large : IsTooLarge bytes offset) → BeginsWithLog bytes header (blocks ++ large.block ∷ []) large.count

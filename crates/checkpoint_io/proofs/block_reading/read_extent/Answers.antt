@@ -16,8 +16,8 @@ returns-in_err-records-clause-err g c before known are =
     let fits : writer < 256 = search rules in
     let taken = c.in_ok-writer.ensures.ok before are in
     let broken = c.in_err-records.ensures.err writer in
-    let refused : IfErr c.from_residual-in_err-records.result (Refuses (ReadsRecords messages header.clock.tick last writer) (log_place c.take_writer.new.pending (g.S.Source.left c.take_writer.new.source))) = search rules in
-    err_behind c.from_residual-in_err-records.result (ReadsExtent header before) (ReadsRecords messages header.clock.tick last writer) (writer ∷ []) _ _ (extent_on header before messages last writer taken.right known (c.last-last.ensures ∙ are.lasts writer fits)) taken.passes refused
+    let refused : IfErr c.from_residual-in_err-records.result (Refuses (ReadsRecords messages header.clock.tick last writer) (log_place c.take_writer.new.pending (g.S.Source.left c.take_writer.new.source)) (g.S.Source.left c.read_records.new.source)) = search rules in
+    err_behind c.from_residual-in_err-records.result (ReadsExtent header before) (ReadsRecords messages header.clock.tick last writer) (writer ∷ []) _ _ _ (extent_on header before messages last writer taken.right known (c.last-last.ensures ∙ are.lasts writer fits)) taken.passes refused
 
 pub returns-clause-ok : goal.returns-clause-ok
 returns-clause-ok g c before known are =

@@ -18,4 +18,4 @@ returns-clause-err g c writer =
     let messages = c.args.dictionary.now in
     let len = c.in_ok-len.len in
     let short : len ≤ 65536 = omega arith in
-    err_behind c.take_body.result (ReadsRecords messages c.args.tick c.args.last writer) (ReadsBody messages c.args.tick c.args.last writer len) (le_bytes 4 len) _ _ (records_on messages c.args.tick c.args.last writer len c.in_ok-len.ensures.fits c.if-len-eq0.false short) c.in_ok-len.ensures.ok (c.take_body.ensures.err writer)
+    err_behind c.take_body.result (ReadsRecords messages c.args.tick c.args.last writer) (ReadsBody messages c.args.tick c.args.last writer len) (le_bytes 4 len) _ _ _ (records_on messages c.args.tick c.args.last writer len c.in_ok-len.ensures.fits c.if-len-eq0.false short) c.in_ok-len.ensures.ok (c.take_body.ensures.err writer)

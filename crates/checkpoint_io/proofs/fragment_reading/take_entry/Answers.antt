@@ -11,8 +11,9 @@ use Rattle.checkpoint_io.proofs.fragment_reading.take_entry.Goals as goal
 
 pub returns-in_err-message-clause-err : goal.returns-in_err-message-clause-err
 returns-in_err-message-clause-err g c =
-    let none : IfErr c.from_residual.result (BreaksNoEntry (log_place c.args.pending.now (g.S.Source.left c.args.source.now))) = search rules in
-    none_breaks c.from_residual.result c.args.dictionary.now (log_place c.args.pending.now (g.S.Source.left c.args.source.now)) none
+    let from = log_place c.args.pending.now (g.S.Source.left c.args.source.now) in
+    let none : IfErr c.from_residual.result (BreaksNoEntry from (g.S.Source.left c.next_entry.new.source)) = search rules in
+    none_breaks c.from_residual.result c.args.dictionary.now from (g.S.Source.left c.next_entry.new.source) none
 
 pub returns-in-Ok-New-clause-ok : goal.returns-in-Ok-New-clause-ok
 returns-in-Ok-New-clause-ok g c =

@@ -11,4 +11,4 @@ returns-clause-ok g c =
 pub returns-clause-err : goal.returns-clause-err
 returns-clause-err g c =
     let byte = c.in_ok-take_byte.field-0 in
-    err_behind c.read_writers.result ReadsVersion ReadsWriters (byte ∷ []) _ _ (version_on byte c.if-branch-ne-VERSION.false) c.in_ok-take_byte.ensures.ok c.read_writers.ensures.err
+    err_behind c.read_writers.result ReadsVersion ReadsWriters (byte ∷ []) _ _ _ (version_on byte c.if-branch-ne-VERSION.false) c.in_ok-take_byte.ensures.ok c.read_writers.ensures.err

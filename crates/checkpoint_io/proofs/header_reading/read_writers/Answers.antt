@@ -13,4 +13,4 @@ pub returns-clause-err : goal.returns-clause-err
 returns-clause-err g c =
     let byte = c.in_ok-take_byte.field-0 in
     let writers = c.from-writers.result in
-    err_behind c.read_clock.result ReadsWriters (ReadsClock writers) (byte ∷ []) _ _ (writers_on byte writers c.from-writers.ensures c.if-writers-eq0.false c.if-writers-gt-MAX_WRITERS.false) c.in_ok-take_byte.ensures.ok c.read_clock.ensures.err
+    err_behind c.read_clock.result ReadsWriters (ReadsClock writers) (byte ∷ []) _ _ _ (writers_on byte writers c.from-writers.ensures c.if-writers-eq0.false c.if-writers-gt-MAX_WRITERS.false) c.in_ok-take_byte.ensures.ok c.read_clock.ensures.err

@@ -1,7 +1,8 @@
 use Rattle.std.proofs.Common.{rules, IfErr, false}
+use Rattle.checkpoint_io.specs.declared.fault.BlockFault.TheVariants.{Damaged, ReadFault}
 use Rattle.checkpoint_io.specs.Places.{log_place, Refuses}
 use Rattle.checkpoint_io.specs.Reading.{ReadsHeader}
-use Rattle.checkpoint_io.proofs.StartLaws.{started, not_started, told_fault}
+use Rattle.checkpoint_io.proofs.StartLaws.{started, not_started, not_read, told_fault}
 use Rattle.checkpoint_io.proofs.reader.Reader.start.Goals as goal
 
 pub returns-clause-ok : goal.returns-clause-ok
@@ -12,5 +13,13 @@ returns-clause-ok g c =
 pub returns-in_err-header-clause-damaged : goal.returns-in_err-header-clause-damaged
 returns-in_err-header-clause-damaged g c cause is =
     let from = log_place c.none-pending.result (g.S.Source.left c.args.source.now) in
-    let refused : IfErr c.from_residual.result (Refuses ReadsHeader from) = search rules in
-    not_started c.none-pending.result.bytes _ cause c.none-pending.ensures.bytes (told_fault c.from_residual.result (Refuses ReadsHeader from) cause is refused)
+    let left = g.S.Source.left c.read_header.new.source in
+    let refused : IfErr c.from_residual.result (Refuses ReadsHeader from left) = search rules in
+    not_started c.none-pending.result.bytes _ cause c.none-pending.ensures.bytes (told_fault c.from_residual.result (Refuses ReadsHeader from left) (Damaged cause) is refused)
+
+pub returns-in_err-header-clause-cut : goal.returns-in_err-header-clause-cut
+returns-in_err-header-clause-cut g c is =
+    let from = log_place c.none-pending.result (g.S.Source.left c.args.source.now) in
+    let left = g.S.Source.left c.read_header.new.source in
+    let refused : IfErr c.from_residual.result (Refuses ReadsHeader from left) = search rules in
+    not_read c.none-pending.result _ left c.none-pending.ensures.bytes (told_fault c.from_residual.result (Refuses ReadsHeader from left) ReadFault is refused)

@@ -1,14 +1,15 @@
 use Rattle.std.proofs.Common.{rules, ◌≡◌, ℕ, ◌<◌, ◌≤◌, List, ◌++◌, length, IfErr, Err, refl, subst}
-use Rattle.std.specs.Prelude.{IfSome}
+use Rattle.std.specs.Prelude.{IfSome, IsErrOf}
 use Rattle.checkpoint_io.specs.declared.cause.Cause.{Cause}
 use Rattle.checkpoint_io.specs.declared.cause.Cause.TheVariants as causes
-use Rattle.checkpoint_io.specs.declared.fault.BlockFault.TheVariants.{Damaged}
-use Rattle.checkpoint_io.specs.Places.{with_front, log_place, Refuses}
+use Rattle.checkpoint_io.specs.declared.fault.BlockFault.TheVariants.{Damaged, ReadFault}
+use Rattle.checkpoint_io.specs.Places.{with_front, log_place, TookSuch, Refuses, TookFewer}
 use Rattle.checkpoint_io.specs.Reading.{ReadsBlock}
+use Rattle.checkpoint_io.specs.Fronts.{IsCutAt}
 use Rattle.checkpoint_io.specs.Readers.{ReaderState, StandsFor}
 use Rattle.checkpoint_io.specs.NextBlocks.{TakesNext, EndsThere, StopsAt}
 use Rattle.checkpoint_io.proofs.StartLaws.{told_fault}
-use Rattle.checkpoint_io.proofs.ReaderLaws.{ends_there, takes_next, breaks_next, too_large, same_damage}
+use Rattle.checkpoint_io.proofs.ReaderLaws.{ends_there, takes_next, breaks_next, cut_next, none_next, too_large, same_damage}
 use Rattle.checkpoint_io.proofs.reader.Reader.take_block.Goals as goal
 
 pub returns-then-not-branch-clause-ok : goal.returns-then-not-branch-clause-ok
@@ -28,13 +29,39 @@ returns-in_err-block-clause-damaged g c =
     let old : ReaderState = record { header = inside.header; messages = inside.dictionary; writers = inside.writers; waiting = inside.pending; offset = inside.offset; failed = inside.failed } in
     let left = g.S.Source.left c.args.source.now in
     let between = g.S.Source.left c.fill.new.source in
+    let behind = g.S.Source.left c.read_block.new.source in
     let from = log_place c.fill.new.self between in
     let some : 1 ≤ length c.fill.new.self.bytes = search rules in
     subst (λ (s : ReaderState). (taken : List ℕ) (cause : Cause) → StandsFor s taken → c.from_residual-in_err-block.result ≡ Err (Damaged cause) → IfSome (with_front (taken ++ s.waiting.bytes) left) (λ bytes. StopsAt bytes s.offset cause)) c.self.view_is
     (λ taken cause before is.
     let broken = c.in_err-block.ensures.err before.blocks before.messages before.states in
-    let refused : IfErr c.from_residual-in_err-block.result (Refuses (ReadsBlock inside.header before.blocks) from) = search rules in
-    breaks_next old taken before c.fill.new.self left between cause c.in_ok-fill.ensures.same some (told_fault c.from_residual-in_err-block.result (Refuses (ReadsBlock inside.header before.blocks) from) cause is refused))
+    let refused : IfErr c.from_residual-in_err-block.result (Refuses (ReadsBlock inside.header before.blocks) from behind) = search rules in
+    breaks_next old taken before c.fill.new.self left between behind cause c.in_ok-fill.ensures.same some (told_fault c.from_residual-in_err-block.result (Refuses (ReadsBlock inside.header before.blocks) from behind) (Damaged cause) is refused))
+
+pub returns-in_err-block-clause-cut : goal.returns-in_err-block-clause-cut
+returns-in_err-block-clause-cut g c =
+    let inside = c.self.inside in
+    let old : ReaderState = record { header = inside.header; messages = inside.dictionary; writers = inside.writers; waiting = inside.pending; offset = inside.offset; failed = inside.failed } in
+    let left = g.S.Source.left c.args.source.now in
+    let between = g.S.Source.left c.fill.new.source in
+    let behind = g.S.Source.left c.read_block.new.source in
+    let from = log_place c.fill.new.self between in
+    subst (λ (s : ReaderState). (taken : List ℕ) → StandsFor s taken → IsErrOf c.from_residual-in_err-block.result ReadFault → TookSuch (λ bytes. IsCutAt (taken ++ bytes) s.offset) (with_front s.waiting.bytes left) behind) c.self.view_is
+    (λ taken before is.
+    let broken = c.in_err-block.ensures.err before.blocks before.messages before.states in
+    let refused : IfErr c.from_residual-in_err-block.result (Refuses (ReadsBlock inside.header before.blocks) from behind) = search rules in
+    cut_next old taken before c.fill.new.self left between behind c.in_ok-fill.ensures.same (told_fault c.from_residual-in_err-block.result (Refuses (ReadsBlock inside.header before.blocks) from behind) ReadFault is refused))
+
+pub returns-in_err-fill-clause-cut : goal.returns-in_err-fill-clause-cut
+returns-in_err-fill-clause-cut g c =
+    let inside = c.self.inside in
+    let old : ReaderState = record { header = inside.header; messages = inside.dictionary; writers = inside.writers; waiting = inside.pending; offset = inside.offset; failed = inside.failed } in
+    let left = g.S.Source.left c.args.source.now in
+    let behind = g.S.Source.left c.fill.new.source in
+    subst (λ (s : ReaderState). (taken : List ℕ) → StandsFor s taken → IsErrOf c.from_residual.result ReadFault → TookSuch (λ bytes. IsCutAt (taken ++ bytes) s.offset) (with_front s.waiting.bytes left) behind) c.self.view_is
+    (λ taken before is.
+    let fewer : TookFewer 1 (log_place inside.pending left) behind = search rules in
+    cut_next old taken before inside.pending left left behind refl (none_next inside.header before.blocks (log_place inside.pending left) behind fewer))
 
 pub returns-then-end-gt-MAX_LOG-clause-damaged : goal.returns-then-end-gt-MAX_LOG-clause-damaged
 returns-then-end-gt-MAX_LOG-clause-damaged g c taken cause stands is =
