@@ -5,23 +5,24 @@ use Rattle.std.proofs.lemmas.List.{append-nil, take-append-drop}
 use Rattle.nl_io.specs.Content.{Told}
 use Rattle.log_dictionary.specs.declared.message.Message.{Message}
 use Rattle.checkpoint_io.specs.declared.cause.Cause.{Cause}
+use Rattle.checkpoint_io.specs.declared.cause.Cause.TheVariants as causes
 use Rattle.checkpoint_io.specs.declared.fault.BlockFault.{BlockFault}
 use Rattle.checkpoint_io.specs.declared.fault.BlockFault.TheVariants as reading
 use Rattle.checkpoint_io.specs.declared.header.Header.{Header}
 use Rattle.checkpoint_io.specs.declared.block.Block.{Block as ReadBlock}
 use Rattle.checkpoint_io.specs.Blocks.{Block, messages_of, FileOf}
 use Rattle.checkpoint_io.specs.Validity.{Valid}
-use Rattle.checkpoint_io.specs.Fronts.{Break}
-use Rattle.checkpoint_io.specs.Places.{with_front}
+use Rattle.checkpoint_io.specs.Fronts.{Break, IsCutAt}
+use Rattle.checkpoint_io.specs.Places.{with_front, TookSuch}
 use Rattle.checkpoint_io.specs.Readers.{ReaderState, StandsFor}
 use Rattle.checkpoint_io.specs.NextBlocks.{TakesNext, EndsThere, AnswersNext, StopsAt}
-use Rattle.checkpoint_io.proofs.lemmas.FileLaws.{file_on, file_begins, file_ends, offset_rises, offset_within}
+use Rattle.checkpoint_io.proofs.lemmas.FileLaws.{file_behind, file_on, file_begins, file_ends, offset_rises, offset_within}
 use Rattle.log_scan.specs.declared.scan.ScanEnd.{ScanEnd}
 use Rattle.log_scan.specs.declared.scan.ScanEnd.TheVariants.{Whole, Damaged, ReadFault}
 use Rattle.log_scan.specs.declared.scan.Scan.{Scan}
 use Rattle.log_scan.specs.Parts.{LogPart, header_alone, with_block, log_part, StandsNext}
-use Rattle.log_scan.specs.Scans.{EndsScan, ReaderKnows, scan_of, Scans, EndsAtHeader}
-use Rattle.log_scan.proofs.lemmas.Ends.{some_of, some_of_both, some_always, is_whole_scan, begins_within, is_damaged_scan, header_damaged}
+use Rattle.log_scan.specs.Scans.{IsDamagedScan, IsCutScan, EndsWhole, ReaderKnows, scan_of, Scans, EndsAtHeader}
+use Rattle.log_scan.proofs.lemmas.Ends.{some_of, some_of_both, is_whole_scan, is_cut_scan, is_damaged_scan, header_damaged, header_cut}
 
 -- the reader stands in the file behind blocks that were folded
 pub record IsOn {V : Type 0} (has : V → Option LogPart → Type 0) (file : Told) (reader : ReaderState) (fold : V) (left : Told) : Type 0 where
@@ -84,7 +85,7 @@ module _ {V : Type 0} (has : V → Option LogPart → Type 0) (file : Told) (old
   begins : IfSome file Begins
   begins = subst (λ (told : Told). IfSome told Begins) (sym on.same) (file_begins on.taken old.waiting.bytes left)
 
-  pub ends_whole : (answer : Option ReadBlock) → answer ≡ None → Answer answer → Scans has file fold (scan_of Whole new)
+  pub ends_whole : (answer : Option ReadBlock) → answer ≡ None → Answer answer → Scans has file behind fold (scan_of Whole new)
   ends_whole answer none next = record {
     part = Some part;
     folded = on.folded;
@@ -94,7 +95,7 @@ module _ {V : Type 0} (has : V → Option LogPart → Type 0) (file : Told) (old
       others = [];
       known = end.stands.messages ∙ ap messages_of end.blocks ∙ sym (append-nil (messages_of stood.blocks));
     };
-    ends = some_of file (λ bytes. bytes ≡ on.taken) (λ bytes. EndsScan bytes (Some part) Whole)
+    ends = some_of file (λ bytes. bytes ≡ on.taken) (λ bytes. EndsWhole bytes (Some part))
         (λ bytes all. is_whole_scan bytes part on.taken old.offset stood.file stood.valid stood.within stood.offset all)
         (subst (λ (told : Told). IfSome told (λ bytes. bytes ≡ on.taken)) (sym on.same) (file_ends on.taken old.waiting.bytes left end.ended));
     whole = λ _. (on.taken, end.stands, end.blocks);
@@ -117,50 +118,56 @@ module _ {V : Type 0} (has : V → Option LogPart → Type 0) (file : Told) (old
         ∙ ap (λ (ms : List Message). ms ++ drop (length old.messages) new.messages) (more ∙ stood.messages);
   }
 
-  pub ends_damaged : (offset : ℕ) (cause : Cause) → offset ≡ old.offset → HasMore → IfSome (with_front (on.taken ++ old.waiting.bytes) left) (λ bytes. StopsAt bytes old.offset cause) → Scans has file fold (scan_of (Damaged offset cause) new)
+  pub ends_damaged : (offset : ℕ) (cause : Cause) → offset ≡ old.offset → HasMore → IfSome (with_front (on.taken ++ old.waiting.bytes) left) (λ bytes. StopsAt bytes old.offset cause) → Scans has file behind fold (scan_of (Damaged offset cause) new)
   ends_damaged offset cause same more stops = record {
     part = Some part;
     folded = on.folded;
     read = read_so_far more;
-    ends = some_of_both file Begins (λ bytes. StopsAt bytes old.offset cause) (λ bytes. EndsScan bytes (Some part) (Damaged offset cause))
+    ends = some_of_both file Begins (λ bytes. StopsAt bytes old.offset cause) (λ bytes. IsDamagedScan bytes (Some part) offset cause)
         (λ bytes front stop. is_damaged_scan bytes part on.taken offset stood.file stood.valid stood.within (same ∙ stood.offset) front cause (subst (λ (n : ℕ). StopsAt bytes n cause) (sym same) stop))
         begins (subst (λ (told : Told). IfSome told (λ bytes. StopsAt bytes old.offset cause)) (sym on.same) stops);
     whole = λ wrong. absurd cc;
   }
 
-  pub ends_failed : HasMore → Scans has file fold (scan_of ReadFault new)
-  ends_failed more = record {
+  pub ends_failed : HasMore → TookSuch (λ bytes. IsCutAt (on.taken ++ bytes) old.offset) (with_front old.waiting.bytes left) behind → Scans has file behind fold (scan_of ReadFault new)
+  ends_failed more (bytes, parted, cut) = record {
     part = Some part;
     folded = on.folded;
     read = read_so_far more;
-    ends = some_of file Begins (λ bytes. EndsScan bytes (Some part) ReadFault)
-        (λ bytes front. (old.offset, begins_within bytes part on.taken old.offset stood.file stood.valid stood.within stood.offset front)) begins;
+    ends = (
+      on.taken ++ bytes,
+      on.same ∙ file_behind on.taken old.waiting.bytes bytes left behind parted,
+      is_cut_scan (on.taken ++ bytes) part on.taken old.offset stood.file stood.valid stood.within stood.offset (bytes, refl) cut,
+    );
     whole = λ wrong. absurd cc;
   }
 
 -- ---- no header
 
-pub without_header : {V E : Type 0} (has : V → Option LogPart → Type 0) (file : Told) (fold : V) (fault : BlockFault) (result : Result Scan E) → has fold None → IfOk result (λ scan. (scan.reader ≡ None) × EndsAtHeader fault scan.end)
-    → ((cause : Cause) → fault ≡ reading.Damaged cause → IfSome file (λ bytes. Break bytes 0 cause)) → IfOk result (Scans has file fold)
-without_header has file fold fault (Err e) folded ended breaks = tt
-without_header has file fold fault (Ok scan) folded (none, ended) breaks =
-    subst (Scans has file fold) (λ i. record { end = scan.end; reader = sym none i }) (by_fault fault scan.end ended breaks)
+pub without_header : {V E : Type 0} (has : V → Option LogPart → Type 0) (file left : Told) (fold : V) (fault : BlockFault) (result : Result Scan E) → has fold None → IfOk result (λ scan. (scan.reader ≡ None) × EndsAtHeader fault scan.end)
+    → ((cause : Cause) → fault ≡ reading.Damaged cause → IfSome file (λ bytes. Break bytes 0 cause)) → (fault ≡ reading.ReadFault → TookSuch (λ bytes. Break bytes 0 causes.Cut) file left) → IfOk result (Scans has file left fold)
+without_header has file left fold fault (Err e) folded ended breaks cut = tt
+without_header has file left fold fault (Ok scan) folded (none, ended) breaks cut =
+    subst (Scans has file left fold) (λ i. record { end = scan.end; reader = sym none i }) (by_fault fault scan.end ended breaks cut)
   where
-    by_fault : (f : BlockFault) (end : ScanEnd) → EndsAtHeader f end → ((cause : Cause) → f ≡ reading.Damaged cause → IfSome file (λ bytes. Break bytes 0 cause)) → Scans has file fold (record { end = end; reader = None })
-    by_fault (reading.Damaged cause) end is breaks =
-        subst (λ (e : ScanEnd). Scans has file fold (record { end = e; reader = None })) (sym is) (record {
+    cut_header : TookSuch (λ bytes. Break bytes 0 causes.Cut) file left → TookSuch (λ bytes. IsCutScan bytes None) file left
+    cut_header (bytes, parted, broken) = (bytes, parted, header_cut bytes broken)
+
+    by_fault : (f : BlockFault) (end : ScanEnd) → EndsAtHeader f end → ((cause : Cause) → f ≡ reading.Damaged cause → IfSome file (λ bytes. Break bytes 0 cause)) → (f ≡ reading.ReadFault → TookSuch (λ bytes. Break bytes 0 causes.Cut) file left) → Scans has file left fold (record { end = end; reader = None })
+    by_fault (reading.Damaged cause) end is breaks cut =
+        subst (λ (e : ScanEnd). Scans has file left fold (record { end = e; reader = None })) (sym is) (record {
           part = None;
           folded = folded;
           read = tt;
-          ends = some_of file (λ bytes. Break bytes 0 cause) (λ bytes. EndsScan bytes None (Damaged 0 cause)) (λ bytes broken. header_damaged bytes cause broken) (breaks cause refl);
+          ends = some_of file (λ bytes. Break bytes 0 cause) (λ bytes. IsDamagedScan bytes None 0 cause) (λ bytes broken. header_damaged bytes cause broken) (breaks cause refl);
           whole = λ wrong. absurd cc;
         })
-    by_fault reading.ReadFault end is breaks =
-        subst (λ (e : ScanEnd). Scans has file fold (record { end = e; reader = None })) (sym is) (record {
+    by_fault reading.ReadFault end is breaks cut =
+        subst (λ (e : ScanEnd). Scans has file left fold (record { end = e; reader = None })) (sym is) (record {
           part = None;
           folded = folded;
           read = tt;
-          ends = some_always file (λ bytes. EndsScan bytes None ReadFault) (λ bytes. (0, refl));
+          ends = cut_header (cut refl);
           whole = λ wrong. absurd cc;
         })
-    by_fault reading.NoMemory end is breaks = absurd is
+    by_fault reading.NoMemory end is breaks cut = absurd is

@@ -8,7 +8,8 @@ use Rattle.checkpoint_io.specs.declared.fault.BlockFault.TheVariants as reading
 use Rattle.checkpoint_io.specs.declared.heads.TheConstants.{MAX_LOG}
 use Rattle.checkpoint_io.specs.Blocks.{Block, messages_of}
 use Rattle.checkpoint_io.specs.Validity.{Valid}
-use Rattle.checkpoint_io.specs.Fronts.{BeginsWithLog, Front, HasNoHeader, Break}
+use Rattle.checkpoint_io.specs.Fronts.{BeginsWithLog, Front, HasNoHeader, Break, BreaksByCutAlone}
+use Rattle.checkpoint_io.specs.Places.{TookSuch}
 use Rattle.checkpoint_io.specs.NextBlocks.{StopsAt}
 use Rattle.checkpoint_io.specs.Readers.{ReaderState, StandsFor}
 use Rattle.log_scan.specs.declared.scan.ScanEnd.{ScanEnd}
@@ -60,15 +61,23 @@ pub record IsDamagedScan (bytes : List ℕ) (part : Option LogPart) (offset : �
   pub breaks : length bytes ≤ MAX_LOG → Break bytes offset cause
   pub all : length bytes ≤ MAX_LOG → HasFront bytes part
 
+-- The bytes break nowhere, or by Cut alone, and this is their front, which ends within the most bytes that are read.
+pub record IsCutScan (bytes : List ℕ) (part : Option LogPart) : Type 0 where
+  pub alone : BreaksByCutAlone bytes
+  pub all : HasFront bytes part
+  pub offset : ℕ
+  pub begins : BeginsWithin bytes part offset
+
 abbrev pub EndsWhole : List ℕ → Option LogPart → Type 0
 EndsWhole bytes None = ⊥
 EndsWhole bytes (Some part) = IsWholeScan bytes part
 
--- What each end says of the bytes, and of what was read of them.
-abbrev pub EndsScan : List ℕ → Option LogPart → ScanEnd → Type 0
-EndsScan bytes part Whole = EndsWhole bytes part
-EndsScan bytes part (Damaged offset cause) = IsDamagedScan bytes part offset cause
-EndsScan bytes part ReadFault = (offset : ℕ) × BeginsWithin bytes part offset
+-- What each end says of the file, and of what was read of it. A failed read says it of the bytes that were taken,
+-- behind which stands what the source has left.
+abbrev pub EndsScan : Told → Told → Option LogPart → ScanEnd → Type 0
+EndsScan file left part Whole = IfSome file (λ bytes. EndsWhole bytes part)
+EndsScan file left part (Damaged offset cause) = IfSome file (λ bytes. IsDamagedScan bytes part offset cause)
+EndsScan file left part ReadFault = TookSuch (λ bytes. IsCutScan bytes part) file left
 
 -- ---- what is known of a file
 
@@ -97,12 +106,13 @@ StandsForAll (Some reader) (Some part) = (taken : List ℕ) × (read : StandsFor
 abbrev pub scan_of : ScanEnd → ReaderState → Scan
 scan_of end reader = record { end = end; reader = Some reader }
 
--- The file was scanned: the fold has what was read of it.
-pub record Scans {V : Type 0} (has : V → Option LogPart → Type 0) (file : Told) (fold : V) (scan : Scan) : Type 0 where
+-- The file was scanned, of which this is left: the fold has what was read of it.
+pub record Scans {V : Type 0} (has : V → Option LogPart → Type 0) (file left : Told) (fold : V)
+    (scan : Scan) : Type 0 where
   pub part : Option LogPart
   pub folded : has fold part
   pub read : IsReaderOf scan.reader part
-  pub ends : IfSome file (λ bytes. EndsScan bytes part scan.end)
+  pub ends : EndsScan file left part scan.end
   pub whole : scan.end ≡ Whole → StandsForAll scan.reader part
 
 -- how a scan ends where no header was read

@@ -26,7 +26,7 @@ fn scan_blocks<S: Source, F: BlockFold>(
     ensures scanned { (taken : List ℕ) (read : StandsFor reader.old taken)
         → F.has fold.old (Some (log_part reader.old read.blocks))
         → IfOk result (λ end. Scans F.has (with_front (taken ++ reader.old.waiting.bytes) (S.left source.old))
-        fold.new (scan_of end reader.new)) }
+        (S.left source.new) fold.new (scan_of end reader.new)) }
     ensures end { IsOkAnd result (λ end. end ≡ ScanEnd.Whole) → IsAtEnd (S.left source.new) }
     ensures read_fault { IsOkAnd result (λ end. end ≡ ScanEnd.ReadFault)
         → Rose (S.faults source.old) (S.faults source.new) }
@@ -77,7 +77,7 @@ pub fn scan_log<S: Source, F: BlockFold>(
 ) -> Result<Scan, AllocError>
     requires { F.has fold.old None }
     // What was read of the bytes that the source had left, which is what the fold has, and how that ended.
-    ensures scanned { IfOk result (Scans F.has (S.left source.old) fold.new) }
+    ensures scanned { IfOk result (Scans F.has (S.left source.old) (S.left source.new) fold.new) }
 
     // Where the file is whole nothing of it is left.
     ensures end { IsOkAnd result (λ scan. scan.end ≡ ScanEnd.Whole) → IsAtEnd (S.left source.new) }

@@ -3,15 +3,16 @@ use Rattle.std.proofs.Common.{◌≡◌, ℕ, ◌+◌, ◌≤◌, List, ◌++◌
 use Rattle.std.specs.Prelude.{IfSome}
 use Rattle.nl_io.specs.Content.{Told}
 use Rattle.checkpoint_io.specs.declared.cause.Cause.{Cause}
+use Rattle.checkpoint_io.specs.declared.cause.Cause.TheVariants as causes
 use Rattle.checkpoint_io.specs.Blocks.{FileOf}
 use Rattle.checkpoint_io.specs.Validity.{Valid}
-use Rattle.checkpoint_io.specs.Fronts.{BeginsWithLog, Break}
+use Rattle.checkpoint_io.specs.Fronts.{BeginsWithLog, Break, IsCutAt}
 use Rattle.checkpoint_io.specs.NextBlocks.{StopsAt}
 use Rattle.checkpoint_io.proofs.lemmas.FrontLaws.{whole_is_front}
-use Rattle.checkpoint_io.proofs.lemmas.BreakLaws.{whole_or_break}
-use Rattle.checkpoint_io.proofs.lemmas.FileLaws.{broken_there, large_there, more_than_read, no_header}
+use Rattle.checkpoint_io.proofs.lemmas.BreakLaws.{whole_or_break, cut_alone}
+use Rattle.checkpoint_io.proofs.lemmas.FileLaws.{broken_there, cut_there, large_there, more_than_read, no_header}
 use Rattle.log_scan.specs.Parts.{LogPart}
-use Rattle.log_scan.specs.Scans.{BeginsWithin, IsWholeScan, IsDamagedScan}
+use Rattle.log_scan.specs.Scans.{IsWholeScan, IsDamagedScan, IsCutScan}
 use Rattle.log_scan.specs.Scans.IsPartWithin.{of_front, of_part}
 
 -- ---- what is told
@@ -23,10 +24,6 @@ some_of (Some bytes) P Q then p = then bytes p
 pub some_of_both : (told : Told) (P Q R : List ℕ → Type 0) → ((bytes : List ℕ) → P bytes → Q bytes → R bytes) → IfSome told P → IfSome told Q → IfSome told R
 some_of_both None P Q R then p q = tt
 some_of_both (Some bytes) P Q R then p q = then bytes p q
-
-pub some_always : (told : Told) (P : List ℕ → Type 0) → ((bytes : List ℕ) → P bytes) → IfSome told P
-some_always None P all = tt
-some_always (Some bytes) P all = all bytes
 
 -- ---- a part that was read
 
@@ -49,8 +46,14 @@ module _ (bytes : List ℕ) (part : LogPart) (taken : List ℕ) (offset : ℕ) (
     fits : offset ≤ 134217728
     fits = omega (arith, ends, within)
 
-    pub begins_within : BeginsWithin bytes (Some part) offset
-    begins_within = (begun, fits)
+    -- bytes that are cut off
+    pub is_cut_scan : IsCutAt bytes offset → IsCutScan bytes (Some part)
+    is_cut_scan cut = record {
+      alone = cut_alone bytes offset cut;
+      all = (offset, cut_there bytes part.header part.blocks offset begun cut);
+      offset = offset;
+      begins = (begun, fits);
+    }
 
     -- a file that breaks
     pub is_damaged_scan : (cause : Cause) → StopsAt bytes offset cause → IsDamagedScan bytes (Some part) offset cause
@@ -72,3 +75,11 @@ pub header_damaged : (bytes : List ℕ) (cause : Cause) → Break bytes 0 cause 
 header_damaged bytes cause breaks =
     let none = no_header bytes cause breaks in
     record { stops = inl breaks; before = (none, refl); breaks = λ short. breaks; all = λ short. none }
+
+pub header_cut : (bytes : List ℕ) → Break bytes 0 causes.Cut → IsCutScan bytes None
+header_cut bytes cut = record {
+  alone = cut_alone bytes 0 (inl cut);
+  all = no_header bytes causes.Cut cut;
+  offset = 0;
+  begins = refl;
+}

@@ -72,5 +72,6 @@ returns-in-Err-Damaged-clause-scanned g c taken read folded =
 pub returns-in-Err-ReadFault-clause-scanned : goal.returns-in-Err-ReadFault-clause-scanned
 returns-in-Err-ReadFault-clause-scanned g c taken read folded =
     let l = c.loop-block in
+    let a = c.in-Err-ReadFault in
     let on = l.invariant.so_far taken read folded in
-    ends_failed g.F.BlockFold.has _ l.reader c.next_block.new.self l.fold _ (g.S.Source.left c.next_block.new.source) c.next_block.ensures.header on c.next_block.ensures.defined
+    ends_failed g.F.BlockFold.has _ l.reader c.next_block.new.self l.fold _ (g.S.Source.left c.next_block.new.source) c.next_block.ensures.header on c.next_block.ensures.defined (c.next_block.ensures.cut on.taken on.stands (a.is ∙ ap Err a.field-0-is))

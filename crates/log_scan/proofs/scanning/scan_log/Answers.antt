@@ -4,7 +4,7 @@ use Rattle.log_scan.proofs.scanning.scan_log.Goals as goal
 
 pub returns-in-Err-clause-scanned : goal.returns-in-Err-clause-scanned
 returns-in-Err-clause-scanned g c =
-    without_header g.F.BlockFold.has (g.S.Source.left c.args.source.now) c.args.fold.now c.in-Err.fault c.no_header.result c.requires c.no_header.ensures.ok (λ cause is. c.in-Err.ensures.damaged cause (ap Err is))
+    without_header g.F.BlockFold.has (g.S.Source.left c.args.source.now) _ c.args.fold.now c.in-Err.fault c.no_header.result c.requires c.no_header.ensures.ok (λ cause is. c.in-Err.ensures.damaged cause (ap Err is)) (λ is. c.in-Err.ensures.cut (ap Err is))
 
 pub scan_blocks-requires-clause-begun : goal.scan_blocks-requires-clause-begun
 scan_blocks-requires-clause-begun g c =
