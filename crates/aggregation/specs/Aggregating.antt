@@ -3,6 +3,8 @@ use Rattle.std.specs.Prelude.{◌≡◌, ℕ, ◌<◌, ◌≤◌, nat_lt, if◌t
 use Rattle.nl_io.specs.Content.{Told}
 use Rattle.log_dictionary.specs.declared.message.Message.{Message}
 use Rattle.checkpoint_io.specs.Blocks.{Block, messages_of}
+use Rattle.checkpoint_io.specs.Fronts.{BreaksByCutAlone}
+use Rattle.checkpoint_io.specs.Places.{TookSuch}
 use Rattle.log_scan.specs.declared.scan.ScanEnd.{ScanEnd}
 use Rattle.log_scan.specs.declared.scan.ScanEnd.TheVariants as ends
 use Rattle.log_scan.specs.Parts.{LogPart, blocks_read}
@@ -24,20 +26,22 @@ answer_at blocks id nth ends.Whole = answer_for (messages_of blocks) id nth (arg
 answer_at blocks id nth (ends.Damaged offset cause) = Err (Damaged offset cause (totals_in blocks id nth))
 answer_at blocks id nth ends.ReadFault = Err ReadFault
 
--- What the answer says of the bytes that the source had left.
-abbrev pub AnswersTotals : Told → ℕ → ℕ → Result Totals AggregateFault → Type 0
-AnswersTotals left id nth (Ok totals) =
-    IfSome left (λ bytes.
-    (part : LogPart) × IsWholeScan bytes part × (totals_in part.blocks id nth ≡ Some totals))
-AnswersTotals left id nth (Err (Damaged offset cause front)) =
-    IfSome left (λ bytes.
-    (part : Option LogPart) × IsDamagedScan bytes part offset cause × (totals_in (blocks_read part) id nth ≡ front))
-AnswersTotals left id nth (Err NoSuchMessage) =
-    IfSome left (λ bytes.
-    (part : LogPart) × IsWholeScan bytes part × (length (messages_of part.blocks) ≤ id))
-AnswersTotals left id nth (Err NoSuchArgument) =
-    IfSome left (λ bytes.
+-- the bytes have this answer, which is none on reading or memory
+abbrev pub HaveAnswer : ℕ → ℕ → Result Totals AggregateFault → List ℕ → Type 0
+HaveAnswer id nth (Ok totals) bytes =
+    (part : LogPart) × IsWholeScan bytes part × (totals_in part.blocks id nth ≡ Some totals)
+HaveAnswer id nth (Err (Damaged offset cause front)) bytes =
+    (part : Option LogPart) × IsDamagedScan bytes part offset cause × (totals_in (blocks_read part) id nth ≡ front)
+HaveAnswer id nth (Err NoSuchMessage) bytes =
+    (part : LogPart) × IsWholeScan bytes part × (length (messages_of part.blocks) ≤ id)
+HaveAnswer id nth (Err NoSuchArgument) bytes =
     (part : LogPart) × IsWholeScan bytes part
-    × (id < length (messages_of part.blocks)) × (totals_in part.blocks id nth ≡ None))
-AnswersTotals left id nth (Err ReadFault) = ⊤
-AnswersTotals left id nth (Err NoMemory) = ⊤
+    × (id < length (messages_of part.blocks)) × (totals_in part.blocks id nth ≡ None)
+HaveAnswer id nth (Err ReadFault) bytes = ⊥
+HaveAnswer id nth (Err NoMemory) bytes = ⊥
+
+-- What the answer says of the bytes that the source had left before, and of what it has left behind.
+abbrev pub AnswersTotals : Told → Told → ℕ → ℕ → Result Totals AggregateFault → Type 0
+AnswersTotals left behind id nth (Err ReadFault) = TookSuch BreaksByCutAlone left behind
+AnswersTotals left behind id nth (Err NoMemory) = ⊤
+AnswersTotals left behind id nth answer = IfSome left (HaveAnswer id nth answer)

@@ -96,8 +96,8 @@ pub fn aggregate<S: Source>(
     id: u32,
     nth: u32,
 ) -> Result<Totals, AggregateFault>
-    // What the answer says of the bytes that the source had left.
-    ensures answer { AnswersTotals (S.left source.old) id nth result }
+    // What the answer says of the bytes that the source had left, or, where a read failed, of those that were taken.
+    ensures answer { AnswersTotals (S.left source.old) (S.left source.new) id nth result }
 
     // Where the file is whole nothing of it is left.
     ensures end { OnOk result (IsAtEnd (S.left source.new)) }

@@ -1,6 +1,6 @@
 //! Laws over totals. The functions do nothing: what they ensure is proved of the definitions.
 
-ghost use Rattle.std.specs.Prelude.{◌≡◌, ℕ, ◌≤◌, ℤ, ◌≤ℤ◌, List, [], length, All, Contains, Option, Some, None, Result, Ok, Err, IsErrOf};
+ghost use Rattle.std.specs.Prelude.{◌≡◌, ℕ, ◌≤◌, ℤ, ◌≤ℤ◌, List, [], length, All, Contains, Option, Some, None, Result, Ok, Err};
 ghost use Rattle.checkpoint_io.specs.declared.cause.Cause.{Cause as LogCause};
 ghost use Rattle.checkpoint_io.specs.declared.header.Header.{Header};
 ghost use Rattle.checkpoint_io.specs.declared.heads.TheConstants.{MAX_LOG};
@@ -9,7 +9,7 @@ ghost use Rattle.checkpoint_io.specs.Validity.{Valid};
 ghost use Rattle.aggregation.specs.declared.totals.Totals.{Totals as LogTotals};
 ghost use Rattle.aggregation.specs.declared.fault.AggregateFault.{AggregateFault as LogFault};
 ghost use Rattle.aggregation.specs.Totals.{range_of, totals_of, argument_totals, totals_in, TotalsOf};
-ghost use Rattle.aggregation.specs.Aggregating.{AnswersTotals, answer_for};
+ghost use Rattle.aggregation.specs.Aggregating.{HaveAnswer, answer_for};
 ghost use Rattle.aggregation.specs.Rows.{total_blocks, plain_totals, width_totals, long_totals, no_totals, long_numbers, long_number_totals};
 
 /// The totals of 7, -3 and 7 are a count of 3, from -3 to 7, and a sum of 11. A width is an argument, a length narrows
@@ -62,26 +62,23 @@ pub fn whole_logs_have_all_totals()
         → TotalsOf bytes id nth (totals_in blocks id nth) }
 {}
 
-/// Of such a file of no more than the most bytes that are read there is one answer, but that a read may fail or memory
-/// may be wanting.
+/// Such a file of no more than the most bytes that are read has one answer.
 pub fn whole_logs_have_one_answer()
     ensures { (header : Header) (blocks : List Block) (bytes : List ℕ) (id nth : ℕ)
         (answer : Result LogTotals LogFault)
         → FileOf header blocks bytes
         → Valid header blocks
         → length bytes ≤ MAX_LOG
-        → AnswersTotals (Some bytes) id nth answer
-        → ¬ (IsErrOf answer LogFault.ReadFault)
-        → ¬ (IsErrOf answer LogFault.NoMemory)
+        → HaveAnswer id nth answer bytes
         → answer ≡ answer_for (messages_of blocks) id nth (argument_totals blocks id nth) }
 {}
 
-/// What is answered of a file within that limit is its totals.
+/// The answer that a file within that limit has tells its totals.
 pub fn answers_tell_totals()
-    ensures whole { (bytes : List ℕ) (id nth : ℕ) (totals : LogTotals) → AnswersTotals (Some bytes) id nth (Ok totals)
+    ensures whole { (bytes : List ℕ) (id nth : ℕ) (totals : LogTotals) → HaveAnswer id nth (Ok totals) bytes
         → TotalsOf bytes id nth (Some totals) }
     ensures damaged { (bytes : List ℕ) (id nth offset : ℕ) (cause : LogCause) (front : Option LogTotals)
         → length bytes ≤ MAX_LOG
-        → AnswersTotals (Some bytes) id nth (Err (LogFault.Damaged offset cause front))
+        → HaveAnswer id nth (Err (LogFault.Damaged offset cause front)) bytes
         → TotalsOf bytes id nth front }
 {}

@@ -1,6 +1,6 @@
 -- What the definitions of totals and answers say of all files.
 use Rattle.std.proofs.Common.{◌≡◌, ℕ, suc, ◌<◌, ◌≤◌, List, [], ◌∷◌, length, Option, Some, None, Result, Ok, Err, ℤ, refl, ap, sym, ◌∙◌, subst, inl, inr, ◌⊎◌, arith}
-use Rattle.std.specs.Prelude.{◌≤ℤ◌, fold, All, Contains, IsErrOf}
+use Rattle.std.specs.Prelude.{◌≤ℤ◌, fold, All, Contains}
 use Rattle.std.specs.Int.{int_min, int_max}
 use Rattle.std.proofs.lemmas.Int.{fold-int_min_bounds, fold-int_max_bounds, fold-int_min_reached, fold-int_max_reached}
 use Rattle.std.proofs.lemmas.List.Elements.{All-cons}
@@ -18,7 +18,7 @@ use Rattle.aggregation.specs.Totals.{range_of, argument_totals, totals_in, HasBl
 use Rattle.aggregation.specs.Totals.HasBlocks.{of_front, of_nothing}
 use Rattle.log_scan.specs.Parts.{LogPart, blocks_read}
 use Rattle.log_scan.specs.Scans.{IsWholeScan, HasFront}
-use Rattle.aggregation.specs.Aggregating.{answer_for, AnswersTotals}
+use Rattle.aggregation.specs.Aggregating.{answer_for, HaveAnswer}
 use Rattle.aggregation.proofs.Arguments.{some_answer, no_argument, no_message}
 
 -- ---- ranges
@@ -74,19 +74,19 @@ module _ (header : Header) (blocks : List Block) (bytes : List ℕ) (id nth : �
   these : (part : LogPart) → IsWholeScan bytes part → part.blocks ≡ blocks
   these part whole = (one_front bytes part.header header part.blocks blocks (length bytes) (length bytes) whole.front (whole_is_front header blocks bytes file valid)).1
 
-  pub one_answer : (answer : Result Totals AggregateFault) → AnswersTotals (Some bytes) id nth answer → ¬ (IsErrOf answer ReadFault) → ¬ (IsErrOf answer NoMemory) → answer ≡ answer_for (messages_of blocks) id nth (argument_totals blocks id nth)
-  one_answer (Ok totals) (part, whole, is) read memory =
+  pub one_answer : (answer : Result Totals AggregateFault) → HaveAnswer id nth answer bytes → answer ≡ answer_for (messages_of blocks) id nth (argument_totals blocks id nth)
+  one_answer (Ok totals) (part, whole, is) =
       some_answer (messages_of blocks) id nth (argument_totals blocks id nth) totals (ap (λ (bs : List Block). totals_in bs id nth) (sym (these part whole)) ∙ is)
-  one_answer (Err (Damaged offset cause front)) (part, damaged, is) read memory = absurd (whole_or_break header blocks bytes offset cause file valid (damaged.breaks short))
-  one_answer (Err NoSuchMessage) (part, whole, past) read memory =
+  one_answer (Err (Damaged offset cause front)) (part, damaged, is) = absurd (whole_or_break header blocks bytes offset cause file valid (damaged.breaks short))
+  one_answer (Err NoSuchMessage) (part, whole, past) =
       no_message (messages_of blocks) id nth (argument_totals blocks id nth) (subst (λ (bs : List Block). length (messages_of bs) ≤ id) (these part whole) past)
-  one_answer (Err NoSuchArgument) (part, whole, within, is) read memory =
+  one_answer (Err NoSuchArgument) (part, whole, within, is) =
       no_argument (messages_of blocks) id nth (argument_totals blocks id nth) (subst (λ (bs : List Block). id < length (messages_of bs)) (these part whole) within)
       (ap (λ (bs : List Block). totals_in bs id nth) (sym (these part whole)) ∙ is)
-  one_answer (Err ReadFault) said read memory = absurd (read refl)
-  one_answer (Err NoMemory) said read memory = absurd (memory refl)
+  one_answer (Err ReadFault) wrong = absurd wrong
+  one_answer (Err NoMemory) wrong = absurd wrong
 
-pub tells_whole : (bytes : List ℕ) (id nth : ℕ) (totals : Totals) → AnswersTotals (Some bytes) id nth (Ok totals) → TotalsOf bytes id nth (Some totals)
+pub tells_whole : (bytes : List ℕ) (id nth : ℕ) (totals : Totals) → HaveAnswer id nth (Ok totals) bytes → TotalsOf bytes id nth (Some totals)
 tells_whole bytes id nth totals (part, whole, is) = record { blocks = part.blocks; of_file = of_front part.header (length bytes) whole.front; are = sym is }
 
 -- the blocks of the front that was read
@@ -94,5 +94,5 @@ front_blocks : (bytes : List ℕ) (part : Option LogPart) → HasFront bytes par
 front_blocks bytes None none = of_nothing none refl
 front_blocks bytes (Some part) (count, front) = of_front part.header count front
 
-pub tells_front : (bytes : List ℕ) (id nth offset : ℕ) (cause : Cause) (front : Option Totals) → length bytes ≤ 134217728 → AnswersTotals (Some bytes) id nth (Err (Damaged offset cause front)) → TotalsOf bytes id nth front
+pub tells_front : (bytes : List ℕ) (id nth offset : ℕ) (cause : Cause) (front : Option Totals) → length bytes ≤ 134217728 → HaveAnswer id nth (Err (Damaged offset cause front)) bytes → TotalsOf bytes id nth front
 tells_front bytes id nth offset cause front short (part, damaged, is) = record { blocks = blocks_read part; of_file = front_blocks bytes part (damaged.all short); are = sym is }
