@@ -13,10 +13,10 @@ use Rattle.checkpoint_io.specs.Validity.{records_of, Valid}
 use Rattle.checkpoint_io.specs.Readers.{ReaderState, StandsFor}
 use Rattle.checkpoint_io.proofs.lemmas.ValidityLaws.{IsCall-front, records_fit, stamps_rise}
 use Rattle.log_scan.specs.Parts.{LogPart}
-use Rattle.log_scan.specs.Scans.{HasFront, IsDamagedScan, EndsWhole, IsReaderOf, StandsForAll}
+use Rattle.log_scan.specs.Scans.{HasFront, IsDamagedScan, IsCutScan, EndsWhole, IsReaderOf, StandsForAll}
 use Rattle.decompressor.specs.declared.report.Report.{Report}
 use Rattle.decompressor.specs.Decompression.{CallsOf, all_calls, Decompressed, of_front, of_nothing}
-use Rattle.decompressor.specs.Decompressing.{calls_read, text_read, unclosed_read, open_writers, IsTextOfWhole, IsTextOfDamaged}
+use Rattle.decompressor.specs.Decompressing.{calls_read, text_read, unclosed_read, open_writers, IsTextOfWhole, IsTextOfDamaged, IsTextOfCut}
 use Rattle.decompressor.specs.Gathering.{records_by_writer, HoldRecords}
 use Rattle.decompressor.specs.Printing.{ArePrintable}
 use Rattle.decompressor.proofs.lemmas.TextLaws.{same_calls, same_flat, numbered}
@@ -87,6 +87,9 @@ text_of_whole bytes (Some part) report whole lines unclosed = record {
 
 pub text_of_damaged : (bytes : List ℕ) (part : Option LogPart) (offset : ℕ) (cause : Cause) → IsDamagedScan bytes part offset cause → IsTextOfDamaged bytes (text_read part) offset cause
 text_of_damaged bytes part offset cause damaged = record { part = part; scanned = damaged; text_is = refl; decompressed = λ short. decompressed_read bytes part (damaged.all short) }
+
+pub text_of_cut : (bytes : List ℕ) (part : Option LogPart) → IsCutScan bytes part → IsTextOfCut bytes (text_read part)
+text_of_cut bytes part cut = record { part = part; scanned = cut; text_is = refl; decompressed = decompressed_read bytes part cut.all }
 
 -- the writers that the reader has as open are those of the log that it stands for
 pub unclosed_of : {E : Type 0} (reader : ReaderState) (part : Option LogPart) (r : Result (List ℕ) E) → ((taken : List ℕ) (read : StandsFor reader taken) → IfOk r (λ unclosed. unclosed ≡ open_writers reader.header read.blocks))

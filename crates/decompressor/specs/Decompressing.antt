@@ -8,12 +8,13 @@ use Rattle.checkpoint_io.specs.declared.heads.TheConstants.{MAX_LOG}
 use Rattle.checkpoint_io.specs.declared.header.Header.{Header}
 use Rattle.checkpoint_io.specs.Blocks.{Block}
 use Rattle.checkpoint_io.specs.Validity.{closes}
+use Rattle.checkpoint_io.specs.Places.{TookSuch}
 use Rattle.log_dictionary.specs.Calls.{LogCall}
 use Rattle.direct_printf.specs.Lines.{Direct}
 use Rattle.log_scan.specs.declared.scan.ScanEnd.{ScanEnd}
 use Rattle.log_scan.specs.declared.scan.ScanEnd.TheVariants as ends
 use Rattle.log_scan.specs.Parts.{LogPart}
-use Rattle.log_scan.specs.Scans.{BeginsWithin, IsWholeScan, IsDamagedScan}
+use Rattle.log_scan.specs.Scans.{IsWholeScan, IsDamagedScan, IsCutScan}
 use Rattle.decompressor.specs.declared.report.Report.{Report}
 use Rattle.decompressor.specs.declared.fault.DecodeFault.{DecodeFault}
 use Rattle.decompressor.specs.declared.fault.DecodeFault.TheVariants.{WriteFault, Damaged, ReadFault, NoMemory}
@@ -34,11 +35,6 @@ calls_read (Some part) = all_calls part.header part.blocks
 abbrev pub text_read : Option LogPart → List ℕ
 text_read None = []
 text_read (Some part) = lines_of part.header part.blocks
-
--- The text is the lines of whole blocks with which the bytes begin, up to this offset, within the most bytes that are
--- read; in front of the header there are none.
-abbrev pub LinesTo : List ℕ → List ℕ → ℕ → Type 0
-LinesTo bytes text offset = (part : Option LogPart) × BeginsWithin bytes part offset × (text ≡ text_read part)
 
 -- ---- how reading ends
 
@@ -63,23 +59,31 @@ pub record IsTextOfDamaged (bytes text : List ℕ) (offset : ℕ) (cause : Cause
   pub text_is : text ≡ text_read part
   pub decompressed : length bytes ≤ MAX_LOG → Decompressed bytes text
 
+-- The bytes break nowhere, or by Cut alone, and the text is their lines.
+pub record IsTextOfCut (bytes text : List ℕ) : Type 0 where
+  pub part : Option LogPart
+  pub scanned : IsCutScan bytes part
+  pub text_is : text ≡ text_read part
+  pub decompressed : Decompressed bytes text
+
 -- How the reading ended whose text this is, as it is answered where all of the text goes out. The count of faults rose
--- only where a read failed.
-abbrev pub ReadsText : Told → ℕ → ℕ → List ℕ → Result Report DecodeFault → Type 0
-ReadsText left before after text (Ok report) = (after ≡ before) × IfSome left (λ bytes. IsTextOfWhole bytes text report)
-ReadsText left before after text (Err (Damaged offset cause)) =
+-- only where a read failed. The text is that of the bytes that were taken then, behind which stands what is left.
+abbrev pub ReadsText : Told → Told → ℕ → ℕ → List ℕ → Result Report DecodeFault → Type 0
+ReadsText left behind before after text (Ok report) =
+    (after ≡ before) × IfSome left (λ bytes. IsTextOfWhole bytes text report)
+ReadsText left behind before after text (Err (Damaged offset cause)) =
     (after ≡ before) × IfSome left (λ bytes. IsTextOfDamaged bytes text offset cause)
-ReadsText left before after text (Err ReadFault) =
-    Rose before after × IfSome left (λ bytes. (offset : ℕ) × LinesTo bytes text offset)
-ReadsText left before after text (Err WriteFault) = ⊥
-ReadsText left before after text (Err NoMemory) = ⊥
+ReadsText left behind before after text (Err ReadFault) =
+    Rose before after × TookSuch (λ bytes. IsTextOfCut bytes text) left behind
+ReadsText left behind before after text (Err WriteFault) = ⊥
+ReadsText left behind before after text (Err NoMemory) = ⊥
 
 -- a front of the text of what was read went out, however the reading ended
-pub record CutOff (left : Told) (before after : ℕ) (was is : Told) : Type 0 where
+pub record CutOff (left behind : Told) (before after : ℕ) (was is : Told) : Type 0 where
   pub text : List ℕ
   pub read : Result Report DecodeFault
   pub put : PutsFront text was is
-  pub reads : ReadsText left before after text read
+  pub reads : ReadsText left behind before after text read
 
 -- ---- the answer
 
@@ -96,12 +100,12 @@ AnswersScan part lines ends.Whole (Err fault) = fault ≡ NoMemory
 AnswersScan part lines (ends.Damaged offset cause) answer = answer ≡ Err (Damaged offset cause)
 AnswersScan part lines ends.ReadFault answer = answer ≡ Err ReadFault
 
--- What the answer says of the bytes that the source had left, of its count of faults before and after, and of what was
--- put. A write fails only where there is something to print.
-abbrev pub Decompresses : Told → ℕ → ℕ → Told → Told → Result Report DecodeFault → Type 0
-Decompresses left before after was is (Err WriteFault) =
-    (cut : CutOff left before after was is) × (cut.text ≢ [])
-Decompresses left before after was is (Err NoMemory) =
-    ((is ≡ was) × (after ≡ before)) ⊎ CutOff left before after was is
-Decompresses left before after was is answer =
-    (text : List ℕ) × (is ≡ with_end text was) × ReadsText left before after text answer
+-- What the answer says of the bytes that the source had left before and has behind, of its count of faults before and
+-- after, and of what was put. A write fails only where there is something to print.
+abbrev pub Decompresses : Told → Told → ℕ → ℕ → Told → Told → Result Report DecodeFault → Type 0
+Decompresses left behind before after was is (Err WriteFault) =
+    (cut : CutOff left behind before after was is) × (cut.text ≢ [])
+Decompresses left behind before after was is (Err NoMemory) =
+    ((is ≡ was) × (after ≡ before)) ⊎ CutOff left behind before after was is
+Decompresses left behind before after was is answer =
+    (text : List ℕ) × (is ≡ with_end text was) × ReadsText left behind before after text answer

@@ -97,7 +97,7 @@ pub fn decompress<S: Source, K: Sink>(
     out: &mut K,
 ) -> Result<Report, DecodeFault>
     // What was printed, and what the answer says of the bytes that the source had left.
-    ensures text { Decompresses (S.left source.old) (S.faults source.old) (S.faults source.new)
+    ensures text { Decompresses (S.left source.old) (S.left source.new) (S.faults source.old) (S.faults source.new)
         (K.put out.old) (K.put out.new) result }
     ensures end { OnOk result (IsAtEnd (S.left source.new)) }
 
