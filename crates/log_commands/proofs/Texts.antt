@@ -1,17 +1,19 @@
 -- How `decompress` ends, by what the decompression of the opened log answered.
-use Rattle.std.proofs.Common.{◌≡◌, ℕ, List, [], ◌∷◌, ◌++◌, Result, Ok, Err, codes, refl, sym, ap, ◌∙◌, inl, inr, append_assoc}
-use Rattle.std.specs.Prelude.{IsErrOf}
+use Rattle.std.proofs.Common.{◌≡◌, ℕ, List, [], ◌∷◌, ◌++◌, Some, None, Result, Ok, Err, codes, refl, sym, ap, ◌∙◌, inl, inr, append_assoc}
+use Rattle.std.specs.Prelude.{IfSome, IsErrOf}
 use Rattle.std.specs.Fmt.{decimal}
 use Rattle.std.proofs.lemmas.List.{append-nil}
+use Rattle.std.proofs.lemmas.Option.{same_Some}
 use Rattle.std.proofs.lemmas.List.Concat.{flat_map-cons}
 use Rattle.std.proofs.lemmas.Grind.{flat_map-append}
 use Rattle.nl_io.specs.Count.{Rose}
 use Rattle.nl_io.specs.Content.{Told, with_end, PutsFront}
 use Rattle.nl_io.specs.Desk.{Desk}
+use Rattle.checkpoint_io.specs.Places.{TookSuch}
 use Rattle.decompressor.specs.declared.report.Report.{Report}
 use Rattle.decompressor.specs.declared.fault.DecodeFault.{DecodeFault}
 use Rattle.decompressor.specs.declared.fault.DecodeFault.TheVariants as faults
-use Rattle.decompressor.specs.Decompressing.{LinesTo, IsTextOfWhole, IsTextOfDamaged, ReadsText, Decompresses}
+use Rattle.decompressor.specs.Decompressing.{IsTextOfWhole, IsTextOfDamaged, IsTextOfCut, ReadsText, Decompresses}
 use Rattle.command_base.specs.Endings.{NoMemory}
 use Rattle.command_base.specs.HeldFiles.{IsThere}
 use Rattle.command_base.specs.HeldLaws.{WasRead, such_read, there_read, same_desk}
@@ -38,9 +40,18 @@ whole_printed : (log unclosed : List ℕ) → IsPrinted (whole_ending log unclos
 whole_printed log [] = tt
 whole_printed log (writer ∷ writers) = tt
 
-module _ (log : List ℕ) (old : Scene) (desk : Desk) (content : Told) (was : WasRead log old.desk desk content) where
+-- the bytes that were taken stand at the front of the log, and have the text
+abbrev HasFrontOfText : List ℕ → List ℕ → Type 0
+HasFrontOfText text bytes = (taken : List ℕ) × (rest : List ℕ) × (bytes ≡ taken ++ rest) × IsTextOfCut taken text
+
+has_front : (text : List ℕ) (content left : Told) → TookSuch (λ bytes. IsTextOfCut bytes text) content left → IfSome content (HasFrontOfText text)
+has_front text None left took = tt
+has_front text (Some bytes) None (taken, parted, cut) = absurd cc
+has_front text (Some bytes) (Some rest) (taken, parted, cut) = (taken, rest, same_Some bytes (taken ++ rest) parted, cut)
+
+module _ (log : List ℕ) (old : Scene) (desk : Desk) (content left : Told) (was : WasRead log old.desk desk content) where
   -- the text of a log that was read has this end
-  pub reads_text : (text : List ℕ) (answer : Result Report DecodeFault) → ReadsText content old.desk.read_faults desk.read_faults text answer
+  pub reads_text : (text : List ℕ) (answer : Result Report DecodeFault) → ReadsText content left old.desk.read_faults desk.read_faults text answer
       → ReadsFile log (GivesText log) (BeginsText log) old.desk desk (text_alone text) (log_ending log answer)
   reads_text text (Ok report) (counted, so) =
       whole_reads log old.desk desk text report.unclosed (
@@ -53,38 +64,38 @@ module _ (log : List ℕ) (old : Scene) (desk : Desk) (content : Told) (was : Wa
     there_read log old.desk desk content was,
     (Err (faults.Damaged offset cause), refl, refl, such_read log old.desk desk content (λ bytes. IsTextOfDamaged bytes text offset cause) was so),
   )
-  reads_text text (Err faults.ReadFault) (rose, so) =
-      ((refl, was.only, rose), inr (refl, such_read log old.desk desk content (λ bytes. (offset : ℕ) × LinesTo bytes text offset) was so))
+  reads_text text (Err faults.ReadFault) (rose, took) =
+      ((refl, was.only, rose), inr (refl, such_read log old.desk desk content (HasFrontOfText text) was (has_front text content left took)))
   reads_text text (Err faults.WriteFault) reads = absurd reads
   reads_text text (Err faults.NoMemory) reads = absurd reads
 
-  is_printed : (text : List ℕ) (answer : Result Report DecodeFault) → ReadsText content old.desk.read_faults desk.read_faults text answer → IsPrinted (log_ending log answer) Streaming
+  is_printed : (text : List ℕ) (answer : Result Report DecodeFault) → ReadsText content left old.desk.read_faults desk.read_faults text answer → IsPrinted (log_ending log answer) Streaming
   is_printed text (Ok report) reads = whole_printed log report.unclosed
   is_printed text (Err (faults.Damaged offset cause)) reads = tt
   is_printed text (Err faults.ReadFault) reads = tt
   is_printed text (Err faults.WriteFault) reads = absurd reads
   is_printed text (Err faults.NoMemory) reads = absurd reads
 
-  has_read : (text : List ℕ) (answer : Result Report DecodeFault) → ReadsText content old.desk.read_faults desk.read_faults text answer → HasRead (decompress_task log) old desk (text_alone text) (log_ending log answer)
+  has_read : (text : List ℕ) (answer : Result Report DecodeFault) → ReadsText content left old.desk.read_faults desk.read_faults text answer → HasRead (decompress_task log) old desk (text_alone text) (log_ending log answer)
   has_read text answer reads = record { read = desk; reading = reads_text text answer reads; made = refl }
 
   -- ---- how the command ends
 
   -- all of the text was printed
-  pub all_told : (text : List ℕ) (answer : Result Report DecodeFault) (put : Told) (faults : ℕ) → ReadsText content old.desk.read_faults desk.read_faults text answer → put ≡ with_end text old.put → faults ≡ old.faults
+  pub all_told : (text : List ℕ) (answer : Result Report DecodeFault) (put : Told) (faults : ℕ) → ReadsText content left old.desk.read_faults desk.read_faults text answer → put ≡ with_end text old.put → faults ≡ old.faults
       → CommandEffect (decompress_task log) old (scene desk put faults) (log_ending log answer)
   all_told text answer put faults reads printed counted =
       text_told log Streaming (GivesText log) (BeginsText log) IsLog old desk text put faults (log_ending log answer) (decompress_sound log) (reads_text text answer reads) printed counted
 
   -- memory was wanting behind a front of it
-  pub stops_told : (text : List ℕ) (answer : Result Report DecodeFault) (put : Told) (faults : ℕ) → ReadsText content old.desk.read_faults desk.read_faults text answer → PutsFront text old.put put → faults ≡ old.faults
+  pub stops_told : (text : List ℕ) (answer : Result Report DecodeFault) (put : Told) (faults : ℕ) → ReadsText content left old.desk.read_faults desk.read_faults text answer → PutsFront text old.put put → faults ≡ old.faults
       → CommandEffect (decompress_task log) old (scene desk put faults) NoMemory
   stops_told text answer put faults reads front counted =
       stopped (decompress_task log) old desk (text_alone text) (log_ending log answer) put faults (has_read text answer reads) tt (is_printed text answer reads)
       (only_there log old.desk (there_read log old.desk desk content was)) front counted
 
   -- the log wasn't decompressed whole
-  pub fault_told : (fault : DecodeFault) (put : Told) (low : ℕ) → Decompresses content old.desk.read_faults desk.read_faults old.put put (Err fault)
+  pub fault_told : (fault : DecodeFault) (put : Told) (low : ℕ) → Decompresses content left old.desk.read_faults desk.read_faults old.put put (Err fault)
       → (IsErrOf {T = Report} (Err fault) faults.WriteFault → Rose old.faults low) → (¬ (IsErrOf {T = Report} (Err fault) faults.WriteFault) → low ≡ old.faults)
       → CommandEffect (decompress_task log) old (scene desk put low) (log_ending log (Err fault))
   fault_told faults.WriteFault put low (cut, some) wrote written =

@@ -9,12 +9,12 @@ use Rattle.nl_io.specs.Desk.{Desk}
 use Rattle.aggregation.specs.declared.totals.Totals.{Totals}
 use Rattle.aggregation.specs.declared.fault.AggregateFault.{AggregateFault}
 use Rattle.aggregation.specs.declared.fault.AggregateFault.TheVariants as faults
-use Rattle.aggregation.specs.Aggregating.{AnswersTotals}
+use Rattle.aggregation.specs.Aggregating.{HaveAnswer, AnswersTotals}
 use Rattle.command_base.specs.HeldFiles.{IsThere}
 use Rattle.command_base.specs.HeldLaws.{WasRead, such_read, there_read, same_desk}
 use Rattle.command_base.specs.Readings.{never, ReadsFile}
 use Rattle.command_base.specs.Tasks.{text_alone}
-use Rattle.log_commands.specs.Aggregating.{totals_line, totals_text, totals_told, totals_ending, HaveAnswer, GivesTotals}
+use Rattle.log_commands.specs.Aggregating.{totals_line, totals_text, totals_told, totals_ending, GivesTotals}
 
 -- the line on numbers, piece by piece
 pub numbers_pieces : (count : ℕ) (least greatest sum : ℤ) (count_text least_text greatest_text sum_text : List ℕ) → count_text ≡ decimal count → least_text ≡ signed_decimal least
@@ -39,12 +39,12 @@ module _ (log : List ℕ) (id nth : ℕ) (old new : Desk) (content : Told) (was 
   )
 
   -- what the answer says is what the command reads
-  pub reads_totals : (answer : Result Totals AggregateFault) → AnswersTotals content id nth answer → (IsErrOf answer faults.ReadFault → Rose old.read_faults new.read_faults)
+  pub reads_totals : (left : Told) (answer : Result Totals AggregateFault) → AnswersTotals content left id nth answer → (IsErrOf answer faults.ReadFault → Rose old.read_faults new.read_faults)
       → (¬ (IsErrOf answer faults.ReadFault) → new.read_faults ≡ old.read_faults)
       → ReadsFile log (GivesTotals log id nth) never old new (text_alone (totals_text (totals_told answer))) (totals_ending log answer)
-  reads_totals (Ok totals) said rose counted = gives (Ok totals) said (counted (λ e. cc))
-  reads_totals (Err faults.ReadFault) said rose counted = ((refl, was.only, rose refl), inl refl)
-  reads_totals (Err (faults.Damaged offset cause front)) said rose counted = gives (Err (faults.Damaged offset cause front)) said (counted (λ e. cc))
-  reads_totals (Err faults.NoSuchMessage) said rose counted = gives (Err faults.NoSuchMessage) said (counted (λ e. cc))
-  reads_totals (Err faults.NoSuchArgument) said rose counted = gives (Err faults.NoSuchArgument) said (counted (λ e. cc))
-  reads_totals (Err faults.NoMemory) said rose counted = ((same_desk old new was.only (counted (λ e. cc)), there_read log old new content was), refl)
+  reads_totals left (Ok totals) said rose counted = gives (Ok totals) said (counted (λ e. cc))
+  reads_totals left (Err faults.ReadFault) said rose counted = ((refl, was.only, rose refl), inl refl)
+  reads_totals left (Err (faults.Damaged offset cause front)) said rose counted = gives (Err (faults.Damaged offset cause front)) said (counted (λ e. cc))
+  reads_totals left (Err faults.NoSuchMessage) said rose counted = gives (Err faults.NoSuchMessage) said (counted (λ e. cc))
+  reads_totals left (Err faults.NoSuchArgument) said rose counted = gives (Err faults.NoSuchArgument) said (counted (λ e. cc))
+  reads_totals left (Err faults.NoMemory) said rose counted = ((same_desk old new was.only (counted (λ e. cc)), there_read log old new content was), refl)

@@ -4,7 +4,7 @@ use Rattle.std.specs.Fmt.{decimal, signed_decimal}
 use Rattle.aggregation.specs.declared.totals.Totals.{Totals}
 use Rattle.aggregation.specs.declared.fault.AggregateFault.{AggregateFault}
 use Rattle.aggregation.specs.declared.fault.AggregateFault.TheVariants as faults
-use Rattle.aggregation.specs.Aggregating.{AnswersTotals}
+use Rattle.aggregation.specs.Aggregating.{HaveAnswer}
 use Rattle.command_base.specs.Endings.{ToldCause, Ending, Done, ReadFault, Refused, Damaged, NoMemory}
 use Rattle.command_base.specs.HeldFiles.{HoldsSuch}
 use Rattle.command_base.specs.Tasks.{WhileReading, Task, text_alone}
@@ -52,12 +52,6 @@ totals_ending log (Err (faults.Damaged offset cause front)) = Damaged log offset
 totals_ending log (Err faults.NoSuchMessage) = Refused log None no_such_message
 totals_ending log (Err faults.NoSuchArgument) = Refused log None no_such_argument
 totals_ending log (Err faults.NoMemory) = NoMemory
-
--- the bytes have this answer, which is none on reading or memory
-abbrev pub HaveAnswer : ℕ → ℕ → Result Totals AggregateFault → List ℕ → Type 0
-HaveAnswer id nth (Err faults.ReadFault) bytes = ⊥
-HaveAnswer id nth (Err faults.NoMemory) bytes = ⊥
-HaveAnswer id nth answer bytes = AnswersTotals (Some bytes) id nth answer
 
 -- what a log gives: the line on the totals of the argument, or why there are none of the whole log, behind the line on
 -- those in front of a damage

@@ -5,7 +5,7 @@ use Rattle.std.specs.List.{flat_map}
 use Rattle.decompressor.specs.declared.report.Report.{Report}
 use Rattle.decompressor.specs.declared.fault.DecodeFault.{DecodeFault}
 use Rattle.decompressor.specs.declared.fault.DecodeFault.TheVariants as faults
-use Rattle.decompressor.specs.Decompressing.{LinesTo, IsTextOfWhole, IsTextOfDamaged}
+use Rattle.decompressor.specs.Decompressing.{IsTextOfWhole, IsTextOfDamaged, IsTextOfCut}
 use Rattle.command_base.specs.Endings.{Ending, Done, StillOpen, ReadFault, Damaged, WriteFault, NoMemory}
 use Rattle.command_base.specs.HeldFiles.{HoldsSuch}
 use Rattle.command_base.specs.Tasks.{Streaming, Task}
@@ -44,9 +44,10 @@ GivesText log old product ending =
     (answer : Result Report DecodeFault) × (ending ≡ log_ending log answer) × (product.made ≡ None)
     × HoldsSuch old log (HaveText product.text answer)
 
--- where a read failed: the lines of whole blocks that were read before
+-- where a read failed: the lines of those of its bytes that were taken before
 abbrev pub BeginsText : List ℕ → Begun
-BeginsText log old text = HoldsSuch old log (λ bytes. (offset : ℕ) × LinesTo bytes text offset)
+BeginsText log old text =
+    HoldsSuch old log (λ bytes. (taken : List ℕ) × (rest : List ℕ) × (bytes ≡ taken ++ rest) × IsTextOfCut taken text)
 
 -- `decompress`: the lines of a log are printed
 abbrev pub decompress_task : List ℕ → Task

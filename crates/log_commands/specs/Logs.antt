@@ -1,5 +1,8 @@
 -- Files that are logs.
-use Rattle.std.specs.Prelude.{◌≡◌, ℕ, ◌≤◌, true, List, length}
+use Rattle.std.specs.Prelude.{◌≡◌, ℕ, ◌≤◌, true, List, length, None, unwrap_or}
+use Rattle.std.specs.FinMap as map
+use Rattle.nl_io.specs.Content.{Told}
+use Rattle.nl_io.specs.Desk.{Desk}
 use Rattle.checkpoint_io.specs.declared.cause.Cause.{Cause}
 use Rattle.checkpoint_io.specs.declared.heads.TheConstants.{MAX_LOG}
 use Rattle.checkpoint_io.specs.declared.header.Header.{Header}
@@ -25,3 +28,7 @@ pub record IsLog (bytes : List ℕ) : Type 0 where
 pub record HasNumber (id nth : ℕ) (bytes : List ℕ) : Type 0 where
   pub log : IsLog bytes
   pub has : has_number (messages_of log.blocks) id nth ≡ true
+
+-- what a file that is being read has left
+abbrev pub left_by : Desk → ℕ → Told
+left_by desk id = unwrap_or (map.get desk.left id) None

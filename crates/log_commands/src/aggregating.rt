@@ -10,6 +10,7 @@ ghost use Rattle.command_base.specs.Endings.{Refused as RefusedFile, ending_of, 
 ghost use Rattle.command_base.specs.Effects.{CommandEffect};
 ghost use Rattle.command_base.specs.Scenes.{scene};
 ghost use Rattle.command_base.specs.Tasks.{text_alone};
+ghost use Rattle.log_commands.specs.Logs.{left_by};
 ghost use Rattle.log_commands.specs.Aggregating.{totals_text, totals_told, totals_ending, aggregate_task};
 
 use crate::damage::damaged;
@@ -28,7 +29,8 @@ fn aggregate_open<F: Files>(
     nth: u32,
 ) -> Result<Totals, AggregateFault>
     requires { map.get (F.desk files.old).left file ≢ None }
-    ensures answer { (content : Told) → IsReading (F.desk files.old) file content → AnswersTotals content id nth result }
+    ensures answer { (content : Told) → IsReading (F.desk files.old) file content
+        → AnswersTotals content (left_by (F.desk files.new) file) id nth result }
     ensures read_fault { IsErrOf result AggregateFault.ReadFault
         → Rose (F.desk files.old).read_faults (F.desk files.new).read_faults }
     ensures counted { ¬ (IsErrOf result AggregateFault.ReadFault)

@@ -10,6 +10,7 @@ ghost use Rattle.decompressor.specs.Decompressing.{Decompresses};
 ghost use Rattle.command_base.specs.Endings.{answer_ending, note_ending, refusal_ending};
 ghost use Rattle.command_base.specs.Effects.{CommandEffect};
 ghost use Rattle.command_base.specs.Scenes.{scene};
+ghost use Rattle.log_commands.specs.Logs.{left_by};
 ghost use Rattle.log_commands.specs.Decompressing.{writers_text, whole_ending, log_ending, decompress_task};
 
 use crate::damage::damaged;
@@ -28,7 +29,8 @@ fn decompress_open<F: Files, O: Sink>(
 ) -> Result<Report, DecodeFault>
     requires { map.get (F.desk files.old).left id ≢ None }
     ensures text { (content : Told) → IsReading (F.desk files.old) id content →
-        Decompresses content (F.desk files.old).read_faults (F.desk files.new).read_faults
+        Decompresses content (left_by (F.desk files.new) id)
+        (F.desk files.old).read_faults (F.desk files.new).read_faults
         (O.put out.old) (O.put out.new) result }
     ensures write_fault { IsErrOf result DecodeFault.WriteFault → Rose (O.faults out.old) (O.faults out.new) }
     ensures written { ¬ (IsErrOf result DecodeFault.WriteFault) → O.faults out.new ≡ O.faults out.old }

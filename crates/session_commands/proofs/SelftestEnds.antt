@@ -68,10 +68,10 @@ never_damaged run batch log left text offset cause whole short same damaged =
     whole_or_break lawful.header lawful.blocks log offset cause lawful.file lawful.valid (is.scanned.breaks short)
 
 -- where the answer is damaged, that is said of what was left
-pub damaged_told : (left : Told) (before after : ℕ) (was is : Told) (fault : DecodeFault) (offset : ℕ) (cause : Cause) → fault ≡ Damaged offset cause → Decompresses left before after was is (Err fault)
+pub damaged_told : (left behind : Told) (before after : ℕ) (was is : Told) (fault : DecodeFault) (offset : ℕ) (cause : Cause) → fault ≡ Damaged offset cause → Decompresses left behind before after was is (Err fault)
     → (text : List ℕ) × IfSome left (λ bytes. IsTextOfDamaged bytes text offset cause)
-damaged_told left before after was is fault offset cause named says =
-    let told : Decompresses left before after was is (Err (Damaged offset cause)) = subst (λ (f : DecodeFault). Decompresses left before after was is (Err f)) named says in
+damaged_told left behind before after was is fault offset cause named says =
+    let told : Decompresses left behind before after was is (Err (Damaged offset cause)) = subst (λ (f : DecodeFault). Decompresses left behind before after was is (Err f)) named says in
     let (text, put, (counted, so)) = told in
     (text, so)
 

@@ -1,6 +1,6 @@
 -- The commands over logs are sound.
 use Rattle.std.proofs.Common.{◌≡◌, ℕ, Bool, List, [], ◌∷◌, length, Some, None, Result, Ok, Err, refl, sym, ap, ◌∙◌, subst}
-use Rattle.std.specs.Prelude.{IsErrOf, nat_lt, if◌then◌else◌}
+use Rattle.std.specs.Prelude.{nat_lt, if◌then◌else◌}
 use Rattle.checkpoint_io.specs.declared.cause.Cause.{Cause}
 use Rattle.checkpoint_io.specs.Blocks.{messages_of}
 use Rattle.checkpoint_io.proofs.lemmas.BreakLaws.{whole_or_break}
@@ -12,7 +12,7 @@ use Rattle.aggregation.specs.declared.totals.Totals.{Totals}
 use Rattle.aggregation.specs.declared.fault.AggregateFault.{AggregateFault}
 use Rattle.aggregation.specs.declared.fault.AggregateFault.TheVariants as faults
 use Rattle.aggregation.specs.Totals.{argument_totals}
-use Rattle.aggregation.specs.Aggregating.{AnswersTotals, answer_for}
+use Rattle.aggregation.specs.Aggregating.{answer_for, HaveAnswer}
 use Rattle.aggregation.proofs.lemmas.TotalsLaws.{one_answer}
 use Rattle.command_base.specs.Endings.{IsDone}
 use Rattle.command_base.specs.HeldLaws.{such_is}
@@ -22,7 +22,7 @@ use Rattle.command_base.specs.Soundness.{IsSound}
 use Rattle.command_base.specs.SoundTasks.{file_sound}
 use Rattle.log_commands.specs.Logs.{IsLog, HasNumber}
 use Rattle.log_commands.specs.Decompressing.{whole_ending, log_ending, HaveText, GivesText, BeginsText, decompress_task}
-use Rattle.log_commands.specs.Aggregating.{totals_ending, HaveAnswer, GivesTotals, aggregate_task}
+use Rattle.log_commands.specs.Aggregating.{totals_ending, GivesTotals, aggregate_task}
 
 -- ---- `decompress`
 
@@ -52,11 +52,11 @@ decompress_sound log = file_sound log Streaming (GivesText log) (BeginsText log)
 -- ---- `aggregate`
 
 -- a whole log that has the number has no other answer than its totals
-no_fault : (id nth : ℕ) (bytes : List ℕ) (fault : AggregateFault) → HasNumber id nth bytes → AnswersTotals (Some bytes) id nth (Err fault) → ¬ (IsErrOf {T = Totals} (Err fault) faults.ReadFault) → ¬ (IsErrOf {T = Totals} (Err fault) faults.NoMemory) → ⊥
-no_fault id nth bytes fault is said read memory =
+no_fault : (id nth : ℕ) (bytes : List ℕ) (fault : AggregateFault) → HasNumber id nth bytes → ¬ (HaveAnswer id nth (Err fault) bytes)
+no_fault id nth bytes fault is have =
     let log = is.log in
     let totals = argument_totals log.blocks id nth in
-    let one = one_answer log.header log.blocks bytes id nth log.file log.valid log.within (Err fault) said read memory in
+    let one = one_answer log.header log.blocks bytes id nth log.file log.valid log.within (Err fault) have in
     let right : answer_for (messages_of log.blocks) id nth totals ≡ Ok totals =
     ap (λ (b : Bool). if b then Ok totals else (if nat_lt id (length (messages_of log.blocks)) then Err faults.NoSuchArgument else Err faults.NoSuchMessage)) is.has in
     let both : Err fault ≡ Ok totals = one ∙ right in
@@ -64,11 +64,7 @@ no_fault id nth bytes fault is said read memory =
 
 right_totals : (log : List ℕ) (id nth : ℕ) (bytes : List ℕ) (answer : Result Totals AggregateFault) → HasNumber id nth bytes → HaveAnswer id nth answer bytes → IsDone (totals_ending log answer)
 right_totals log id nth bytes (Ok totals) is have = refl
-right_totals log id nth bytes (Err faults.ReadFault) is have = absurd have
-right_totals log id nth bytes (Err (faults.Damaged offset cause front)) is have = absurd (no_fault id nth bytes (faults.Damaged offset cause front) is have (λ e. cc) (λ e. cc))
-right_totals log id nth bytes (Err faults.NoSuchMessage) is have = absurd (no_fault id nth bytes faults.NoSuchMessage is have (λ e. cc) (λ e. cc))
-right_totals log id nth bytes (Err faults.NoSuchArgument) is have = absurd (no_fault id nth bytes faults.NoSuchArgument is have (λ e. cc) (λ e. cc))
-right_totals log id nth bytes (Err faults.NoMemory) is have = absurd have
+right_totals log id nth bytes (Err fault) is have = absurd (no_fault id nth bytes fault is have)
 
 pub aggregate_sound : (log : List ℕ) (id nth : ℕ) → IsSound (aggregate_task log id nth)
 aggregate_sound log id nth = file_sound log WhileReading (GivesTotals log id nth) never (HasNumber id nth) None (λ desk bytes. ⊥) (record {

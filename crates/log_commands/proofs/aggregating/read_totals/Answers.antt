@@ -30,6 +30,7 @@ returns-clause-reads g c =
     (subst (λ (ending : Ending). reads (text_alone (totals_text (totals_told answer))) ending) (sym c.ending_of_log.ensures)
     (reads_totals c.args.log.now c.args.id c.args.nth old new opens.content
     (was_read _ _ _ _ _ _ opens said.same said.count leaves)
+    _
     answer
     (said.answer opens.content (Opens-content _ _ _ _ opens))
     (λ is. counts_by Rose _ _ _ _ _ _ opens leaves (said.read_fault is))

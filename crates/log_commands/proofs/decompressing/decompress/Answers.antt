@@ -7,6 +7,7 @@ use Rattle.command_base.specs.Effects.{CommandEffect}
 use Rattle.command_base.specs.EffectLaws.{answered_as, no_bytes, nothing_came}
 use Rattle.command_base.specs.HeldLaws.{was_read, counts_by}
 use Rattle.command_base.specs.Scenes.{Scene, scene}
+use Rattle.log_commands.specs.Logs.{left_by}
 use Rattle.log_commands.specs.Decompressing.{GivesText, BeginsText, decompress_task}
 use Rattle.log_commands.proofs.Texts.{all_told, stops_told, fault_told}
 use Rattle.log_commands.proofs.lemmas.Soundness.{decompress_sound}
@@ -32,9 +33,10 @@ returns-in_ok-note_of-in-Ok-clause-ends g c =
     let new : Scene = scene (g.F.Files.desk c.leave.new.self) (g.O.Sink.put c.decompress_open-decompressed.new.out) (g.O.Sink.faults c.decompress_open-decompressed.new.out) in
     let opens = c.in_ok-id.ensures.opened in
     let leaves = c.leave.ensures.left in
-    let said = counts_by (λ (m n : ℕ). Decompresses opens.content m n old.put new.put (Ok c.in-Ok.report)) _ _ _ _ _ _ opens leaves (c.in-Ok.ensures.text opens.content (Opens-content _ _ _ _ opens)) in
+    let left = left_by (g.F.Files.desk c.decompress_open-decompressed.new.files) c.in_ok-id.id in
+    let said = counts_by (λ (m n : ℕ). Decompresses opens.content left m n old.put new.put (Ok c.in-Ok.report)) _ _ _ _ _ _ opens leaves (c.in-Ok.ensures.text opens.content (Opens-content _ _ _ _ opens)) in
     subst (λ (ending : Ending). CommandEffect task old new ending) (sym c.in_ok-note_of-in-Ok.ensures)
-    (all_told c.args.log.now old new.desk opens.content
+    (all_told c.args.log.now old new.desk opens.content left
     (was_read _ _ _ _ _ _ opens c.decompress_open-decompressed.ensures.same c.decompress_open-decompressed.ensures.count leaves)
     said.0 (Ok c.in-Ok.report) new.put new.faults said.2 said.1 (c.in-Ok.ensures.written (λ e. cc)))
 
@@ -45,9 +47,10 @@ returns-in_err-note_of-in-Ok-clause-ends g c =
     let new : Scene = scene (g.F.Files.desk c.leave.new.self) (g.O.Sink.put c.decompress_open-decompressed.new.out) (g.O.Sink.faults c.decompress_open-decompressed.new.out) in
     let opens = c.in_ok-id.ensures.opened in
     let leaves = c.leave.ensures.left in
-    let said = counts_by (λ (m n : ℕ). Decompresses opens.content m n old.put new.put (Ok c.in-Ok.report)) _ _ _ _ _ _ opens leaves (c.in-Ok.ensures.text opens.content (Opens-content _ _ _ _ opens)) in
+    let left = left_by (g.F.Files.desk c.decompress_open-decompressed.new.files) c.in_ok-id.id in
+    let said = counts_by (λ (m n : ℕ). Decompresses opens.content left m n old.put new.put (Ok c.in-Ok.report)) _ _ _ _ _ _ opens leaves (c.in-Ok.ensures.text opens.content (Opens-content _ _ _ _ opens)) in
     subst (λ (ending : Ending). CommandEffect task old new ending) (sym (answered_as _ _ c.from_residual-in_err-note_of-in-Ok.ensures.1))
-    (stops_told c.args.log.now old new.desk opens.content
+    (stops_told c.args.log.now old new.desk opens.content left
     (was_read _ _ _ _ _ _ opens c.decompress_open-decompressed.ensures.same c.decompress_open-decompressed.ensures.count leaves)
     said.0 (Ok c.in-Ok.report) new.put new.faults said.2 (front-whole said.0 old.put new.put said.1) (c.in-Ok.ensures.written (λ e. cc)))
 
@@ -58,10 +61,11 @@ returns-in-Err-clause-ends g c =
     let new : Scene = scene (g.F.Files.desk c.leave.new.self) (g.O.Sink.put c.decompress_open-decompressed.new.out) (g.O.Sink.faults c.decompress_open-decompressed.new.out) in
     let opens = c.in_ok-id.ensures.opened in
     let leaves = c.leave.ensures.left in
+    let left = left_by (g.F.Files.desk c.decompress_open-decompressed.new.files) c.in_ok-id.id in
     subst (λ (ending : Ending). CommandEffect task old new ending) (sym c.refusal_of.ensures)
-    (fault_told c.args.log.now old new.desk opens.content
+    (fault_told c.args.log.now old new.desk opens.content left
     (was_read _ _ _ _ _ _ opens c.decompress_open-decompressed.ensures.same c.decompress_open-decompressed.ensures.count leaves)
     c.in-Err.fault new.put new.faults
-    (counts_by (λ (m n : ℕ). Decompresses opens.content m n old.put new.put (Err c.in-Err.fault)) _ _ _ _ _ _ opens leaves (c.in-Err.ensures.text opens.content (Opens-content _ _ _ _ opens)))
+    (counts_by (λ (m n : ℕ). Decompresses opens.content left m n old.put new.put (Err c.in-Err.fault)) _ _ _ _ _ _ opens leaves (c.in-Err.ensures.text opens.content (Opens-content _ _ _ _ opens)))
     c.in-Err.ensures.write_fault
     c.in-Err.ensures.written)

@@ -18,5 +18,5 @@ unreachable-requires c =
     let e = c.in-Err-Damaged in
     let old = c.in_ok-source.source in
     let new = c.decompress.new.source in
-    let told = damaged_told (Some (source_left old)) (all_faults (source_faults old)) (all_faults (source_faults new)) (Some (sink_bytes c.in_ok-text.text)) (Some (sink_bytes c.decompress.new.out)) e.field-0 e.field-0-0 e.field-0-1 e.field-0-is e.ensures.text in
+    let told = damaged_told (Some (source_left old)) _ (all_faults (source_faults old)) (all_faults (source_faults new)) (Some (sink_bytes c.in_ok-text.text)) (Some (sink_bytes c.decompress.new.out)) e.field-0 e.field-0-0 e.field-0-1 e.field-0-is e.ensures.text in
     never_damaged run batch c.args.log.now _ told.0 e.field-0-0 e.field-0-1 whole c.requires.short c.in_ok-source.ensures.left told.1
