@@ -1,6 +1,14 @@
 -- Texts that are appended one after the other.
-use Rattle.std.proofs.Common.{◌≡◌, ℕ, List, ◌++◌, append_assoc}
+use Rattle.std.proofs.Common.{◌≡◌, ℕ, List, [], ◌∷◌, ◌++◌, append_assoc}
 
 -- a line's parts, where each list is the one before with its parts appended
-pub joined : (old seconds file number name writer close text end with_time with_place with_origin with_text new : List ℕ) → with_time ≡ old ++ seconds → with_place ≡ with_time ++ (file ++ number) → with_origin ≡ with_place ++ (name ++ writer ++ close) → with_text ≡ with_origin ++ text → new ≡ with_text ++ end → new ≡ old ++ (seconds ++ file ++ number ++ name ++ writer ++ close ++ text ++ end)
-joined old seconds file number name writer close text end with_time with_place with_origin with_text new a b c d e = rw (e, d, c, b, a) (simp append_assoc)
+pub joined : (old seconds space file number name writer close text end with_time with_origin with_text new : List ℕ) → with_time ≡ old ++ (seconds ++ space) → with_origin ≡ with_time ++ (file ++ number ++ name ++ writer ++ close) → with_text ≡ with_origin ++ text → new ≡ with_text ++ end → new ≡ old ++ (seconds ++ (space ++ file) ++ number ++ name ++ writer ++ close ++ text ++ end)
+joined old seconds space file number name writer close text end with_time with_origin with_text new a b c d = rw (d, c, b, a) (simp append_assoc)
+
+-- a time's parts, with what stands behind them
+pub joined_time : (old seconds part space with_seconds new : List ℕ) → with_seconds ≡ old ++ seconds → new ≡ with_seconds ++ (part ++ space) → new ≡ old ++ (seconds ++ part ++ space)
+joined_time old seconds part space with_seconds new a b = rw (b, a) (simp append_assoc)
+
+-- a file's name, and what was written from the end on
+pub joined_origin : (old file : List ℕ) (colon : ℕ) (number : List ℕ) (space : ℕ) (name : List ℕ) (bracket : ℕ) (writer close with_file new : List ℕ) → with_file ≡ old ++ file → new ≡ with_file ++ (colon ∷ (number ++ (space ∷ (name ++ (bracket ∷ (writer ++ close)))))) → new ≡ old ++ (file ++ colon ∷ number ++ space ∷ name ++ bracket ∷ writer ++ close)
+joined_origin old file colon number space name bracket writer close with_file new a b = rw (b, a) (simp append_assoc)

@@ -7,3 +7,5 @@ mod Rest
 mod Arguments
 mod Formats
 mod Joining
+mod Times
+mod Writing

@@ -1,9 +1,15 @@
 -- How a value is padded.
-use Rattle.std.proofs.Common.{◌≡◌, ℕ, ◌+◌, ◌-◌, ◌≤◌, ℤ, Option, is_none, Bool, ◌&&◌, ◌||◌, true, false, List, ◌++◌, length, replicate, arith}
-use Rattle.std.proofs.lemmas.List.{append_assoc, length-append, length-replicate, replicate-append-replicate}
+use Rattle.std.proofs.Common.{◌≡◌, ℕ, ◌+◌, ◌-◌, ◌≤◌, ℤ, Option, is_none, Bool, ◌&&◌, ◌||◌, true, false, List, ◌++◌, length, replicate, cond, [], refl, sym, ap, ◌∙◌, arith}
+use Rattle.std.proofs.lemmas.List.{append_assoc, append-nil, length-append, length-replicate, replicate-append-replicate}
 use Rattle.printf_grammar.specs.declared.piece.Spec.{Spec}
 use Rattle.printf_grammar.specs.declared.argument.Value.{Value}
 use Rattle.direct_printf.specs.Fields.{Converted, Field, padded, converted, width_of, is_left_star, precision_of, is_integer, stars, signed_of, argument_at}
+
+-- with nothing missing all three ways are the same
+not_padded : (left zeros : Bool) (front body : List ℕ) → front ++ body ≡ cond left (front ++ body ++ []) (cond zeros (front ++ [] ++ body) (front ++ body))
+not_padded true zeros front body = sym (append-nil (front ++ body))
+not_padded false true front body = ap (λ text. text ++ body) (sym (append-nil front))
+not_padded false false front body = refl
 
 -- the zeros of the padding and those of the precision stand side by side
 pub padded-zeros : (left zeros : Bool) (width missing count : ℕ) (front body : List ℕ) → left ≡ false → zeros ≡ true → missing ≡ width - length front - count - length body → front ++ replicate (missing + count) 48 ++ body ≡ padded left zeros width (record { front = front; body = replicate count 48 ++ body })
@@ -11,6 +17,14 @@ padded-zeros left zeros width missing count front body left_is zeros_is missing_
     let whole : length (front ++ (replicate count 48 ++ body)) ≡ length front + (count + length body) = simp (length-append, length-replicate) in
     let same : width - length (front ++ (replicate count 48 ++ body)) ≡ missing = omega (arith, whole) in
     rw (left_is, zeros_is, same, ← replicate-append-replicate {A = ℕ} missing count 48) (simp append_assoc)
+
+-- text that is as long as the width is not padded
+pub padded-none : (left zeros : Bool) (width missing more count : ℕ) (front body : List ℕ) → more ≡ 0 → missing ≡ 0 → missing ≡ width - length front - count - length body → front ++ replicate (more + count) 48 ++ body ≡ padded left zeros width (record { front = front; body = replicate count 48 ++ body })
+padded-none left zeros width missing more count front body no_more none missing_is =
+    let whole : length (front ++ (replicate count 48 ++ body)) ≡ length front + (count + length body) = simp (length-append, length-replicate) in
+    let same : width - length (front ++ (replicate count 48 ++ body)) ≡ 0 = omega (arith, whole) in
+    let all : more + count ≡ count = omega arith in
+    rw all (append_assoc front (replicate count 48) body ∙ rw same (not_padded left zeros front (replicate count 48 ++ body)))
 
 -- padded text has the width at least
 padded-width : (left zeros : Bool) (width : ℕ) (text : Converted) → width ≤ length (padded left zeros width text)

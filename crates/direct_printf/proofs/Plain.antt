@@ -1,11 +1,11 @@
 -- What a `%d` without flags, width and precision writes.
-use Rattle.std.proofs.Common.{◌≡◌, ℕ, suc, ◌-◌, ◌<◌, ◌^◌, false, List, [], ◌∷◌, ◌++◌, length, take, drop, replicate, ℤ, pos, negsuc, FitsSigned, w8, w64, None, Bool, cond, neg_ℤ, get_or, ◌∙◌, ap, arith}
+use Rattle.std.proofs.Common.{◌≡◌, ℕ, suc, ◌-◌, ◌<◌, ◌^◌, false, List, [], ◌∷◌, ◌++◌, length, take, drop, replicate, ℤ, pos, negsuc, FitsSigned, w8, w64, None, Bool, cond, neg_ℤ, get_or, codes, ◌+◌, ◌≤◌, ◌==◌, ◌&&◌, refl, sym, ◌∙◌, ap, arith}
 use Rattle.std.specs.Int.{w16, int_wrap}
 use Rattle.std.proofs.Math.Bool.{and-false}
 use Rattle.std.proofs.Math.Nat.{zero-sub}
 use Rattle.std.proofs.lemmas.Bool.Decides.{nat_tests}
 use Rattle.std.proofs.lemmas.Int.{SFits-int_wrap}
-use Rattle.std.proofs.lemmas.List.{length-replicate, drop-replicate, take_all}
+use Rattle.std.proofs.lemmas.List.{append_assoc, take-append-le, take-replicate, take-append-drop}
 use Rattle.std.proofs.lemmas.Fmt.{decimal_nonempty, decimal_is_IsNumeral}
 use Rattle.std.proofs.lemmas.Str.Parse.{digit_at, without_leading_plus_none}
 use Rattle.std.specs.Fmt.{decimal, signed_decimal}
@@ -15,6 +15,7 @@ use Rattle.printf_grammar.specs.declared.piece.Length.TheVariants.{Plain, HH, H,
 use Rattle.printf_grammar.specs.declared.argument.Value.TheVariants as values
 use Rattle.printf_grammar.specs.Narrow.{plain_d}
 use Rattle.direct_printf.specs.Fields.{Digits, Field, wrap_signed, sign_of, signed_number, padded}
+use Rattle.direct_printf.proofs.Spelling.{Digits-some}
 
 -- at precision 1 nothing stands in front of the least spelling
 Digits-one : (n : ℕ) → n < 2 ^ 64 → Digits n 10 false 1 ≡ decimal n
@@ -74,11 +75,14 @@ pub plain_d_reads_back : (length : Length) (z : ℤ) → FitsSigned w64 z → si
 plain_d_reads_back length z fits =
     ap (signed_digits_value 10) (Field-plain_d length z fits) ∙ signed_digits_value-decimal (wrap_signed length z) (wrap_signed-fits length z fits)
 
--- nine digits: as many of nine zeros as are wanting, and the least spelling
-pub Digits-nine : (n : ℕ) (text : List ℕ) → text ≡ decimal n → take (9 - length text) (drop (length text) (replicate 9 48)) ++ text ≡ Digits n 10 false 9
-unfolding Digits
-Digits-nine n text is =
+-- nine digits behind a point, and a space: the least spelling is written over the last of nine zeros
+pub Digits-nine : (n start : ℕ) (text : List ℕ) → length (decimal n) ≤ 9 → start + length (decimal n) ≡ 10 → take start text ≡ take start (codes ".000000000 ") → drop start text ≡ decimal n ++ codes " " → text ≡ 46 ∷ Digits n 10 false 9 ++ 32 ∷ []
+Digits-nine n start text most ends before written =
     let wanting : List ℕ = replicate (9 - length (decimal n)) 48 in
-    let shown : length wanting ≡ 9 - length (decimal n) = length-replicate (9 - length (decimal n)) 48 in
-    let whole : take (9 - length (decimal n)) wanting ≡ wanting = take_all _ _ (omega (arith, shown)) in
-    rw (is, drop-replicate {X = ℕ} (length (decimal n)) 9 48, whole, and-false)
+    let at : start ≡ suc (9 - length (decimal n)) = omega arith in
+    let shown : take (9 - length (decimal n)) (replicate 9 48 ++ 32 ∷ []) ≡ wanting = take-append-le _ (replicate 9 48) (32 ∷ []) (omega arith) ∙ take-replicate _ 9 48 (omega arith) in
+    let front : take start text ≡ 46 ∷ wanting = before ∙ rw at (ap (λ l. 46 ∷ l) shown) in
+    let whole : 46 ∷ (wanting ++ (decimal n ++ 32 ∷ [])) ≡ text = rw (front, written) at (take-append-drop start text) in
+    let some : (n == 0 && 9 == 0) ≡ false = rw and-false in
+    let spelled : wanting ++ decimal n ≡ Digits n 10 false 9 = Digits-some n 10 9 false (decimal n) some refl in
+    sym whole ∙ ap (λ l. 46 ∷ l) (sym (append_assoc wanting (decimal n) (32 ∷ [])) ∙ ap (λ l. l ++ 32 ∷ []) spelled)

@@ -99,6 +99,7 @@ fn wrapped_unsigned(length: Length, value: u64) -> u64
     }
 }
 
+#[inline(always)]
 fn append_signed(
     spec: &Spec,
     padding: Padding,
@@ -131,6 +132,7 @@ fn sign(spec: &Spec, value: i64) -> &'static [u8]
     }
 }
 
+#[inline(always)]
 fn append_unsigned(
     padding: Padding,
     precision: Option<u16>,
@@ -221,6 +223,7 @@ fn append_pointer(padding: Padding, value: u64, out: &mut Vec<u8>) -> Result<(),
     }
 }
 
+#[inline(always)]
 fn append_bytes(padding: Padding, bytes: &[u8], out: &mut Vec<u8>) -> Result<(), AllocError>
     ensures ok { OnOk result (out.new.items ≡ out.old.items ++ padded padding.left padding.zeros padding.width
         (record { front = []; body = bytes.now })) }

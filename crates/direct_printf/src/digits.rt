@@ -45,6 +45,7 @@ fn glyph(digit: u8, upper: bool) -> u8
 
 /// A number from the least spelling of its value, with zeros in front up to the precision, which
 /// is 1 if omitted. The value 0 at precision 0 has no digits.
+#[inline(always)]
 pub fn number<'a>(
     front: &'a [u8],
     precision: Option<u16>,

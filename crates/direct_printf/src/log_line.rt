@@ -1,21 +1,23 @@
 //! One line of the log.
 
-ghost use Rattle.std.specs.Prelude.{◌≡◌, ◌≤◌, ◌<◌, ◌^◌, ◌++◌, ◌∷◌, ℕ, OnOk, OnErr, codes, false, map, take, vec_len};
+ghost use Rattle.std.specs.Prelude.{◌≡◌, ◌≤◌, ◌<◌, ◌+◌, ◌^◌, ◌++◌, ◌∷◌, [], ℕ, OnOk, OnErr, codes, false, map, length, take, drop, vec_len};
 ghost use Rattle.std.specs.Fmt.{decimal};
 ghost use Rattle.log_dictionary.specs.Severities.{severity_name};
+ghost use Rattle.log_dictionary.specs.Times.{Time};
 ghost use Rattle.printf_grammar.specs.Types.{Types, Fits};
 ghost use Rattle.direct_printf.specs.Fields.{Digits};
 ghost use Rattle.direct_printf.specs.Lines.{Line, seconds_text};
 
 use crate::text::render;
-use itoa::Buffer;
+use itoa::{Buffer, Integer, write_digits};
 use log_dictionary::{Clock, Message, Severity};
 use printf_grammar::Argument;
 use std::alloc::AllocError;
 
-const NANOS: u128 = 1_000_000_000;
+const NANOS: u64 = 1_000_000_000;
 
-const ZEROS: [u8; 9] = [b'0'; 9];
+/// So many numbers below it fit 64 bits together with NANOS as a factor.
+const NARROW: u64 = 18_446_744_073;
 
 /// Appends the line of a call: its time in seconds with nine digits behind the point, where its
 /// message stands, the severity, the writer and the text. After an error `out` is as before.
@@ -70,57 +72,108 @@ fn append_line<A: Argument>(
         })) }
     ensures err { OnErr result (take (vec_len out.old) out.new.items ≡ out.old.items) }
 {
-    append_seconds(clock.time(stamp), out)?;
-    append_place(message.file.as_slice(), message.line, out)?;
-    append_origin(message.severity, writer, out)?;
+    append_seconds(time_of(clock, stamp), out)?;
+    append_origin(message, writer, out)?;
     render(&message.format, args, out)?;
-    out.extend_from_slice(b"\n")?;
+    out.push(b'\n')?;
     Ok(())
 }
 
+// The clock's own `time` divides 128 bits. Whole seconds apart from their parts need 64 where the
+// rate is not enormous.
+fn time_of(clock: &Clock, stamp: u64) -> u128
+    requires not_before { clock.now.tick ≤ stamp }
+    requires rate { 1 ≤ clock.now.rate }
+    ensures { result ≡ Time clock.now stamp }
+{
+    if clock.rate > NARROW {
+        return clock.time(stamp);
+    }
+    let ticks = stamp - clock.tick;
+    let part = ticks % clock.rate * NANOS / clock.rate;
+    let whole = u128::from(ticks / clock.rate) * u128::from(NANOS);
+    u128::from(clock.nanos) + whole + u128::from(part)
+}
+
+// With a space behind it. A time of 64 bits, which the years up to 2554 have, is divided as such.
 fn append_seconds(time: u128, out: &mut Vec<u8>) -> Result<(), AllocError>
-    ensures ok { OnOk result (out.new.items ≡ out.old.items ++ seconds_text time) }
+    ensures ok { OnOk result (out.new.items ≡ out.old.items ++ (seconds_text time ++ 32 ∷ [])) }
     ensures err { OnErr result (take (vec_len out.old) out.new.items ≡ out.old.items) }
 {
-    let mut buffer = Buffer::new();
-    out.extend_from_slice(buffer.format(time / NANOS).as_bytes())?;
-    out.push(b'.')?;
-    append_nine_digits((time % NANOS) as u32, out)
+    if time > u128::from(u64::MAX) {
+        let rest = (time % u128::from(NANOS)) as u32;
+        return append_time(time / u128::from(NANOS), rest, out);
+    }
+    let time = time as u64;
+    append_time(time / NANOS, (time % NANOS) as u32, out)
 }
 
-fn append_nine_digits(number: u32, out: &mut Vec<u8>) -> Result<(), AllocError>
-    requires { number < 10 ^ 9 }
-    ensures ok { OnOk result (out.new.items ≡ out.old.items ++ Digits number 10 false 9) }
+fn append_time<I: Integer>(seconds: I, rest: u32, out: &mut Vec<u8>) -> Result<(), AllocError>
+    requires { rest < 10 ^ 9 }
+    ensures ok { OnOk result (out.new.items
+        ≡ out.old.items ++ ((I.text seconds ++ 46 ∷ Digits rest 10 false 9) ++ 32 ∷ [])) }
     ensures err { OnErr result (take (vec_len out.old) out.new.items ≡ out.old.items) }
 {
     let mut buffer = Buffer::new();
-    let digits = buffer.format(number).as_bytes();
-    out.extend_from_slice(&ZEROS[digits.len()..])?;
-    out.extend_from_slice(digits)
+    let mut part = *b".000000000 ";
+    write_digits(u64::from(rest), &mut part, 10);
+    out.extend_from_slice(buffer.format(seconds).as_bytes())?;
+    out.extend_from_slice(&part)?;
+    Ok(())
 }
 
-// Where the message stands.
-fn append_place(file: &[u8], line: u32, out: &mut Vec<u8>) -> Result<(), AllocError>
-    ensures ok { OnOk result (out.new.items ≡ out.old.items ++ (32 ∷ file.now ++ 58 ∷ decimal line)) }
+// Where the message stands, how grave it is, and who says it. Behind the file's name all is put
+// together from the end on, so that it is copied once.
+fn append_origin(message: &Message, writer: u32, out: &mut Vec<u8>) -> Result<(), AllocError>
+    ensures ok { OnOk result (out.new.items ≡ out.old.items ++ (message.now.file
+        ++ 58 ∷ decimal message.now.line
+        ++ 32 ∷ severity_name message.now.severity
+        ++ 91 ∷ decimal writer
+        ++ codes "]: ")) }
     ensures err { OnErr result (take (vec_len out.old) out.new.items ≡ out.old.items) }
 {
-    let mut buffer = Buffer::new();
-    out.push(b' ')?;
-    out.extend_from_slice(file)?;
-    out.push(b':')?;
-    out.extend_from_slice(buffer.format(line).as_bytes())
+    let mut text = *b"                              ]: ";
+    let writer_at = write_number(writer, &mut text, 30);
+    let severity_at = write_severity(message.severity, &mut text, writer_at);
+    let line_at = write_number(message.line, &mut text, severity_at);
+    text[line_at - 1] = b':';
+    out.extend_from_slice(message.file.as_slice())?;
+    out.extend_from_slice(&text[line_at - 1..])?;
+    Ok(())
 }
 
-// How grave it is, and who says it.
-fn append_origin(severity: Severity, writer: u32, out: &mut Vec<u8>) -> Result<(), AllocError>
-    ensures ok { OnOk result (out.new.items ≡ out.old.items
-        ++ (32 ∷ severity_name severity ++ 91 ∷ decimal writer ++ codes "]: ")) }
-    ensures err { OnErr result (take (vec_len out.old) out.new.items ≡ out.old.items) }
+// These write so that what they write ends at `end`, and answer where it begins.
+#[inline(always)]
+fn write_number(number: u32, text: &mut [u8], end: usize) -> usize
+    requires { (10 ≤ end) × (end ≤ length text.old) }
+    ensures start { (result ≤ end) × (end ≤ result + 10) }
+    ensures written { drop result text.new ≡ decimal number ++ drop end text.old }
 {
-    let mut buffer = Buffer::new();
-    out.push(b' ')?;
-    out.extend_from_slice(severity.name().as_bytes())?;
-    out.push(b'[')?;
-    out.extend_from_slice(buffer.format(writer).as_bytes())?;
-    out.extend_from_slice(b"]: ")
+    write_digits(u64::from(number), text, end)
+}
+
+// A space, the name and a bracket, as bytes whose number is known where they are copied.
+#[inline(always)]
+fn write_severity(severity: Severity, text: &mut [u8], end: usize) -> usize
+    requires { (9 ≤ end) × (end ≤ length text.old) }
+    ensures start { (result ≤ end) × (end ≤ result + 9) }
+    ensures written { drop result text.new ≡ 32 ∷ severity_name severity ++ 91 ∷ drop end text.old }
+{
+    match severity {
+        Severity::Error => write_before(b" ERROR[", text, end),
+        Severity::Warning => write_before(b" WARNING[", text, end),
+        Severity::Notice => write_before(b" NOTICE[", text, end),
+        Severity::Debug => write_before(b" DEBUG[", text, end),
+    }
+}
+
+#[inline(always)]
+fn write_before(bytes: &[u8], text: &mut [u8], end: usize) -> usize
+    requires { (length bytes.now ≤ end) × (end ≤ length text.old) }
+    ensures start { result + length bytes.now ≡ end }
+    ensures written { drop result text.new ≡ bytes.now ++ drop end text.old }
+{
+    let start = end - bytes.len();
+    text[start..end].copy_from_slice(bytes);
+    start
 }

@@ -27,6 +27,7 @@ pub struct FieldParts<'a> {
 }
 
 // After an error a part may stand behind what was there, here and below.
+#[inline(always)]
 pub fn append_padded(
     padding: Padding,
     parts: FieldParts<'_>,
@@ -40,6 +41,9 @@ pub fn append_padded(
         .saturating_sub(parts.front.len())
         .saturating_sub(parts.zeros as usize)
         .saturating_sub(parts.body.len());
+    if missing == 0 {
+        return append_parts(parts, 0, out);
+    }
     if padding.left {
         append_parts(parts, 0, out)?;
         append_run(b' ', missing, out)
@@ -52,17 +56,31 @@ pub fn append_padded(
 }
 
 // With some more zeros behind the front.
+#[inline(always)]
 fn append_parts(parts: FieldParts<'_>, more: usize, out: &mut Vec<u8>) -> Result<(), AllocError>
     requires { more < 2 ^ 16 }
     ensures ok { OnOk result (out.new.items
         ≡ out.old.items ++ (parts.entry.front.now ++ replicate (more + parts.entry.zeros) 48 ++ parts.entry.body.now)) }
     ensures err { OnErr result (take (vec_len out.old) out.new.items ≡ out.old.items) }
 {
-    out.extend_from_slice(parts.front)?;
+    append_front(parts.front, out)?;
     append_run(b'0', more + parts.zeros as usize, out)?;
     out.extend_from_slice(parts.body)
 }
 
+// Most fields have none.
+#[inline(always)]
+fn append_front(front: &[u8], out: &mut Vec<u8>) -> Result<(), AllocError>
+    ensures ok { OnOk result (out.new.items ≡ out.old.items ++ front.now) }
+    ensures err { OnErr result (out.new.items ≡ out.old.items) }
+{
+    if front.is_empty() {
+        return Ok(());
+    }
+    out.extend_from_slice(front)
+}
+
+#[inline(always)]
 fn append_run(byte: u8, count: usize, out: &mut Vec<u8>) -> Result<(), AllocError>
     requires { count < 2 ^ 17 }
     ensures ok { OnOk result (out.new.items ≡ out.old.items ++ replicate count byte) }

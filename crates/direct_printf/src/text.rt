@@ -37,7 +37,7 @@ fn append_text<A: Argument>(
     for piece in format.pieces() {
         match piece {
             Piece::Literal { start, end } => out.extend_from_slice(&bytes[*start..*end])?,
-            Piece::Percent => out.extend_from_slice(b"%")?,
+            Piece::Percent => out.push(b'%')?,
             Piece::Field(spec) => {
                 let end = next + count_arguments(spec);
                 append_field(spec, &args[next..end], out)?;

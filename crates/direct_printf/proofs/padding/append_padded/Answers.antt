@@ -1,7 +1,13 @@
+use Rattle.std.proofs.Common.{refl}
 use Rattle.std.proofs.lemmas.Result.{on_err_weaker}
 use Rattle.log_dictionary.proofs.lemmas.Appending.{kept}
-use Rattle.direct_printf.proofs.Padded.{padded-zeros}
+use Rattle.direct_printf.proofs.Padded.{padded-none, padded-zeros}
 use Rattle.direct_printf.proofs.padding.append_padded.Goals as goal
+
+pub returns-then-missing-eq0-clause-ok : goal.returns-then-missing-eq0-clause-ok
+returns-then-missing-eq0-clause-ok c =
+    let missing = rw (c.saturating_sub-2.ensures, c.saturating_sub.ensures) at c.saturating_sub-missing.ensures in
+    rw (padded-none c.args.padding.left c.args.padding.zeros c.args.padding.width c.saturating_sub-missing.result 0 c.args.parts.zeros c.args.parts.front.now c.args.parts.body.now refl c.if-missing-eq0.true missing) at c.append_parts.ensures.ok
 
 pub returns-then-padding-2-clause-ok : goal.returns-then-padding-2-clause-ok
 returns-then-padding-2-clause-ok c =

@@ -3,7 +3,7 @@ use Rattle.std.proofs.lemmas.List.{append-nil}
 use Rattle.log_dictionary.proofs.lemmas.Appending.{kept}
 use Rattle.direct_printf.proofs.Rest.{Rest-start, Rest-end, Rest-at, Rest-from, Rest-literal, Rest-percent, Rest-field_args, own_inside, own_fitting, appended}
 use Rattle.direct_printf.proofs.text.append_text.Goals as goal
-use Rattle.direct_printf.proofs.text.append_text.Goals.{in-Literal+in_ok-extend_from_slice-in-Literal, in-Percent+in_ok-extend_from_slice-in-Percent, in-Field+in_ok-append_field-in-Field}
+use Rattle.direct_printf.proofs.text.append_text.Goals.{in-Literal+in_ok-extend_from_slice-in-Literal, in-Percent+in_ok-push-in-Percent, in-Field+in_ok-append_field-in-Field}
 
 pub loop-piece-init : goal.loop-piece-init
 loop-piece-init g c =
@@ -39,10 +39,10 @@ loop-piece-preserved g c =
             same ∙ appended _ _ _ _ _ inv.1 w.in_ok-extend_from_slice-in-Literal.ensures.items,
             Rest-from _ _ _ _ _ _ _ w.next-is (Rest-literal _ _ _ _ _ _ _ (Rest-at _ _ _ _ _ _ _ _ c.loop-piece-test.true w.in-Literal.is inv.2)),
           )
-      | in-Percent+in_ok-extend_from_slice-in-Percent w ↦
-          let same : c.match-piece.out.items ≡ w.extend_from_slice-in-Percent.new.self.items = cc in (
+      | in-Percent+in_ok-push-in-Percent w ↦
+          let same : c.match-piece.out.items ≡ w.push.new.self.items = cc in (
             _,
-            same ∙ appended _ _ _ _ _ inv.1 w.in_ok-extend_from_slice-in-Percent.ensures.items,
+            same ∙ appended _ _ _ _ _ inv.1 w.in_ok-push-in-Percent.ensures.items,
             Rest-from _ _ _ _ _ _ _ w.next-is (Rest-percent _ _ _ _ _ (Rest-at _ _ _ _ _ _ _ _ c.loop-piece-test.true w.in-Percent.is inv.2)),
           )
       | in-Field+in_ok-append_field-in-Field w ↦
