@@ -1,5 +1,5 @@
 -- Texts that are appended one after the other.
-use Rattle.std.proofs.Common.{◌≡◌, ℕ, List, [], ◌∷◌, ◌++◌, append_assoc}
+use Rattle.std.proofs.Common.{◌≡◌, ℕ, List, ◌∷◌, ◌++◌, append_assoc}
 
 -- a line's parts, where each list is the one before with its parts appended
 pub joined : (old seconds space file number name writer close text end with_time with_origin with_text new : List ℕ) → with_time ≡ old ++ (seconds ++ space) → with_origin ≡ with_time ++ (file ++ number ++ name ++ writer ++ close) → with_text ≡ with_origin ++ text → new ≡ with_text ++ end → new ≡ old ++ (seconds ++ (space ++ file) ++ number ++ name ++ writer ++ close ++ text ++ end)
