@@ -15,6 +15,7 @@ mod TextReads
 mod DecimalBytes
 mod ArgumentLines
 mod NumberFields
+mod ShortNumbers
 mod CallLines
 mod WorkedRefusals
 mod Cuts

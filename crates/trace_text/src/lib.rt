@@ -8,6 +8,7 @@ mod dictionaries;
 mod head_lines;
 pub mod laws;
 mod lines;
+mod numbers;
 mod order;
 mod reading;
 mod trace;
