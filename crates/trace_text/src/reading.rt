@@ -144,7 +144,8 @@ fn call_fault(lines: Lines<'_>, fault: CallFault) -> TraceFault
     }
 }
 
-// The run with the calls of the lines up to the last one.
+// The run with the calls of the lines up to the last one. Apart from what reads the front the loop has all registers.
+#[inline(never)]
 fn read_calls(alloc: Global, mut run: Trace, mut lines: Lines<'_>) -> Result<Trace, TraceFault>
     requires { sum_by length run.writers ≡ 0 }
     ensures { ReadsToEnd (progress (parts.calls run) lines.entry) result }
