@@ -10,18 +10,18 @@ use Rattle.ring_core.specs.Counts.{RisesBy}
 use Rattle.log_session.specs.Writers.{Knows, knows_taken}
 use Rattle.log_ends.specs.declared.writer.WriterEnd.{WriterEnd}
 use Rattle.log_ends.specs.declared.writer.LogFault.TheVariants as faults
-use Rattle.log_ends.specs.Writers.{ring_of, logged, is_finished, last_stamp, messages_of, IsWornOut, IsSameWriter, MayLog, LogsCall}
+use Rattle.log_ends.specs.Writers.{ring_of, logged, is_finished, writer_stamp, writer_messages, IsWornOut, IsSameWriter, MayLog, LogsCall}
 
 -- the ring's plan has what the dictionary takes
-pub plan_knows : (writer : WriterEnd) (id : ℕ) (args : List Value) → Takes (messages_of writer) id args → Knows (ring_of writer).plan id args
+pub plan_knows : (writer : WriterEnd) (id : ℕ) (args : List Value) → Takes (writer_messages writer) id args → Knows (ring_of writer).plan id args
 plan_knows writer id args takes =
-    let known = knows_taken (messages_of writer) (ring_of writer).plan.first id args takes in
+    let known = knows_taken (writer_messages writer) (ring_of writer).plan.first id args takes in
     (known.0, ap (λ (types : List (List ArgType)). slice_get types id) writer.planned ∙ known.1, known.2)
 
 same_writer : (writer : WriterEnd) → IsSameWriter writer writer
 same_writer writer = record { same_pair = refl; same_words = refl; same_plan = refl; same_messages = refl }
 
-pub too_early : (writer : WriterEnd) (stamp id : ℕ) (args : List Value) → is_finished writer ≡ false → Takes (messages_of writer) id args → stamp < last_stamp writer → LogsCall writer stamp id args (Err faults.Early) writer
+pub too_early : (writer : WriterEnd) (stamp id : ℕ) (args : List Value) → is_finished writer ≡ false → Takes (writer_messages writer) id args → stamp < writer_stamp writer → LogsCall writer stamp id args (Err faults.Early) writer
 too_early writer stamp id args unfinished takes early = record {
   finished = (λ is. absurd cc, λ is. absurd cc);
   misfit = (λ is. absurd cc, λ is. absurd (is.1 takes));
@@ -30,6 +30,7 @@ too_early writer stamp id args unfinished takes early = record {
   too_long = (λ is. absurd cc, λ is. absurd (omega (arith, early, is.0.not_early)));
   full = tt;
   looked = tt;
+  room = tt;
   ok = tt;
   stamped = tt;
   moved = tt;
@@ -39,7 +40,7 @@ too_early writer stamp id args unfinished takes early = record {
   same = same_writer writer;
 }
 
-pub worn_out : (writer : WriterEnd) (stamp id : ℕ) (args : List Value) → is_finished writer ≡ false → Takes (messages_of writer) id args → last_stamp writer ≤ stamp → IsWornOut writer → LogsCall writer stamp id args (Err faults.WornOut) writer
+pub worn_out : (writer : WriterEnd) (stamp id : ℕ) (args : List Value) → is_finished writer ≡ false → Takes (writer_messages writer) id args → writer_stamp writer ≤ stamp → IsWornOut writer → LogsCall writer stamp id args (Err faults.WornOut) writer
 worn_out writer stamp id args unfinished takes not_early worn = record {
   finished = (λ is. absurd cc, λ is. absurd cc);
   misfit = (λ is. absurd cc, λ is. absurd (is.1 takes));
@@ -48,6 +49,7 @@ worn_out writer stamp id args unfinished takes not_early worn = record {
   too_long = (λ is. absurd cc, λ is. absurd (is.0.counted worn));
   full = tt;
   looked = tt;
+  room = tt;
   ok = tt;
   stamped = tt;
   moved = tt;
@@ -58,7 +60,7 @@ worn_out writer stamp id args unfinished takes not_early worn = record {
 }
 
 pub too_long : (old new : WriterEnd) (stamp id : ℕ) (args : List Value) → MayLog old stamp id args → MAX_FRAME_WORDS < FrameLen args
-    → logged new ≡ logged old → (ring_of new).at ≡ (ring_of old).at → last_stamp new ≡ last_stamp old → is_finished new ≡ false
+    → logged new ≡ logged old → (ring_of new).at ≡ (ring_of old).at → writer_stamp new ≡ writer_stamp old → is_finished new ≡ false
     → RisesBy (FrameLen args + 3) (ring_of old).steps (ring_of new).steps → IsSameWriter old new
     → LogsCall old stamp id args (Err faults.TooLong) new
 too_long old new stamp id args may long same_logged same_at same_stamp unfinished steps same = record {
@@ -69,6 +71,7 @@ too_long old new stamp id args may long same_logged same_at same_stamp unfinishe
   too_long = (λ is. (may, long), λ is. refl);
   full = tt;
   looked = tt;
+  room = tt;
   ok = tt;
   stamped = tt;
   moved = tt;

@@ -18,8 +18,8 @@ use Rattle.log_ends.specs.declared.setup.Setup.{Setup}
 use Rattle.log_ends.specs.declared.writer.WriterEnd.{WriterEnd}
 use Rattle.log_ends.specs.declared.session.SessionEnd.{SessionEnd}
 use Rattle.log_ends.specs.declared.consumer.ConsumerEnd.{ConsumerEnd}
-use Rattle.log_ends.specs.Writers.{messages_of}
-use Rattle.log_ends.specs.Sessions.{writers_left, has_ended}
+use Rattle.log_ends.specs.Writers.{writer_messages}
+use Rattle.log_ends.specs.Sessions.{writers_left, is_session_ended}
 use Rattle.log_ends.specs.Consumers.{consumer_ends, is_over, HasGiven}
 
 -- a session may have these numbers
@@ -60,8 +60,8 @@ pub record IsOpened (messages : List Message) (setup : Setup) (session : Session
   pub count : length (writers_left session) ≡ setup.writers
   pub rings : AllZip (HaveNewRing setup.ring (plan_of messages setup.clock.tick)) (writers_left session)
       (consumer_ends consumer)
-  pub named : All (λ writer. messages_of writer ≡ messages) (writers_left session)
-  pub lasts : has_ended session ≡ false
+  pub named : All (λ writer. writer_messages writer ≡ messages) (writers_left session)
+  pub lasts : is_session_ended session ≡ false
   pub messages_are : roamer_messages consumer.roamer ≡ messages
   pub clock_is : roamer_clock consumer.roamer ≡ setup.clock
   pub batch_is : roamer_batch consumer.roamer ≡ setup.batch

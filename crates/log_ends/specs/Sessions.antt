@@ -11,24 +11,24 @@ use Rattle.log_ends.specs.Writers.{IsFinishedFrom}
 abbrev pub writers_left : SessionEnd → List WriterEnd
 writers_left session = session.left.items
 
-abbrev pub has_ended : SessionEnd → Bool
-has_ended session = session.ended
+abbrev pub is_session_ended : SessionEnd → Bool
+is_session_ended session = session.ended
 
 -- no writer is given out
 abbrev pub HasNoneLeft : SessionEnd → Type 0
-HasNoneLeft session = (has_ended session ≡ true) ⊎ (writers_left session ≡ [])
+HasNoneLeft session = (is_session_ended session ≡ true) ⊎ (writers_left session ≡ [])
 
 -- it is the same session, of which as many writers are left
 abbrev pub IsSameSession : SessionEnd → SessionEnd → Type 0
-IsSameSession old new = (writers_left new ≡ writers_left old) × (has_ended new ≡ has_ended old)
+IsSameSession old new = (writers_left new ≡ writers_left old) × (is_session_ended new ≡ is_session_ended old)
 
 -- the next writer was given out
 abbrev pub GivesBoxed : SessionEnd → End → SessionEnd → Type 0
 GivesBoxed old given new =
     (writer : WriterEnd) × (given ≡ Writer writer) × (writers_left old ≡ writer ∷ writers_left new)
-    × (has_ended old ≡ false) × (has_ended new ≡ false)
+    × (is_session_ended old ≡ false) × (is_session_ended new ≡ false)
 
 -- No writer is given out any more, and those that weren't are finished.
 pub record EndsSession (old new : SessionEnd) : Type 0 where
-  pub ended : has_ended new ≡ true
+  pub ended : is_session_ended new ≡ true
   pub finished : AllZip IsFinishedFrom (writers_left old) (writers_left new)

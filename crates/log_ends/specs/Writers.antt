@@ -8,7 +8,7 @@ use Rattle.arg_records.specs.declared.frame.TheConstants.{MAX_FRAME_WORDS}
 use Rattle.arg_records.specs.Frames.{Frame, FrameLen}
 use Rattle.ring_core.specs.declared.answers.Full.{Full}
 use Rattle.ring_core.specs.declared.limits.TheConstants.{MAX_POSITION, OFFER_ROOM}
-use Rattle.ring_core.specs.Answers.{IsFull}
+use Rattle.ring_core.specs.Answers.{IsFull, HasRoom}
 use Rattle.ring_core.specs.Counts.{RisesBy}
 use Rattle.ring_core.specs.Positions.{Need}
 use Rattle.word_ring.specs.Ends.{WordWriterEnd, seen_by}
@@ -28,12 +28,12 @@ abbrev pub is_finished : WriterEnd → Bool
 is_finished writer = (ring_of writer).closed
 
 -- no call may be earlier: the stamp of the last one, or the clock's tick
-abbrev pub last_stamp : WriterEnd → ℕ
-last_stamp writer = writer.writer.last
+abbrev pub writer_stamp : WriterEnd → ℕ
+writer_stamp writer = writer.writer.last
 
 -- the messages that calls name
-abbrev pub messages_of : WriterEnd → List Message
-messages_of writer = writer.dictionary.now
+abbrev pub writer_messages : WriterEnd → List Message
+writer_messages writer = writer.dictionary.now
 
 -- the ring has no words left to count
 abbrev pub IsWornOut : WriterEnd → Type 0
@@ -51,8 +51,8 @@ IfFull faults.WornOut P = ⊤
 -- Which call may be logged, as far as it is known without the ring: the first of these that doesn't hold is told.
 pub record MayLog (writer : WriterEnd) (stamp id : ℕ) (args : List Value) : Type 0 where
   pub unfinished : is_finished writer ≡ false
-  pub fits : Takes (messages_of writer) id args
-  pub not_early : last_stamp writer ≤ stamp
+  pub fits : Takes (writer_messages writer) id args
+  pub not_early : writer_stamp writer ≤ stamp
   pub counted : ¬ (IsWornOut writer)
 
 -- the same ring, with the same messages
@@ -60,7 +60,7 @@ pub record IsSameWriter (old new : WriterEnd) : Type 0 where
   pub same_pair : (ring_of new).pair ≡ (ring_of old).pair
   pub same_words : (ring_of new).words ≡ (ring_of old).words
   pub same_plan : (ring_of new).plan ≡ (ring_of old).plan
-  pub same_messages : messages_of new ≡ messages_of old
+  pub same_messages : writer_messages new ≡ writer_messages old
 
 -- What became of a call that was to be logged, and of the writer.
 pub record LogsCall (old : WriterEnd) (stamp id : ℕ) (args : List Value) (outcome : Result (Unit {0}) LogFault)
@@ -68,24 +68,25 @@ pub record LogsCall (old : WriterEnd) (stamp id : ℕ) (args : List Value) (outc
   -- The first of these causes that holds is answered.
   pub finished : IsErrOf outcome faults.Finished ↔ (is_finished old ≡ true)
   pub misfit : IsErrOf outcome faults.Misfit
-      ↔ ((is_finished old ≡ false) × (¬ (Takes (messages_of old) id args)))
+      ↔ ((is_finished old ≡ false) × (¬ (Takes (writer_messages old) id args)))
   pub early : IsErrOf outcome faults.Early
-      ↔ ((is_finished old ≡ false) × Takes (messages_of old) id args × (stamp < last_stamp old))
+      ↔ ((is_finished old ≡ false) × Takes (writer_messages old) id args × (stamp < writer_stamp old))
   pub worn_out : IsErrOf outcome faults.WornOut
-      ↔ ((is_finished old ≡ false) × Takes (messages_of old) id args × (last_stamp old ≤ stamp) × IsWornOut old)
+      ↔ ((is_finished old ≡ false) × Takes (writer_messages old) id args × (writer_stamp old ≤ stamp) × IsWornOut old)
   pub too_long : IsErrOf outcome faults.TooLong ↔ (MayLog old stamp id args × (MAX_FRAME_WORDS < FrameLen args))
   -- The ring had too little room, at the position of the consumer that was loaded in this call.
   pub full : IfErr outcome (λ fault. IfFull fault (IsFull (ring_of old).at (FrameLen args) (ring_of old).words
       (seen_by (ring_of new))))
   pub looked : IfErr outcome (λ fault. IfFull fault (λ _. Rose (ring_of old).looks (ring_of new).looks))
-  -- The call's frame stands behind those before, and takes its places of the ring.
+  -- The call's frame had room there. It stands behind those before, and takes its places of the ring.
+  pub room : OnOk outcome (HasRoom (ring_of old).at (FrameLen args) (ring_of old).words (seen_by (ring_of new)))
   pub ok : OnOk outcome (logged new ≡ logged old ++ Frame id stamp args ∷ [])
-  pub stamped : OnOk outcome (last_stamp new ≡ stamp)
+  pub stamped : OnOk outcome (writer_stamp new ≡ stamp)
   pub moved : OnOk outcome ((ring_of new).at
       ≡ (ring_of old).at + Need (ring_of old).at (FrameLen args) (ring_of old).words)
   -- Nothing was logged.
   pub err : OnErr outcome ((logged new ≡ logged old) × ((ring_of new).at ≡ (ring_of old).at)
-      × (last_stamp new ≡ last_stamp old))
+      × (writer_stamp new ≡ writer_stamp old))
   pub same_finish : is_finished new ≡ is_finished old
   pub steps : RisesBy (FrameLen args + 3) (ring_of old).steps (ring_of new).steps
   pub same : IsSameWriter old new
@@ -95,7 +96,7 @@ pub record IsFinishedFrom (old new : WriterEnd) : Type 0 where
   pub finished : is_finished new ≡ true
   pub same_logged : logged new ≡ logged old
   pub same_position : (ring_of new).at ≡ (ring_of old).at
-  pub same_stamp : last_stamp new ≡ last_stamp old
+  pub same_stamp : writer_stamp new ≡ writer_stamp old
   pub same : IsSameWriter old new
 
 -- The writer is finished, and it was told whether it wasn't before.

@@ -2,7 +2,7 @@
 
 ghost use Rattle.std.specs.Prelude.{◌≡◌, ◌↔◌, ◌∷◌, false, OnErr, IfOk, IsErrOf};
 ghost use Rattle.log_ends.specs.declared.end.End.TheVariants.{Writer};
-ghost use Rattle.log_ends.specs.Sessions.{writers_left, has_ended, HasNoneLeft, IsSameSession, GivesBoxed};
+ghost use Rattle.log_ends.specs.Sessions.{writers_left, is_session_ended, HasNoneLeft, IsSameSession, GivesBoxed};
 
 use crate::end::End;
 use crate::session::{SessionEnd, WriterFault};

@@ -22,18 +22,11 @@ use Rattle.arg_records.proofs.lemmas.Fitted.{AreArguments-from_Fits}
 use Rattle.ring_core.specs.Plans.{Plan, plan_of, call_of, AreFramesOf, MayFollow, Lawful}
 use Rattle.ring_core.specs.Positions.{Need, Position, position_from}
 use Rattle.ring_core.proofs.lemmas.Frames.{AreFramesOf-push, last_stamp-push}
-use Rattle.ring_core.proofs.lemmas.Needs.{Need-within, Need-beyond, position_from-push}
+use Rattle.ring_core.proofs.lemmas.Needs.{Need-least, position_from-push}
 use Rattle.ring_core.proofs.lemmas.OneReading.{AreFramesOf-unique}
 use Rattle.log_session.specs.Writers.{WriterView, IsDictionaryPlan, Knows, AppendsCall, HasLogged, knows_taken}
 
 -- ---- positions
-
-Need-least : (at frame words : ℕ) → frame ≤ Need at frame words
-Need-least at frame words =
-    ⊎_elim
-    (λ (beyond : words < at % words + frame). omega (arith, Need-beyond at frame words beyond))
-    (λ (within : at % words + frame ≤ words). omega (arith, Need-within at frame words within))
-    (cases_lt words (at % words + frame))
 
 -- each call takes a place at least
 calls-position_from : (at : ℕ) (calls : List Call) (words : ℕ) → at + length calls ≤ position_from at calls words

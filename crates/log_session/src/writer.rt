@@ -6,7 +6,7 @@ ghost use Rattle.session_options.specs.declared.limits.TheConstants.{MIN_RING, M
 ghost use Rattle.arg_records.specs.declared.frame.TheConstants.{MAX_FRAME_WORDS};
 ghost use Rattle.arg_records.specs.Frames.{Frame, FrameLen};
 ghost use Rattle.ring_core.specs.declared.limits.TheConstants.{MAX_POSITION, OFFER_ROOM};
-ghost use Rattle.ring_core.specs.Answers.{IsFull};
+ghost use Rattle.ring_core.specs.Answers.{IsFull, HasRoom};
 ghost use Rattle.ring_core.specs.Counts.{RisesBy};
 ghost use Rattle.ring_core.specs.Plans.{call_of, plan_of};
 ghost use Rattle.ring_core.specs.Positions.{Need};
@@ -89,6 +89,8 @@ impl<S: StageIn> Writer<S> {
         ensures counted { OnOk result ((self.new.last ≡ stamp) × (self.new.accepted ≡ self.old.accepted + 1)) }
         ensures moved { OnOk result (S.at self.new.end ≡ S.at self.old.end
             + Need (S.at self.old.end) (FrameLen (map A.value args.now)) (S.words self.old.end)) }
+        ensures room { OnOk result (HasRoom (S.at self.old.end) (FrameLen (map A.value args.now)) (S.words self.old.end)
+            (S.seen self.new.end)) }
         ensures too_long { (result ≡ Err LogRefusal.TooLong) ↔ (MAX_FRAME_WORDS < FrameLen (map A.value args.now)) }
         ensures full { IfErr result (λ refusal. IfRefusedFull refusal
             (IsFull (S.at self.old.end) (FrameLen (map A.value args.now)) (S.words self.old.end) (S.seen self.new.end))) }

@@ -14,6 +14,10 @@ pub record IsFull (at frame words seen : ℕ) (full : Full) : Type 0 where
   pub taken : words - full.room ≤ at
   pub seen_is : seen ≡ at - (words - full.room)
 
+-- So many words have room at this position of a ring of so many words, where all below `seen` was taken.
+abbrev pub HasRoom : ℕ → ℕ → ℕ → ℕ → Type 0
+HasRoom at frame words seen = Need at frame words ≤ words - (at - seen)
+
 -- where a frame was taken, this holds of its length
 abbrev pub IfFrame : Taken → (ℕ → Type 0) → Type 0
 IfFrame (answers.Frame n) P = P n

@@ -5,7 +5,7 @@ ghost use Rattle.nl_io.specs.Count.{Rose};
 ghost use Rattle.ring_core.specs.declared.limits.TheConstants.{MAX_POSITION, OFFER_ROOM};
 ghost use Rattle.ring_core.specs.Positions.{Need};
 ghost use Rattle.ring_core.specs.Plans.{Plan, Lawful};
-ghost use Rattle.ring_core.specs.Answers.{IsFull};
+ghost use Rattle.ring_core.specs.Answers.{IsFull, HasRoom};
 ghost use Rattle.ring_core.specs.Counts.{RisesBy};
 
 use crate::answers::Full;
@@ -47,6 +47,7 @@ pub trait StageIn {
         ensures ok { OnOk result (sent self.new ≡ sent self.old ++ frame.now ∷ []) }
         ensures moved { OnOk result (at self.new
             ≡ at self.old + Need (at self.old) (length frame.now) (words self.old)) }
+        ensures room { OnOk result (HasRoom (at self.old) (length frame.now) (words self.old) (seen self.new)) }
         ensures full { IfErr result (IsFull (at self.old) (length frame.now) (words self.old) (seen self.new)) }
         ensures looked { OnErr result (Rose (looks self.old) (looks self.new)) }
         ensures err { OnErr result ((sent self.new ≡ sent self.old) × (at self.new ≡ at self.old)) }

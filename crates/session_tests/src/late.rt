@@ -52,6 +52,18 @@ impl LateIn {
         }
     }
 
+    /// Learns from a frame that was accepted how far the frames were taken at least: it had room.
+    fn learn_room(&mut self)
+        requires { self.old.end.at ≤ self.old.end.words + (self.old.end.at - self.old.end.ahead) }
+        ensures known { (self.old.known ≤ self.new.known)
+            × (self.old.end.at ≤ self.new.known + self.old.end.words) }
+        ensures others { (self.new.end ≡ self.old.end) × (self.new.looks ≡ self.old.looks) }
+    {
+        self.known = self
+            .known
+            .max(self.end.at().saturating_sub(self.end.words()));
+    }
+
     /// Learns from a refusal of its ring how far its frames were taken.
     fn learn(&mut self, full: Full)
         requires room { (full.room ≤ self.old.end.words) × (self.old.end.words - full.room ≤ self.old.end.at) }
@@ -91,7 +103,10 @@ impl StageIn for LateIn {
             return Err(full);
         }
         match self.end.offer(frame) {
-            Ok(()) => Ok(()),
+            Ok(()) => {
+                self.learn_room();
+                Ok(())
+            }
             Err(full) => {
                 self.learn(full);
                 Err(full)

@@ -15,6 +15,13 @@ Need-within at frame words within = grind (arith, nat_tests)
 pub Need-beyond : (at frame words : ℕ) → words < at % words + frame → Need at frame words ≡ frame + (words - at % words)
 Need-beyond at frame words beyond = grind (arith, nat_tests)
 
+pub Need-least : (at frame words : ℕ) → frame ≤ Need at frame words
+Need-least at frame words =
+    ⊎_elim
+    (λ (beyond : words < at % words + frame). omega (arith, Need-beyond at frame words beyond))
+    (λ (within : at % words + frame ≤ words). omega (arith, Need-within at frame words within))
+    (cases_lt words (at % words + frame))
+
 pub Need-most : (at frame words : ℕ) → 1 ≤ words → frame ≤ 512 → Need at frame words ≤ 1023
 Need-most at frame words some few =
     ⊎_elim
