@@ -12,9 +12,9 @@ use Rattle.source_scan.specs.Statements.{Statements}
 use Rattle.source_scan.proofs.lemmas.Order.{statements_stand}
 use Rattle.code_inject.specs.declared.rewrite.Rewrite.{Rewrite}
 use Rattle.code_inject.specs.Rewrites.{call_by_id, rewritten_from}
-use Rattle.code_inject.specs.Outcomes.{Outcome, IsKnown, AreOutcomes, rewrites_of, refusals_of}
+use Rattle.code_inject.specs.Outcomes.{Outcome, IsKnown, AreOutcomes, rewrites_in, refusals_in}
 use Rattle.code_inject.specs.Injected.{Injected}
-use Rattle.code_inject.specs.Pieces.{Piece, source_piece, text_piece, AreHeads, DiffersInHeads}
+use Rattle.code_inject.specs.Pieces.{Piece, piece_source, piece_text, AreHeads, DiffersInHeads}
 
 stand_ends : (from : ℕ) (list : List Found) (to : ℕ) → StandFrom from list to → from ≤ to
 stand_ends from [] to stand = stand
@@ -28,8 +28,8 @@ length_between source from to before within = omega (arith, before, within, leng
 record Differs (source : List ℕ) (dictionary : List Message) (from : ℕ) (list : List Found) (outcomes : List Outcome) : Type 0 where
   pub pieces : List Piece
   pub rest : List ℕ
-  pub source_is : drop from source ≡ flat_map source_piece pieces ++ rest
-  pub text_is : rewritten_from source from (rewrites_of outcomes) ≡ flat_map text_piece pieces ++ rest
+  pub source_is : drop from source ≡ flat_map piece_source pieces ++ rest
+  pub text_is : rewritten_from source from (rewrites_in outcomes) ≡ flat_map piece_text pieces ++ rest
   pub heads : AreHeads dictionary from pieces list
 
 regroup : (kept head later rest : List ℕ) → kept ++ (head ++ (later ++ rest)) ≡ ((kept ++ head) ++ later) ++ rest
@@ -54,19 +54,19 @@ one_more source dictionary from statement rewrite list outcomes is first second 
       pieces = record { kept = kept; head = head; id = rewrite.id } ∷ behind.pieces;
       rest = behind.rest;
       source_is = source_joined source from rewrite.start rewrite.head _ behind.rest first second behind.source_is;
-      text_is = ap (λ (l : List ℕ). (kept ++ call_by_id rewrite.id head) ++ l) behind.text_is ∙ sym (append_assoc (kept ++ call_by_id rewrite.id head) (flat_map text_piece behind.pieces) behind.rest);
+      text_is = ap (λ (l : List ℕ). (kept ++ call_by_id rewrite.id head) ++ l) behind.text_is ∙ sym (append_assoc (kept ++ call_by_id rewrite.id head) (flat_map piece_text behind.pieces) behind.rest);
       heads = (record { message = is.message; is = is.is; has = is.has; start = kept_long ∙ is.start; head = omega (arith, kept_long, head_long, is.head) }, subst (λ (n : ℕ). AreHeads dictionary n behind.pieces list) is.head behind.heads);
     }
 
-differs : (source : List ℕ) (dictionary : List Message) (from later : ℕ) (list : List Found) (outcomes : List Outcome) → AreOutcomes dictionary list outcomes → refusals_of outcomes ≡ [] → from ≤ later → StandFrom later list (length source) → Differs source dictionary from list outcomes
+differs : (source : List ℕ) (dictionary : List Message) (from later : ℕ) (list : List Found) (outcomes : List Outcome) → AreOutcomes dictionary list outcomes → refusals_in outcomes ≡ [] → from ≤ later → StandFrom later list (length source) → Differs source dictionary from list outcomes
 unfolding rewritten_from
-differs source dictionary from later [] outcomes are none before stand = record { pieces = []; rest = drop from source; source_is = refl; text_is = ap (λ (l : List Outcome). rewritten_from source from (rewrites_of l)) are; heads = refl }
+differs source dictionary from later [] outcomes are none before stand = record { pieces = []; rest = drop from source; source_is = refl; text_is = ap (λ (l : List Outcome). rewritten_from source from (rewrites_in l)) are; heads = refl }
 differs source dictionary from later (found.Bad bad ∷ list) outcomes (Outcome.rewritten rewrite, others, joined, is, are) none before stand = absurd is
-differs source dictionary from later (one ∷ list) outcomes (Outcome.refused refusal, others, joined, is, are) none before stand = absurd (omega (arith, ap length (sym (ap refusals_of joined) ∙ none)))
+differs source dictionary from later (one ∷ list) outcomes (Outcome.refused refusal, others, joined, is, are) none before stand = absurd (omega (arith, ap length (sym (ap refusals_in joined) ∙ none)))
 differs source dictionary from later (found.Statement statement ∷ list) outcomes (Outcome.rewritten rewrite, others, joined, is, are) none before stand =
     subst (Differs source dictionary from (found.Statement statement ∷ list)) (sym joined)
     (one_more source dictionary from statement rewrite list others is (omega (arith, before, stand.0, is.start)) (omega (arith, stand.1, is.start, is.head)) (omega (arith, is.head, stand.2, stand_ends statement.end list (length source) stand.3))
-    (differs source dictionary rewrite.head statement.end list others are (sym (ap refusals_of joined) ∙ none) (omega (arith, stand.2, is.head)) stand.3))
+    (differs source dictionary rewrite.head statement.end list others are (sym (ap refusals_in joined) ∙ none) (omega (arith, stand.2, is.head)) stand.3))
 
 pub differ_in_heads : (file source text : List ℕ) (list : List Found) (dictionary : List Message) → Statements file source list → Injected source list dictionary text → DiffersInHeads source list dictionary text
 differ_in_heads file source text list dictionary statements injected =

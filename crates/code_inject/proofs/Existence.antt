@@ -13,7 +13,7 @@ use Rattle.source_scan.specs.Statements.{Statements}
 use Rattle.preprocessor.specs.Findings.{bad_refusal, IsNamed}
 use Rattle.preprocessor.specs.declared.refusal.SourceRefusal.{SourceRefusal}
 use Rattle.preprocessor.proofs.lemmas.Finding.{statements_are_named}
-use Rattle.code_inject.specs.Outcomes.{Outcome, unknown_refusal, IsOutcome, AreOutcomes, refusals_of}
+use Rattle.code_inject.specs.Outcomes.{Outcome, unknown_refusal, IsOutcome, AreOutcomes, refusals_in}
 use Rattle.code_inject.specs.Injected.{HasAnswer}
 
 has_id : (dictionary : List Message) (message : Message) → HasMessage dictionary message → (id : ℕ) × HasId dictionary message id
@@ -43,12 +43,12 @@ have_outcomes dictionary (one ∷ list) named =
     (first.0 ∷ others.0, (first.0, others.0, refl, first.1, others.1))
 
 pub some_answer : (file source : List ℕ) (dictionary : List Message) (list : List Found) → Statements file source list → HasAnswer file source dictionary
-some_answer file source dictionary list statements = by_refusals (refusals_of outcomes.0) refl
+some_answer file source dictionary list statements = by_refusals (refusals_in outcomes.0) refl
   where
     outcomes : (outcomes : List Outcome) × AreOutcomes dictionary list outcomes
     outcomes = have_outcomes dictionary list (statements_are_named file source list statements)
 
-    by_refusals : (refusals : List SourceRefusal) → refusals_of outcomes.0 ≡ refusals → HasAnswer file source dictionary
+    by_refusals : (refusals : List SourceRefusal) → refusals_in outcomes.0 ≡ refusals → HasAnswer file source dictionary
     by_refusals [] none =
         inl (_, _, record { found = list; statements = statements; injected = record { outcomes = outcomes.0; are = outcomes.1; none_refused = none; text_is = refl }; count_is = refl })
     by_refusals (refusal ∷ others) some = inr (refusal ∷ others, record { found = list; statements = statements; refused = record { outcomes = outcomes.0; are = outcomes.1; refusals_are = sym some; some = λ empty. absurd (omega (arith, ap length empty)) } })

@@ -11,7 +11,7 @@ use Rattle.preprocessor.specs.declared.refusal.RefusalCause.{RefusalCause}
 use Rattle.code_inject.specs.declared.rewrite.Rewrite.{Rewrite}
 use Rattle.code_inject.specs.declared.outcomes.Outcomes.{Outcomes}
 use Rattle.code_inject.specs.Rewrites.{HeadsFrom}
-use Rattle.code_inject.specs.Outcomes.{Outcome, IsOutcome, AreOutcomes, outcome_rewrites, outcome_refusals, rewrites_of, refusals_of, HoldsOutcomes}
+use Rattle.code_inject.specs.Outcomes.{Outcome, IsOutcome, AreOutcomes, outcome_rewrites, outcome_refusals, rewrites_in, refusals_in, HoldsOutcomes}
 
 -- ---- one more
 
@@ -26,33 +26,33 @@ pub holds_more : (dictionary : List Message) (list : List Found) (one : Found) (
 holds_more dictionary list one outcome held next is rewrites refusals holds = record {
   outcomes = holds.outcomes ++ outcome ∷ [];
   are = are_more dictionary list one holds.outcomes outcome holds.are is;
-  rewrites = rewrites ∙ ap (λ (l : List Rewrite). l ++ outcome_rewrites outcome) holds.rewrites ∙ ap (λ (l : List Rewrite). rewrites_of holds.outcomes ++ l) (sym (append-nil (outcome_rewrites outcome))) ∙ sym (flat_map-append outcome_rewrites holds.outcomes (outcome ∷ []));
-  refusals = refusals ∙ ap (λ (l : List SourceRefusal). l ++ outcome_refusals outcome) holds.refusals ∙ ap (λ (l : List SourceRefusal). refusals_of holds.outcomes ++ l) (sym (append-nil (outcome_refusals outcome))) ∙ sym (flat_map-append outcome_refusals holds.outcomes (outcome ∷ []));
+  rewrites = rewrites ∙ ap (λ (l : List Rewrite). l ++ outcome_rewrites outcome) holds.rewrites ∙ ap (λ (l : List Rewrite). rewrites_in holds.outcomes ++ l) (sym (append-nil (outcome_rewrites outcome))) ∙ sym (flat_map-append outcome_rewrites holds.outcomes (outcome ∷ []));
+  refusals = refusals ∙ ap (λ (l : List SourceRefusal). l ++ outcome_refusals outcome) holds.refusals ∙ ap (λ (l : List SourceRefusal). refusals_in holds.outcomes ++ l) (sym (append-nil (outcome_refusals outcome))) ∙ sym (flat_map-append outcome_refusals holds.outcomes (outcome ∷ []));
 }
 
 -- ---- where none is refused
 
-pub as_many : (dictionary : List Message) (list : List Found) (outcomes : List Outcome) → AreOutcomes dictionary list outcomes → refusals_of outcomes ≡ [] → length (rewrites_of outcomes) ≡ length list
-as_many dictionary [] outcomes are none = ap (λ (l : List Outcome). length (rewrites_of l)) are
+pub as_many : (dictionary : List Message) (list : List Found) (outcomes : List Outcome) → AreOutcomes dictionary list outcomes → refusals_in outcomes ≡ [] → length (rewrites_in outcomes) ≡ length list
+as_many dictionary [] outcomes are none = ap (λ (l : List Outcome). length (rewrites_in l)) are
 as_many dictionary (one ∷ list) outcomes (Outcome.rewritten rewrite, others, joined, is, later) none =
-    let rest = as_many dictionary list others later (sym (ap refusals_of joined) ∙ none) in
-    ap (λ (l : List Outcome). length (rewrites_of l)) joined ∙ ap suc rest
-as_many dictionary (one ∷ list) outcomes (Outcome.refused refusal, others, joined, is, later) none = absurd (omega (arith, ap length (sym (ap refusals_of joined) ∙ none)))
+    let rest = as_many dictionary list others later (sym (ap refusals_in joined) ∙ none) in
+    ap (λ (l : List Outcome). length (rewrites_in l)) joined ∙ ap suc rest
+as_many dictionary (one ∷ list) outcomes (Outcome.refused refusal, others, joined, is, later) none = absurd (omega (arith, ap length (sym (ap refusals_in joined) ∙ none)))
 
 -- the heads stand one behind the other, as the statements do
-pub heads_stand : (dictionary : List Message) (list : List Found) (outcomes : List Outcome) (from later to : ℕ) → AreOutcomes dictionary list outcomes → from ≤ later → StandFrom later list to → HeadsFrom from (rewrites_of outcomes) to
-heads_stand dictionary [] outcomes from later to are before stand = subst (λ (l : List Outcome). HeadsFrom from (rewrites_of l) to) (sym are) (omega (arith, before, stand))
+pub heads_stand : (dictionary : List Message) (list : List Found) (outcomes : List Outcome) (from later to : ℕ) → AreOutcomes dictionary list outcomes → from ≤ later → StandFrom later list to → HeadsFrom from (rewrites_in outcomes) to
+heads_stand dictionary [] outcomes from later to are before stand = subst (λ (l : List Outcome). HeadsFrom from (rewrites_in l) to) (sym are) (omega (arith, before, stand))
 heads_stand dictionary (found.Statement statement ∷ list) outcomes from later to (Outcome.rewritten rewrite, others, joined, is, are) before stand =
-    subst (λ (l : List Outcome). HeadsFrom from (rewrites_of l) to) (sym joined) (
+    subst (λ (l : List Outcome). HeadsFrom from (rewrites_in l) to) (sym joined) (
       omega (arith, before, stand.0, is.start),
       omega (arith, stand.1, is.start, is.head),
       heads_stand dictionary list others rewrite.head statement.end to are (omega (arith, stand.2, is.head)) stand.3,
     )
 heads_stand dictionary (found.Statement statement ∷ list) outcomes from later to (Outcome.refused refusal, others, joined, is, are) before stand =
-    subst (λ (l : List Outcome). HeadsFrom from (rewrites_of l) to) (sym joined) (heads_stand dictionary list others from statement.end to are (omega (arith, before, stand.0, stand.1, stand.2)) stand.3)
+    subst (λ (l : List Outcome). HeadsFrom from (rewrites_in l) to) (sym joined) (heads_stand dictionary list others from statement.end to are (omega (arith, before, stand.0, stand.1, stand.2)) stand.3)
 heads_stand dictionary (found.Bad bad ∷ list) outcomes from later to (Outcome.rewritten rewrite, others, joined, is, are) before stand = absurd is
 heads_stand dictionary (found.Bad bad ∷ list) outcomes from later to (Outcome.refused refusal, others, joined, is, are) before stand =
-    subst (λ (l : List Outcome). HeadsFrom from (rewrites_of l) to) (sym joined) (heads_stand dictionary list others from later to are before stand)
+    subst (λ (l : List Outcome). HeadsFrom from (rewrites_in l) to) (sym joined) (heads_stand dictionary list others from later to are before stand)
 
 -- there are no more of them than places
 pub heads_few : (rewrites : List Rewrite) (from to : ℕ) → HeadsFrom from rewrites to → from + length rewrites ≤ to

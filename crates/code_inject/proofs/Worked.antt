@@ -8,7 +8,7 @@ use Rattle.log_dictionary.specs.declared.severity.Severity.TheVariants.{Error, N
 use Rattle.code_inject.specs.Rewrites.{rewritten_from}
 use Rattle.code_inject.specs.Outcomes.{Outcome, IsOutcome}
 use Rattle.code_inject.specs.Injected.{Injected}
-use Rattle.code_inject.specs.Rows.{letter_x, letter_y, integer, message_in, statement_in, worked_source, worked_found, worked_dictionary, worked_text}
+use Rattle.code_inject.specs.Rows.{letter_x, letter_y, format_d, message_in, statement_in, injected_source, injected_found, worked_dictionary, worked_text}
 
 known_in : (line : ℕ) (severity : Severity) (format : Parsed) (args start head end id : ℕ) → slice_get worked_dictionary id ≡ Some (message_in line severity format)
     → IsOutcome worked_dictionary (statement_in line severity format args start head end) (Outcome.rewritten (record { start = start; head = head; id = id }))
@@ -20,7 +20,7 @@ known_in line severity format args start head end id there = record {
   head = refl;
 }
 
-pub worked : Injected worked_source worked_found worked_dictionary worked_text
+pub worked : Injected injected_source injected_found worked_dictionary worked_text
 unfolding rewritten_from digits
 worked = record {
   outcomes = Outcome.rewritten (record { start = 5; head = 24; id = 2 }) ∷ Outcome.rewritten (record { start = 27; head = 47; id = 0 }) ∷ Outcome.rewritten (record { start = 53; head = 85; id = 1 }) ∷ [];
@@ -29,7 +29,7 @@ worked = record {
     _,
     refl,
     known_in 1 Error letter_x 0 5 24 25 2 refl,
-    (_, _, refl, known_in 1 Debug integer 1 27 47 51 0 refl, (_, _, refl, known_in 2 Notice letter_y 0 53 85 86 1 refl, refl)),
+    (_, _, refl, known_in 1 Debug format_d 1 27 47 51 0 refl, (_, _, refl, known_in 2 Notice letter_y 0 53 85 86 1 refl, refl)),
   );
   none_refused = refl;
   text_is = refl;

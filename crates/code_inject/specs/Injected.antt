@@ -7,21 +7,21 @@ use Rattle.preprocessor.specs.declared.refusal.SourceRefusal.{SourceRefusal}
 use Rattle.code_inject.specs.declared.injection.InjectFault.{InjectFault}
 use Rattle.code_inject.specs.declared.injection.InjectFault.TheVariants as faults
 use Rattle.code_inject.specs.Rewrites.{rewritten_from}
-use Rattle.code_inject.specs.Outcomes.{Outcome, AreOutcomes, rewrites_of, refusals_of}
+use Rattle.code_inject.specs.Outcomes.{Outcome, AreOutcomes, rewrites_in, refusals_in}
 
 -- the source where the head of each of these statements, from its start to before the comma behind its format or its
 -- closing parenthesis, is `NANO_LOG_CALL(`, the id of its message and the line feeds of the head; all else stays
 pub record Injected (source : List ℕ) (found : List Found) (dictionary : List Message) (text : List ℕ) : Type 0 where
   pub outcomes : List Outcome
   pub are : AreOutcomes dictionary found outcomes
-  pub none_refused : refusals_of outcomes ≡ []
-  pub text_is : text ≡ rewritten_from source 0 (rewrites_of outcomes)
+  pub none_refused : refusals_in outcomes ≡ []
+  pub text_is : text ≡ rewritten_from source 0 (rewrites_in outcomes)
 
 -- the statements of which some is bad or has no message in the dictionary, and all of these in order
 pub record Refused (found : List Found) (dictionary : List Message) (refusals : List SourceRefusal) : Type 0 where
   pub outcomes : List Outcome
   pub are : AreOutcomes dictionary found outcomes
-  pub refusals_are : refusals ≡ refusals_of outcomes
+  pub refusals_are : refusals ≡ refusals_in outcomes
   pub some : refusals ≢ []
 
 -- ---- sources

@@ -58,20 +58,20 @@ outcome_rewrites (Outcome.rewritten rewrite) = rewrite ∷ []
 outcome_rewrites (Outcome.refused refusal) = []
 
 -- the heads that are rewritten
-abbrev pub rewrites_of : List Outcome → List Rewrite
-rewrites_of outcomes = flat_map outcome_rewrites outcomes
+abbrev pub rewrites_in : List Outcome → List Rewrite
+rewrites_in outcomes = flat_map outcome_rewrites outcomes
 
 abbrev pub outcome_refusals : Outcome → List SourceRefusal
 outcome_refusals (Outcome.rewritten rewrite) = []
 outcome_refusals (Outcome.refused refusal) = refusal ∷ []
 
 -- all that is refused
-abbrev pub refusals_of : List Outcome → List SourceRefusal
-refusals_of outcomes = flat_map outcome_refusals outcomes
+abbrev pub refusals_in : List Outcome → List SourceRefusal
+refusals_in outcomes = flat_map outcome_refusals outcomes
 
 -- what code holds of the outcomes
 pub record HoldsOutcomes (dictionary : List Message) (found : List Found) (held : Outcomes) : Type 0 where
   pub outcomes : List Outcome
   pub are : AreOutcomes dictionary found outcomes
-  pub rewrites : held.rewrites.items ≡ rewrites_of outcomes
-  pub refusals : held.refusals.items ≡ refusals_of outcomes
+  pub rewrites : held.rewrites.items ≡ rewrites_in outcomes
+  pub refusals : held.refusals.items ≡ refusals_in outcomes

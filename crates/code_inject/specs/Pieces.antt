@@ -13,11 +13,11 @@ pub record Piece : Type 0 where
   pub head : List ℕ
   pub id : ℕ
 
-abbrev pub source_piece : Piece → List ℕ
-source_piece piece = piece.kept ++ piece.head
+abbrev pub piece_source : Piece → List ℕ
+piece_source piece = piece.kept ++ piece.head
 
-abbrev pub text_piece : Piece → List ℕ
-text_piece piece = piece.kept ++ call_by_id piece.id piece.head
+abbrev pub piece_text : Piece → List ℕ
+piece_text piece = piece.kept ++ call_by_id piece.id piece.head
 
 -- where the head of a piece stands in a source of which so many bytes stand before the piece
 abbrev pub place_of : ℕ → Piece → Rewrite
@@ -40,6 +40,6 @@ pub record DiffersInHeads (source : List ℕ) (found : List Found) (dictionary :
     : Type 0 where
   pub pieces : List Piece
   pub rest : List ℕ
-  pub source_is : source ≡ flat_map source_piece pieces ++ rest
-  pub text_is : text ≡ flat_map text_piece pieces ++ rest
+  pub source_is : source ≡ flat_map piece_source pieces ++ rest
+  pub text_is : text ≡ flat_map piece_text pieces ++ rest
   pub heads : AreHeads dictionary 0 pieces found

@@ -41,8 +41,8 @@ letter_x = record { bytes = codes "x"; pieces = Literal 0 1 ∷ [] }
 abbrev pub letter_y : Parsed
 letter_y = record { bytes = codes "y"; pieces = Literal 0 1 ∷ [] }
 
-abbrev pub integer : Parsed
-integer = record { bytes = codes "%d"; pieces = field Absent Absent Plain D ∷ [] }
+abbrev pub format_d : Parsed
+format_d = record { bytes = codes "%d"; pieces = field Absent Absent Plain D ∷ [] }
 
 -- a format with each type
 abbrev pub all_types : Parsed
@@ -65,8 +65,8 @@ message_in line severity format = record {
 -- ---- a source
 
 -- two statements in one line, and one in two lines with a comment inside
-abbrev pub worked_source : List ℕ
-worked_source =
+abbrev pub injected_source : List ℕ
+injected_source =
     codes "a(); NANO_LOG(ERROR, \"x\"); NANO_LOG(DEBUG, \"%d\", n);\n"
     ++ codes "NANO_LOG(NOTICE, // \"z\", 1\n" ++ codes "  \"y\");\n"
 
@@ -85,14 +85,14 @@ statement_in line severity format args start head end =
       end = end;
     })
 
-abbrev pub worked_found : List Found
-worked_found =
-    statement_in 1 Error letter_x 0 5 24 25 ∷ statement_in 1 Debug integer 1 27 47 51
+abbrev pub injected_found : List Found
+injected_found =
+    statement_in 1 Error letter_x 0 5 24 25 ∷ statement_in 1 Debug format_d 1 27 47 51
     ∷ statement_in 2 Notice letter_y 0 53 85 86 ∷ []
 
 -- their messages, in another order
 abbrev pub worked_dictionary : List Message
-worked_dictionary = message_in 1 Debug integer ∷ message_in 2 Notice letter_y ∷ message_in 1 Error letter_x ∷ []
+worked_dictionary = message_in 1 Debug format_d ∷ message_in 2 Notice letter_y ∷ message_in 1 Error letter_x ∷ []
 
 abbrev pub worked_text : List ℕ
 worked_text =

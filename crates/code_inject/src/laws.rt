@@ -12,7 +12,7 @@ ghost use Rattle.code_inject.specs.Rewrites.{line_feeds};
 ghost use Rattle.code_inject.specs.Injected.{Injected, InjectsSource, RefusesSource, HasAnswer};
 ghost use Rattle.code_inject.specs.Headers.{header_text};
 ghost use Rattle.code_inject.specs.Pieces.{DiffersInHeads};
-ghost use Rattle.code_inject.specs.Rows.{worked_source, worked_found, worked_dictionary, worked_text};
+ghost use Rattle.code_inject.specs.Rows.{injected_source, injected_found, worked_dictionary, worked_text};
 ghost use Rattle.code_inject.specs.Rows.{header_dictionary, worked_header};
 
 /// A rewritten source is the source but for the heads of its statements, piece by piece: the arguments behind a format
@@ -52,7 +52,7 @@ pub fn some_answer(source: &[u8])
 
 /// A source with two statements in one line, and one in two lines with a comment inside.
 pub fn worked_source()
-    ensures { Injected worked_source worked_found worked_dictionary worked_text }
+    ensures { Injected injected_source injected_found worked_dictionary worked_text }
 {}
 
 /// A header with each letter.

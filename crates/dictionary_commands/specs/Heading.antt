@@ -14,14 +14,14 @@ abbrev pub count_text : List ℕ → ℕ → List ℕ
 count_text counted count = counted ++ codes " " ++ decimal count ++ codes "\n"
 
 -- what is made of these messages: the header
-abbrev pub header_of : List Message → Product
-header_of messages =
+abbrev pub made_header : List Message → Product
+made_header messages =
     record { made = Some (header_text messages); text = count_text (codes "messages") (length messages) }
 
 -- what a dictionary gives: the header of its messages; or it is refused
 abbrev pub GivesHeader : List ℕ → Form
 GivesHeader dictionary old product Done =
-    (messages : List Message) × DictionaryRead old dictionary messages × (product ≡ header_of messages)
+    (messages : List Message) × DictionaryRead old dictionary messages × (product ≡ made_header messages)
 GivesHeader dictionary old product ending = IsRefusedText DictionaryBreak dictionary old product ending
 
 -- the bytes are the text of a dictionary

@@ -15,7 +15,7 @@ use std::alloc::{AllocError, Global};
 use trace_commands::dictionary_of_file;
 
 /// The header of the dictionary.
-fn header_of(alloc: Global, dictionary: &Dictionary) -> Result<Vec<u8>, AllocError>
+fn made_header(alloc: Global, dictionary: &Dictionary) -> Result<Vec<u8>, AllocError>
     ensures { IfOk result (λ text. text.items ≡ header_text dictionary.now) }
 {
     let mut text = Vec::new(alloc);
@@ -43,7 +43,7 @@ pub fn header<'a, F: Files, O: Sink>(
     ensures out_others { O.rest out.old out.new }
 {
     let messages = dictionary_of_file(alloc, files, dictionary)?;
-    let text = header_of(alloc, &messages)?;
+    let text = made_header(alloc, &messages)?;
     match save(files, output, &text) {
         Ok(()) => print_count(out, "messages", messages.len()),
         Err(_) => Err(Refusal::WriteFault(output)),

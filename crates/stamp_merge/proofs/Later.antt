@@ -9,7 +9,7 @@ use Rattle.stamp_merge.specs.declared.merge.MergeKey.{MergeKey}
 use Rattle.stamp_merge.specs.declared.merger.ListState.{ListState}
 use Rattle.stamp_merge.specs.Ordering.{in_order_by}
 use Rattle.stamp_merge.specs.Merging.{list_keys, keys_of, key_cmp, stamp_before, merged, merge_order}
-use Rattle.stamp_merge.specs.Mergers.{list_at, IsSpent, heads_of, with_head, without_head, with_close, Merging, pushed_to, RisesFrom, last_or, Merges, made, pushed, closed, took, GoesOn}
+use Rattle.stamp_merge.specs.Mergers.{list_at, IsSpent, heads_of, with_head, without_head, with_close, Merging, pushed_to, RisesFrom, last_or, Merges, made, pushed, closed, took, MergingGoesOn}
 use Rattle.stamp_merge.proofs.lemmas.Ordering.{in_order_by-rises}
 use Rattle.stamp_merge.proofs.lemmas.Sorted.{in_order_by-behind}
 use Rattle.stamp_merge.proofs.lemmas.MergeKeys.{key_at, key_total, key_exact, merged-rises, keys_same, merge_order-counts}
@@ -71,7 +71,7 @@ rest_above least (first ∷ front) back rises = rest_above first front back rise
 
 -- ---- what was taken is settled
 
-module _ (lists : List ListState) (past : Merging) (later : List (List ℕ)) (calls : Merges lists past) (on : GoesOn lists past later) where
+module _ (lists : List ListState) (past : Merging) (later : List (List ℕ)) (calls : Merges lists past) (on : MergingGoesOn lists past later) where
   abbrev comes : List (List ℕ)
   comes = rests on.more 0 later
 

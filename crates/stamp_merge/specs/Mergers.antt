@@ -86,7 +86,7 @@ pub data Merges : List ListState → Merging → Type 0 where
 
 -- Lists that may come of those so far: each begins with what was pushed to it, one that is closed has nothing more, and
 -- none falls.
-pub record GoesOn (lists : List ListState) (past : Merging) (later : List (List ℕ)) : Type 0 where
+pub record MergingGoesOn (lists : List ListState) (past : Merging) (later : List (List ℕ)) : Type 0 where
   pub more : ℕ → List ℕ
   pub count : length later ≡ length past.pushed
   pub begins : (number : ℕ) → slice_index_or later number [] ≡ pushed_to past number ++ more number

@@ -4,7 +4,7 @@
 ghost use Rattle.std.specs.Prelude.{◌≡◌, ◌≢◌, ℕ, ◌+◌, ◌<◌, ◌==◌, List, [], ◌∷◌, ◌++◌, length, map, replicate, count_by, slice_index_or, All, false};
 ghost use Rattle.std.specs.Option.{option_to_list};
 ghost use Rattle.stamp_merge.specs.Merging.{stamp_before, merged, merge_order};
-ghost use Rattle.stamp_merge.specs.Mergers.{fresh_list, list_at, IsSpent, Merging, pushed_to, last_or, Merges, GoesOn};
+ghost use Rattle.stamp_merge.specs.Mergers.{fresh_list, list_at, IsSpent, Merging, pushed_to, last_or, Merges, MergingGoesOn};
 ghost use Rattle.stamp_merge.specs.Rows.{tied_lists, Runs, asked_run, unasked_run};
 ghost use Rattle.stamp_merge.specs.declared.merge.MergeKey.{MergeKey};
 ghost use Rattle.stamp_merge.specs.declared.merger.ListState.{ListState};
@@ -39,7 +39,7 @@ pub fn mergers_take_in_merge_order()
 /// What was taken before that is the front of the merged lists, whatever is going to come.
 pub fn taken_stamps_are_settled()
     ensures { (lists : List ListState) (past : Merging) (later : List (List ℕ)) → Merges lists past
-        → GoesOn lists past later → (rest : List MergeKey) × (merged later ≡ past.taken ++ rest) }
+        → MergingGoesOn lists past later → (rest : List MergeKey) × (merged later ≡ past.taken ++ rest) }
 {}
 
 /// Once something was taken each list that isn't closed has had a stamp, and the last one stands before none

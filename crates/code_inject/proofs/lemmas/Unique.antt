@@ -13,7 +13,7 @@ use Rattle.preprocessor.specs.declared.refusal.SourceRefusal.{SourceRefusal}
 use Rattle.preprocessor.proofs.lemmas.Finding.{message_once}
 use Rattle.code_inject.specs.declared.rewrite.Rewrite.{Rewrite}
 use Rattle.code_inject.specs.Rewrites.{rewritten_from}
-use Rattle.code_inject.specs.Outcomes.{Outcome, IsKnown, IsUnknown, IsOutcome, AreOutcomes, rewrites_of, refusals_of}
+use Rattle.code_inject.specs.Outcomes.{Outcome, IsKnown, IsUnknown, IsOutcome, AreOutcomes, rewrites_in, refusals_in}
 use Rattle.code_inject.specs.Injected.{InjectsSource, RefusesSource}
 
 -- ---- one message
@@ -77,17 +77,17 @@ pub text_once : (file source : List ℕ) (dictionary : List Message) (text other
 text_once file source dictionary text other n m distinct here there =
     let list : here.found ≡ there.found = statements_once file source here.found there.found here.statements there.statements in
     let outcomes = same_outcomes dictionary here.found there.found here.injected.outcomes there.injected.outcomes distinct list here.injected.are there.injected.are in (
-      here.injected.text_is ∙ ap (λ (l : List Outcome). rewritten_from source 0 (rewrites_of l)) outcomes ∙ sym there.injected.text_is,
+      here.injected.text_is ∙ ap (λ (l : List Outcome). rewritten_from source 0 (rewrites_in l)) outcomes ∙ sym there.injected.text_is,
       here.count_is ∙ ap length list ∙ sym there.count_is,
     )
 
 pub refusals_once : (file source : List ℕ) (dictionary : List Message) (refusals others : List SourceRefusal) → AreDistinct dictionary → RefusesSource file source dictionary refusals → RefusesSource file source dictionary others → refusals ≡ others
 refusals_once file source dictionary refusals others distinct here there =
     let list : here.found ≡ there.found = statements_once file source here.found there.found here.statements there.statements in
-    here.refused.refusals_are ∙ ap refusals_of (same_outcomes dictionary here.found there.found here.refused.outcomes there.refused.outcomes distinct list here.refused.are there.refused.are) ∙ sym there.refused.refusals_are
+    here.refused.refusals_are ∙ ap refusals_in (same_outcomes dictionary here.found there.found here.refused.outcomes there.refused.outcomes distinct list here.refused.are there.refused.are) ∙ sym there.refused.refusals_are
 
 pub apart : (file source : List ℕ) (dictionary : List Message) (text : List ℕ) (n : ℕ) (refusals : List SourceRefusal) → AreDistinct dictionary → InjectsSource file source dictionary text n → RefusesSource file source dictionary refusals → ⊥
 apart file source dictionary text n refusals distinct here there =
     let list : here.found ≡ there.found = statements_once file source here.found there.found here.statements there.statements in
     let outcomes = same_outcomes dictionary here.found there.found here.injected.outcomes there.refused.outcomes distinct list here.injected.are there.refused.are in
-    there.refused.some (there.refused.refusals_are ∙ sym (ap refusals_of outcomes) ∙ here.injected.none_refused)
+    there.refused.some (there.refused.refusals_are ∙ sym (ap refusals_in outcomes) ∙ here.injected.none_refused)
