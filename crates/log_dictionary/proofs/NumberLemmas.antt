@@ -1,7 +1,7 @@
 -- Numbers that are read digit by digit.
 use Rattle.std.proofs.Common.{◌≡◌, ◌≢◌, ℕ, zero, suc, ◌+◌, ◌-◌, ◌*◌, ◌<◌, ◌≤◌, ◌^◌, Bool, true, false, List, [], ◌∷◌, length, get_or, take, drop, Option, Some, None, refl, sym, ap, ◌∙◌, arith, subst, add-one, add-zero, cond, eqb, leb}
 use Rattle.std.specs.Option.{option_map}
-use Rattle.std.proofs.lemmas.Bool.{le-ltb, lt-ltb, ne_eqb, eqb-true, leb-true, and_parts}
+use Rattle.std.proofs.lemmas.Bool.{le-ltb, lt-ltb, ne_eqb, eqb-true, eqb-false, leb-true, and_parts}
 use Rattle.std.proofs.lemmas.List.{drop_more, take_all, length-drop}
 use Rattle.std.proofs.lemmas.Option.{same_Some}
 use Rattle.std.proofs.Math.ListN.{drop_of_length-le}
@@ -126,16 +126,6 @@ short_more bytes i number digit is within e one = record {
   few = rw (power_step i) (omega (arith, is.few, one));
 }
 
-pub short_read : (bytes : List ℕ) (i number : ℕ) → IsShortTo bytes i number → i < 19 → IsReadTo 0 bytes i number
-short_read bytes i number is few = record { read = is.read; fits = (let fits = fits_short i number 0 few is.few (omega arith) in omega (arith, fits)) }
-
--- more digits follow
-pub split_on : (bytes : List ℕ) (i at number : ℕ) (natural : Natural) (rest : List ℕ) → IsShortTo bytes i number → at ≡ i → natural ≡ natural_read (digits_from number (take (length bytes - at) (drop at bytes))).0
-    → rest ≡ (digits_from number (take (length bytes - at) (drop at bytes))).1 → IsSplit 0 bytes natural rest
-split_on bytes i at number natural rest is e number_is rest_is =
-    let same = ap (digits_from number) (rest_from bytes i at e) ∙ sym is.read in
-    record { number_is = number_is ∙ ap (λ (p : ℕ × List ℕ). natural_read p.0) same; rest_is = rest_is ∙ ap (λ (p : ℕ × List ℕ). p.1) same }
-
 -- ---- all bytes, and the first field
 
 -- the number of bytes that are all digits
@@ -224,3 +214,35 @@ zero_read (b ∷ bytes) some is = ap (if_ends (Small 0)) (rest_from (b ∷ bytes
 pub digits_read : (bytes : List ℕ) (number : Natural) (rest : List ℕ) → 0 < length bytes → get_or bytes 0 0 ≢ 32 → get_or bytes 0 0 ≢ 48 → IsSplit 0 bytes number rest → read_field bytes ≡ if_ends number rest
 digits_read [] number rest some space other is = absurd (omega (arith, some))
 digits_read (b ∷ bytes) number rest some space other is = rw (is.number_is, is.rest_is) (field_read (b ∷ bytes) (digits_from 0 (b ∷ bytes)) (natural_field b bytes space other))
+
+-- no digit stands where a field has ended
+ends_digits : (n : ℕ) (rest : List ℕ) → ends_field rest ≡ true → digits_from n rest ≡ (n, rest)
+unfolding digits_from
+ends_digits n [] ends = refl
+ends_digits n (b ∷ rest) ends = rw (eqb-true b 32 ends) refl
+
+one_field : (b digit : ℕ) (rest : List ℕ) → Some digit ≡ digit_at b → ends_field rest ≡ true → of_first_field natural_of (b ∷ rest) ≡ if_field (digit, rest)
+one_field b digit rest e ends = by_zero (eqb b 48) refl
+  where
+    no_mark : ◌≡◌ {A = Option ℕ} (Some digit) None → ⊥
+    no_mark same = absurd cc
+
+    by_zero : (t : Bool) → eqb b 48 ≡ t → of_first_field natural_of (b ∷ rest) ≡ if_field (digit, rest)
+    by_zero true zero_first =
+        let is : b ≡ 48 = eqb-true b 48 zero_first in
+        let none : digit ≡ 0 = same_Some digit 0 (e ∙ ap digit_at is) in
+        ap (λ (d : ℕ). of_first_field natural_of (d ∷ rest)) is ∙ zero_field rest ∙ ap (λ (n : ℕ). if_field (n, rest)) (sym none)
+    by_zero false other =
+        let same : 0 * 10 + digit ≡ digit = omega arith in
+        let step : digits_from 0 (b ∷ rest) ≡ digits_from digit rest = digits_step (b ∷ rest) 0 0 digit (omega arith) e ∙ ap (λ (n : ℕ). digits_from n rest) same in
+        natural_field b rest (λ mark. no_mark (e ∙ ap digit_at mark)) (eqb-false b 48 other) ∙ ap if_field (step ∙ ends_digits digit rest ends)
+
+-- a field of one digit
+pub one_read : (bytes : List ℕ) (at digit : ℕ) → 0 < length bytes → at ≡ 1 → Some digit ≡ digit_at (get_or bytes 0 0) → digit < 10 → ends_field (take (length bytes - at) (drop at bytes)) ≡ true
+    → Some (Small digit, take (length bytes - at) (drop at bytes)) ≡ read_field bytes
+one_read [] at digit some here e one ends = absurd (omega (arith, some))
+one_read (b ∷ bytes) at digit some here e one ends =
+    let rest : take (length (b ∷ bytes) - at) (drop at (b ∷ bytes)) ≡ bytes = rest_from (b ∷ bytes) 1 at here in
+    let ended_there : ends_field bytes ≡ true = sym (ap ends_field rest) ∙ ends in
+    let small : natural_read digit ≡ Small digit = ap (λ (t : Bool). cond t (Small digit) Large) (lt-ltb digit (2 ^ 64) (omega (arith, one))) in
+    ap (λ (l : List ℕ). Some (Small digit, l)) rest ∙ sym (field_read (b ∷ bytes) (digit, bytes) (one_field b digit bytes e ended_there) ∙ ap (λ (n : Natural). if_ends n bytes) small ∙ ap (λ (t : Bool). cond t (Some (Small digit, bytes)) None) ended_there)

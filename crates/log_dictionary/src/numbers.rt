@@ -1,9 +1,10 @@
 //! Numbers as they are spelled in a trace.
 
-ghost use Rattle.std.specs.Prelude.{◌≡◌, ◌<◌, ◌+◌, ◌-◌, ◌*◌, ◌^◌, IfSome, IfNone, FitsSigned, ℤ, pos, ℕ, Option, Some, None, if◌then◌else◌};
+ghost use Rattle.std.specs.Prelude.{◌≡◌, ◌<◌, ◌≤◌, ◌+◌, ◌-◌, ◌*◌, ◌^◌, length, drop, IfSome, IfNone, FitsSigned, ℤ, pos, ℕ, Option, Some, None, if◌then◌else◌};
 ghost use Rattle.std.specs.Int.{w64};
 ghost use Rattle.std.specs.Fmt.{decimal, signed_decimal};
 ghost use Rattle.std.specs.Option.{option_map, SomeIff};
+ghost use Rattle.log_dictionary.specs.declared.numbers.TheConstants.{SHORT};
 ghost use Rattle.log_dictionary.specs.Numbers.{is_digit, natural_of, natural_read, number_from, digits_from, integer_of, integer_read, negated, if_signed, if_small};
 ghost use Rattle.log_dictionary.specs.Fields.{if_ends, of_first_field};
 
@@ -89,21 +90,37 @@ fn more_digits(first: u64, bytes: &[u8]) -> (Natural, &[u8])
     (Natural::Small(number), &bytes[bytes.len()..])
 }
 
+// The number that the digits spell which stand first, and how many they are. Behind 19 it looks for no more. On its
+// own it keeps the number in a register, which its callers have no room for.
+#[inline(never)]
+fn short_digits(bytes: &[u8]) -> (u64, usize)
+    ensures within { result.1 ≤ length bytes.now }
+    ensures spelled { digits_from 0 bytes.now ≡ digits_from result.0 (drop result.1 bytes.now) }
+    ensures all { result.1 < SHORT
+        → digits_from result.0 (drop result.1 bytes.now) ≡ (result.0, drop result.1 bytes.now) }
+{
+    let mut number = 0;
+    let short = bytes.len().min(SHORT);
+    for end in 0..short {
+        let Some(digit) = digit_of(bytes[end]) else {
+            return (number, end);
+        };
+        number = number * 10 + u64::from(digit);
+    }
+    (number, short)
+}
+
 // The number that the digits spell which stand first, and the bytes behind them.
 #[inline(always)]
 fn split_digits(bytes: &[u8]) -> (Natural, &[u8])
     ensures number { result.0 ≡ natural_read (digits_from 0 bytes.now).0 }
     ensures rest { result.1.now ≡ (digits_from 0 bytes.now).1 }
 {
-    let mut number = 0;
-    let short = bytes.len().min(SHORT);
-    for end in 0..short {
-        let Some(digit) = digit_of(bytes[end]) else {
-            return (Natural::Small(number), &bytes[end..]);
-        };
-        number = number * 10 + u64::from(digit);
+    let (number, len) = short_digits(bytes);
+    if len < SHORT {
+        return (Natural::Small(number), &bytes[len..]);
     }
-    more_digits(number, &bytes[short..])
+    more_digits(number, &bytes[len..])
 }
 
 // The number that the digits spell, also where a zero stands in front.
@@ -138,12 +155,34 @@ fn if_ends(number: Natural, rest: &[u8]) -> Option<(Natural, &[u8])>
     }
 }
 
-// The number of any size that the first field spells, and the rest behind the field.
+// The number of one digit that the first field spells, and the rest behind the field.
+#[inline(always)]
+fn one_digit(bytes: &[u8]) -> Option<(Natural, &[u8])>
+    ensures { IfSome result (λ found. Some (found.0, found.1.now)
+        ≡ of_first_field (λ field. option_map natural_read (natural_of field)) bytes.now) }
+{
+    let [first, rest @ ..] = bytes else {
+        return None;
+    };
+    let Some(digit) = digit_of(*first) else {
+        return None;
+    };
+    if !ends_field(rest) {
+        return None;
+    }
+    Some((Natural::Small(u64::from(digit)), rest))
+}
+
+// The number of any size that the first field spells, and the rest behind the field. Writers and ids mostly have one
+// digit.
 #[inline(always)]
 fn split_natural(bytes: &[u8]) -> Option<(Natural, &[u8])>
     ensures { option_map (λ found. (found.0, found.1.now)) result
         ≡ of_first_field (λ field. option_map natural_read (natural_of field)) bytes.now }
 {
+    if let Some(found) = one_digit(bytes) {
+        return Some(found);
+    }
     match bytes {
         [] | [b' ', ..] => None,
         [b'0', rest @ ..] => if_ends(Natural::Small(0), rest),
@@ -195,6 +234,7 @@ pub fn read_integer(field: &[u8]) -> Option<Integer>
 }
 
 /// The number of any size that the first field spells, as `read_integer` reads it, and the rest behind the field.
+#[inline(always)]
 pub fn split_integer(bytes: &[u8]) -> Option<(Integer, &[u8])>
     ensures { option_map (λ found. (found.0, found.1.now)) result
         ≡ of_first_field (λ field. option_map integer_read (integer_of field)) bytes.now }
@@ -212,6 +252,7 @@ pub fn split_integer(bytes: &[u8]) -> Option<(Integer, &[u8])>
 }
 
 /// The number below 2^64 that the first field spells, as `read_number` reads it, and the rest behind the field.
+#[inline(always)]
 pub fn split_number(bytes: &[u8]) -> Option<(u64, &[u8])>
     ensures { option_map (λ found. (found.0, found.1.now)) result
         ≡ of_first_field (λ field. if_small (natural_of field)) bytes.now }

@@ -15,7 +15,6 @@ mod TextReads
 mod DecimalBytes
 mod ArgumentLines
 mod NumberFields
-mod ShortNumbers
 mod CallLines
 mod WorkedRefusals
 mod Cuts

@@ -10,9 +10,8 @@ ghost use Rattle.trace_text.specs.CallReading.Item.{number};
 ghost use Rattle.trace_text.specs.CallFields.{field_value, result_as, item_argument, spaced_argument};
 
 use crate::cause::TraceCause;
-use crate::numbers::split_integer;
 use arg_records::text_words;
-use log_dictionary::{Integer, SpelledText, ends_field, split_text};
+use log_dictionary::{Integer, SpelledText, ends_field, split_integer, split_text};
 use printf_grammar::{ArgType, MAX_ARGUMENTS, MAX_SIZE, MAX_TEXT, Value, Values};
 use std::alloc::{AllocError, Global};
 

@@ -10,10 +10,9 @@ ghost use Rattle.trace_text.specs.CallPlaces.{head_view, begun_call};
 
 use crate::call_fields::read_arguments;
 use crate::cause::TraceCause;
-use crate::numbers::split_number;
 use crate::trace::{MAX_CALLS, Trace};
 use arg_records::{Call, Calls, MAX_FRAME_WORDS};
-use log_dictionary::{Dictionary, Message};
+use log_dictionary::{Dictionary, Message, split_number};
 use std::alloc::Global;
 
 /// Why a line gave no call.

@@ -8,7 +8,6 @@ mod dictionaries;
 mod head_lines;
 pub mod laws;
 mod lines;
-mod numbers;
 mod order;
 mod reading;
 mod trace;
