@@ -138,8 +138,6 @@ impl Dictionary {
     pub fn len(&self) -> u32
         ensures value { result ≡ length self.now }
         ensures bound { result ≤ MAX_MESSAGES }
-        ensures distinct { AreDistinct self.now }
-        ensures formed { AreFormed self.now }
     {
         self.messages.len() as u32
     }
@@ -165,6 +163,16 @@ impl Dictionary {
         ensures { IsPlace self.now message.now result }
     {
         self.messages.place_of(message)
+    }
+
+    /// The messages, in the order of their ids.
+    pub fn as_slice(&self) -> &[Message]
+        ensures value { result.now ≡ self.now }
+        ensures few { length self.now ≤ MAX_MESSAGES }
+        ensures distinct { AreDistinct self.now }
+        ensures formed { AreFormed self.now }
+    {
+        self.messages.as_slice()
     }
 
     /// The messages, in the order of their ids.

@@ -74,15 +74,15 @@ impl MessageSet {
     }
 
     pub(crate) fn len(&self) -> usize
-        ensures len { result ≡ length self.now }
-        ensures distinct { AreDistinct self.now }
-        ensures formed { AreFormed self.now }
+        ensures { result ≡ length self.now }
     {
         self.messages.len()
     }
 
     pub(crate) fn as_slice(&self) -> &[Message]
-        ensures { result.now ≡ self.now }
+        ensures value { result.now ≡ self.now }
+        ensures distinct { AreDistinct self.now }
+        ensures formed { AreFormed self.now }
     {
         self.messages.as_slice()
     }

@@ -9,7 +9,7 @@ ghost use Rattle.roaming_consumer.specs.Roamers.{ends_of, roamer_messages, roame
 ghost use Rattle.log_session.specs.Starts.{IsNewRing, AllZipMore};
 
 use crate::writer::Writer;
-use log_dictionary::{Clock, Dictionary};
+use log_dictionary::{Clock, Dictionary, Message};
 use ring_core::{Stage, StageFault};
 use roaming_consumer::Roamer;
 use session_options::{MAX_RING, MIN_RING};
@@ -19,16 +19,16 @@ use std::alloc::{AllocError, Global};
 fn open_ring<S: Stage>(
     alloc: Global,
     ring: u64,
-    dictionary: &Dictionary,
+    messages: &[Message],
     first: u64,
 ) -> Result<(Writer<S::In>, S::Out), AllocError>
     requires ring { (MIN_RING ≤ ring) × (ring ≤ MAX_RING) }
-    requires plan { IsDictionaryPlan (plan_of dictionary.now first) }
-    ensures { IfOk result (λ ends. IsNewRing ring (plan_of dictionary.now first)
+    requires plan { IsDictionaryPlan (plan_of messages.now first) }
+    ensures { IfOk result (λ ends. IsNewRing ring (plan_of messages.now first)
         S.In.pair S.In.words S.In.plan S.In.sent S.In.closed S.In.at S.In.seen
         S.Out.pair S.Out.plan S.Out.got S.Out.ended ends.0 ends.1) }
 {
-    let Ok((end, other)) = S::make(alloc, ring, dictionary, first) else {
+    let Ok((end, other)) = S::make(alloc, ring, messages, first) else {
         return Err(AllocError);
     };
     Ok((Writer::over(end, first), other))
@@ -38,18 +38,18 @@ fn open_ring<S: Stage>(
 fn add_ring<S: Stage>(
     alloc: Global,
     ring: u64,
-    dictionary: &Dictionary,
+    messages: &[Message],
     first: u64,
     ours: &mut Vec<Writer<S::In>>,
     theirs: &mut Vec<S::Out>,
 ) -> Result<(), AllocError>
     requires ring { (MIN_RING ≤ ring) × (ring ≤ MAX_RING) }
-    requires plan { IsDictionaryPlan (plan_of dictionary.now first) }
-    ensures { OnOk result (AllZipMore (IsNewRing ring (plan_of dictionary.now first)
+    requires plan { IsDictionaryPlan (plan_of messages.now first) }
+    ensures { OnOk result (AllZipMore (IsNewRing ring (plan_of messages.now first)
         S.In.pair S.In.words S.In.plan S.In.sent S.In.closed S.In.at S.In.seen
         S.Out.pair S.Out.plan S.Out.got S.Out.ended) ours.old.items theirs.old.items ours.new.items theirs.new.items) }
 {
-    let (writer, end) = open_ring::<S>(alloc, ring, dictionary, first)?;
+    let (writer, end) = open_ring::<S>(alloc, ring, messages, first)?;
     ours.push(writer)?;
     theirs.push(end)?;
     Ok(())
@@ -60,20 +60,20 @@ fn open_rings<S: Stage>(
     alloc: Global,
     ring: u64,
     writers: u32,
-    dictionary: &Dictionary,
+    messages: &[Message],
     first: u64,
 ) -> Result<(Vec<Writer<S::In>>, Vec<S::Out>), AllocError>
     requires ring { (MIN_RING ≤ ring) × (ring ≤ MAX_RING) }
-    requires plan { IsDictionaryPlan (plan_of dictionary.now first) }
+    requires plan { IsDictionaryPlan (plan_of messages.now first) }
     ensures { IfOk result (λ ends. (length ends.0.items ≡ writers)
-        × AllZip (IsNewRing ring (plan_of dictionary.now first)
+        × AllZip (IsNewRing ring (plan_of messages.now first)
         S.In.pair S.In.words S.In.plan S.In.sent S.In.closed S.In.at S.In.seen
         S.Out.pair S.Out.plan S.Out.got S.Out.ended) ends.0.items ends.1.items) }
 {
     let mut ours = Vec::new(alloc);
     let mut theirs = Vec::new(alloc);
     for _ in 0..writers {
-        add_ring::<S>(alloc, ring, dictionary, first, &mut ours, &mut theirs)?;
+        add_ring::<S>(alloc, ring, messages, first, &mut ours, &mut theirs)?;
     }
     Ok((ours, theirs))
 }
@@ -115,9 +115,8 @@ pub fn start<'d, S: Stage>(
     if ring < MIN_RING || MAX_RING < ring {
         return Err(StageFault::BadSize);
     }
-    // A dictionary has few messages, and each of them few arguments. So has the plan of its rings.
-    let _ = dictionary.len();
-    let Ok((ours, theirs)) = open_rings::<S>(alloc, ring, writers, dictionary, clock.tick) else {
+    let messages = dictionary.as_slice();
+    let Ok((ours, theirs)) = open_rings::<S>(alloc, ring, writers, messages, clock.tick) else {
         return Err(StageFault::NoMemory);
     };
     match Roamer::make(alloc, theirs, dictionary, clock, batch) {

@@ -8,7 +8,7 @@ ghost use Rattle.ring_core.specs.Plans.{plan_of, BeginsWith};
 use crate::answers::StageFault;
 use crate::stage_in::StageIn;
 use crate::stage_out::StageOut;
-use log_dictionary::Dictionary;
+use log_dictionary::Message;
 use std::alloc::Global;
 
 /// A kind of rings, each with one writer and one roamer.
@@ -20,18 +20,18 @@ pub trait Stage {
     /// What is left of a ring whose ends have come together again.
     type Done: StageDone + Drop;
 
-    /// The two ends of a new ring of so many words, for calls of the dictionary whose stamps aren't below `first`.
+    /// The two ends of a new ring of so many words, for calls of the messages whose stamps aren't below `first`.
     fn make(
         alloc: Global,
         words: u64,
-        dictionary: &Dictionary,
+        messages: &[Message],
         first: u64,
     ) -> Result<(Self::In, Self::Out), StageFault>
         ensures bad_size { IsErrOf result StageFault.BadSize ↔ ((words < MIN_RING) ⊎ (MAX_RING < words)) }
         ensures one_ring { IfOk result (λ ends. Self.In.pair ends.0 ≡ Self.Out.pair ends.1) }
         ensures size { IfOk result (λ ends. Self.In.words ends.0 ≡ words) }
-        ensures plans { IfOk result (λ ends. (Self.In.plan ends.0 ≡ plan_of dictionary.now first)
-            × (Self.Out.plan ends.1 ≡ plan_of dictionary.now first)) }
+        ensures plans { IfOk result (λ ends. (Self.In.plan ends.0 ≡ plan_of messages.now first)
+            × (Self.Out.plan ends.1 ≡ plan_of messages.now first)) }
         ensures writer { IfOk result (λ ends. (Self.In.sent ends.0 ≡ []) × (Self.In.closed ends.0 ≡ false)
             × (Self.In.at ends.0 ≡ 0) × (Self.In.seen ends.0 ≡ 0)) }
         ensures roamer { IfOk result (λ ends. (Self.Out.got ends.1 ≡ []) × (Self.Out.ended ends.1 ≡ false)) };

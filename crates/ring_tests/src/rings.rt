@@ -34,7 +34,7 @@ fn sizes(rt: HostRuntime) -> Result<(), Fail> {
         (1_048_577, Some(StageFault::BadSize)),
         (u64::MAX, Some(StageFault::BadSize)),
     ] {
-        let made = WordRing::make(rt.alloc(), words, &dictionary, TICK);
+        let made = WordRing::make(rt.alloc(), words, dictionary.as_slice(), TICK);
         assert_eq!(rt; made.err(), want, "{words} words");
         let started = start::<WordRing>(rt.alloc(), words, 2, 1, clock(), &dictionary);
         assert_eq!(rt; started.err(), want, "{words} words");
@@ -46,7 +46,7 @@ fn sizes(rt: HostRuntime) -> Result<(), Fail> {
 #[test]
 fn unused_rings_are_settled(rt: HostRuntime) -> Result<(), Fail> {
     let dictionary = three_messages(rt.alloc())?;
-    let (writer, roamer) = WordRing::make(rt.alloc(), 1_024, &dictionary, TICK)?;
+    let (writer, roamer) = WordRing::make(rt.alloc(), 1_024, dictionary.as_slice(), TICK)?;
     assert_eq!(rt; (writer.at(), writer.words()), (0, 1_024));
     assert_eq!(rt; WordRing::settle(writer, roamer).frames(), 0);
     Ok(())

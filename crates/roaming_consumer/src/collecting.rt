@@ -91,11 +91,9 @@ impl<'d, S> Roamer<'d, S> {
         ensures distinct { AreDistinct (roamer_messages self.old) }
         ensures few { length (roamer_messages self.old) ≤ MAX_MESSAGES }
     {
-        let are_known = draft.ids <= self.dictionary.len();
-        prove!(are_known);
         let defined = self.defined.max(draft.ids);
         write_fragments(
-            self.dictionary,
+            self.dictionary.as_slice(),
             self.defined,
             defined,
             &mut self.fragment,

@@ -6,7 +6,7 @@ ghost use Rattle.checkpoint_io.specs.Blocks.{SpellsEntries, SpellsFragment};
 ghost use Rattle.roaming_consumer.specs.Sinks.{SendsFragments};
 
 use checkpoint_io::{MAX_FRAGMENT_MESSAGES, put_fragment_head};
-use log_dictionary::{Dictionary, MAX_FILE_NAME, Message, entry_len, put_entry};
+use log_dictionary::{MAX_FILE_NAME, Message, entry_len, put_entry};
 use nl_io::{Failed, Sink, write_all};
 use printf_grammar::MAX_FORMAT;
 
@@ -40,39 +40,39 @@ fn put_entries(messages: &[Message], into: &mut [u8]) -> usize
 
 /// Puts a fragment of so many messages, from 1 to 16, whose ids count from the first into the front, and answers its
 /// end.
-fn put_fragment(dictionary: &Dictionary, first: u32, count: u32, into: &mut [u8]) -> usize
+fn put_fragment(messages: &[Message], first: u32, count: u32, into: &mut [u8]) -> usize
     requires some { 1 ≤ count }
     requires few { count ≤ MAX_FRAGMENT_MESSAGES }
-    requires within { first + count ≤ length dictionary.now }
+    requires within { first + count ≤ length messages.now }
     requires room { MAX_FRAGMENT ≤ length into.old }
-    ensures spelled { SpellsFragment first (take count (drop first dictionary.now)) (take result into.new) }
+    ensures spelled { SpellsFragment first (take count (drop first messages.now)) (take result into.new) }
     ensures within { result ≤ length into.old }
 {
     let start = first as usize;
-    let messages = &dictionary.iter().as_slice()[start..start + count as usize];
+    let defined = &messages[start..start + count as usize];
     let head = put_fragment_head(first, count as u16, into);
-    head + put_entries(messages, &mut into[head..])
+    head + put_entries(defined, &mut into[head..])
 }
 
 /// Writes the fragments of the messages from the first one up to this end.
 pub(crate) fn write_fragments<K: Sink>(
-    dictionary: &Dictionary,
+    messages: &[Message],
     first: u32,
     end: u32,
     buffer: &mut [u8],
     sink: &mut K,
 ) -> Result<(), Failed>
     requires forward { first ≤ end }
-    requires within { end ≤ length dictionary.now }
+    requires within { end ≤ length messages.now }
     requires room { MAX_FRAGMENT ≤ length buffer.old }
-    ensures sent { SendsFragments result dictionary.now first end
+    ensures sent { SendsFragments result messages.now first end
         (K.put sink.old) (K.put sink.new) (K.faults sink.old) (K.faults sink.new) }
     ensures others { K.rest sink.old sink.new }
 {
     let mut next = first;
     while next < end {
         let count = (end - next).min(u32::from(MAX_FRAGMENT_MESSAGES));
-        let len = put_fragment(dictionary, next, count, buffer);
+        let len = put_fragment(messages, next, count, buffer);
         write_all(sink, &buffer[..len])?;
         next += count;
     }

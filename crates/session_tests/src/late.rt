@@ -5,7 +5,7 @@ ghost use Rattle.std.proofs.Common.{arith};
 ghost use Rattle.ring_core.specs.Answers.{IsFull};
 
 use arg_records::MAX_FRAME_WORDS;
-use log_dictionary::Dictionary;
+use log_dictionary::Message;
 use ring_core::{Full, Stage, StageFault, StageIn, need};
 use session_options::{MAX_RING, MIN_RING};
 use std::alloc::Global;
@@ -142,10 +142,10 @@ impl Stage for LateStage {
     fn make(
         alloc: Global,
         words: u64,
-        dictionary: &Dictionary,
+        messages: &[Message],
         first: u64,
     ) -> Result<(LateIn, WordOut), StageFault> {
-        let (end, roamer) = WordRing::make(alloc, words, dictionary, first)?;
+        let (end, roamer) = WordRing::make(alloc, words, messages, first)?;
         Ok((LateIn::over(end), roamer))
     }
 

@@ -12,7 +12,7 @@ use crate::steps::{WordSeat, WordTable};
 use crate::word_done::WordDone;
 use crate::word_in::WordIn;
 use crate::word_out::WordOut;
-use log_dictionary::Dictionary;
+use log_dictionary::Message;
 use ring_core::{Stage, StageFault};
 use session_options::{MAX_RING, MIN_RING};
 use std::alloc::Global;
@@ -22,24 +22,24 @@ use std::sync::Arc;
 /// Rings each of which is a table of atomic words.
 pub struct WordRing;
 
-/// Parts the roles of writer and roamer, for calls of the dictionary.
+/// Parts the roles of writer and roamer, for calls of the messages.
 fn part_roles<K: Planned>(
     table: &WordTable,
     seat: &mut WordSeat,
-    dictionary: &Dictionary,
+    messages: &[Message],
     first: u64,
 ) -> WordSeat
-    requires plan { K.plan ≡ plan_of dictionary.now first }
+    requires plan { K.plan ≡ plan_of messages.now first }
     requires seat { IsSeatOf (view seat.old).size table.now seat.old }
     requires new { view seat.old ≡ newcomer (view seat.old).size }
     ensures same { IsSameSeat seat.old seat.new }
     ensures one { (result.table_id ≡ seat.old.table_id) × (result.me.1 ≡ []) }
     ensures writer { view seat.new
-        ≡ known true false (view seat.old).size (plan_of dictionary.now first) new_writer new_roamer }
+        ≡ known true false (view seat.old).size (plan_of messages.now first) new_writer new_roamer }
     ensures roamer { view result
-        ≡ known false true (view seat.old).size (plan_of dictionary.now first) new_writer new_roamer }
+        ≡ known false true (view seat.old).size (plan_of messages.now first) new_writer new_roamer }
 {
-    let _ = dictionary;
+    let _ = messages;
     let _ = first;
     table.shared.split_seat::<Roles<K>>(seat)
 }
@@ -54,7 +54,7 @@ impl Stage for WordRing {
     fn make(
         alloc: Global,
         words: u64,
-        dictionary: &Dictionary,
+        messages: &[Message],
         first: u64,
     ) -> Result<(WordIn, WordOut), StageFault> {
         if words < MIN_RING || words > MAX_RING {
@@ -67,7 +67,7 @@ impl Stage for WordRing {
         let Ok((table, mut seat)) = WordTable::of_words(alloc, &zeros, &size) else {
             return Err(StageFault::NoMemory);
         };
-        let theirs = part_roles::<Brand>(&table, &mut seat, dictionary, first);
+        let theirs = part_roles::<Brand>(&table, &mut seat, messages, first);
         let Ok(ours) = Arc::new(alloc, table) else {
             return Err(StageFault::NoMemory);
         };

@@ -7,4 +7,4 @@ use Rattle.log_session.proofs.starting.open_rings.Given as goal
 abbrev pub invariant-loop : goal.invariant-loop
 invariant-loop g l =
     (length l.ours.items ≡ l.counter)
-    × AllZip (IsNewRing l.ring (plan_of l.dictionary l.first) g.S.In.StageIn.pair g.S.In.StageIn.words g.S.In.StageIn.plan g.S.In.StageIn.sent g.S.In.StageIn.closed g.S.In.StageIn.at g.S.In.StageIn.seen g.S.Out.StageOut.pair g.S.Out.StageOut.plan g.S.Out.StageOut.got g.S.Out.StageOut.ended) l.ours.items l.theirs.items
+    × AllZip (IsNewRing l.ring (plan_of l.messages l.first) g.S.In.StageIn.pair g.S.In.StageIn.words g.S.In.StageIn.plan g.S.In.StageIn.sent g.S.In.StageIn.closed g.S.In.StageIn.at g.S.In.StageIn.seen g.S.Out.StageOut.pair g.S.Out.StageOut.plan g.S.Out.StageOut.got g.S.Out.StageOut.ended) l.ours.items l.theirs.items

@@ -1,12 +1,16 @@
-use Rattle.std.proofs.Common.{◌≡◌, [], arith}
+use Rattle.std.proofs.Common.{◌≡◌, ◌∙◌, List, [], sym, ap, subst, arith}
 use Rattle.std.proofs.lemmas.Slice.Zip.{AllZip-long}
+use Rattle.log_dictionary.specs.declared.message.Message.{Message}
 use Rattle.ring_core.specs.Plans.{plan_of}
+use Rattle.log_session.specs.Writers.{IsDictionaryPlan}
 use Rattle.log_session.proofs.Logging.{dictionary_plan}
 use Rattle.log_session.proofs.Rings.{zip_second}
 use Rattle.log_session.proofs.starting.start.Goals as goal
 
 pub open_rings-requires-clause-plan : goal.open_rings-requires-clause-plan
-open_rings-requires-clause-plan g c κs within = dictionary_plan c.args.dictionary.now c.args.clock.tick (omega (arith, c.len.ensures.value, c.len.ensures.bound)) c.len.ensures.formed
+open_rings-requires-clause-plan g c κs within =
+    let messages = c.as_slice-messages.ensures in
+    subst (λ (m : List Message). IsDictionaryPlan (plan_of m c.args.clock.tick)) (sym messages.value) (dictionary_plan c.args.dictionary.now c.args.clock.tick messages.few messages.formed)
 
 pub make-requires-clause-some_end : goal.make-requires-clause-some_end
 make-requires-clause-some_end g c = let same = AllZip-long _ _ _ c.in-Ok.ensures.1 in omega (arith, same, c.in-Ok.ensures.0, c.requires.writers.0)
@@ -19,4 +23,4 @@ make-requires-clause-untaken g c = zip_second _ (λ end. g.S.Out.StageOut.got en
 
 pub make-requires-clause-planned : goal.make-requires-clause-planned
 make-requires-clause-planned g c =
-    zip_second _ (λ end. g.S.Out.StageOut.plan end ≡ plan_of c.args.dictionary.now c.args.clock.tick) (λ writer end ring. ring.plan_out_is) _ _ c.in-Ok.ensures.1
+    zip_second _ (λ end. g.S.Out.StageOut.plan end ≡ plan_of c.args.dictionary.now c.args.clock.tick) (λ writer end ring. ring.plan_out_is ∙ ap (λ (m : List Message). plan_of m c.args.clock.tick) c.as_slice-messages.ensures.value) _ _ c.in-Ok.ensures.1

@@ -12,7 +12,7 @@ pub returns-in_default-clause-too_many : goal.returns-in_default-clause-too_many
 returns-in_default-clause-too_many c = (
   λ _. (
     λ there. c.in_default.ensures (subst (λ (m : List Message). HasMessage m c.args.message) (sym c.self.view_is) there),
-    omega (arith, c.len.ensures.len, c.if-len-ge-MAX_MESSAGES.true, c.self.invariant, ap length c.self.view_is),
+    omega (arith, c.len.ensures, c.if-len-ge-MAX_MESSAGES.true, c.self.invariant, ap length c.self.view_is),
   ),
   λ _. refl,
 )

@@ -14,12 +14,12 @@ use Rattle.log_dictionary.proofs.dictionary.Dictionary.read_line.Goals as goal
 use Rattle.log_dictionary.proofs.dictionary.Dictionary.read_line.Goals.{in-Ok-New, in-Ok-Old, in-Err-insert}
 
 pub returns-in-Err-clause-reads : goal.returns-in-Err-clause-reads
-returns-in-Err-clause-reads c = stopped c.args.self.now c.args.line.now c.in-Err.fault (omega (arith, c.len.ensures.len, ap length c.self.view_is)) c.in-Err.ensures.fault
+returns-in-Err-clause-reads c = stopped c.args.self.now c.args.line.now c.in-Err.fault (omega (arith, c.len.ensures, ap length c.self.view_is)) c.in-Err.ensures.fault
 
 pub returns-in-Some-clause-reads : goal.returns-in-Some-clause-reads
 returns-in-Some-clause-reads c =
     let found = c.in-Ok.ensures.found in (
-      omega (arith, c.len.ensures.len, ap length c.self.view_is),
+      omega (arith, c.len.ensures, ap length c.self.view_is),
       old_is_not_new c.args.self.now c.args.line.now found.0 c.in-Ok.pair.1 found.2 (id_is_there c.args.self.now c.in-Ok.pair.1 _ (subst (λ (m : List Message). HasId m c.in-Ok.pair.1 c.in-Some.field-0) c.self.view_is c.in-Some.ensures)),
       refl,
     )
@@ -27,12 +27,12 @@ returns-in-Some-clause-reads c =
 pub returns-then-not-is_number-clause-reads : goal.returns-then-not-is_number-clause-reads
 returns-then-not-is_number-clause-reads c =
     let found = c.in-Ok.ensures.found in (
-      omega (arith, c.len.ensures.len, ap length c.self.view_is),
+      omega (arith, c.len.ensures, ap length c.self.view_is),
       (
         found.0,
         c.in-Ok.pair.1,
         record { spelled = found.2; new = subst (λ (m : List Message). ¬ (HasMessage m c.in-Ok.pair.1)) c.self.view_is c.in_default.ensures },
-        λ is. false≢true (sym c.if-not-is_number.true ∙ (c.is_number.ensures found.0 found.1).1 (is ∙ omega (arith, c.len-2.ensures.len, ap length c.self.view_is))),
+        λ is. false≢true (sym c.if-not-is_number.true ∙ (c.is_number.ensures found.0 found.1).1 (is ∙ omega (arith, c.len-2.ensures, ap length c.self.view_is))),
       ),
       refl,
     )
@@ -43,10 +43,10 @@ returns-clause-reads c =
     let line = c.args.line.now in
     let message = c.in-Ok.pair.1 in
     let after = c.insert.new.self in
-    let few : length before < MAX_MESSAGES = omega (arith, c.len.ensures.len, ap length c.self.view_is) in
+    let few : length before < MAX_MESSAGES = omega (arith, c.len.ensures, ap length c.self.view_is) in
     let found = c.in-Ok.ensures.found in
     let at_end = (c.is_number.ensures found.0 found.1).0 c.if-not-is_number.false in
-    let next : found.0 ≡ length before = omega (arith, at_end, c.len-2.ensures.len, ap length c.self.view_is) in
+    let next : found.0 ≡ length before = omega (arith, at_end, c.len-2.ensures, ap length c.self.view_is) in
     let spells : SpellsMessage line (length before) message = subst (λ (id : ℕ). SpellsMessage line id message) next found.2 in
     let moved = λ (a : Added) (is : IsAdded c.self.inside.messages message after a). subst (λ (m : List Message). IsAdded m message after a) c.self.view_is is in
     let read = λ (r : Result (Unit {0}) LineFault) (e : c.match-insert.result ≡ r) (reads : ReadsLine before line after r). subst (ReadsLine before line after) (sym e) reads in
