@@ -10,9 +10,9 @@ use Rattle.std.specs.List.{list_any}
 use Rattle.nibble_pack.specs.Bytes.{AreBytes, back_bytes, number_of_bytes, number_of_bytes-lt, low_first-number_of_bytes}
 use Rattle.log_dictionary.specs.declared.message.Message.{Message}
 use Rattle.log_dictionary.specs.declared.dictionary.TheConstants.{MAX_MESSAGES}
-use Rattle.log_dictionary.specs.Messages.{HasMessage, is_same}
+use Rattle.log_dictionary.specs.Messages.{HasMessage}
 use Rattle.log_dictionary.proofs.lemmas.BinaryCases.{entry_cases}
-use Rattle.log_dictionary.proofs.lemmas.Distinct.{there_from_test, none_from_test}
+use Rattle.log_dictionary.proofs.lemmas.Distinct.{there_or_not}
 use Rattle.session_options.specs.declared.limits.TheConstants.{MAX_WRITERS}
 use Rattle.buffer_extent.proofs.lemmas.BodyCases.{body_or_break}
 use Rattle.checkpoint_io.specs.declared.cause.Cause.{Cause}
@@ -111,13 +111,6 @@ some_header_read bytes small =
     (λ rest small. some_byte _ rest small (λ version rest small. some_unless (version ≢ 1) causes.BadVersion (ReadsWriters rest) (other_or_same version 1) (some_writers rest small)))
 
 -- ---- fragments
-
-there_or_not : (messages : List Message) (message : Message) → HasMessage messages message ⊎ ¬ (HasMessage messages message)
-there_or_not messages message = told (list_any (is_same message) messages) refl
-  where
-    told : (b : Bool) → list_any (is_same message) messages ≡ b → HasMessage messages message ⊎ ¬ (HasMessage messages message)
-    told true e = inl (there_from_test messages message e)
-    told false e = inr (none_from_test messages message e)
 
 some_entry : (defined : List Message) (next : Message → Reads Block) (bytes : List ℕ) → AreBytes bytes → ((message : Message) (rest : List ℕ) → AreBytes rest → HasOutcome (next message rest)) → HasOutcome (EntryThen defined next bytes)
 some_entry defined next bytes small behind = elim (entry_cases bytes small) [

@@ -3,11 +3,9 @@ use Rattle.std.proofs.Common.{◌≢◌, ℕ, ◌≤◌, lit<, lit≤, List, [],
 use Rattle.std.specs.Prelude.{slice_set, take}
 use Rattle.std.specs.Hash.{le_bytes}
 use Rattle.log_dictionary.specs.Rows.{row_message}
-use Rattle.log_dictionary.specs.declared.severity.Severity.{Severity}
-use Rattle.log_dictionary.specs.declared.severity.Severity.TheVariants.{Error, Warning, Notice, Debug}
-use Rattle.log_dictionary.specs.Severities.{severity_number}
 use Rattle.log_dictionary.specs.BinaryEntries.IsOutOfRange.{at_severity}
 use Rattle.log_dictionary.specs.BinaryEntries.IsBadEntry.{out_of_range}
+use Rattle.log_dictionary.proofs.lemmas.BinaryWorked.{not_five}
 use Rattle.checkpoint_io.specs.declared.cause.Cause.{Cause}
 use Rattle.checkpoint_io.specs.declared.cause.Cause.TheVariants as causes
 use Rattle.checkpoint_io.specs.Blocks.{Fragment, header_bytes}
@@ -76,16 +74,10 @@ one_message (inl none) = omega (arith, none)
 one_message (inr (inl many)) = omega (arith, many)
 one_message (inr (inr many)) = omega (arith, many)
 
-no_severity : (severity : Severity) → 5 ≢ severity_number severity
-no_severity Error e = omega (arith, e)
-no_severity Warning e = omega (arith, e)
-no_severity Notice e = omega (arith, e)
-no_severity Debug e = omega (arith, e)
-
 wrong_severity : (rest : List ℕ) → Break (row_header_bytes ++ take 7 row_fragment_bytes ++ 5 ∷ rest) 30 causes.BadEntry
 unfolding le_bytes
 wrong_severity rest =
-    at_fragment (take 7 row_fragment_bytes ++ 5 ∷ rest) causes.BadEntry (omega arith) (inr (1, _, refl, inl (refl, inr (0, 1 ∷ 0 ∷ 5 ∷ rest, lit< tt, refl, inr (right 0, inr (1, 5 ∷ rest, lit< tt, refl, inr (one_message, inr (inl (out_of_range (at_severity 5 rest no_severity refl), refl)))))))))
+    at_fragment (take 7 row_fragment_bytes ++ 5 ∷ rest) causes.BadEntry (omega arith) (inr (1, _, refl, inl (refl, inr (0, 1 ∷ 0 ∷ 5 ∷ rest, lit< tt, refl, inr (right 0, inr (1, 5 ∷ rest, lit< tt, refl, inr (one_message, inr (inl (out_of_range (at_severity 5 rest not_five refl), refl)))))))))
 
 pub other_severity : Break (slice_set row_bytes 37 5) 30 causes.BadEntry
 other_severity = wrong_severity (drop 38 row_bytes)

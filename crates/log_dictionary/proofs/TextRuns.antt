@@ -3,7 +3,7 @@ use Rattle.std.proofs.Common.{◌≡◌, ◌≢◌, ◌⊎◌, inl, inr, ℕ, ze
 use Rattle.std.proofs.Common.{refl, sym, ap, subst, ◌∙◌, append_assoc, append-nil, arith, length-append}
 use Rattle.std.specs.List.{list_all}
 use Rattle.std.proofs.Math.Bool.{or-false}
-use Rattle.std.proofs.lemmas.Bool.{ne_eqb, eqb-true, false≢true, false_from_ne_true}
+use Rattle.std.proofs.lemmas.Bool.{ne_eqb, eqb-true, false≢true, false_from_ne_true, and_parts}
 use Rattle.std.proofs.lemmas.List.{take-append-drop, take_at}
 use Rattle.std.proofs.lemmas.List.Folds.{list_any-append}
 use Rattle.bstr.specs.Find.{Nowhere, Passes}
@@ -38,10 +38,6 @@ plain_step b plain = run_step b (plain_unended b plain) ∙ ap (λ (t : Bool). c
 
 -- ---- a run
 
-both : (a b : Bool) → (a && b) ≡ true → (a ≡ true) × (b ≡ true)
-both true b e = (refl, e)
-both false b e = absurd cc
-
 pub front_bytes : (b : ℕ) (value : List ℕ) (text : Option (List ℕ × List ℕ)) → with_first_byte b (with_bytes value text) ≡ with_bytes (b ∷ value) text
 front_bytes b value None = refl
 front_bytes b value (Some text) = refl
@@ -50,14 +46,14 @@ front_bytes b value (Some text) = refl
 run_goes : (run rest : List ℕ) → list_all is_plain run ≡ true → text_from outside (run ++ rest) ≡ with_bytes run (text_from outside rest)
 run_goes [] rest plain = with_no_bytes (text_from outside rest)
 run_goes (b ∷ run) rest plain =
-    let parts = both (is_plain b) (list_all is_plain run) plain in
+    let parts = and_parts (is_plain b) (list_all is_plain run) plain in
     follow_step outside b (run ++ rest) (gives b) (plain_step b parts.0) ∙ ap (with_first_byte b) (run_goes run rest parts.1) ∙ front_bytes b run (text_from outside rest)
 
 -- no byte of a run is 0
 run_without_nul : (run : List ℕ) → list_all is_plain run ≡ true → has_nul run ≡ false
 run_without_nul [] plain = refl
 run_without_nul (b ∷ run) plain =
-    let parts = both (is_plain b) (list_all is_plain run) plain in
+    let parts = and_parts (is_plain b) (list_all is_plain run) plain in
     rw (plain_other b 0 refl parts.0) (run_without_nul run parts.1)
 
 ended_at : (bytes : List ℕ) (at : ℕ) → (at < length bytes → ends_run (get_or bytes at 0) ≡ true) → EndsRun (drop at bytes)

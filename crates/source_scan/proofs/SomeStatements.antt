@@ -1,17 +1,14 @@
 -- A source has statements.
-use Rattle.std.proofs.Common.{◌≡◌, ◌≢◌, ℕ, zero, suc, ◌⊎◌, List, [], ◌∷◌, Option, Some, None, refl, sym, ap, ◌∙◌, inl, inr, arith, drop, length}
-use Rattle.std.proofs.lemmas.Bool.{cases_Bool, cases_lt, false≢true}
+use Rattle.std.proofs.Common.{◌≡◌, ℕ, zero, suc, ◌⊎◌, List, [], ◌∷◌, Option, Some, None, refl, sym, ap, ◌∙◌, inl, inr, arith, drop, length}
+use Rattle.std.proofs.lemmas.Bool.{cases_Bool, cases_lt}
 use Rattle.std.proofs.lemmas.Option.{none-some, same_Some}
-use Rattle.std.specs.Str.{bytes_eq}
-use Rattle.std.proofs.lemmas.Slice.Eq.{bytes_eq-Decides}
 use Rattle.printf_grammar.specs.declared.piece.Piece.{Piece}
 use Rattle.printf_grammar.specs.Spelling.{Spells}
 use Rattle.printf_grammar.specs.Types.{Types}
 use Rattle.printf_grammar.proofs.lemmas.Total.{one_holds}
 use Rattle.log_dictionary.specs.declared.severity.Severity.{Severity}
-use Rattle.log_dictionary.specs.declared.severity.Severity.TheVariants.{Error, Warning, Notice, Debug}
 use Rattle.log_dictionary.specs.declared.message.TheConstants.{MAX_FILE_NAME}
-use Rattle.log_dictionary.specs.Severities.{severity_name}
+use Rattle.log_dictionary.proofs.lemmas.LineLaws.{severity_name_or_not}
 use Rattle.source_tokens.specs.declared.token.Token.{Token}
 use Rattle.source_tokens.specs.Directives.{Parts}
 use Rattle.source_scan.specs.declared.found.Found.{Found}
@@ -45,41 +42,12 @@ none_or_some : {A : Type 0} (found : Option A) → (found ≡ None) ⊎ ((one : 
 none_or_some None = inl refl
 none_or_some (Some one) = inr (one, refl)
 
-is_name : (name : List ℕ) (severity : Severity) → (name ≡ severity_name severity) ⊎ (name ≢ severity_name severity)
-is_name name severity =
-    elim (cases_Bool (bytes_eq name (severity_name severity))) [
-      | inl is ↦ inl ((bytes_eq-Decides name (severity_name severity)).0 is)
-      | inr apart ↦ inr (λ same. false≢true (sym apart ∙ (bytes_eq-Decides name (severity_name severity)).1 same))
-    ]
-
-none_of : (name : List ℕ) → name ≢ severity_name Error → name ≢ severity_name Warning → name ≢ severity_name Notice → name ≢ severity_name Debug → (severity : Severity) → name ≢ severity_name severity
-none_of name error warning notice debug Error = error
-none_of name error warning notice debug Warning = warning
-none_of name error warning notice debug Notice = notice
-none_of name error warning notice debug Debug = debug
-
-name_or_not : (name : List ℕ) → ((severity : Severity) × (name ≡ severity_name severity)) ⊎ ((severity : Severity) → name ≢ severity_name severity)
-name_or_not name =
-    elim (is_name name Error) [
-      | inl same ↦ inl (Error, same)
-      | inr error ↦ elim (is_name name Warning) [
-        | inl same ↦ inl (Warning, same)
-        | inr warning ↦ elim (is_name name Notice) [
-          | inl same ↦ inl (Notice, same)
-          | inr notice ↦ elim (is_name name Debug) [
-            | inl same ↦ inl (Debug, same)
-            | inr debug ↦ inr (none_of name error warning notice debug)
-          ]
-        ]
-      ]
-    ]
-
 severity_or_not : (source : List ℕ) (reading : Parted) → HasSeverity source reading ⊎ ¬ (HasSeverity source reading)
 severity_or_not source reading =
     let name : Option Token = last_name (without_scope reading.severity) in
     elim (none_or_some name) [
       | inl none ↦ inr (λ has. none-some has.1.0 (sym none ∙ has.1.1))
-      | inr one ↦ elim (name_or_not (unspliced (bytes_of source one.0))) [
+      | inr one ↦ elim (severity_name_or_not (unspliced (bytes_of source one.0))) [
         | inl named ↦ inl (named.0, (one.0, one.1, named.1))
         | inr apart ↦ inr (λ has. apart has.0 (ap (λ (token : Token). unspliced (bytes_of source token)) (same_Some one.0 has.1.0 (sym one.1 ∙ has.1.1)) ∙ has.1.2))
       ]

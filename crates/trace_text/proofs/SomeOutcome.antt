@@ -1,13 +1,12 @@
 -- The bytes from a line on give an outcome.
 use Rattle.std.proofs.Common.{◌≡◌, ◌≢◌, ◌⊎◌, ℕ, ◌+◌, Bool, true, false, List, [], ◌∷◌, ◌++◌, length, Option, Some, None, Result, Ok, Err, refl, subst, inl, inr, eqb, ltb}
 use Rattle.std.specs.Prelude.{codes, replicate}
-use Rattle.std.specs.List.{list_any}
 use Rattle.std.specs.Cmp.Lexicographic.{pointwise}
 use Rattle.std.proofs.lemmas.Bool.{ltb-true, ltb-false, eqb-true, eqb-false}
 use Rattle.log_dictionary.specs.declared.clock.Clock.{Clock}
 use Rattle.log_dictionary.specs.declared.message.Message.{Message}
 use Rattle.log_dictionary.specs.declared.dictionary.TheConstants.{MAX_MESSAGES}
-use Rattle.log_dictionary.specs.Messages.{SpellsMessage, HasMessage, is_same}
+use Rattle.log_dictionary.specs.Messages.{SpellsMessage, HasMessage}
 use Rattle.log_dictionary.specs.Additions.{SpellsNew}
 use Rattle.trace_text.specs.declared.cause.TraceCause.{TraceCause}
 use Rattle.trace_text.specs.declared.cause.TraceCause.TheVariants as causes
@@ -21,7 +20,7 @@ use Rattle.trace_text.proofs.Cuts.{cut_of}
 use Rattle.trace_text.proofs.LineFronts.{same_line, other_line}
 use Rattle.log_dictionary.proofs.lemmas.LineMessages.{one_message}
 use Rattle.log_dictionary.proofs.lemmas.LineLaws.{message_or_not}
-use Rattle.log_dictionary.proofs.lemmas.Distinct.{there_from_test, none_from_test}
+use Rattle.log_dictionary.proofs.lemmas.Distinct.{there_or_not}
 
 -- a line is right in the part, or it is refused
 abbrev Judged : TracePart → List ℕ → Type 0
@@ -37,13 +36,6 @@ same_or_other line other = told (pointwise eqb line other) refl
 judge_first : (line : List ℕ) → (line ≡ first_line) ⊎ (line ≢ first_line) → Judged parts.opening line
 judge_first line (inl same) = inl (parts.messages [], (same, refl))
 judge_first line (inr other) = inr (causes.Header, (other, refl))
-
-there_or_not : (messages : List Message) (message : Message) → HasMessage messages message ⊎ ¬ (HasMessage messages message)
-there_or_not messages message = told (list_any (is_same message) messages) refl
-  where
-    told : (b : Bool) → list_any (is_same message) messages ≡ b → HasMessage messages message ⊎ ¬ (HasMessage messages message)
-    told true e = inl (there_from_test messages message e)
-    told false e = inr (none_from_test messages message e)
 
 -- a message that is new, with the next id, or none
 pub some_new : (before : List Message) (line : List ℕ) → ((message : Message) × SpellsNew before line (length before) message) ⊎ ((message : Message) → ¬ (SpellsNew before line (length before) message))

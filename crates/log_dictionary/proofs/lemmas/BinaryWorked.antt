@@ -53,7 +53,7 @@ pub unfinished_format : IsCutEntry (row_head ++ 1 ∷ 0 ∷ 97 ∷ 255 ∷ 15 �
 unfolding le_bytes
 unfinished_format = in_format Notice 12 (97 ∷ []) (255 ∷ 15 ∷ []) (lit< tt) (lit≤ tt) (lit≤ tt) (in_text 4095 [] (lit≤ tt) (lit≤ tt) (lit< tt) refl) refl
 
-not_five : (severity : Severity) → 5 ≢ severity_number severity
+pub not_five : (severity : Severity) → 5 ≢ severity_number severity
 not_five Error = λ e. cc
 not_five Warning = λ e. cc
 not_five Notice = λ e. cc

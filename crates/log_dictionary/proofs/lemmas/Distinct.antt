@@ -1,9 +1,9 @@
 -- Which messages are there.
-use Rattle.std.proofs.Common.{ℕ, Bool, true, false, ◌&&◌, List, [], ◌∷◌, ◌++◌, length, get_or, refl, sym, subst, ap, ◌≡◌, ◌∙◌, arith, eq-eqb}
+use Rattle.std.proofs.Common.{◌⊎◌, inl, inr, ℕ, Bool, true, false, ◌&&◌, List, [], ◌∷◌, ◌++◌, length, get_or, refl, sym, subst, ap, ◌≡◌, ◌∙◌, arith, eq-eqb}
 use Rattle.std.specs.Prelude.{nat_eq}
 use Rattle.std.specs.Cmp.Lexicographic.{pointwise, bytes_decides}
 use Rattle.std.specs.List.{list_any}
-use Rattle.std.proofs.lemmas.Bool.{false≢true, and_parts, eqb-true}
+use Rattle.std.proofs.lemmas.Bool.{false≢true, and_parts, and_from, eqb-true}
 use Rattle.std.proofs.lemmas.Option.{slice_get_within, get_or_from_slice_get}
 use Rattle.std.proofs.lemmas.List.{get_or_default, length-append, get_or_append_left, get_or_at}
 use Rattle.std.proofs.lemmas.List.Folds.{list_any_at, Any-from_list_any}
@@ -34,14 +34,11 @@ same_from_test a b e =
       format = (bytes_decides a.format.bytes b.format.bytes).0 texts.1;
     }
 
-joined : (x y : Bool) → x ≡ true → y ≡ true → (x && y) ≡ true
-joined x y p q = ap (λ (z : Bool). z && y) p ∙ q
-
 -- equal messages pass the test
 pub test_from_same : (a b : Message) → SameMessage a b → is_same a b ≡ true
 test_from_same a b same =
-    let texts = joined _ _ ((bytes_decides a.file b.file).1 same.file) ((bytes_decides a.format.bytes b.format.bytes).1 same.format) in
-    joined _ _ (eq-eqb a.line b.line same.line) (joined _ _ (eq-eqb (severity_number a.severity) (severity_number b.severity) (ap severity_number same.severity)) texts)
+    let texts = and_from _ _ ((bytes_decides a.file b.file).1 same.file) ((bytes_decides a.format.bytes b.format.bytes).1 same.format) in
+    and_from _ _ (eq-eqb a.line b.line same.line) (and_from _ _ (eq-eqb (severity_number a.severity) (severity_number b.severity) (ap severity_number same.severity)) texts)
 
 -- ---- which messages are there
 
@@ -62,6 +59,13 @@ test_from_there messages message (k, other, within, is, same) =
 
 pub none_from_test : (messages : List Message) (message : Message) → list_any (is_same message) messages ≡ false → ¬ (HasMessage messages message)
 none_from_test messages message e there = false≢true (sym e ∙ test_from_there messages message there)
+
+pub there_or_not : (messages : List Message) (message : Message) → HasMessage messages message ⊎ ¬ (HasMessage messages message)
+there_or_not messages message = told (list_any (is_same message) messages) refl
+  where
+    told : (b : Bool) → list_any (is_same message) messages ≡ b → HasMessage messages message ⊎ ¬ (HasMessage messages message)
+    told true e = inl (there_from_test messages message e)
+    told false e = inr (none_from_test messages message e)
 
 -- one that was there is told as an old one
 pub old_is_added : (before : List Message) (message : Message) (after : List Message) (added : Added) → IsAdded before message after added → HasMessage before message → (id : ℕ) × (added ≡ Old id)

@@ -52,8 +52,8 @@ none_of name error warning notice debug Warning = warning
 none_of name error warning notice debug Notice = notice
 none_of name error warning notice debug Debug = debug
 
-severity_or_not : (name : List ℕ) → ((severity : Severity) × (name ≡ severity_name severity)) ⊎ ((severity : Severity) → name ≢ severity_name severity)
-severity_or_not name =
+pub severity_name_or_not : (name : List ℕ) → ((severity : Severity) × (name ≡ severity_name severity)) ⊎ ((severity : Severity) → name ≢ severity_name severity)
+severity_name_or_not name =
     elim (is_name name Error) [
       | inl is ↦ inl (Error, is)
       | inr error ↦ elim (is_name name Warning) [
@@ -92,7 +92,7 @@ parts_or_not line = by (parts_at line) refl
         let same = λ (parts : MessageLineFields) (spells : SpellsParts line parts). same_spelling line found parts (sym e) spells in
         elim (natural_or_not found.id) [
           | inr none ↦ inr (λ parts spells. none parts.id (ap natural_of (ap (λ (p : SpelledParts). p.id) (same parts spells)) ∙ spells.numeral))
-          | inl id ↦ elim (severity_or_not found.severity) [
+          | inl id ↦ elim (severity_name_or_not found.severity) [
             | inr none ↦ inr (λ parts spells. none parts.severity (ap (λ (p : SpelledParts). p.severity) (same parts spells)))
             | inl severity ↦ elim (number_or_not found.number (2 ^ 32) (omega arith)) [
               | inr none ↦ inr (λ parts spells. none parts.number spells.number_fits (ap (λ (p : SpelledParts). p.number) (same parts spells)))
