@@ -5,11 +5,7 @@ use Rattle.log_dictionary.specs.declared.message.Message.{Message}
 use Rattle.log_dictionary.specs.BinaryEntries.{SpellsEntry}
 use Rattle.checkpoint_io.specs.Blocks.{SpellsEntries}
 use Rattle.checkpoint_io.specs.Appending.{Appends}
-
-pub entries_push : (messages : List Message) (message : Message) (bytes entry : List ℕ) → SpellsEntries messages bytes → SpellsEntry entry message → SpellsEntries (messages ++ message ∷ []) (bytes ++ entry)
-entries_push [] message bytes entry none is = (entry, [], ap (λ (b : List ℕ). b ++ entry) none ∙ sym (append-nil entry), is, refl)
-entries_push (m ∷ messages) message bytes entry (front, back, joined, first, others) is =
-    (front, back ++ entry, ap (λ (b : List ℕ). b ++ entry) joined ∙ append_assoc front back entry, first, entries_push messages message back entry others is)
+use Rattle.checkpoint_io.proofs.lemmas.BlockLaws.{entries_push}
 
 -- no entries are put
 pub no_entries_put : (old : List ℕ) → Appends (SpellsEntries []) old old

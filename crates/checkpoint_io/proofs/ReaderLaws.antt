@@ -20,13 +20,10 @@ use Rattle.checkpoint_io.specs.Places.{UnreadBytes, LogPlace, with_front, log_pl
 use Rattle.checkpoint_io.specs.Writers.{WriterStates, AreStatesOf}
 use Rattle.checkpoint_io.specs.Readers.{ReaderState, StandsFor}
 use Rattle.checkpoint_io.specs.NextBlocks.{TakesBlock, TakesNext, EndsThere, StopsAt}
+use Rattle.checkpoint_io.proofs.lemmas.FileLaws.{with_front-both}
 use Rattle.checkpoint_io.proofs.lemmas.FrontLaws.{file_goes_on}
 use Rattle.checkpoint_io.proofs.lemmas.ValidityLaws.{goes_on, messages_differ}
 use Rattle.checkpoint_io.proofs.ReadingForms.{read_block_right}
-
-parted : (front back : List ℕ) (told : Told) → with_front front (with_front back told) ≡ with_front (front ++ back) told
-parted front back None = refl
-parted front back (Some content) = ap Some (sym (append_assoc front back content))
 
 -- ---- the end
 
@@ -83,7 +80,7 @@ takes_next old new taken before told mid left between behind same start header o
       block = block;
       tells = takes.tells;
       front = front;
-      joined = sym same ∙ takes.takes.passes.ahead ∙ parted front new.waiting.bytes behind;
+      joined = sym same ∙ takes.takes.passes.ahead ∙ sym (with_front-both front new.waiting.bytes behind);
       stands = record {
         blocks = blocks;
         file = subst (λ (h : Header). FileOf h blocks (taken ++ front)) (sym header) (file_goes_on old.header before.blocks block taken front before.file is.spelled);

@@ -1,5 +1,5 @@
 -- A reader that has read the header of a log.
-use Rattle.std.proofs.Common.{◌≡◌, ◌≢◌, ℕ, zero, suc, ◌<◌, ◌≤◌, ◌^◌, List, [], ◌∷◌, ◌++◌, length, Some, None, refl, sym, ap, subst, ◌∙◌, inl, inr, ◌⊎◌, append_assoc, arith}
+use Rattle.std.proofs.Common.{◌≡◌, ◌≢◌, ℕ, zero, suc, ◌<◌, ◌≤◌, ◌^◌, List, [], ◌∷◌, ◌++◌, length, Some, None, refl, sym, ap, subst, ◌∙◌, inl, inr, ◌⊎◌, arith}
 use Rattle.std.specs.Prelude.{codes, IfSome, IfErr, Result, Err}
 use Rattle.std.specs.Hash.{le_bytes}
 use Rattle.std.proofs.lemmas.List.{append-nil, length-append}
@@ -18,6 +18,7 @@ use Rattle.checkpoint_io.specs.Places.{UnreadBytes, with_front, log_place, Stand
 use Rattle.checkpoint_io.specs.Writers.{AreStatesOf}
 use Rattle.checkpoint_io.specs.Readers.{ReaderState, StandsFor}
 use Rattle.checkpoint_io.proofs.lemmas.BlockLaws.{le_length}
+use Rattle.checkpoint_io.proofs.lemmas.FileLaws.{with_front-both}
 use Rattle.checkpoint_io.proofs.lemmas.FrontLaws.{header_nested, empty_file}
 use Rattle.checkpoint_io.proofs.ReadingForms.{passed, byte_passed, number_passed, at_most, settled}
 
@@ -94,10 +95,6 @@ header_long header =
       le_length 8 header.clock.rate,
     )
 
-parted : (front back : List ℕ) (told : Told) → with_front front (with_front back told) ≡ with_front (front ++ back) told
-parted front back None = refl
-parted front back (Some content) = ap Some (sym (append_assoc front back content))
-
 no_front : (told : Told) → with_front [] told ≡ told
 no_front None = refl
 no_front (Some content) = refl
@@ -122,7 +119,7 @@ started reader none from to no_bytes front messages states offset takes =
         within = omega (arith, header_long header);
       },
       refl,
-      start ∙ takes.passes.ahead ∙ ap (λ (b : List ℕ). with_front b (with_front reader.waiting.bytes to)) is ∙ parted (header_bytes header) reader.waiting.bytes to,
+      start ∙ takes.passes.ahead ∙ ap (λ (b : List ℕ). with_front b (with_front reader.waiting.bytes to)) is ∙ sym (with_front-both (header_bytes header) reader.waiting.bytes to),
     )
 
 -- where the header is broken

@@ -18,6 +18,7 @@ use Rattle.checkpoint_io.specs.declared.header.Header.{Header}
 use Rattle.checkpoint_io.specs.Reading.{ReadOutcome, found, broken, Reads, ReadsNoMore, Unless, NumberThen, MagicThen, header_of, ReadsRate, ReadsNanos, ReadsClock, ReadsWriters, ReadsVersion}
 use Rattle.checkpoint_io.specs.Places.{UnreadBytes, LogPlace, with_front, log_place, further, BytesBetween, StandsBetween, TookSuch, Refuses, EndsBefore}
 use Rattle.checkpoint_io.proofs.lemmas.BlockLaws.{le_length}
+use Rattle.checkpoint_io.proofs.lemmas.FileLaws.{with_front-both}
 
 -- ---- numbers at the front of bytes
 
@@ -43,17 +44,13 @@ piece_waits None bytes now piece n front is = refl
 piece_waits (Some content) bytes now piece n front is =
     ap (λ (b : List ℕ). Some (b ++ drop n content)) (is ∙ ap (λ (p : List ℕ). bytes ++ p) front.1) ∙ ap Some (append_assoc bytes (take n content) (drop n content) ∙ ap (λ (b : List ℕ). bytes ++ b) (take-append-drop n content))
 
-front_parted : (front back : List ℕ) (told : Told) → with_front (front ++ back) told ≡ with_front front (with_front back told)
-front_parted front back None = refl
-front_parted front back (Some content) = ap Some (append_assoc front back content)
-
 -- the front of the bytes that wait was taken
 pub front_taken : (front : List ℕ) (size : ℕ) (from mid to : UnreadBytes) (left behind : Told) → with_front mid.bytes behind ≡ with_front from.bytes left → mid.offset ≡ from.offset → take size mid.bytes ≡ front → length front ≡ size → to.bytes ≡ drop size mid.bytes → to.offset ≡ further mid.offset size
     → BytesBetween front (log_place from left) (log_place to behind)
 front_taken front size from mid to left behind same start is len moved offset =
     let parts : mid.bytes ≡ front ++ to.bytes = sym (take-append-drop size mid.bytes) ∙ ap (λ (b : List ℕ). b ++ drop size mid.bytes) is ∙ ap (λ (b : List ℕ). front ++ b) (sym moved) in
     record {
-      ahead = sym same ∙ ap (λ (b : List ℕ). with_front b behind) parts ∙ front_parted front to.bytes behind;
+      ahead = sym same ∙ ap (λ (b : List ℕ). with_front b behind) parts ∙ with_front-both front to.bytes behind;
       offset = offset ∙ ap (λ (o : ℕ). further o size) start ∙ ap (further from.offset) (sym len);
     }
 
@@ -73,7 +70,7 @@ refused_told reads tail front from (Some bytes) cause is on refused = subst (λ 
 
 taken_told : {A : Type 0} (reads tail : Reads A) (front : List ℕ) (from to left : Told) (cause : Cause) → from ≡ with_front front to → GoesOnBehind reads front tail → TookSuch (λ bytes. tail bytes (broken cause)) to left → TookSuch (λ bytes. reads bytes (broken cause)) from left
 taken_told reads tail front from to left cause is on (bytes, parted, refused) =
-    (front ++ bytes, is ∙ ap (with_front front) parted ∙ sym (front_parted front bytes left), on bytes (broken cause) refused)
+    (front ++ bytes, is ∙ ap (with_front front) parted ∙ sym (with_front-both front bytes left), on bytes (broken cause) refused)
 
 pub refused_behind : {A : Type 0} (reads tail : Reads A) (front : List ℕ) (from to : LogPlace) (left : Told) (fault : BlockFault) → GoesOnBehind reads front tail → BytesBetween front from to → Refuses tail to left fault → Refuses reads from left fault
 refused_behind reads tail front from to left (Damaged cause) on passes refused = refused_told reads tail front from.ahead to.ahead cause passes.ahead on refused
@@ -85,7 +82,7 @@ further-add offset a b = omega arith
 
 pub passes_both : (front back : List ℕ) (from mid to : LogPlace) → BytesBetween front from mid → BytesBetween back mid to → BytesBetween (front ++ back) from to
 passes_both front back from mid to p q = record {
-  ahead = p.ahead ∙ ap (with_front front) q.ahead ∙ sym (front_parted front back to.ahead);
+  ahead = p.ahead ∙ ap (with_front front) q.ahead ∙ sym (with_front-both front back to.ahead);
   offset = q.offset ∙ ap (λ (o : ℕ). further o (length back)) p.offset ∙ further-add from.offset (length front) (length back) ∙ ap (further from.offset) (sym (length-append front back));
 }
 

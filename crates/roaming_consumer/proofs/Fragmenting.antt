@@ -15,12 +15,7 @@ use Rattle.checkpoint_io.specs.Logs.{AreFragments}
 use Rattle.roaming_consumer.specs.Growth.{FragmentsFor}
 use Rattle.roaming_consumer.specs.Sinks.{SendsFragments}
 use Rattle.roaming_consumer.proofs.lemmas.Sending.{sends_then, sends_stop}
-use Rattle.checkpoint_io.proofs.lemmas.BlockLaws.{le_length}
-
-pub entries_push : (messages : List Message) (message : Message) (bytes entry : List ℕ) → SpellsEntries messages bytes → SpellsEntry entry message → SpellsEntries (messages ++ message ∷ []) (bytes ++ entry)
-entries_push [] message bytes entry none is = (entry, [], ap (λ (b : List ℕ). b ++ entry) none ∙ sym (append-nil entry), is, refl)
-entries_push (m ∷ messages) message bytes entry (front, back, joined, first, others) is =
-    (front, back ++ entry, ap (λ (b : List ℕ). b ++ entry) joined ∙ append_assoc front back entry, first, entries_push messages message back entry others is)
+use Rattle.checkpoint_io.proofs.lemmas.BlockLaws.{le_length, entries_push}
 
 -- what stands in front of the end of bytes that were put in the middle
 pub put_in_middle : (into put front tail : List ℕ) (at k end : ℕ) → at ≤ length into → put ≡ front ++ tail → end ≡ at + length front → take end (put_mid at k into put) ≡ take at into ++ front

@@ -1,5 +1,5 @@
 -- Behind the same blocks no right block's spelling is a proper prefix of another's.
-use Rattle.std.proofs.Common.{◌≡◌, ℕ, ◌<◌, ◌^◌, List, [], ◌∷◌, ◌++◌, length, get_or, refl, sym, ap, subst, ◌∙◌, append_assoc, arith}
+use Rattle.std.proofs.Common.{◌≡◌, ℕ, ◌<◌, ◌^◌, List, [], ◌∷◌, ◌++◌, length, get_or, refl, sym, ap, subst, ◌∙◌, append_assoc, append-nil, arith}
 use Rattle.std.specs.Hash.{le_bytes}
 use Rattle.nibble_pack.specs.Bytes.{length-bytes_low_first}
 use Rattle.nibble_pack.specs.PackingLaws.{same_number}
@@ -66,6 +66,12 @@ one_entry a b front other rest more p q e =
     let pieces = spells_once b.format.bytes a.format.pieces b.format.pieces (subst (λ (l : List ℕ). Spells l a.format.pieces) bytes p.formed) q.formed in
     let formats = same_formats a.format b.format bytes pieces in
     (same_message a b (ap (λ (r : RawEntry). r.file) raws) (ap (λ (r : RawEntry). r.line) raws) (ap (λ (r : RawEntry). r.severity) raws) formats, p.spelled ∙ ap raw_entry_bytes raws ∙ sym q.spelled)
+
+-- one entry more
+pub entries_push : (messages : List Message) (message : Message) (bytes entry : List ℕ) → SpellsEntries messages bytes → SpellsEntry entry message → SpellsEntries (messages ++ message ∷ []) (bytes ++ entry)
+entries_push [] message bytes entry none is = (entry, [], ap (λ (b : List ℕ). b ++ entry) none ∙ sym (append-nil entry), is, refl)
+entries_push (m ∷ messages) message bytes entry (front, back, joined, first, others) is =
+    (front, back ++ entry, ap (λ (b : List ℕ). b ++ entry) joined ∙ append_assoc front back entry, first, entries_push messages message back entry others is)
 
 same_entries : (messages others : List Message) (front other rest more : List ℕ) → length messages ≡ length others → SpellsEntries messages front → SpellsEntries others other → front ++ rest ≡ other ++ more → (messages ≡ others) × (front ≡ other)
 same_entries [] [] front other rest more count p q e = (refl, p ∙ sym q)

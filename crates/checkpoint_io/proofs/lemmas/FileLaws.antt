@@ -22,7 +22,7 @@ use Rattle.checkpoint_io.proofs.lemmas.ValidityLaws.{AreRightAfter-split}
 
 -- ---- the bytes of the file
 
-with_front-both : (a b : List ℕ) (told : Told) → with_front (a ++ b) told ≡ with_front a (with_front b told)
+pub with_front-both : (a b : List ℕ) (told : Told) → with_front (a ++ b) told ≡ with_front a (with_front b told)
 with_front-both a b None = refl
 with_front-both a b (Some content) = ap Some (append_assoc a b content)
 
