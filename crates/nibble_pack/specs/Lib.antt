@@ -1,3 +1,4 @@
+pub mod Parsing
 pub mod Packing
 pub mod Bytes
 pub mod PackingLaws
