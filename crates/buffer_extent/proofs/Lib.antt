@@ -1,19 +1,12 @@
 pub mod lemmas
-mod Fronts
-mod Lacking
 mod TypeKinds
-mod Heads
-mod OneByOne
-mod Arguments
-mod Numbering
-mod Starts
-mod Bodies
+mod PackedNumbers
 mod Packing
+mod Arguments
+mod RecordForms
+mod Bodies
 mod Staging
 mod Putting
 mod Writes
 mod Worked
 mod Joining
-mod Deciding
-mod NumberCases
-mod ArgumentCases

@@ -1,13 +1,10 @@
 -- Which kind of number a type asks for.
-use Rattle.std.proofs.Common.{◌≡◌, ℕ, List, refl, ap, subst, inl, inr}
+use Rattle.std.proofs.Common.{◌≡◌, refl, ap, inl, inr}
 use Rattle.std.specs.Prelude.{◌⊎◌}
 use Rattle.printf_grammar.specs.declared.arg_type.ArgType.{ArgType}
 use Rattle.printf_grammar.specs.declared.arg_type.ArgType.TheVariants as argument_types
-use Rattle.nibble_pack.specs.Packing.{Kind, unsigned, signed}
+use Rattle.nibble_pack.specs.Packing.{unsigned, signed}
 use Rattle.buffer_extent.specs.Records.{kind_of}
-use Rattle.buffer_extent.specs.declared.numbers.Number.{Number}
-use Rattle.buffer_extent.specs.Parts.{BeginsWithNumber}
-use Rattle.buffer_extent.specs.Steps.{number_value, BeginsWithKind}
 
 -- the types whose numbers are unsigned
 pub kind_unsigned : (type : ArgType) → (type ≡ argument_types.UInt) ⊎ ((type ≡ argument_types.ULong) ⊎ (type ≡ argument_types.Text)) → kind_of type ≡ unsigned
@@ -23,7 +20,3 @@ kind_signed argument_types.Precision not_uint not_ulong not_text = refl
 kind_signed argument_types.UInt not_uint not_ulong not_text = absurd (not_uint refl)
 kind_signed argument_types.ULong not_uint not_ulong not_text = absurd (not_ulong refl)
 kind_signed argument_types.Text not_uint not_ulong not_text = absurd (not_text refl)
-
--- the number that a kind's number is
-pub number_of_kind : (type : ArgType) (kind : Kind) (code : ℕ) (bytes : List ℕ) (number : Number) (back : List ℕ) → kind_of type ≡ kind → BeginsWithKind type code bytes number back → BeginsWithNumber kind code bytes (number_value number) back
-number_of_kind type kind code bytes number back is begins = subst (λ (k : Kind). BeginsWithNumber k code bytes (number_value number) back) is begins.packed

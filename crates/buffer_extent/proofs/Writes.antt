@@ -12,8 +12,7 @@ use Rattle.arg_records.specs.Frames.{words_of_argument}
 use Rattle.arg_records.specs.Kinds.{HoldsBytes}
 use Rattle.arg_records.specs.Places.{with_words}
 use Rattle.arg_records.proofs.lemmas.Places.{word_first, words_first, no_words}
-use Rattle.buffer_extent.specs.Records.{code_bytes}
-use Rattle.buffer_extent.specs.RecordLaws.{codes_of, packed_bytes}
+use Rattle.buffer_extent.specs.Records.{code_bytes, codes_of, packed_bytes}
 use Rattle.buffer_extent.specs.Writing.{AreWordsOf, BeginsWithWords, PutsNumber, PutsNumbers}
 use Rattle.buffer_extent.proofs.Packing.{codes_room}
 

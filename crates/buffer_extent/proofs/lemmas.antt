@@ -1,2 +1,2 @@
-pub mod BodyCases
+pub mod BodyLaws
 pub mod Codes

@@ -1,13 +1,15 @@
 -- The body of an extent: records that stand one behind the other.
-use Rattle.std.specs.Prelude.{◌≡◌, ℕ, List, [], ◌∷◌, ◌++◌, Some, slice_get}
+use Rattle.std.specs.Prelude.{◌≡◌, ◌≢◌, ℕ, List, [], ◌∷◌, ◌++◌, Some, Err, slice_get, ⊤}
 use Rattle.std.specs.List.{AllByRecursion}
 use Rattle.printf_grammar.specs.Types.{Types}
 use Rattle.log_dictionary.specs.declared.message.Message.{Message}
-use Rattle.arg_records.specs.Calls.{IsCall, NeverFalls}
+use Rattle.arg_records.specs.Calls.{IsCall, NeverFalls, last_stamp}
 use Rattle.arg_records.specs.declared.call.Call.{Call}
 use Rattle.buffer_extent.specs.declared.fault.Cause.{Cause}
-use Rattle.buffer_extent.specs.declared.fault.Cause.TheVariants as causes
+use Rattle.buffer_extent.specs.declared.fault.BodyFault.{BodyFault}
+use Rattle.buffer_extent.specs.declared.fault.BodyFault.TheVariants.{Damaged, NoMemory}
 use Rattle.buffer_extent.specs.Records.{RecordBytes}
+use Rattle.buffer_extent.specs.Reading.{record_at}
 
 -- the bytes spell the record, whose id names one of the messages; its step counts from the stamp before
 pub record SpellsRecord (messages : List Message) (before : ℕ) (entry : Call) (bytes : List ℕ) : Type 0 where
@@ -30,7 +32,17 @@ pub record IsBody (messages : List Message) (tick last : ℕ) (entries : List Ca
   pub right : AllByRecursion (IsCall messages) entries
   pub rising : NeverFalls last entries
 
--- the body isn't whole records that keep the rules; which rule breaks isn't told
+-- the body begins with whole records that keep the rules, and what follows breaks by the cause
 pub record BodyBreak (messages : List Message) (tick last : ℕ) (body : List ℕ) (cause : Cause) : Type 0 where
-  pub cause_is : cause ≡ causes.Body
-  pub no_records : (entries : List Call) → ¬ IsBody messages tick last entries body
+  pub entries : List Call
+  pub front : List ℕ
+  pub rest : List ℕ
+  pub joined : body ≡ front ++ rest
+  pub whole : IsBody messages tick last entries front
+  pub more : rest ≢ []
+  pub breaks : record_at messages (last_stamp tick entries) (last_stamp last entries) rest ≡ Err cause
+
+-- the bytes are damaged so; want of memory says nothing of them
+abbrev pub IsDamage : (Cause → Type 0) → BodyFault → Type 0
+IsDamage Breaks (Damaged cause) = Breaks cause
+IsDamage Breaks NoMemory = ⊤

@@ -1,6 +1,6 @@
+pub mod Causes
 pub mod Records
+pub mod Reading
 pub mod Bodies
-pub mod Parts
-pub mod Steps
 pub mod Writing
-pub mod RecordLaws
+pub mod Rows

@@ -36,6 +36,12 @@ PacksArguments (type ∷ types) (value ∷ values) (number ∷ numbers) =
     Packed (kind_of type) (packed_value value) number.code number.bytes × PacksArguments types values numbers
 PacksArguments _ _ _ = ⊥
 
+abbrev pub codes_of : List PackedNumber → List ℕ
+codes_of numbers = map (λ number. number.code) numbers
+
+abbrev pub packed_bytes : List PackedNumber → List ℕ
+packed_bytes numbers = flat_map (λ number. number.bytes) numbers
+
 -- codes in bytes, two to a byte, the first one in the low four bits; where one is left over, the high four bits are 0
 abbrev pub code_bytes : List ℕ → List ℕ
 code_bytes [] = []
@@ -55,6 +61,6 @@ pub record RecordBytes (types : List ArgType) (id stamp before : ℕ) (args : Li
   pub packed : PacksArguments types args numbers
   pub joined : bytes ≡ (id_number.code + 16 * step_number.code) ∷ id_number.bytes
       ++ step_number.bytes
-      ++ code_bytes (map (λ number. number.code) numbers)
-      ++ flat_map (λ number. number.bytes) numbers
+      ++ code_bytes (codes_of numbers)
+      ++ packed_bytes numbers
       ++ flat_map text_of args

@@ -13,8 +13,7 @@ use Rattle.arg_records.specs.Kinds.{HoldsBytes}
 use Rattle.nibble_pack.specs.declared.pack.Packed.{Packed as PackedBytes}
 use Rattle.nibble_pack.specs.Packing.{unsigned, Packed}
 use Rattle.arg_records.specs.Places.{with_words}
-use Rattle.buffer_extent.specs.Records.{PackedNumber, kind_of, packed_value, PacksArguments, code_bytes}
-use Rattle.buffer_extent.specs.RecordLaws.{codes_of, packed_bytes}
+use Rattle.buffer_extent.specs.Records.{PackedNumber, kind_of, packed_value, PacksArguments, codes_of, packed_bytes, code_bytes}
 
 -- the words are the frame of a call that was made at this stamp or later, with arguments that fit the types
 pub record IsFrameSince (types : List ArgType) (before : ℕ) (frame : List ℕ) : Type 0 where

@@ -1,11 +1,10 @@
 //! Reading the records of a body.
 
-ghost use Rattle.std.specs.Prelude.{◌≡◌, ◌≢◌, ◌⊎◌, List, [], IfOk, MatchResult, Ok, Err};
+ghost use Rattle.std.specs.Prelude.{◌≡◌, ◌≢◌, ◌⊎◌, List, [], length, take, slice_get, IfOk, MatchResult, Ok, Err};
 ghost use Rattle.arg_records.specs.declared.call.Call.{Call};
 ghost use Rattle.buffer_extent.specs.declared.fault.Cause.{Cause as BodyCause};
-ghost use Rattle.buffer_extent.specs.Parts.{Lacks, IsDamage, BeginsWithRightRecord};
-ghost use Rattle.buffer_extent.specs.Steps.{BeginsWithStart, StartsRecord};
-ghost use Rattle.buffer_extent.specs.Bodies.{IsBody, BodyBreak};
+ghost use Rattle.buffer_extent.specs.Reading.{types_of, start_at, record_at};
+ghost use Rattle.buffer_extent.specs.Bodies.{IsBody, BodyBreak, IsDamage};
 
 use crate::fault::{BodyFault, Cause};
 use crate::numbers::{NO_NUMBERS, Number, is_staged};
@@ -26,14 +25,15 @@ fn take_start<'a>(
     numbers: &mut [Number; MAX_ARGUMENTS],
 ) -> Result<(RecordHeader, &'a [u8]), Cause>
     ensures { MatchResult result
-        (λ pair. BeginsWithStart dictionary.now before least bytes.now (pair.0, numbers.new) pair.1.now)
-        (Lacks (BeginsWithStart dictionary.now before least bytes.now)) }
+        (λ pair. start_at dictionary.now before least bytes.now
+        ≡ Ok ((pair.0, take (length (types_of (slice_get dictionary.now pair.0.id))) numbers.new), pair.1.now))
+        (λ cause. start_at dictionary.now before least bytes.now ≡ Err cause) }
 {
     let (head, rest) = take_head(dictionary.len(), before, least, bytes)?;
     let types = dictionary.message(head.id).format.types();
     let rest = take_coded_numbers(types, rest, numbers)?;
     if !is_staged(types, &numbers[..types.len()]) {
-        return Err(Cause::Body);
+        return Err(Cause::TooLong);
     }
     Ok((head, rest))
 }
@@ -48,12 +48,12 @@ fn take_record<'a>(
     numbers: &mut [Number; MAX_ARGUMENTS],
 ) -> Result<(Call, &'a [u8]), BodyFault>
     ensures record { MatchResult result
-        (λ pair. BeginsWithRightRecord dictionary.now before least bytes.now pair.0 pair.1.now)
-        (IsDamage (Lacks (BeginsWithRightRecord dictionary.now before least bytes.now))) }
+        (λ pair. record_at dictionary.now before least bytes.now ≡ Ok (pair.0, pair.1.now))
+        (IsDamage (λ cause. record_at dictionary.now before least bytes.now ≡ Err cause)) }
 
     // How the record starts is judged before any memory is wanted.
-    ensures no_start { ¬ (StartsRecord dictionary.now before least bytes.now)
-        → result ≡ Err (BodyFault.Damaged Cause.Body) }
+    ensures no_start { (cause : BodyCause) → start_at dictionary.now before least bytes.now ≡ Err cause
+        → result ≡ Err (BodyFault.Damaged cause) }
 {
     let (head, rest) = match take_start(dictionary, before, least, bytes, numbers) {
         Ok(start) => start,
@@ -92,8 +92,8 @@ pub fn read_body(
 
     // No memory is wanted for no records, and how the first one starts is judged before any is.
     ensures empty { body.now ≡ [] → result ≡ Ok [] }
-    ensures no_start { body.now ≢ [] → ¬ (StartsRecord dictionary.now base last body.now)
-        → result ≡ Err (BodyFault.Damaged Cause.Body) }
+    ensures no_start { (cause : BodyCause) → body.now ≢ [] → start_at dictionary.now base last body.now ≡ Err cause
+        → result ≡ Err (BodyFault.Damaged cause) }
 {
     let mut numbers = NO_NUMBERS;
     let mut records = Calls::make(alloc);

@@ -1,7 +1,7 @@
 //! Laws over the definitions of records and bodies. The functions do nothing: what they ensure is proved of the
 //! definitions.
 
-ghost use Rattle.std.specs.Prelude.{◌≡◌, ◌⊎◌, ℕ, ◌<◌, List, [], ◌∷◌, ◌++◌, All, pos, negsuc};
+ghost use Rattle.std.specs.Prelude.{◌≡◌, ◌⊎◌, ℕ, ◌<◌, List, [], ◌∷◌, ◌++◌, map, replicate, All, Contains, codes, pos, negsuc};
 ghost use Rattle.printf_grammar.specs.declared.arg_type.ArgType.TheVariants.{Int, Text as TextType};
 ghost use Rattle.printf_grammar.specs.declared.argument.Value.TheVariants.{Signed, Text};
 ghost use Rattle.log_dictionary.specs.declared.message.Message.{Message};
@@ -9,9 +9,10 @@ ghost use Rattle.arg_records.specs.declared.call.Call.{Call};
 ghost use Rattle.buffer_extent.specs.Records.{code_bytes, RecordBytes};
 ghost use Rattle.buffer_extent.specs.declared.fault.Cause.{Cause as BodyCause};
 ghost use Rattle.buffer_extent.specs.declared.put.TheConstants.{RECORD_ROOM};
+ghost use Rattle.buffer_extent.specs.Rows.{BreaksSo, all_causes};
+ghost use Rattle.buffer_extent.specs.Causes.{cause_number, cause_name};
 ghost use Rattle.buffer_extent.specs.Bodies.{SpellsRecord, IsBody, BodyBreak};
 ghost use Rattle.arg_records.specs.Calls.{IsCall};
-ghost use Rattle.buffer_extent.specs.Steps.{StartsRecord};
 
 /// A call of id 0 at the stamp 1003, where the step counts from 1000, with the number 7.
 pub fn a_record_with_a_number()
@@ -33,6 +34,29 @@ pub fn three_codes_in_two_bytes()
 /// A record is written where 8,192 bytes are free.
 pub fn records_have_room()
     ensures { RECORD_ROOM ≡ 8192 }
+{}
+
+/// All causes, each with its number and its name.
+pub fn causes_of_bodies()
+    ensures all { (cause : BodyCause) → Contains all_causes cause }
+    ensures numbers { map cause_number all_causes ≡ 11 ∷ 12 ∷ 13 ∷ 14 ∷ 15 ∷ 16 ∷ 17 ∷ 18 ∷ 19 ∷ [] }
+    ensures names { map cause_name all_causes
+        ≡ codes "RecordCut" ∷ codes "UnknownId" ∷ codes "BadNibble" ∷ codes "NotShortest" ∷ codes "StampRange"
+        ∷ codes "StampFalls" ∷ codes "ArgRange" ∷ codes "NulInText" ∷ codes "TooLong" ∷ [] }
+{}
+
+/// Records that break by each cause, of messages that take an `int`, a text or two texts. The step counts from 1000.
+pub fn records_break_by_these_causes()
+    ensures cut { BreaksSo (Int ∷ []) 1000 (16 ∷ 3 ∷ 1 ∷ []) BodyCause.RecordCut }
+    ensures unknown { BreaksSo (Int ∷ []) 1000 (17 ∷ 3 ∷ 1 ∷ 7 ∷ []) BodyCause.UnknownId }
+    ensures no_code { BreaksSo (Int ∷ []) 1000 (144 ∷ 3 ∷ 1 ∷ 7 ∷ []) BodyCause.BadNibble }
+    ensures unused { BreaksSo (Int ∷ []) 1000 (16 ∷ 3 ∷ 17 ∷ 7 ∷ []) BodyCause.BadNibble }
+    ensures long { BreaksSo (Int ∷ []) 1000 (16 ∷ 0 ∷ 1 ∷ 7 ∷ []) BodyCause.NotShortest }
+    ensures past { BreaksSo (Int ∷ []) 1000 (128 ∷ replicate 8 255 ++ 1 ∷ 7 ∷ []) BodyCause.StampRange }
+    ensures falls { BreaksSo (Int ∷ []) 1003 (16 ∷ 2 ∷ 1 ∷ 7 ∷ []) BodyCause.StampFalls }
+    ensures range { BreaksSo (Int ∷ []) 1000 (16 ∷ 3 ∷ 8 ∷ replicate 7 0 ++ 128 ∷ []) BodyCause.ArgRange }
+    ensures nul { BreaksSo (TextType ∷ []) 1000 (16 ∷ 3 ∷ 1 ∷ 1 ∷ 0 ∷ []) BodyCause.NulInText }
+    ensures too_long { BreaksSo (TextType ∷ TextType ∷ []) 1000 (16 ∷ 3 ∷ 34 ∷ 160 ∷ 15 ∷ 160 ∷ 15 ∷ []) BodyCause.TooLong }
 {}
 
 /// No record's spelling is a proper prefix of another's, where both count from one stamp.
@@ -59,13 +83,6 @@ pub fn bodies_are_told_apart()
     ensures not_both { (messages : List Message) (tick last : ℕ) (entries : List Call) (cause : BodyCause)
         (body : List ℕ) → IsBody messages tick last entries body
         → ¬ (BodyBreak messages tick last body cause) }
-{}
-
-/// A body that has a record starts as a record does.
-pub fn a_body_starts_with_a_record()
-    ensures { (messages : List Message) (tick last : ℕ) (entry : Call) (entries : List Call) (body : List ℕ)
-        → IsBody messages tick last (entry ∷ entries) body
-        → StartsRecord messages tick last body }
 {}
 
 /// A body of bytes is records that keep the rules, from its first byte to its last, or it breaks,

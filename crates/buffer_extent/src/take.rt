@@ -1,19 +1,14 @@
 //! What a record has in front of its texts, at the front of bytes. Each call gives the bytes behind what it read.
 
-ghost use Rattle.std.specs.Prelude.{◌≡◌, ◌<◌, ◌≤◌, ◌++◌, length, take, MatchResult};
+ghost use Rattle.std.specs.Prelude.{◌≡◌, ◌*◌, ◌≤◌, length, take, MatchResult, Ok, Err, ⊤};
 ghost use Rattle.printf_grammar.specs.declared.limits.TheConstants.{MAX_ARGUMENTS};
-ghost use Rattle.buffer_extent.specs.Parts.{Lacks, HoldCodes, BeginsWithCodes};
-ghost use Rattle.buffer_extent.specs.Steps.{BeginsWithHeadCodes, BeginsWithId, BeginsWithStep, BeginsWithRightHead, BeginsWithCodedNumbers};
+ghost use Rattle.buffer_extent.specs.Reading.{head_codes_at, id_at, stamp_at, head_at, codes_in, codes_at, coded_numbers_at};
 
 use crate::fault::Cause;
-use crate::numbers::{Number, take_numbers, take_unsigned};
+use crate::numbers::{
+    CODE_LIMIT, MAX_UNSIGNED_CODE, Number, are_codes, take_numbers, take_unsigned,
+};
 use printf_grammar::{ArgType, MAX_ARGUMENTS};
-
-/// Codes have four bits.
-const CODE_LIMIT: u8 = 16;
-
-/// The greatest code of an unsigned number.
-const MAX_UNSIGNED_CODE: u8 = 8;
 
 /// The codes of an id and of a step.
 #[derive(Clone, Copy)]
@@ -32,18 +27,18 @@ pub(crate) struct RecordHeader {
 /// The codes of the id and of the step, which stand in one byte.
 fn take_head_codes(bytes: &[u8]) -> Result<(HeadCodes, &[u8]), Cause>
     ensures { MatchResult result
-        (λ pair. BeginsWithHeadCodes bytes.now pair.0 pair.1.now)
-        (Lacks (BeginsWithHeadCodes bytes.now)) }
+        (λ pair. head_codes_at bytes.now ≡ Ok (pair.0, pair.1.now))
+        (λ cause. head_codes_at bytes.now ≡ Err cause) }
 {
     let Some((codes, rest)) = bytes.split_first() else {
-        return Err(Cause::Body);
+        return Err(Cause::RecordCut);
     };
     let head = HeadCodes {
         id: *codes % CODE_LIMIT,
         step: *codes / CODE_LIMIT,
     };
     if head.id > MAX_UNSIGNED_CODE || head.step > MAX_UNSIGNED_CODE {
-        return Err(Cause::Body);
+        return Err(Cause::BadNibble);
     }
     Ok((head, rest))
 }
@@ -51,28 +46,28 @@ fn take_head_codes(bytes: &[u8]) -> Result<(HeadCodes, &[u8]), Cause>
 /// The id of one of so many messages.
 fn take_id(messages: u32, code: u8, bytes: &[u8]) -> Result<(u32, &[u8]), Cause>
     ensures { MatchResult result
-        (λ pair. BeginsWithId messages code bytes.now pair.0 pair.1.now)
-        (Lacks (BeginsWithId messages code bytes.now)) }
+        (λ pair. id_at messages code bytes.now ≡ Ok (pair.0, pair.1.now))
+        (λ cause. id_at messages code bytes.now ≡ Err cause) }
 {
     let (id, rest) = take_unsigned(code, bytes)?;
     if id >= u64::from(messages) {
-        return Err(Cause::Body);
+        return Err(Cause::UnknownId);
     }
     Ok((id as u32, rest))
 }
 
 /// The stamp that the step leads to from `before`. It isn't below `least`.
-fn take_step(before: u64, least: u64, code: u8, bytes: &[u8]) -> Result<(u64, &[u8]), Cause>
+fn take_stamp(before: u64, least: u64, code: u8, bytes: &[u8]) -> Result<(u64, &[u8]), Cause>
     ensures { MatchResult result
-        (λ pair. BeginsWithStep before least code bytes.now pair.0 pair.1.now)
-        (Lacks (BeginsWithStep before least code bytes.now)) }
+        (λ pair. stamp_at before least code bytes.now ≡ Ok (pair.0, pair.1.now))
+        (λ cause. stamp_at before least code bytes.now ≡ Err cause) }
 {
     let (step, rest) = take_unsigned(code, bytes)?;
     let Some(stamp) = before.checked_add(step) else {
-        return Err(Cause::Body);
+        return Err(Cause::StampRange);
     };
     if stamp < least {
-        return Err(Cause::Body);
+        return Err(Cause::StampFalls);
     }
     Ok((stamp, rest))
 }
@@ -86,28 +81,29 @@ pub(crate) fn take_head(
     bytes: &[u8],
 ) -> Result<(RecordHeader, &[u8]), Cause>
     ensures { MatchResult result
-        (λ pair. BeginsWithRightHead messages before least bytes.now pair.0 pair.1.now)
-        (Lacks (BeginsWithRightHead messages before least bytes.now)) }
+        (λ pair. head_at messages before least bytes.now ≡ Ok (pair.0, pair.1.now))
+        (λ cause. head_at messages before least bytes.now ≡ Err cause) }
 {
     let (codes, rest) = take_head_codes(bytes)?;
     let (id, rest) = take_id(messages, codes.id, rest)?;
-    let (stamp, rest) = take_step(before, least, codes.step, rest)?;
+    let (stamp, rest) = take_stamp(before, least, codes.step, rest)?;
     Ok((RecordHeader { id, stamp }, rest))
 }
 
-/// The bytes that hold `count` codes.
-fn take_codes(count: usize, bytes: &[u8]) -> Result<(&[u8], &[u8]), Cause>
-    ensures { MatchResult result
-        (λ pair. (bytes.now ≡ pair.0.now ++ pair.1.now) × HoldCodes count pair.0.now)
-        (Lacks (BeginsWithCodes count bytes.now)) }
+/// The bytes that hold the codes of numbers of arguments of the types.
+fn take_codes<'a>(types: &[ArgType], bytes: &'a [u8]) -> Result<(&'a [u8], &'a [u8]), Cause>
+    ensures codes { MatchResult result
+        (λ pair. codes_at types.now bytes.now ≡ Ok (codes_in pair.0.now, pair.1.now))
+        (λ cause. codes_at types.now bytes.now ≡ Err cause) }
+    ensures enough { MatchResult result (λ pair. length types.now ≤ 2 * length pair.0.now) (λ _. ⊤) }
 {
-    let len = count / 2 + count % 2;
+    let len = types.len().div_ceil(2);
     if bytes.len() < len {
-        return Err(Cause::Body);
+        return Err(Cause::RecordCut);
     }
     let (codes, rest) = bytes.split_at(len);
-    if count % 2 == 1 && codes[count / 2] >= CODE_LIMIT {
-        return Err(Cause::Body);
+    if !are_codes(types, codes) {
+        return Err(Cause::BadNibble);
     }
     Ok((codes, rest))
 }
@@ -120,9 +116,9 @@ pub(crate) fn take_coded_numbers<'a>(
 ) -> Result<&'a [u8], Cause>
     requires few { length types.now ≤ MAX_ARGUMENTS }
     ensures { MatchResult result
-        (λ rest. BeginsWithCodedNumbers types.now bytes.now (take (length types.now) numbers.new) rest.now)
-        (Lacks (BeginsWithCodedNumbers types.now bytes.now)) }
+        (λ rest. coded_numbers_at types.now bytes.now ≡ Ok (take (length types.now) numbers.new, rest.now))
+        (λ cause. coded_numbers_at types.now bytes.now ≡ Err cause) }
 {
-    let (codes, rest) = take_codes(types.len(), bytes)?;
+    let (codes, rest) = take_codes(types, bytes)?;
     take_numbers(types, codes, rest, numbers)
 }

@@ -1,9 +1,9 @@
 //! The arguments of a record, whose numbers were read: their texts at the front of bytes.
 
-ghost use Rattle.std.specs.Prelude.{◌≤◌, length, MatchResult};
-ghost use Rattle.printf_grammar.specs.declared.limits.TheConstants.{MAX_ARGUMENTS};
-ghost use Rattle.buffer_extent.specs.Parts.{Lacks, IsDamage};
-ghost use Rattle.buffer_extent.specs.Steps.{FitsNumber, FitNumbers, BeginsWithText, BeginsWithValue, BeginsWithTexts};
+ghost use Rattle.std.specs.Prelude.{◌≡◌, ◌≤◌, length, IsTrue, MatchResult, Ok, Err};
+ghost use Rattle.printf_grammar.specs.declared.limits.TheConstants.{MAX_ARGUMENTS, MAX_TEXT};
+ghost use Rattle.buffer_extent.specs.Reading.{may_stand, MayStand, text_at, value_at, values_at};
+ghost use Rattle.buffer_extent.specs.Bodies.{IsDamage};
 
 use crate::fault::{BodyFault, Cause};
 use crate::numbers::Number;
@@ -12,16 +12,17 @@ use std::alloc::Global;
 
 /// A text of so many bytes. Each of these calls gives the bytes behind what it read.
 fn take_text(alloc: Global, len: usize, bytes: &[u8]) -> Result<(Bytes, &[u8]), BodyFault>
+    requires { len ≤ MAX_TEXT }
     ensures { MatchResult result
-        (λ pair. BeginsWithText len bytes.now pair.0 pair.1.now)
-        (IsDamage (Lacks (BeginsWithText len bytes.now))) }
+        (λ pair. text_at len bytes.now ≡ Ok (pair.0, pair.1.now))
+        (IsDamage (λ cause. text_at len bytes.now ≡ Err cause)) }
 {
     if bytes.len() < len {
-        return Err(BodyFault::Damaged(Cause::Body));
+        return Err(BodyFault::Damaged(Cause::RecordCut));
     }
     let (text, rest) = bytes.split_at(len);
     if !ArgType::Text.takes(Arg::Text(text)) {
-        return Err(BodyFault::Damaged(Cause::Body));
+        return Err(BodyFault::Damaged(Cause::NulInText));
     }
     let Ok(text) = Bytes::from_slice(alloc, text) else {
         return Err(BodyFault::NoMemory);
@@ -36,10 +37,10 @@ fn take_value(
     number: Number,
     bytes: &[u8],
 ) -> Result<(Value, &[u8]), BodyFault>
-    requires { FitsNumber number kind }
+    requires { IsTrue (may_stand kind number) }
     ensures { MatchResult result
-        (λ pair. BeginsWithValue kind number bytes.now pair.0 pair.1.now)
-        (IsDamage (Lacks (BeginsWithValue kind number bytes.now))) }
+        (λ pair. value_at kind number bytes.now ≡ Ok (pair.0, pair.1.now))
+        (IsDamage (λ cause. value_at kind number bytes.now ≡ Err cause)) }
 {
     match number {
         Number::Signed(number) => Ok((Value::Signed(number), bytes)),
@@ -61,10 +62,10 @@ pub(crate) fn take_texts<'a>(
     bytes: &'a [u8],
 ) -> Result<(Values, &'a [u8]), BodyFault>
     requires few { length types.now ≤ MAX_ARGUMENTS }
-    requires fit { FitNumbers types.now numbers.now }
+    requires fit { MayStand types.now numbers.now }
     ensures { MatchResult result
-        (λ pair. BeginsWithTexts types.now numbers.now bytes.now pair.0 pair.1.now)
-        (IsDamage (Lacks (BeginsWithTexts types.now numbers.now bytes.now))) }
+        (λ pair. values_at types.now numbers.now bytes.now ≡ Ok (pair.0, pair.1.now))
+        (IsDamage (λ cause. values_at types.now numbers.now bytes.now ≡ Err cause)) }
 {
     let mut args = Values::make(alloc);
     let mut rest = bytes;

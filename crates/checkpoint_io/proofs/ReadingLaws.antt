@@ -9,7 +9,7 @@ use Rattle.log_dictionary.specs.Messages.{HasMessage}
 use Rattle.arg_records.specs.declared.call.Call.{Call}
 use Rattle.buffer_extent.specs.declared.fault.Cause.{Cause as BodyCause}
 use Rattle.buffer_extent.specs.Bodies.{IsBody, BodyBreak}
-use Rattle.buffer_extent.specs.RecordLaws.{IsBody-unique, IsBody-not_broken, BodyBreak-unique}
+use Rattle.buffer_extent.proofs.lemmas.BodyLaws.{IsBody-unique, IsBody-not_broken, BodyBreak-unique}
 use Rattle.checkpoint_io.specs.declared.cause.Cause.{Cause}
 use Rattle.checkpoint_io.specs.declared.cause.Cause.TheVariants as causes
 use Rattle.checkpoint_io.specs.declared.header.Header.{Header}

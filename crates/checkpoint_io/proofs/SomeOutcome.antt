@@ -14,7 +14,7 @@ use Rattle.log_dictionary.specs.Messages.{HasMessage}
 use Rattle.log_dictionary.proofs.lemmas.BinaryCases.{entry_cases}
 use Rattle.log_dictionary.proofs.lemmas.Distinct.{there_or_not}
 use Rattle.session_options.specs.declared.limits.TheConstants.{MAX_WRITERS}
-use Rattle.buffer_extent.proofs.lemmas.BodyCases.{body_or_break}
+use Rattle.buffer_extent.proofs.lemmas.BodyLaws.{body_or_break}
 use Rattle.checkpoint_io.specs.declared.cause.Cause.{Cause}
 use Rattle.checkpoint_io.specs.declared.cause.Cause.TheVariants as causes
 use Rattle.checkpoint_io.specs.declared.header.Header.{Header}

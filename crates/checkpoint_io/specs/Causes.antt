@@ -1,5 +1,6 @@
 -- The causes for which a file is no log: their numbers and names.
 use Rattle.std.specs.Prelude.{ℕ, List, codes}
+use Rattle.buffer_extent.specs.Causes.{cause_number as body_number, cause_name as body_name}
 use Rattle.checkpoint_io.specs.declared.cause.Cause.{Cause}
 use Rattle.checkpoint_io.specs.declared.cause.Cause.TheVariants as causes
 
@@ -14,7 +15,7 @@ cause_number causes.BadEntry = 7
 cause_number causes.UnknownWriter = 8
 cause_number causes.AfterClose = 9
 cause_number causes.BadLength = 10
-cause_number (causes.Body cause) = 98
+cause_number (causes.Body cause) = body_number cause
 cause_number causes.TooLarge = 20
 
 abbrev pub cause_name : Cause → List ℕ
@@ -28,5 +29,5 @@ cause_name causes.BadEntry = codes "BadEntry"
 cause_name causes.UnknownWriter = codes "UnknownWriter"
 cause_name causes.AfterClose = codes "AfterClose"
 cause_name causes.BadLength = codes "BadLength"
-cause_name (causes.Body cause) = codes "Body"
+cause_name (causes.Body cause) = body_name cause
 cause_name causes.TooLarge = codes "TooLarge"

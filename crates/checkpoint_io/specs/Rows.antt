@@ -64,7 +64,7 @@ row_extent_bytes = 2 ∷ 0 ∷ 4 ∷ 0 ∷ 0 ∷ 0 ∷ [] ++ row_body
 abbrev pub row_bytes : List ℕ
 row_bytes = row_header_bytes ++ row_fragment_bytes ++ row_extent_bytes ++ 4 ∷ 0 ∷ []
 
--- in the order of their numbers, but that a body's stands behind those of blocks
+-- in the order of their numbers
 abbrev pub all_causes : List Cause
 all_causes =
     causes.BadMagic
@@ -77,5 +77,13 @@ all_causes =
     ∷ causes.UnknownWriter
     ∷ causes.AfterClose
     ∷ causes.BadLength
-    ∷ causes.Body body_causes.Body
+    ∷ causes.Body body_causes.RecordCut
+    ∷ causes.Body body_causes.UnknownId
+    ∷ causes.Body body_causes.BadNibble
+    ∷ causes.Body body_causes.NotShortest
+    ∷ causes.Body body_causes.StampRange
+    ∷ causes.Body body_causes.StampFalls
+    ∷ causes.Body body_causes.ArgRange
+    ∷ causes.Body body_causes.NulInText
+    ∷ causes.Body body_causes.TooLong
     ∷ causes.TooLarge ∷ []

@@ -52,7 +52,7 @@ impl Cause {
             Cause::UnknownWriter => 8,
             Cause::AfterClose => 9,
             Cause::BadLength => 10,
-            Cause::Body(_) => 98,
+            Cause::Body(cause) => cause.number(),
             Cause::TooLarge => 20,
         }
     }
@@ -72,7 +72,7 @@ impl Cause {
             Cause::UnknownWriter => "UnknownWriter",
             Cause::AfterClose => "AfterClose",
             Cause::BadLength => "BadLength",
-            Cause::Body(_) => "Body",
+            Cause::Body(cause) => cause.name(),
             Cause::TooLarge => "TooLarge",
         }
     }

@@ -460,11 +460,14 @@ pub fn worked_orders()
 /// All causes, each with its number and its name.
 pub fn causes_have_numbers_and_names()
     ensures all { (cause : Cause) → Contains all_causes cause }
-    ensures numbers { map cause_number all_causes ≡ 1 ∷ 2 ∷ 3 ∷ 4 ∷ 5 ∷ 6 ∷ 7 ∷ 8 ∷ 9 ∷ 10 ∷ 98 ∷ 20 ∷ [] }
+    ensures numbers { map cause_number all_causes
+        ≡ 1 ∷ 2 ∷ 3 ∷ 4 ∷ 5 ∷ 6 ∷ 7 ∷ 8 ∷ 9 ∷ 10 ∷ 11 ∷ 12 ∷ 13 ∷ 14 ∷ 15 ∷ 16 ∷ 17 ∷ 18 ∷ 19 ∷ 20 ∷ [] }
     ensures names { map cause_name all_causes
         ≡ codes "BadMagic" ∷ codes "BadVersion" ∷ codes "BadHeader" ∷ codes "Cut" ∷ codes "BadBlock"
         ∷ codes "FragmentOrder" ∷ codes "BadEntry" ∷ codes "UnknownWriter" ∷ codes "AfterClose"
-        ∷ codes "BadLength" ∷ codes "Body" ∷ codes "TooLarge" ∷ [] }
+        ∷ codes "BadLength" ∷ codes "RecordCut" ∷ codes "UnknownId" ∷ codes "BadNibble" ∷ codes "NotShortest"
+        ∷ codes "StampRange" ∷ codes "StampFalls" ∷ codes "ArgRange" ∷ codes "NulInText" ∷ codes "TooLong"
+        ∷ codes "TooLarge" ∷ [] }
 {}
 
 /// A header has 30 bytes, with `NLOG`, the version 1 and the number of writers in front. A fragment's head has 7 with the

@@ -125,16 +125,16 @@ const BODIES: &str = "\
 x=%d|1000|1003||0 None;;x=%d|1000|1003|10 03 01 07|1 Some(1003);;x=%d|1000|1003|10 03 01 07 10 02 01 08|2 Some(1005)
 x|0|0|1000* 10 03|1000 Some(3000);;%d|0|0|1000* 10 03 01 05|1000 Some(3000)
 17*%d|0|0|1000* 10 03 8*11 01 17*05|1000 Some(3000);;64*%d|0|0|1000* 10 03 32*11 64*05|1000 Some(3000)
-x=%d|1000|1003|10 03 01 07 10|Damaged(Body);;x=%d|1000|1003|10 03 01 07 00|Damaged(Body)
-x=%d|1000|1003|11 01 03 01 07|Damaged(Body);;x=%d|1000|1003|90 03 01 07|Damaged(Body)
-x=%d|1000|1003|09 01 07|Damaged(Body);;x=%d|1000|1003|20 03 00 01 07|Damaged(Body)
-x=%d|1000|1003|10 03 11 07|Damaged(Body);;x=%d|1000|1003|10 03 02 07 00|Damaged(Body)
-x=%d|1000|1003|10 03 04 00 00 00 80|Damaged(Body);;x=%d|1000|1003|10 02 01 07|Damaged(Body)
-x=%d|18446744073709551615|0|10 01 01 07|Damaged(Body);;x=%u|0|0|00 09|Damaged(Body)
-x=%u|0|0|00 05 00 00 00 00 01|Damaged(Body);;%*d|0|0|00 12 00 10 01|Damaged(Body)
-%s|0|0|00 01 02 61|Damaged(Body);;%s|0|0|00 01 02 61 00|Damaged(Body);;%s|0|0|00 02 02 00 61 62|Damaged(Body)
-%s|0|0|00 09|Damaged(Body);;%s%s|5|5|00 12 a0 0f 40 4000*61 64*62|1 Some(5)
-%s%s|5|5|00 12 a0 0f 41 4000*61 65*62|Damaged(Body);;%s%s|5|5|00 12 a1 0f 01 4001*61 62|Damaged(Body)";
+x=%d|1000|1003|10 03 01 07 10|Damaged(RecordCut);;x=%d|1000|1003|10 03 01 07 00|Damaged(RecordCut)
+x=%d|1000|1003|11 01 03 01 07|Damaged(UnknownId);;x=%d|1000|1003|90 03 01 07|Damaged(BadNibble)
+x=%d|1000|1003|09 01 07|Damaged(BadNibble);;x=%d|1000|1003|20 03 00 01 07|Damaged(NotShortest)
+x=%d|1000|1003|10 03 11 07|Damaged(BadNibble);;x=%d|1000|1003|10 03 02 07 00|Damaged(NotShortest)
+x=%d|1000|1003|10 03 04 00 00 00 80|Damaged(ArgRange);;x=%d|1000|1003|10 02 01 07|Damaged(StampFalls)
+x=%d|18446744073709551615|0|10 01 01 07|Damaged(StampRange);;x=%u|0|0|00 09|Damaged(BadNibble)
+x=%u|0|0|00 05 00 00 00 00 01|Damaged(ArgRange);;%*d|0|0|00 12 00 10 01|Damaged(ArgRange)
+%s|0|0|00 01 02 61|Damaged(RecordCut);;%s|0|0|00 01 02 61 00|Damaged(NulInText);;%s|0|0|00 02 02 00 61 62|Damaged(NotShortest)
+%s|0|0|00 09|Damaged(BadNibble);;%s%s|5|5|00 12 a0 0f 40 4000*61 64*62|1 Some(5)
+%s%s|5|5|00 12 a0 0f 41 4000*61 65*62|Damaged(TooLong);;%s%s|5|5|00 12 a1 0f 01 4001*61 62|Damaged(ArgRange)";
 
 fn calls_shown(alloc: Global, calls: &Calls) -> Result<String, Fail> {
     let last = calls.last().map(|call| call.stamp);

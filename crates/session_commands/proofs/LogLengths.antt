@@ -18,8 +18,7 @@ use Rattle.log_dictionary.specs.declared.message.Message.{Message}
 use Rattle.log_dictionary.specs.declared.clock.Clock.{Clock}
 use Rattle.log_dictionary.specs.BinaryEntries.{text_bytes, SpellsEntry}
 use Rattle.arg_records.specs.declared.call.Call.{Call}
-use Rattle.buffer_extent.specs.Records.{PackedNumber, kind_of, packed_value, PacksArguments, code_bytes}
-use Rattle.buffer_extent.specs.RecordLaws.{codes_of, packed_bytes}
+use Rattle.buffer_extent.specs.Records.{PackedNumber, kind_of, packed_value, PacksArguments, codes_of, packed_bytes, code_bytes}
 use Rattle.buffer_extent.specs.Bodies.{SpellsRecord, SpellsRecords}
 use Rattle.buffer_extent.proofs.lemmas.Codes.{length-code_bytes}
 use Rattle.checkpoint_io.specs.declared.header.Header.{Header}

@@ -1,8 +1,12 @@
 -- Codes in bytes, two to a byte.
-use Rattle.std.proofs.Common.{◌≡◌, ℕ, zero, suc, ◌+◌, ◌*◌, ◌/◌, ◌%◌, ◌<◌, ◌≤◌, List, [], ◌∷◌, ◌++◌, length, get_or, take, drop, refl, sym, ap, subst, ◌∙◌, arith}
-use Rattle.std.proofs.lemmas.List.{length-append, length-take-le, take-append-drop, get_or_append_left}
-use Rattle.buffer_extent.specs.Records.{code_bytes}
-use Rattle.buffer_extent.specs.Parts.{codes_in, AreCodes, HoldCodes}
+use Rattle.std.proofs.Common.{◌≡◌, ℕ, zero, suc, ◌+◌, ◌*◌, ◌/◌, ◌%◌, ◌<◌, true, List, [], ◌∷◌, ◌++◌, length, get_or, take, refl, arith}
+use Rattle.std.specs.List.{AllByRecursion}
+use Rattle.std.proofs.lemmas.Bool.{and_parts, eqb-true}
+use Rattle.std.proofs.lemmas.List.Elements.{All-tail}
+use Rattle.printf_grammar.specs.declared.arg_type.ArgType.{ArgType}
+use Rattle.nibble_pack.specs.Bytes.{AreBytes}
+use Rattle.buffer_extent.specs.Records.{kind_of, code_bytes}
+use Rattle.buffer_extent.specs.Reading.{codes_in, is_code, are_codes}
 
 pub codes_in-low : (bytes : List ℕ) (half place : ℕ) → place ≡ half + half → get_or (codes_in bytes) place 0 ≡ get_or bytes half 0 % 16
 codes_in-low [] half place is = refl
@@ -25,59 +29,45 @@ length-code_bytes [] = refl
 length-code_bytes (a ∷ []) = refl
 length-code_bytes (a ∷ b ∷ codes) = omega (arith, length-code_bytes codes)
 
--- the last of an odd number of codes stands alone in its byte
-pub last_code : (codes : List ℕ) (half : ℕ) → length codes ≡ half + half + 1 → AreCodes codes → get_or (code_bytes codes) half 0 < 16
-last_code [] half is small = absurd (omega arith)
-last_code (a ∷ []) zero is small = small.0
-last_code (a ∷ []) (suc half) is small = absurd (omega arith)
-last_code (a ∷ b ∷ codes) zero is small = absurd (omega arith)
-last_code (a ∷ b ∷ codes) (suc half) is small = last_code codes half (omega arith) small.1.1
+abbrev pub AreCodes : List ℕ → Type 0
+AreCodes codes = AllByRecursion (λ code. code < 16) codes
 
-codes_in-codes : (bytes : List ℕ) → ((i : ℕ) → get_or bytes i 0 < 256) → AreCodes (codes_in bytes)
-codes_in-codes [] fits = tt
-codes_in-codes (b ∷ bytes) fits = let here = fits 0 in (omega arith, (omega arith, codes_in-codes bytes (λ i. fits (suc i))))
+-- what stands behind codes in the last of their bytes
+abbrev pub padding : List ℕ → List ℕ
+padding [] = []
+padding (code ∷ []) = 0 ∷ []
+padding (low ∷ high ∷ codes) = padding codes
 
--- the codes of bytes, packed again
-packed_again : (bytes : List ℕ) (count : ℕ) → ((i : ℕ) → get_or bytes i 0 < 256) → length bytes ≡ count / 2 + count % 2 → (count % 2 ≡ 1 → get_or bytes (count / 2) 0 < 16) → code_bytes (take count (codes_in bytes)) ≡ bytes
-packed_again [] zero fits len last = refl
-packed_again [] (suc zero) fits len last = absurd (omega arith)
-packed_again [] (suc (suc count)) fits len last = absurd (omega arith)
-packed_again (b ∷ bytes) zero fits len last = absurd (omega arith)
-packed_again (b ∷ []) (suc zero) fits len last = let small = last refl in let byte : b % 16 ≡ b = omega arith in λ t. byte t ∷ []
-packed_again (b ∷ c ∷ bytes) (suc zero) fits len last = absurd (omega arith)
-packed_again (b ∷ bytes) (suc (suc count)) fits len last =
-    let half : suc (suc count) / 2 ≡ suc (count / 2) = omega arith in
-    let byte : b % 16 + 16 * (b / 16) ≡ b = omega arith in
-    let more = packed_again bytes count (λ i. fits (suc i)) (omega arith) (λ odd. subst (λ (h : ℕ). get_or (b ∷ bytes) h 0 < 16) half (last (omega arith))) in
-    λ t. byte t ∷ more t
+-- codes are read off their bytes
+pub codes_again : (codes : List ℕ) → AreCodes codes → codes_in (code_bytes codes) ≡ codes ++ padding codes
+codes_again [] small = refl
+codes_again (code ∷ []) small = let low : code % 16 ≡ code = omega arith in let high : code / 16 ≡ 0 = omega arith in λ t. low t ∷ high t ∷ []
+codes_again (low ∷ high ∷ codes) small =
+    let first : (low + 16 * high) % 16 ≡ low = omega arith in
+    let second : (low + 16 * high) / 16 ≡ high = omega arith in
+    let more = codes_again codes small.1.1 in
+    λ t. first t ∷ second t ∷ more t
 
-pub holds_codes : (bytes : List ℕ) (count : ℕ) → ((i : ℕ) → get_or bytes i 0 < 256) → length bytes ≡ count / 2 + count % 2 → (count % 2 ≡ 1 → get_or bytes (count / 2) 0 < 16) → HoldCodes count bytes
-holds_codes bytes count fits len last = record {
-  enough = omega (arith, length-codes_in bytes);
-  exact = packed_again bytes count fits len last;
-  codes = codes_in-codes bytes fits;
-}
-
--- bytes that begin with codes are long enough
-pub codes_take : (codes bytes back : List ℕ) → bytes ≡ code_bytes codes ++ back → length codes / 2 + length codes % 2 ≤ length bytes
-codes_take codes bytes back parts = omega (arith, ap length parts, length-append (code_bytes codes) back, length-code_bytes codes)
-
--- and where their number is odd the last one stands alone in its byte
-pub last_code_of_bytes : (codes bytes back : List ℕ) (half : ℕ) → bytes ≡ code_bytes codes ++ back → length codes ≡ half + half + 1 → AreCodes codes → get_or bytes half 0 < 16
-last_code_of_bytes codes bytes back half parts len small =
-    subst (λ (n : ℕ). n < 16) (sym (ap (λ (b : List ℕ). get_or b half 0) parts ∙ get_or_append_left (code_bytes codes) back 0 half (omega (arith, length-code_bytes codes)))) (last_code codes half len small)
+-- bytes are those of the codes that they hold for the types
+pub bytes_again : (types : List ArgType) (bytes : List ℕ) → AreBytes bytes → length bytes ≡ (length types + 1) / 2 → are_codes types (codes_in bytes) ≡ true → code_bytes (take (length types) (codes_in bytes)) ≡ bytes
+bytes_again [] [] small len codes = refl
+bytes_again [] (byte ∷ bytes) small len codes = absurd (omega arith)
+bytes_again (type ∷ types) [] small len codes = absurd (omega arith)
+bytes_again (type ∷ []) (byte ∷ []) small len codes =
+    let unused = (and_parts (is_code (kind_of type) (byte % 16)) _ codes).1 in
+    let high : byte / 16 ≡ 0 = eqb-true (byte / 16) 0 ((and_parts _ true unused).0) in
+    let low : byte % 16 ≡ byte = omega arith in
+    λ t. low t ∷ []
+bytes_again (type ∷ []) (byte ∷ other ∷ bytes) small len codes = absurd (omega arith)
+bytes_again (type ∷ next ∷ types) (byte ∷ bytes) small len codes =
+    let first = and_parts (is_code (kind_of type) (byte % 16)) _ codes in
+    let second = and_parts (is_code (kind_of next) (byte / 16)) _ first.1 in
+    let whole : byte % 16 + 16 * (byte / 16) ≡ byte = omega arith in
+    let more = bytes_again types bytes (All-tail (λ b. b < 256) byte bytes small) (omega arith) second.1 in
+    λ t. whole t ∷ more t
 
 pub take_fits : (n : ℕ) (bytes : List ℕ) (i : ℕ) → ((k : ℕ) → get_or bytes k 0 < 256) → get_or (take n bytes) i 0 < 256
 take_fits zero bytes i fits = omega arith
 take_fits (suc n) [] i fits = omega arith
 take_fits (suc n) (b ∷ bytes) zero fits = fits 0
 take_fits (suc n) (b ∷ bytes) (suc i) fits = take_fits n bytes i (λ k. fits (suc k))
-
--- bytes cut behind their codes
-pub codes_taken : (count : ℕ) (bytes front back : List ℕ) → ((i : ℕ) → get_or bytes i 0 < 256) → front ≡ take (count / 2 + count % 2) bytes → back ≡ drop (count / 2 + count % 2) bytes
-    → count / 2 + count % 2 ≤ length bytes → (count % 2 ≡ 1 → get_or front (count / 2) 0 < 16) → (bytes ≡ front ++ back) × HoldCodes count front
-codes_taken count bytes front back fits front_is back_is enough last =
-    let len : ℕ = count / 2 + count % 2 in
-    let parts : bytes ≡ front ++ back = sym (take-append-drop len bytes) ∙ (λ t. sym front_is t ++ sym back_is t) in
-    let here : (i : ℕ) → get_or front i 0 < 256 = λ i. subst (λ (f : List ℕ). get_or f i 0 < 256) (sym front_is) (take_fits len bytes i fits) in
-    (parts, holds_codes front count here (ap length front_is ∙ length-take-le len bytes enough) last)

@@ -12,7 +12,7 @@ use Rattle.log_dictionary.proofs.lemmas.BinaryLaws.{first_is, others_are, same_f
 use Rattle.arg_records.specs.declared.call.Call.{Call}
 use Rattle.buffer_extent.specs.Bodies.{SpellsRecords, IsBody}
 use Rattle.arg_records.specs.Calls.{NeverFalls}
-use Rattle.buffer_extent.specs.RecordLaws.{IsBody-unique}
+use Rattle.buffer_extent.proofs.lemmas.BodyLaws.{IsBody-unique}
 use Rattle.checkpoint_io.specs.declared.header.Header.{Header}
 use Rattle.checkpoint_io.specs.Blocks.{Block, Fragment, Extent, Close, messages_of, fragment_head_bytes, extent_head_bytes, close_bytes, SpellsEntries, SpellsFragment, SpellsExtent, SpellsClose, SpellsBlock}
 use Rattle.printf_grammar.proofs.lemmas.Unique.{spells_once}

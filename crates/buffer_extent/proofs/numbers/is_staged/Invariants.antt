@@ -1,5 +1,5 @@
 use Rattle.std.proofs.Common.{◌≡◌, ◌+◌, ◌*◌, ◌≤◌, drop}
-use Rattle.buffer_extent.specs.Steps.{words_taken}
+use Rattle.buffer_extent.specs.Reading.{words_taken}
 use Rattle.buffer_extent.proofs.numbers.is_staged.Given as goal
 
 abbrev pub invariant-loop-place : goal.invariant-loop-place

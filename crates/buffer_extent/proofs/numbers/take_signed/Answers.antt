@@ -1,16 +1,14 @@
-use Rattle.std.proofs.Common.{refl}
+use Rattle.std.proofs.Common.{ℕ, ◌<◌}
+use Rattle.std.proofs.lemmas.List.Elements.{All-from_get_or}
 use Rattle.nibble_pack.specs.Packing.{signed}
-use Rattle.nibble_pack.specs.PackingLaws.{Packed-code}
-use Rattle.buffer_extent.proofs.Fronts.{signed_again, signed_front}
+use Rattle.buffer_extent.proofs.PackedNumbers.{told, signed_broken, signed_front}
 use Rattle.buffer_extent.proofs.numbers.take_signed.Goals as goal
 
-pub returns-in_default : goal.returns-in_default
-returns-in_default c = record { cause_is = refl; none = λ z back begins. c.in_default.ensures (Packed-code signed z c.args.code begins.front begins.packed) }
+pub returns-in-Ok : goal.returns-in-Ok
+returns-in-Ok c = signed_front c.in-Ok.number c.args.code c.in-Some.len c.args.bytes.now c.in-Some.ensures.1 c.in-Ok.ensures.ok
 
-pub returns-in_default-unpack_signed : goal.returns-in_default-unpack_signed
-returns-in_default-unpack_signed c = record { cause_is = refl; none = λ z back begins. c.in_default-unpack_signed.not-Ok z (c.unpack_signed.ensures.only z begins.front back begins.packed begins.parts) }
-
-pub returns : goal.returns
-returns c =
-    let ok = c.in-Ok.ensures.ok in
-    rw (signed_again c.in-Ok.number c.args.code _ ok) (signed_front c.in-Ok.number c.args.code c.in-Some.len c.args.bytes.now c.in-Some.ensures.1 ok)
+pub returns-in-Err : goal.returns-in-Err
+returns-in-Err c =
+    rw c.cause_of.ensures
+    (signed_broken c.in-Err.fault c.args.code c.args.bytes.now (All-from_get_or (λ (b : ℕ). b < 256) c.args.bytes.now 0 (λ i _. (c.type_inv.bytes i).fits))
+    (told signed 15 c.unpack_signed.result c.in-Err.fault c.args.code c.args.bytes.now (λ known. known) c.in-Err.is c.unpack_signed.ensures.bad_code c.unpack_signed.ensures.cut c.unpack_signed.ensures.not_shortest))

@@ -1,5 +1,14 @@
-use Rattle.std.proofs.Common.{refl}
+use Rattle.std.proofs.Common.{ℕ, ◌<◌}
+use Rattle.std.proofs.lemmas.List.Elements.{All-from_get_or}
+use Rattle.nibble_pack.specs.Packing.{unsigned}
+use Rattle.buffer_extent.proofs.PackedNumbers.{told, unsigned_broken, unsigned_front}
 use Rattle.buffer_extent.proofs.numbers.take_unsigned.Goals as goal
 
-pub returns-in_default : goal.returns-in_default
-returns-in_default c = record { cause_is = refl; none = λ z back begins. c.in_default.not-Ok begins.packed.0 (c.unpack_unsigned.ensures.only begins.packed.0 begins.front back (begins.packed.0, refl, begins.packed.2) begins.parts) }
+pub returns-in-Ok : goal.returns-in-Ok
+returns-in-Ok c = unsigned_front c.in-Ok.number c.args.code c.args.bytes.now c.in-Ok.ensures.ok
+
+pub returns-in-Err : goal.returns-in-Err
+returns-in-Err c =
+    rw c.cause_of.ensures
+    (unsigned_broken c.in-Err.fault c.args.code c.args.bytes.now (All-from_get_or (λ (b : ℕ). b < 256) c.args.bytes.now 0 (λ i _. (c.type_inv.bytes i).fits))
+    (told unsigned 8 c.unpack_unsigned.result c.in-Err.fault c.args.code c.args.bytes.now (λ known. known) c.in-Err.is c.unpack_unsigned.ensures.bad_code c.unpack_unsigned.ensures.cut c.unpack_unsigned.ensures.not_shortest))

@@ -1,7 +1,6 @@
 use Rattle.std.proofs.Common.{◌+◌, ◌-◌, ◌/◌, ◌<◌, ◌^◌, Fits, w64, ℕ, List, length, get_or, refl, sym, ap, subst, arith}
 use Rattle.arg_records.specs.Places.{with_words}
-use Rattle.buffer_extent.specs.Records.{code_bytes}
-use Rattle.buffer_extent.specs.RecordLaws.{codes_of}
+use Rattle.buffer_extent.specs.Records.{code_bytes, codes_of}
 use Rattle.buffer_extent.specs.Writing.{HeadBytes}
 use Rattle.buffer_extent.proofs.Packing.{codes_room}
 use Rattle.buffer_extent.proofs.Putting.{is_staged, is_frame, frame_arguments, frame_length, numbers_room, record_short, record_written}

@@ -16,8 +16,16 @@ each causes.BadEntry = (6, lit< tt, refl)
 each causes.UnknownWriter = (7, lit< tt, refl)
 each causes.AfterClose = (8, lit< tt, refl)
 each causes.BadLength = (9, lit< tt, refl)
-each (causes.Body body_causes.Body) = (10, lit< tt, refl)
-each causes.TooLarge = (11, lit< tt, refl)
+each (causes.Body body_causes.RecordCut) = (10, lit< tt, refl)
+each (causes.Body body_causes.UnknownId) = (11, lit< tt, refl)
+each (causes.Body body_causes.BadNibble) = (12, lit< tt, refl)
+each (causes.Body body_causes.NotShortest) = (13, lit< tt, refl)
+each (causes.Body body_causes.StampRange) = (14, lit< tt, refl)
+each (causes.Body body_causes.StampFalls) = (15, lit< tt, refl)
+each (causes.Body body_causes.ArgRange) = (16, lit< tt, refl)
+each (causes.Body body_causes.NulInText) = (17, lit< tt, refl)
+each (causes.Body body_causes.TooLong) = (18, lit< tt, refl)
+each causes.TooLarge = (19, lit< tt, refl)
 
 pub returns-clause-all : goal.returns-clause-all
 returns-clause-all c = each

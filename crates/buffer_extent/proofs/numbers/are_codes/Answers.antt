@@ -1,0 +1,39 @@
+use Rattle.std.proofs.Common.{◌≡◌, ◌+◌, ◌<◌, ℕ, Bool, true, false, List, length, get_or, drop, sym, ap, ◌∙◌, arith}
+use Rattle.std.specs.Prelude.{◌&&◌, nat_eq}
+use Rattle.std.proofs.lemmas.Bool.{eq-eqb}
+use Rattle.printf_grammar.specs.declared.arg_type.ArgType.{ArgType}
+use Rattle.printf_grammar.specs.declared.arg_type.ArgType.TheVariants.{Int}
+use Rattle.buffer_extent.specs.Records.{kind_of}
+use Rattle.buffer_extent.specs.Reading.{is_code, codes_in, are_codes}
+use Rattle.buffer_extent.proofs.lemmas.Codes.{length-codes_in}
+use Rattle.buffer_extent.proofs.Arguments.{codes_left, codes_past, one_code_past}
+use Rattle.buffer_extent.proofs.numbers.are_codes.Goals as goal
+
+-- what the codes at a place and behind it are, by the one at the place
+by_code : (types : List ArgType) (codes : List ℕ) (place code : ℕ) (test : Bool) → place < length types → place < length codes → code ≡ get_or codes place 0 → test ≡ is_code (kind_of (get_or types place Int)) code
+    → are_codes (drop place types) (drop place codes) ≡ (test && are_codes (drop (place + 1) types) (drop (place + 1) codes))
+by_code types codes place code test within coded is of_test =
+    codes_left types codes place Int 0 within coded ∙ ap (λ (b : Bool). b && are_codes (drop (place + 1) types) (drop (place + 1) codes)) (ap (is_code (kind_of (get_or types place Int))) (sym is) ∙ sym of_test)
+
+pub returns-then-not-is_code : goal.returns-then-not-is_code
+returns-then-not-is_code c =
+    let left = by_code c.args.types.now (codes_in c.args.codes.now) c.loop-place.place c.code_at.result c.is_code.result c.loop-place-test.true (omega (arith, c.requires, length-codes_in c.args.codes.now, c.loop-place-test.true)) c.code_at.ensures.code c.is_code.ensures in
+    let refused : c.is_code.result ≡ false = cc in
+    sym (c.loop-place.invariant ∙ left ∙ ap (λ (b : Bool). b && are_codes (drop (c.loop-place.place + 1) c.args.types.now) (drop (c.loop-place.place + 1) (codes_in c.args.codes.now))) refused)
+
+pub loop-place-preserved : goal.loop-place-preserved
+loop-place-preserved c =
+    let left = by_code c.args.types.now (codes_in c.args.codes.now) c.loop-place.place c.code_at.result c.is_code.result c.loop-place-test.true (omega (arith, c.requires, length-codes_in c.args.codes.now, c.loop-place-test.true)) c.code_at.ensures.code c.is_code.ensures in
+    let kept : c.is_code.result ≡ true = cc in
+    c.loop-place.invariant ∙ left ∙ ap (λ (b : Bool). b && are_codes (drop (c.loop-place.place + 1) c.args.types.now) (drop (c.loop-place.place + 1) (codes_in c.args.codes.now))) kept
+
+pub returns-then-types-eq0 : goal.returns-then-types-eq0
+returns-then-types-eq0 c =
+    eq-eqb _ 0 c.if-types-eq0.true
+    ∙ sym (c.loop-place.invariant ∙ codes_past c.args.types.now (codes_in c.args.codes.now) c.loop-place.place (omega arith) (omega (arith, c.requires, length-codes_in c.args.codes.now, c.loop-place-test.false, c.if-types-eq0.true)))
+
+pub returns-else-types-eq0 : goal.returns-else-types-eq0
+returns-else-types-eq0 c =
+    let place : c.loop-place.place ≡ length c.args.types.now = omega (arith, c.loop-place-test.false, c.loop-place.auto.place-end) in
+    let last = one_code_past c.args.types.now (codes_in c.args.codes.now) c.loop-place.place (omega arith) (omega (arith, c.requires, length-codes_in c.args.codes.now, place, c.if-types-eq0.false)) in
+    ap (λ (code : ℕ). nat_eq code 0) (c.code_at-else-types-eq0.ensures.code ∙ ap (λ (k : ℕ). get_or (codes_in c.args.codes.now) k 0) (sym place)) ∙ sym (c.loop-place.invariant ∙ last)

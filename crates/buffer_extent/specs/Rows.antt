@@ -1,0 +1,27 @@
+-- Worked records that break, and all causes.
+use Rattle.std.specs.Prelude.{◌≡◌, ℕ, List, [], ◌∷◌, Err}
+use Rattle.printf_grammar.specs.declared.arg_type.ArgType.{ArgType}
+use Rattle.printf_grammar.specs.Types.{Types}
+use Rattle.log_dictionary.specs.declared.message.Message.{Message}
+use Rattle.buffer_extent.specs.declared.fault.Cause.{Cause}
+use Rattle.buffer_extent.specs.declared.fault.Cause.TheVariants as causes
+use Rattle.buffer_extent.specs.Reading.{record_at}
+
+-- The bytes are no record of the one message, which takes arguments of these types: the step counts from 1000, and no
+-- stamp is below the least.
+abbrev pub BreaksSo : List ArgType → ℕ → List ℕ → Cause → Type 0
+BreaksSo types least bytes cause =
+    (message : Message) → Types message.format.pieces ≡ types → record_at (message ∷ []) 1000 least bytes ≡ Err cause
+
+-- in the order of their numbers
+abbrev pub all_causes : List Cause
+all_causes =
+    causes.RecordCut
+    ∷ causes.UnknownId
+    ∷ causes.BadNibble
+    ∷ causes.NotShortest
+    ∷ causes.StampRange
+    ∷ causes.StampFalls
+    ∷ causes.ArgRange
+    ∷ causes.NulInText
+    ∷ causes.TooLong ∷ []
