@@ -4,44 +4,11 @@ use Rattle.std.specs.List.{filter_map, cons_option}
 use Rattle.std.proofs.lemmas.List.{append-nil, length-append}
 use Rattle.std.proofs.lemmas.List.Elements.{filter_map-append}
 use Rattle.std.proofs.lemmas.Grind.{flat_map-append}
-use Rattle.log_dictionary.specs.declared.message.Message.{Message}
 use Rattle.arg_records.specs.declared.call.Call.{Call}
-use Rattle.buffer_extent.specs.Bodies.{SpellsRecord, SpellsRecords}
-use Rattle.checkpoint_io.specs.declared.header.Header.{Header}
-use Rattle.checkpoint_io.specs.Blocks.{Block, Fragment, Extent, Close, messages_of, extent_head_bytes, header_bytes, SpellsBlock, SpellsBlocks, FileOf}
+use Rattle.checkpoint_io.specs.Blocks.{Block}
+use Rattle.log_scan.specs.Parts.{block_entries, entries_of}
 use Rattle.aggregation.specs.declared.totals.Totals.{Totals}
-use Rattle.aggregation.specs.Totals.{totals_of, number_in, numbers_in, block_entries, entries_of, Adds}
-
--- ---- no more records than bytes
-
-not_empty : (bytes : List ℕ) (byte : ℕ) (others : List ℕ) → bytes ≡ byte ∷ others → 1 ≤ length bytes
-not_empty [] byte others is = cc
-not_empty (first ∷ bytes) byte others is = omega arith
-
--- a record has a byte at least
-record_some : (messages : List Message) (before : ℕ) (entry : Call) (bytes : List ℕ) → SpellsRecord messages before entry bytes → 1 ≤ length bytes
-record_some messages before entry bytes is = not_empty bytes _ _ is.spelled.joined
-
-records_short : (messages : List Message) (before : ℕ) (entries : List Call) (bytes : List ℕ) → SpellsRecords messages before entries bytes → length entries ≤ length bytes
-records_short messages before [] bytes spelled = omega arith
-records_short messages before (entry ∷ entries) bytes (front, back, joined, first, others) =
-    omega (arith, record_some messages before entry front first, records_short messages entry.stamp entries back others, ap length joined, length-append front back)
-
-block_short : (messages : List Message) (tick : ℕ) (block : Block) (bytes : List ℕ) → SpellsBlock messages tick block bytes → length (block_entries block) ≤ length bytes
-block_short messages tick (Fragment first added) bytes spelled = omega arith
-block_short messages tick (Extent writer entries) bytes spelled =
-    omega (arith, records_short messages tick entries spelled.body spelled.body_spelled, ap length spelled.joined, length-append (extent_head_bytes writer (length spelled.body)) spelled.body)
-block_short messages tick (Close writer) bytes spelled = omega arith
-
-blocks_short : (tick : ℕ) (before blocks : List Block) (bytes : List ℕ) → SpellsBlocks tick before blocks bytes → length (entries_of blocks) ≤ length bytes
-blocks_short tick before [] bytes spelled = omega arith
-blocks_short tick before (block ∷ blocks) bytes (front, back, joined, first, others) =
-    omega (arith, block_short (messages_of before) tick block front first, blocks_short tick (before ++ block ∷ []) blocks back others, ap length joined, length-append front back, length-append (block_entries block) (entries_of blocks))
-
--- a file has no more records than bytes
-pub file_short : (header : Header) (blocks : List Block) (bytes : List ℕ) → FileOf header blocks bytes → length (entries_of blocks) ≤ length bytes
-file_short header blocks bytes file =
-    omega (arith, blocks_short header.clock.tick [] blocks file.block_bytes file.spelled, ap length file.joined, length-append (header_bytes header) file.block_bytes)
+use Rattle.aggregation.specs.Totals.{totals_of, number_in, numbers_in, Adds}
 
 -- ---- no more numbers than records
 

@@ -9,12 +9,13 @@ use Rattle.checkpoint_io.specs.Blocks.{Block, Extent, messages_of, FileOf}
 use Rattle.checkpoint_io.specs.NextBlocks.{Describes}
 use Rattle.checkpoint_io.proofs.lemmas.FileLaws.{is_extent}
 use Rattle.checkpoint_io.proofs.lemmas.ValidityLaws.{messages-push}
-use Rattle.log_scan.specs.Parts.{LogPart, StandsNext}
+use Rattle.log_scan.specs.Parts.{LogPart, StandsNext, block_entries, entries_of}
+use Rattle.log_scan.proofs.lemmas.Entries.{file_short}
 use Rattle.aggregation.specs.declared.totals.Totals.{Totals}
 use Rattle.aggregation.specs.declared.tally.Tally.{Tally}
-use Rattle.aggregation.specs.Totals.{totals_of, argument_totals, numbers_in, block_entries, entries_of, IsWithin, Adds}
+use Rattle.aggregation.specs.Totals.{totals_of, argument_totals, numbers_in, IsWithin, Adds}
 use Rattle.aggregation.specs.Tallying.{IsTally}
-use Rattle.aggregation.proofs.Entries.{file_short, numbers_few, entries-push, numbers-push}
+use Rattle.aggregation.proofs.Entries.{numbers_few, entries-push, numbers-push}
 
 -- ---- what a block adds
 

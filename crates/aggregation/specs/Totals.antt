@@ -1,7 +1,7 @@
 -- The totals of an argument over the records of a log.
 use Rattle.std.specs.Prelude.{◌≡◌, ℕ, ◌+◌, ◌*◌, ◌^◌, ◌≤◌, Bool, true, false, ◌==◌, if◌then◌else◌, ℤ, pos, neg_ℤ, ◌+ℤ◌, ◌≤ℤ◌, List, [], ◌∷◌, ◌++◌, length, fold, Option, Some, None, slice_get, option_and_then}
 use Rattle.std.specs.Int.{int_min, int_max}
-use Rattle.std.specs.List.{flat_map, filter_map}
+use Rattle.std.specs.List.{filter_map}
 use Rattle.std.specs.Option.{option_map_or}
 use Rattle.printf_grammar.specs.declared.arg_type.ArgType.{ArgType}
 use Rattle.printf_grammar.specs.declared.arg_type.ArgType.TheVariants as types
@@ -11,8 +11,9 @@ use Rattle.printf_grammar.specs.Types.{Types}
 use Rattle.log_dictionary.specs.declared.message.Message.{Message}
 use Rattle.arg_records.specs.declared.call.Call.{Call}
 use Rattle.checkpoint_io.specs.declared.header.Header.{Header}
-use Rattle.checkpoint_io.specs.Blocks.{Block, Fragment, Extent, Close, messages_of}
+use Rattle.checkpoint_io.specs.Blocks.{Block, messages_of}
 use Rattle.checkpoint_io.specs.Fronts.{Front, HasNoHeader}
+use Rattle.log_scan.specs.Parts.{entries_of}
 use Rattle.aggregation.specs.declared.totals.Totals.{Totals}
 
 -- ---- numbers
@@ -61,16 +62,6 @@ number_in id nth entry = if entry.id == id then option_and_then numeric_value (s
 -- those of all records of the message
 abbrev pub numbers_in : ℕ → ℕ → List Call → List ℤ
 numbers_in id nth entries = filter_map (number_in id nth) entries
-
--- the records of a block
-abbrev pub block_entries : Block → List Call
-block_entries (Fragment first messages) = []
-block_entries (Extent writer entries) = entries
-block_entries (Close writer) = []
-
--- the records of all blocks, of all writers, in the order of the file
-abbrev pub entries_of : List Block → List Call
-entries_of blocks = flat_map block_entries blocks
 
 -- the totals of argument `nth` of all records of the message with this id
 abbrev pub argument_totals : List Block → ℕ → ℕ → Totals

@@ -12,7 +12,7 @@ use Rattle.checkpoint_io.proofs.lemmas.FrontLaws.{whole_is_front}
 use Rattle.checkpoint_io.proofs.lemmas.BreakLaws.{whole_or_break, cut_alone}
 use Rattle.checkpoint_io.proofs.lemmas.FileLaws.{broken_there, cut_there, large_there, more_than_read, no_header}
 use Rattle.log_scan.specs.Parts.{LogPart}
-use Rattle.log_scan.specs.Scans.{IsWholeScan, IsDamagedScan, IsCutScan}
+use Rattle.log_scan.specs.Scans.{BeginsWithin, IsWholeScan, IsDamagedScan, IsCutScan}
 use Rattle.log_scan.specs.Scans.IsPartWithin.{of_front, of_part}
 
 -- ---- what is told
@@ -46,13 +46,16 @@ module _ (bytes : List ℕ) (part : LogPart) (taken : List ℕ) (offset : ℕ) (
     fits : offset ≤ 134217728
     fits = omega (arith, ends, within)
 
+    pub begins_within : BeginsWithin bytes (Some part) offset
+    begins_within = (begun, fits)
+
     -- bytes that are cut off
     pub is_cut_scan : IsCutAt bytes offset → IsCutScan bytes (Some part)
     is_cut_scan cut = record {
       alone = cut_alone bytes offset cut;
       all = (offset, cut_there bytes part.header part.blocks offset begun cut);
       offset = offset;
-      begins = (begun, fits);
+      begins = begins_within;
     }
 
     -- a file that breaks
