@@ -86,7 +86,7 @@ none_given input IsRefused form old new (ReadFault name) of none = none
 none_given input IsRefused form old new (Refused name line cause) of none = (none.0, none.1, of name line cause none.2)
 none_given input IsRefused form old new NoMemory of none = none
 none_given input IsRefused form old new (Usage lines) of none = absurd none
-none_given input IsRefused form old new (WriteFault name) of none = absurd none
+none_given input IsRefused form old new (WriteFault name) of none = absurd none.text
 none_given input IsRefused form old new ending of none = absurd none.2
 
 -- memory was wanting while the inputs were read, whatever the course
@@ -125,7 +125,7 @@ nothing_came task old desk (RefusedSources lines) sound reads =
 nothing_came task old desk (Damaged name offset cause) sound reads =
     all_printed task old desk (Damaged name offset cause) reads
 nothing_came task old desk (WriteFault name) sound reads =
-    absurd (sound.writes_nothing old.desk desk nothing name reads)
+    absurd (sound.writes_nothing old.desk desk name reads)
 nothing_came task old desk NoMemory sound reads =
     wants_reading task.course task old (scene desk old.put old.faults)
     (record { product = nothing; reading = reads; unprinted = refl; counted = refl })

@@ -1,5 +1,5 @@
 -- How the reading of inputs ends, for commands that read two files, one or none.
-use Rattle.std.specs.Prelude.{◌≡◌, ◌⊎◌, ℕ, List, [], ◌∷◌, Option, None, ⊤}
+use Rattle.std.specs.Prelude.{◌≡◌, ◌≢◌, ◌⊎◌, ℕ, List, [], ◌∷◌, Option, None, ⊤}
 use Rattle.nl_io.specs.Count.{Rose}
 use Rattle.nl_io.specs.Desk.{Desk, OnlyReadFaults, IsAbsent}
 use Rattle.command_base.specs.Endings.{ToldCause, Ending, IsDone, Done, Absent, ReadFault, Refused, WriteFault, NoMemory, Usage}
@@ -27,26 +27,35 @@ abbrev pub OnlyRefused : (Desk → Product → List ℕ → Option ℕ → ToldC
 OnlyRefused IsRefused old product (Refused name line cause) = IsRefused old product name line cause
 OnlyRefused IsRefused old product ending = ⊥
 
--- the texts that may be printed where a read failed in the middle, by the files
+-- the texts that may be begun where the reading is broken off in the middle, by what broke it off, which is a failed read
+-- or a failed write, and by the files
 abbrev pub Begun : Type 1
-Begun = Desk → List ℕ → Type 0
+Begun = Ending → Desk → List ℕ → Type 0
 
--- nothing is printed where a read failed
+-- no text is begun
 abbrev pub never : Begun
-never desk text = ⊥
+never ending desk text = ⊥
 
 -- nothing comes of a read that failed, or a text that was begun
-abbrev pub HasBegun : Begun → Desk → Product → Type 0
-HasBegun begun old product = (product ≡ nothing) ⊎ ((product.made ≡ None) × begun old product.text)
+abbrev pub HasBegun : Begun → Ending → Desk → Product → Type 0
+HasBegun begun ending old product = (product ≡ nothing) ⊎ ((product.made ≡ None) × begun ending old product.text)
 
--- The one input gave no bytes, or it is there, and what it holds says how the command ends.
+-- a text was begun in the middle of a file that is there
+pub record BreaksOff (input : List ℕ) (begun : Begun) (ending : Ending) (old new : Desk) (product : Product) : Type 0 where
+  pub same : new ≡ old
+  pub there : IsThere old input
+  pub unmade : product.made ≡ None
+  pub some : product.text ≢ []
+  pub text : begun ending old product.text
+
+-- The one input gave no bytes, or it is there, and what it holds says how the command ends; or the reading is broken off.
 abbrev pub ReadsFile : List ℕ → Form → Begun → Desk → Desk → Product → Ending → Type 0
 ReadsFile input form begun old new product (Absent name) =
     GivesNoBytes input old new (Absent name) × (product ≡ nothing)
 ReadsFile input form begun old new product (ReadFault name) =
-    GivesNoBytes input old new (ReadFault name) × HasBegun begun old product
+    GivesNoBytes input old new (ReadFault name) × HasBegun begun (ReadFault name) old product
 ReadsFile input form begun old new product NoMemory = GivesNoBytes input old new NoMemory × (product ≡ nothing)
-ReadsFile input form begun old new product (WriteFault name) = ⊥
+ReadsFile input form begun old new product (WriteFault name) = BreaksOff input begun (WriteFault name) old new product
 ReadsFile input form begun old new product (Usage lines) = ⊥
 ReadsFile input form begun old new product ending = (new ≡ old) × IsThere old input × form old product ending
 
@@ -80,7 +89,7 @@ pub record IsFormed (input : List ℕ) (course : Course) (form : Form) (begun : 
     (leaves : Desk → List ℕ → Type 0) : Type 0 where
   pub done : (desk : Desk) (product : Product) (ending : Ending) → Holds desk input is_right → form desk product ending
       → IsDone ending
-  pub streams : (desk : Desk) (text : List ℕ) → begun desk text → course ≡ Streaming
+  pub streams : (desk : Desk) (text : List ℕ) → begun (ReadFault input) desk text → course ≡ Streaming
   pub there : (desk : Desk) (bytes : List ℕ) → leaves desk bytes → IsThere desk input
 
 -- ---- two inputs

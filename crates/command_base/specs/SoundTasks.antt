@@ -35,7 +35,7 @@ first_is input more name others is = cc
 -- It changes nothing, or fails, which is told.
 pub read_changes : (input : List ℕ) (form : Form) (begun : Begun) (old new : Desk) (product : Product) (ending : Ending)
     → ReadsFile input form begun old new product ending
-    → (new ≡ old) ⊎ (OnlyReadFaults old new × HasBegun begun old product × (ending ≡ ReadFault input))
+    → (new ≡ old) ⊎ (OnlyReadFaults old new × HasBegun begun ending old product × (ending ≡ ReadFault input))
 read_changes input form begun old new product Done reads = inl reads.0
 read_changes input form begun old new product (StillOpen name numbers) reads = inl reads.0
 read_changes input form begun old new product (Usage lines) reads = absurd reads
@@ -45,24 +45,24 @@ read_changes input form begun old new product (ReadFault name) reads =
 read_changes input form begun old new product (Refused name line cause) reads = inl reads.0
 read_changes input form begun old new product (RefusedSources lines) reads = inl reads.0
 read_changes input form begun old new product (Damaged name offset cause) reads = inl reads.0
-read_changes input form begun old new product (WriteFault name) reads = absurd reads
+read_changes input form begun old new product (WriteFault name) reads = inl reads.same
 read_changes input form begun old new product NoMemory reads = inl reads.0.0
 
 -- Where the input isn't absent, and what it gives is done, the end is that.
 pub read_done : (input : List ℕ) (form : Form) (begun : Begun) (old new : Desk) (product : Product) (ending : Ending)
     → ReadsFile input form begun old new product ending → ¬ (IsAbsent old input)
     → (form old product ending → IsDone ending) → ¬ (Rose old.read_faults new.read_faults)
-    → IsDone ending ⊎ (ending ≡ NoMemory)
-read_done input form begun old new product Done reads there right r = inl refl
-read_done input form begun old new product (StillOpen name numbers) reads there right r = inl refl
-read_done input form begun old new product (Usage lines) reads there right r = absurd reads
-read_done input form begun old new product (Absent name) reads there right r = absurd (there reads.0.2)
-read_done input form begun old new product (ReadFault name) reads there right r = absurd (r reads.0.2)
-read_done input form begun old new product (Refused name line cause) reads there right r = inl (right reads.2)
-read_done input form begun old new product (RefusedSources lines) reads there right r = inl (right reads.2)
-read_done input form begun old new product (Damaged name offset cause) reads there right r = inl (right reads.2)
-read_done input form begun old new product (WriteFault name) reads there right r = absurd reads
-read_done input form begun old new product NoMemory reads there right r = inr refl
+    → ((name : List ℕ) → ending ≢ WriteFault name) → IsDone ending ⊎ (ending ≡ NoMemory)
+read_done input form begun old new product Done reads there right r unbroken = inl refl
+read_done input form begun old new product (StillOpen name numbers) reads there right r unbroken = inl refl
+read_done input form begun old new product (Usage lines) reads there right r unbroken = absurd reads
+read_done input form begun old new product (Absent name) reads there right r unbroken = absurd (there reads.0.2)
+read_done input form begun old new product (ReadFault name) reads there right r unbroken = absurd (r reads.0.2)
+read_done input form begun old new product (Refused name line cause) reads there right r unbroken = inl (right reads.2)
+read_done input form begun old new product (RefusedSources lines) reads there right r unbroken = inl (right reads.2)
+read_done input form begun old new product (Damaged name offset cause) reads there right r unbroken = inl (right reads.2)
+read_done input form begun old new product (WriteFault name) reads there right r unbroken = absurd (unbroken name refl)
+read_done input form begun old new product NoMemory reads there right r unbroken = inr refl
 
 -- Where the input isn't there that is told.
 pub read_absent : (input : List ℕ) (form : Form) (begun : Begun) (old new : Desk) (product : Product) (ending : Ending)
@@ -76,7 +76,7 @@ read_absent input form begun old new product (ReadFault found) reads lacks r = a
 read_absent input form begun old new product (Refused found line cause) reads lacks r = absurd (lacks reads.1)
 read_absent input form begun old new product (RefusedSources lines) reads lacks r = absurd (lacks reads.1)
 read_absent input form begun old new product (Damaged found offset cause) reads lacks r = absurd (lacks reads.1)
-read_absent input form begun old new product (WriteFault found) reads lacks r = absurd reads
+read_absent input form begun old new product (WriteFault found) reads lacks r = absurd (lacks reads.there)
 read_absent input form begun old new product NoMemory reads lacks r = absurd (lacks reads.0.1)
 
 -- ---- one input
@@ -107,7 +107,9 @@ changes input course form begun is_right output leaves formed old new product en
         told = inl (input, has_first input [], fails.2);
         cut_off = λ some other. elim fails.1 [
           | inl none ↦ absurd (some (ap (λ (p : Product). p.text) none))
-          | inr part ↦ subst (λ (c : Course). HidesRead c (WriteFault other)) (sym (formed.streams old product.text part.1)) tt
+          | inr part ↦
+              let text = subst (λ (e : Ending). begun e old product.text) fails.2 part.1 in
+              subst (λ (c : Course). HidesRead c (WriteFault other)) (sym (formed.streams old product.text text)) tt
         ];
         stopped = λ is. stopped_read course input (subst (λ (e : Ending). IsPrinted e course) fails.2 is);
       })
@@ -120,11 +122,11 @@ pub file_sound : (input : List ℕ) (course : Course) (form : Form) (begun : Beg
 file_sound input course form begun is_right output leaves formed = record {
   changes = λ old new product ending reads.
       changes input course form begun is_right output leaves formed old new product ending reads;
-  writes_nothing = λ old new product name reads. reads;
+  writes_nothing = λ old new name reads. reads.some refl;
   has_words = λ old new product lines reads. reads;
-  done = λ old new product ending reads right r.
+  done = λ old new product ending reads right r unbroken.
       read_done input form begun old new product ending reads (holds_there old input is_right right)
-      (formed.done old product ending right) r;
+      (formed.done old product ending right) r unbroken;
   absent = λ old new product ending name reads lacks r.
       let first = first_is input [] name lacks.others lacks.first in
       let told = read_absent input form begun old new product ending reads
@@ -143,7 +145,7 @@ module _ {V : Type 0} (first second : List ℕ) (refuses : Form) (has : Desk →
   pair = pair_task first second refuses has form output right
 
   pair_fails : (input : List ℕ) → Contains (first ∷ second ∷ []) input → (old new : Desk) (product : Product) (ending : Ending)
-      → OnlyReadFaults old new × HasBegun never old product × (ending ≡ ReadFault input)
+      → OnlyReadFaults old new × HasBegun never ending old product × (ending ≡ ReadFault input)
       → FailsToRead pair old new product ending
   pair_fails input among old new product ending fails =
       let none : product ≡ nothing = elim fails.1 [ inl same ↦ same | inr part ↦ absurd part.1 ] in
@@ -168,13 +170,14 @@ module _ {V : Type 0} (first second : List ℕ) (refuses : Form) (has : Desk →
       ]
 
   pair_done : (old new : Desk) (product : Product) (ending : Ending) → pair.reads old new product ending → right old
-      → ¬ (Rose old.read_faults new.read_faults) → IsDone ending ⊎ (ending ≡ NoMemory)
-  pair_done old new product ending (inl reads) is r =
+      → ¬ (Rose old.read_faults new.read_faults) → ((name : List ℕ) → ending ≢ WriteFault name)
+      → IsDone ending ⊎ (ending ≡ NoMemory)
+  pair_done old new product ending (inl reads) is r unbroken =
       read_done first refuses never old new product ending reads (formed.first_there old is)
-      (λ refused. absurd (formed.accepted old product ending is refused)) r
-  pair_done old new product ending (inr (value, found, reads)) is r =
+      (λ refused. absurd (formed.accepted old product ending is refused)) r unbroken
+  pair_done old new product ending (inr (value, found, reads)) is r unbroken =
       read_done second (form value) never old new product ending reads (formed.second_there old is)
-      (formed.done old value product ending is found) r
+      (formed.done old value product ending is found) r unbroken
 
   pair_absent : (old new : Desk) (product : Product) (ending : Ending) → pair.reads old new product ending
       → ¬ (IsThere old first) → ¬ (Rose old.read_faults new.read_faults) → (ending ≡ Absent first) × (product ≡ nothing)
@@ -182,9 +185,9 @@ module _ {V : Type 0} (first second : List ℕ) (refuses : Form) (has : Desk →
       read_absent first refuses never old new product ending reads lacks r
   pair_absent old new product ending (inr (value, found, reads)) lacks r = absurd (lacks (formed.there old value found))
 
-  no_pair_writing : (old new : Desk) (product : Product) (name : List ℕ) → ¬ (pair.reads old new product (WriteFault name))
-  no_pair_writing old new product name (inl reads) = reads
-  no_pair_writing old new product name (inr (value, found, reads)) = reads
+  no_pair_writing : (old new : Desk) (name : List ℕ) → ¬ (pair.reads old new nothing (WriteFault name))
+  no_pair_writing old new name (inl reads) = reads.text
+  no_pair_writing old new name (inr (value, found, reads)) = reads.text
 
   no_pair_words : (old new : Desk) (product : Product) (lines : List ℕ) → ¬ (pair.reads old new product (Usage lines))
   no_pair_words old new product lines (inl reads) = reads
@@ -228,9 +231,9 @@ no_first name others is = cc
 pub free_sound : (course : Course) (gives : Product → Type 0) → IsSound (free_task course gives)
 free_sound course gives = record {
   changes = λ old new product ending reads. inl (free_same gives old new product ending reads);
-  writes_nothing = λ old new product name reads. reads;
+  writes_nothing = λ old new name reads. reads;
   has_words = λ old new product lines reads. reads;
-  done = λ old new product ending reads right r. free_done gives old new product ending reads;
+  done = λ old new product ending reads right r unbroken. free_done gives old new product ending reads;
   absent = λ old new product ending name reads lacks r. absurd (no_first name lacks.others lacks.first);
   there = λ old bytes name left lacks. left;
 }

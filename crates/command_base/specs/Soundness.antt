@@ -29,14 +29,14 @@ pub record IsSound (task : Task) : Type 0 where
   -- it changes nothing, or fails
   pub changes : (old new : Desk) (product : Product) (ending : Ending) → task.reads old new product ending
       → (new ≡ old) ⊎ FailsToRead task old new product ending
-  -- it is no writing, and no reading of words
-  pub writes_nothing : (old new : Desk) (product : Product) (name : List ℕ)
-      → ¬ (task.reads old new product (WriteFault name))
+  -- it isn't broken off by a write where nothing is printed, and it is no reading of words
+  pub writes_nothing : (old new : Desk) (name : List ℕ) → ¬ (task.reads old new nothing (WriteFault name))
   pub has_words : (old new : Desk) (product : Product) (lines : List ℕ)
       → ¬ (task.reads old new product (Usage lines))
-  -- right inputs give all that is wanted, where none of its calls failed and memory sufficed
+  -- right inputs give all that is wanted, where none of its calls failed, memory sufficed, and no write breaks it off
   pub done : (old new : Desk) (product : Product) (ending : Ending) → task.reads old new product ending
-      → task.right old → ¬ (Rose old.read_faults new.read_faults) → IsDone ending ⊎ (ending ≡ NoMemory)
+      → task.right old → ¬ (Rose old.read_faults new.read_faults) → ((name : List ℕ) → ending ≢ WriteFault name)
+      → IsDone ending ⊎ (ending ≡ NoMemory)
   -- where the first input isn't there that is told, and nothing comes of it, unless a call failed
   pub absent : (old new : Desk) (product : Product) (ending : Ending) (name : List ℕ)
       → task.reads old new product ending → LacksFirst task old name → ¬ (Rose old.read_faults new.read_faults)

@@ -105,14 +105,14 @@ files_told task old new product verdict ending parts told = elim parts [
   }
 ]
 
-completes_follows : (task : Task) (old new : Scene) (ending : Ending) → IsSound task → Completes task old new ending → Consequences task old new ending
-completes_follows task old new ending sound whole =
+completes_follows : (task : Task) (old new : Scene) (ending : Ending) → IsSound task → ((name : List ℕ) → ending ≢ WriteFault name) → Completes task old new ending → Consequences task old new ending
+completes_follows task old new ending sound unbroken whole =
     let files = files_told task old new whole.product ending ending (changed task old.desk whole.read new.desk whole.product ending sound whole.reading whole.made) (λ fails. fails.told) in
     record {
       stays = files.stays;
       reads = files.reads;
       writes = inr (files.write_faults, whole.counted);
-      taken = λ right r w o. sound.done old.desk whole.read whole.product ending whole.reading right (unfailed whole.product.made task.output old.desk whole.read new.desk whole.made r);
+      taken = λ right r w o. sound.done old.desk whole.read whole.product ending whole.reading right (unfailed whole.product.made task.output old.desk whole.read new.desk whole.made r) unbroken;
       absent = λ name lacks r. (sound.absent old.desk whole.read whole.product ending name whole.reading lacks (unfailed whole.product.made task.output old.desk whole.read new.desk whole.made r)).0;
     }
 
@@ -187,14 +187,14 @@ memory_follows task WhilePrinting old new sound wants = elim wants [ inl stops �
 memory_follows task Streaming old new sound wants = elim wants [ inl stops ↦ reading_follows task old new sound stops | inr stops ↦ printing_follows task old new sound stops ]
 
 follows : (task : Task) (old new : Scene) (ending : Ending) → IsSound task → CommandEffect task old new ending → Consequences task old new ending
-follows task old new Done sound effect = completes_follows task old new Done sound effect
-follows task old new (StillOpen name numbers) sound effect = completes_follows task old new (StillOpen name numbers) sound effect
+follows task old new Done sound effect = completes_follows task old new Done sound (λ name e. cc) effect
+follows task old new (StillOpen name numbers) sound effect = completes_follows task old new (StillOpen name numbers) sound (λ name e. cc) effect
 follows task old new (Usage lines) sound effect = absurd effect
-follows task old new (Absent name) sound effect = completes_follows task old new (Absent name) sound effect
-follows task old new (ReadFault name) sound effect = completes_follows task old new (ReadFault name) sound effect
-follows task old new (Refused name line cause) sound effect = completes_follows task old new (Refused name line cause) sound effect
-follows task old new (RefusedSources lines) sound effect = completes_follows task old new (RefusedSources lines) sound effect
-follows task old new (Damaged name offset cause) sound effect = completes_follows task old new (Damaged name offset cause) sound effect
+follows task old new (Absent name) sound effect = completes_follows task old new (Absent name) sound (λ name e. cc) effect
+follows task old new (ReadFault name) sound effect = completes_follows task old new (ReadFault name) sound (λ name e. cc) effect
+follows task old new (Refused name line cause) sound effect = completes_follows task old new (Refused name line cause) sound (λ name e. cc) effect
+follows task old new (RefusedSources lines) sound effect = completes_follows task old new (RefusedSources lines) sound (λ name e. cc) effect
+follows task old new (Damaged name offset cause) sound effect = completes_follows task old new (Damaged name offset cause) sound (λ name e. cc) effect
 follows task old new (WriteFault name) sound effect = elim effect [ inl cut ↦ print_follows task old new name sound cut.1 | inr lost ↦ make_follows task old new name sound lost ]
 follows task old new NoMemory sound effect = memory_follows task task.course old new sound effect
 

@@ -41,7 +41,8 @@ pub record Task : Type 1 where
   pub course : Course
   -- How the reading of the inputs ends, by the files before and after it: what comes of them, and the end that the
   -- command has where no write fails. It is what the inputs say, or that one isn't there, that a read of it failed, or
-  -- that memory was wanting. Where the inputs leave a choice, as a session does, there are several products.
+  -- that memory was wanting. A text that goes out while a file is read may be cut off in the middle of the file; then it
+  -- is a failed write. Where the inputs leave a choice, as a session does, there are several products.
   pub reads : Desk → Desk → Product → Ending → Type 0
   -- an output is made of the inputs, and it may hold these bytes where a write of it failed
   pub leaves : Desk → List ℕ → Type 0

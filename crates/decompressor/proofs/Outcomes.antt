@@ -1,85 +1,124 @@
--- What the answer says of a log that was scanned and printed.
-use Rattle.std.proofs.Common.{◌≡◌, ℕ, length, Option, Result, Ok, Err, refl, sym, ◌∙◌, subst, inl, inr}
+-- What the answer says of a log that is decompressed step by step.
+use Rattle.std.proofs.Common.{◌≡◌, ℕ, ◌-◌, ◌<◌, List, [], ◌∷◌, ◌++◌, length, None, Result, Ok, Err, refl, ap, sym, subst, ◌∙◌, inl, inr, arith}
 use Rattle.std.specs.Prelude.{IfSome}
 use Rattle.std.specs.Result.{IsErrAnd}
+use Rattle.std.proofs.lemmas.List.{append-nil, length-append}
 use Rattle.nl_io.specs.Count.{Rose}
-use Rattle.nl_io.specs.Content.{Told, with_end, PutsFront}
-use Rattle.nl_io.proofs.lemmas.Contents.{front-whole}
+use Rattle.nl_io.specs.Content.{Told, with_end}
+use Rattle.nl_io.proofs.lemmas.Contents.{with_end-none, with_end-both, front-second}
 use Rattle.checkpoint_io.specs.declared.cause.Cause.{Cause}
-use Rattle.log_scan.specs.declared.scan.ScanEnd.{ScanEnd}
-use Rattle.log_scan.specs.declared.scan.ScanEnd.TheVariants.{Whole, Damaged, ReadFault}
-use Rattle.log_scan.specs.Parts.{LogPart}
-use Rattle.log_scan.specs.Scans.{EndsWhole, IsDamagedScan, EndsScan}
-use Rattle.log_scan.proofs.lemmas.Ends.{some_of}
+use Rattle.checkpoint_io.specs.declared.cause.Cause.TheVariants as causes
+use Rattle.checkpoint_io.specs.declared.fault.BlockFault.{BlockFault}
+use Rattle.checkpoint_io.specs.declared.fault.BlockFault.TheVariants as reading
+use Rattle.checkpoint_io.specs.Blocks.{Block, FileOf}
+use Rattle.checkpoint_io.specs.Fronts.{Break}
+use Rattle.checkpoint_io.specs.Places.{with_front, TookSuch}
+use Rattle.checkpoint_io.proofs.lemmas.FileLaws.{file_on, one_log}
+use Rattle.log_scan.proofs.lemmas.Ends.{some_of, header_damaged, header_cut}
 use Rattle.decompressor.specs.declared.fault.DecodeFault.{DecodeFault}
-use Rattle.decompressor.specs.declared.fault.DecodeFault.TheVariants as faults
+use Rattle.decompressor.specs.declared.fault.DecodeFault.TheVariants.{WriteFault, Damaged, ReadFault, NoMemory}
 use Rattle.decompressor.specs.declared.report.Report.{Report}
-use Rattle.decompressor.specs.Decompressing.{calls_read, text_read, IsTextOfWhole, IsTextOfDamaged, unclosed_read, ReadsText, CutOff, AnswersScan, Decompresses}
-use Rattle.decompressor.specs.Printing.{CutsText}
-use Rattle.decompressor.proofs.Endings.{text_of_whole, text_of_damaged, text_of_cut}
+use Rattle.decompressor.specs.declared.step.Step.TheVariants.{End}
+use Rattle.decompressor.specs.Decompressing.{IsTextOfDamaged, ReadsText, CutOff, header_fault, Decompresses}
+use Rattle.decompressor.specs.Decompressors.{PrinterState, HasPrinted, Advances, PrintsWhole, IsCutBehind, Steps}
+use Rattle.decompressor.proofs.Endings.{text_of_damaged, text_of_cut}
 
--- ---- what was read
+-- ---- no header
 
-module _ (left behind : Told) (part : Option LogPart) where
-  abbrev pub Ended : ScanEnd → Type 0
-  Ended end = EndsScan left behind part end
+-- the header couldn't be read, and nothing was put
+pub without_header : (file left : Told) (before after : ℕ) (was : Told) (fault : BlockFault) → ((cause : Cause) → fault ≡ reading.Damaged cause → IfSome file (λ bytes. Break bytes 0 cause)) → (fault ≡ reading.ReadFault → TookSuch (λ bytes. Break bytes 0 causes.Cut) file left)
+    → (fault ≡ reading.ReadFault → Rose before after) → (¬ (fault ≡ reading.ReadFault) → after ≡ before) → Decompresses file left before after was was (Err (header_fault fault))
+without_header file left before after was (reading.Damaged cause) breaks cut rose counted = (
+  [],
+  with_end-none [] was,
+  (
+    counted (λ wrong. absurd cc),
+    some_of file (λ bytes. Break bytes 0 cause) (λ bytes. IsTextOfDamaged bytes [] 0 cause) (λ bytes broken. text_of_damaged bytes None 0 cause (header_damaged bytes cause broken)) (breaks cause refl),
+  ),
+)
+without_header file left before after was reading.ReadFault breaks cut rose counted =
+    let (bytes, parted, broken) = cut refl in
+    ([], with_end-none [] was, (rose refl, (bytes, parted, text_of_cut bytes None (header_cut bytes broken))))
+without_header file left before after was reading.NoMemory breaks cut rose counted = inl (refl, counted (λ wrong. absurd cc))
 
-  reads_whole : (before after : ℕ) (report : Report) → Ended Whole → after ≡ before → report.lines ≡ length (calls_read part) → report.unclosed ≡ unclosed_read part → ReadsText left behind before after (text_read part) (Ok report)
-  reads_whole before after report ended counted lines unclosed =
-      (counted, some_of left (λ bytes. EndsWhole bytes part) (λ bytes. IsTextOfWhole bytes (text_read part) report) (λ bytes whole. text_of_whole bytes part report whole lines unclosed) ended)
+-- ---- between the steps
 
-  reads_damaged : (offset : ℕ) (cause : Cause) (before after : ℕ) → Ended (Damaged offset cause) → after ≡ before → ReadsText left behind before after (text_read part) (Err (faults.Damaged offset cause))
-  reads_damaged offset cause before after ended counted =
-      (counted, some_of left (λ bytes. IsDamagedScan bytes part offset cause) (λ bytes. IsTextOfDamaged bytes (text_read part) offset cause) (λ bytes damaged. text_of_damaged bytes part offset cause damaged) ended)
+-- The text of what was taken of the file was put, and the rest of the file is still to be read.
+pub record IsOn (file was : Told) (state : PrinterState) (left put : Told) : Type 0 where
+  pub taken : List ℕ
+  pub text : List ℕ
+  pub printed : HasPrinted state taken text
+  pub file_is : file ≡ with_front (taken ++ state.reader.waiting.bytes) left
+  pub put_is : put ≡ with_end text was
 
-  reads_failed : (before after : ℕ) → Ended ReadFault → Rose before after → ReadsText left behind before after (text_read part) (Err faults.ReadFault)
-  reads_failed before after ended rose =
-      let (bytes, parted, cut) = ended in
-      (rose, (bytes, parted, text_of_cut bytes part cut))
+no_parts : (xs ys : List ℕ) → xs ++ ys ≡ [] → ys ≡ []
+no_parts [] ys none = none
+no_parts (x ∷ xs) ys none = absurd cc
 
-  -- what would be answered where all lines go out
-  read_as : (end : ScanEnd) (before after : ℕ) → Ended end → (end ≡ ReadFault → Rose before after) → (¬ (end ≡ ReadFault) → after ≡ before) → (read : Result Report DecodeFault) × ReadsText left behind before after (text_read part) read
-  read_as Whole before after ended rose counted =
-      let report : Report = record { lines = length (calls_read part); unclosed = unclosed_read part } in
-      (Ok report, reads_whole before after report ended (counted (λ wrong. absurd cc)) refl refl)
-  read_as (Damaged offset cause) before after ended rose counted = (Err (faults.Damaged offset cause), reads_damaged offset cause before after ended (counted (λ wrong. absurd cc)))
-  read_as ReadFault before after ended rose counted = (Err faults.ReadFault, reads_failed before after ended (rose refl))
+longer : (blocks : List Block) (block : Block) → blocks ≡ blocks ++ block ∷ [] → ⊥
+longer blocks block same = omega (arith, ap length same, length-append blocks (block ∷ []))
 
-  -- a front of the lines went out
-  front_out : (end : ScanEnd) (before after : ℕ) (was is : Told) → Ended end → (end ≡ ReadFault → Rose before after) → (¬ (end ≡ ReadFault) → after ≡ before) → PutsFront (text_read part) was is → CutOff left behind before after was is
-  front_out end before after was is ended rose counted put =
-      let read = read_as end before after ended rose counted in
-      record { text = text_read part; read = read.0; put = put; reads = read.1 }
+module _ (file was : Told) (old : PrinterState) (left put : Told) (on : IsOn file was old left put) (new : PrinterState) (behind is : Told) where
+  abbrev taken : List ℕ
+  taken = on.taken
 
-  -- the printing was cut off
-  cut_text : (end : ScanEnd) (before after low high : ℕ) (was is : Told) (fault : DecodeFault) → Ended end → (end ≡ ReadFault → Rose before after) → (¬ (end ≡ ReadFault) → after ≡ before)
-      → CutsText (text_read part) was is low high fault → Decompresses left behind before after was is (Err fault)
-  cut_text end before after low high was is faults.WriteFault e rose counted cut =
-      let read = read_as end before after e rose counted in
-      (record { text = text_read part; read = read.0; put = cut.put; reads = read.1 }, cut.some)
-  cut_text end before after low high was is faults.NoMemory e rose counted cut = inr (front_out end before after was is e rose counted cut.0)
-  cut_text end before after low high was is faults.ReadFault e rose counted cut = absurd cut
-  cut_text end before after low high was is (faults.Damaged offset cause) e rose counted cut = absurd cut
+  -- ---- a step that goes on
 
-  pub cut_off : (end : ScanEnd) (before after low high : ℕ) (was is : Told) (fault : DecodeFault) (answer : Result Report DecodeFault) → IsErrAnd answer (λ e. e ≡ fault) → Ended end → (end ≡ ReadFault → Rose before after)
-      → (¬ (end ≡ ReadFault) → after ≡ before) → CutsText (text_read part) was is low high fault → Decompresses left behind before after was is answer
-  cut_off end before after low high was is fault (Ok report) same e rose counted cut = absurd same
-  cut_off end before after low high was is fault (Err other) same e rose counted cut =
-      subst (λ (f : DecodeFault). Decompresses left behind before after was is (Err f)) (sym same) (cut_text end before after low high was is fault e rose counted cut)
+  module _ (next : Advances old new on.taken on.text on.printed left behind put is) where
+    pub on_next : IsOn file was new behind is
+    on_next = record {
+      taken = taken ++ next.front;
+      text = on.text ++ next.more;
+      printed = next.after;
+      file_is = on.file_is ∙ file_on taken next.front old.reader.waiting.bytes new.reader.waiting.bytes left behind next.joined;
+      put_is = next.put ∙ ap (with_end next.more) on.put_is ∙ with_end-both on.text next.more was;
+    }
 
-  -- all lines of what was read were printed
-  pub answered : (end : ScanEnd) (before after : ℕ) (was is : Told) (lines : ℕ) (answer : Result Report DecodeFault) → AnswersScan part lines end answer → Ended end → (end ≡ ReadFault → Rose before after)
-      → (¬ (end ≡ ReadFault) → after ≡ before) → is ≡ with_end (text_read part) was → lines ≡ length (calls_read part) → Decompresses left behind before after was is answer
-  answered Whole before after was is lines (Ok report) told e rose counted put many =
-      (text_read part, put, reads_whole before after report e (counted (λ wrong. absurd cc)) (told.0 ∙ many) told.1)
-  answered Whole before after was is lines (Err fault) told e rose counted put many =
-      subst (λ (f : DecodeFault). Decompresses left behind before after was is (Err f)) (sym told) (inr (front_out Whole before after was is e rose counted (front-whole (text_read part) was is put)))
-  answered (Damaged offset cause) before after was is lines answer told e rose counted put many =
-      subst (Decompresses left behind before after was is) (sym told) (text_read part, put, reads_damaged offset cause before after e (counted (λ wrong. absurd cc)))
-  answered ReadFault before after was is lines answer told e rose counted put many =
-      subst (Decompresses left behind before after was is) (sym told) (text_read part, put, reads_failed before after e (rose refl))
+    -- each block takes a byte at least
+    rises : (front : List ℕ) → front ≡ next.front → length taken < length (taken ++ next.front)
+    rises [] is_none =
+        let bytes : taken ++ next.front ≡ taken = ap (λ (f : List ℕ). taken ++ f) (sym is_none) ∙ append-nil taken in
+        let read = on.printed.read in
+        let then = next.after.read in
+        let file_too : FileOf new.reader.header then.blocks taken = subst (FileOf new.reader.header then.blocks) bytes then.file in
+        let one = one_log old.reader.header new.reader.header read.blocks then.blocks taken read.file read.valid file_too then.valid in
+        absurd (longer read.blocks next.block (one.1 ∙ next.blocks))
+    rises (byte ∷ front) is_some = omega (arith, length-append taken next.front, ap length is_some)
 
--- memory was wanting while the log was scanned
-pub nothing_out : (left behind : Told) (before after : ℕ) (was : Told) (answer : Result Report DecodeFault) → IsErrAnd answer (λ e. e ≡ faults.NoMemory) → after ≡ before → Decompresses left behind before after was was answer
-nothing_out left behind before after was (Ok report) same counted = absurd same
-nothing_out left behind before after was (Err other) same counted = subst (λ (f : DecodeFault). Decompresses left behind before after was was (Err f)) (sym same) (inl (refl, counted))
+    -- fewer bytes are left to the most that are read
+    pub falls : 134217728 - new.reader.offset < 134217728 - old.reader.offset
+    falls = omega (arith, rises next.front refl, on.printed.read.offset, next.after.read.offset, next.after.read.within)
+
+  -- ---- the last step
+
+  module _ (before after : ℕ) where
+    abbrev Stepped : Result Report DecodeFault → Type 0
+    Stepped answer = PrintsWhole (with_front (taken ++ old.reader.waiting.bytes) left) behind before after on.text put is answer
+
+    ends : (answer : Result Report DecodeFault) → Stepped answer → (text : List ℕ) × (is ≡ with_end text was) × ReadsText file behind before after text answer
+    ends answer (more, more_put, reads) = (
+      on.text ++ more,
+      more_put ∙ ap (with_end more) on.put_is ∙ with_end-both on.text more was,
+      subst (λ (told : Told). ReadsText told behind before after (on.text ++ more) answer) (sym on.file_is) reads,
+    )
+
+    abbrev is_cut : IsCutBehind (with_front (taken ++ old.reader.waiting.bytes) left) behind before after on.text put is → CutOff file behind before after was is
+    is_cut cut = record {
+      text = on.text ++ cut.rest;
+      read = cut.read;
+      put = front-second on.text cut.rest was put is on.put_is cut.put;
+      reads = subst (λ (told : Told). ReadsText told behind before after (on.text ++ cut.rest) cut.read) (sym on.file_is) cut.reads;
+    }
+
+    pub ended : (report : Report) → Steps old new on.taken on.text on.printed left behind before after put is (Ok (End report)) → Decompresses file behind before after was is (Ok report)
+    ended report stepped = ends (Ok report) stepped
+
+    failed : (fault : DecodeFault) → Steps old new on.taken on.text on.printed left behind before after put is (Err fault) → Decompresses file behind before after was is (Err fault)
+    failed WriteFault (cut, some) = (is_cut cut, λ none. some (no_parts on.text cut.rest none))
+    failed NoMemory cut = inr (is_cut cut)
+    failed (Damaged offset cause) stepped = ends (Err (Damaged offset cause)) stepped
+    failed ReadFault stepped = ends (Err ReadFault) stepped
+
+    pub failed_as : (fault : DecodeFault) (answer : Result Report DecodeFault) → IsErrAnd answer (λ e. e ≡ fault) → Steps old new on.taken on.text on.printed left behind before after put is (Err fault) → Decompresses file behind before after was is answer
+    failed_as fault (Ok report) same stepped = absurd same
+    failed_as fault (Err e) same stepped = subst (λ (f : DecodeFault). Decompresses file behind before after was is (Err f)) (sym same) (failed fault stepped)

@@ -1,6 +1,8 @@
 pub mod Decompression
+pub mod Settling
 pub mod Decompressing
-pub mod Gathering
 pub mod Taking
 pub mod Printing
+pub mod Waiting
+pub mod Decompressors
 pub mod Rows

@@ -38,3 +38,17 @@ mixed_lines =
     codes "1514764800.000000001 srv.cc:12 NOTICE[0]: x=1\n"
     ++ codes "1514764800.000000001 srv.cc:12 NOTICE[1]: x=2\n"
     ++ codes "1514764800.000000001 srv.cc:12 NOTICE[1]: x=3\n"
+
+-- ---- calls that are settled one after the other
+
+abbrev pub two_writers : Header
+two_writers = record row_header { writers = 2 }
+
+-- each writer makes the worked call, and then both are closed
+abbrev pub paired_blocks : List Block
+paired_blocks =
+    Fragment 0 (row_message ∷ [])
+    ∷ Extent 0 (row_call 7 ∷ [])
+    ∷ Extent 1 (row_call 7 ∷ [])
+    ∷ Close 0
+    ∷ Close 1 ∷ []

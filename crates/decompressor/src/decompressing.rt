@@ -1,28 +1,23 @@
-//! Decompressing a log.
+//! Decompressing a whole log.
 
-ghost use Rattle.std.specs.Prelude.{◌≡◌, ◌≤◌, ℕ, List, length, Option, Some, IsErrOf, IfOk, OnOk};
+ghost use Rattle.std.specs.Prelude.{◌≡◌, ◌↔◌, ◌≤◌, ℕ, List, IsErrOf, IfOk, OnOk};
 ghost use Rattle.nl_io.specs.Count.{Rose};
 ghost use Rattle.nl_io.specs.Content.{IsAtEnd};
 ghost use Rattle.checkpoint_io.specs.Readers.{StandsFor};
-ghost use Rattle.log_scan.specs.Parts.{LogPart};
-ghost use Rattle.log_scan.specs.Scans.{IsReaderOf, StandsForAll};
-ghost use Rattle.decompressor.specs.Decompressing.{open_writers as open_writers_of, unclosed_read, calls_read, text_read, AnswersScan, Decompresses};
-ghost use Rattle.decompressor.specs.Gathering.{HoldRecords};
-ghost use Rattle.decompressor.specs.Printing.{PrintsText};
+ghost use Rattle.decompressor.specs.Settling.{open_writers as open_writers_of};
+ghost use Rattle.decompressor.specs.Decompressing.{header_fault as header_fault_of, Decompresses};
 
+use crate::decompressor::Decompressor;
 use crate::fault::DecodeFault;
-use crate::gathering::LogRecords;
 use crate::numbers::Numbers;
-use crate::printing::print_lines;
-use crate::records::WriterRecords;
 use crate::report::Report;
-use checkpoint_io::Reader;
-use log_scan::{Scan, ScanEnd, scan_log};
+use crate::step::Step;
+use checkpoint_io::{BlockFault, Reader};
 use nl_io::{Sink, Source};
 use std::alloc::{AllocError, Global};
 
 // The writers without a close mark, from the least number on.
-fn open_writers(alloc: Global, reader: &Reader) -> Result<Numbers, AllocError>
+pub fn open_writers(alloc: Global, reader: &Reader) -> Result<Numbers, AllocError>
     ensures { (taken : List ℕ) (read : StandsFor reader.now taken)
         → IfOk result (λ unclosed. unclosed ≡ open_writers_of reader.now.header read.blocks) }
 {
@@ -35,62 +30,28 @@ fn open_writers(alloc: Global, reader: &Reader) -> Result<Numbers, AllocError>
     Ok(unclosed)
 }
 
-// Those of a whole log.
-fn unclosed_writers(alloc: Global, scan: &Scan) -> Result<Numbers, AllocError>
-    ensures { (part : Option LogPart) → IsReaderOf scan.now.reader part → StandsForAll scan.now.reader part
-        → IfOk result (λ unclosed. unclosed ≡ unclosed_read part) }
+// The fault of a log whose header can't be read.
+fn header_fault(fault: BlockFault) -> DecodeFault
+    ensures is { result ≡ header_fault_of fault }
+    ensures no_write { ¬ (result ≡ DecodeFault.WriteFault) }
+    ensures read { (result ≡ DecodeFault.ReadFault) ↔ (fault ≡ BlockFault.ReadFault) }
 {
-    match &scan.reader {
-        Some(reader) => open_writers(alloc, reader),
-        None => Ok(Numbers::make(alloc)),
-    }
-}
-
-// What is answered of a log whose lines were printed, so many.
-fn answer_of(alloc: Global, scan: &Scan, lines: u64) -> Result<Report, DecodeFault>
-    ensures answers { (part : Option LogPart) → IsReaderOf scan.now.reader part
-        → (scan.now.end ≡ ScanEnd.Whole → StandsForAll scan.now.reader part)
-        → AnswersScan part lines scan.now.end result }
-    ensures whole { OnOk result (scan.now.end ≡ ScanEnd.Whole) }
-{
-    match scan.end {
-        ScanEnd::Whole => Ok(Report {
-            lines,
-            unclosed: unclosed_writers(alloc, scan)?,
-        }),
-        ScanEnd::Damaged { offset, cause } => Err(DecodeFault::Damaged { offset, cause }),
-        ScanEnd::ReadFault => Err(DecodeFault::ReadFault),
-    }
-}
-
-// Prints the lines of what was read, and answers how many there are. Without a header there are none.
-fn print_read<K: Sink>(
-    alloc: Global,
-    scan: &Scan,
-    writers: &[WriterRecords],
-    out: &mut K,
-) -> Result<u64, DecodeFault>
-    requires { (part : Option LogPart) × IsReaderOf scan.now.reader part × HoldRecords writers.now part }
-    ensures printed { (part : Option LogPart) → IsReaderOf scan.now.reader part → HoldRecords writers.now part
-        → PrintsText (text_read part) (K.put out.old) (K.put out.new) (K.faults out.old) (K.faults out.new) result }
-    ensures lines { (part : Option LogPart) → IsReaderOf scan.now.reader part → HoldRecords writers.now part
-        → IfOk result (λ lines. lines ≡ length (calls_read part)) }
-    ensures others { K.rest out.old out.new }
-{
-    match &scan.reader {
-        Some(reader) => print_lines(alloc, reader, writers, out),
-        None => Ok(0),
+    match fault {
+        BlockFault::Damaged(cause) => DecodeFault::Damaged { offset: 0, cause },
+        BlockFault::ReadFault => DecodeFault::ReadFault,
+        BlockFault::NoMemory => DecodeFault::NoMemory,
     }
 }
 
 /// Prints the lines of the records of a log, which is all that the source has left: by stamp, those of one stamp by
-/// writer, and those of one writer in its order. Memory is taken for all of its records.
+/// writer, and those of one writer in its order. Lines go out as soon as none can come before them any more. Memory is
+/// taken for the other records alone.
 ///
 /// # Errors
 ///
 /// `Damaged` comes after the lines of all whole blocks in front of the damage, and `ReadFault` after those of the whole
 /// blocks that were read. Where a write fails that is answered, also of a damaged file or after a failed read: a front
-/// of these lines went out. So it is where there is no memory.
+/// of these lines went out, and no more of the source is read. So it is where there is no memory.
 pub fn decompress<S: Source, K: Sink>(
     alloc: Global,
     source: &mut S,
@@ -116,8 +77,14 @@ pub fn decompress<S: Source, K: Sink>(
     ensures out_others { K.rest out.old out.new }
     ensures source_others { S.rest source.old source.new }
 {
-    let mut records = LogRecords::none(alloc);
-    let scan = scan_log(alloc, source, &mut records)?;
-    let lines = print_read(alloc, &scan, &records.writers, out)?;
-    answer_of(alloc, &scan, lines)
+    let mut log = match Decompressor::make(alloc, source) {
+        Ok(log) => log,
+        Err(fault) => return Err(header_fault(fault)),
+    };
+    loop {
+        match log.step(source, out)? {
+            Step::More => {}
+            Step::End(report) => return Ok(report),
+        }
+    }
 }

@@ -2,16 +2,20 @@
 #![tactic(auto)]
 
 mod decompressing;
+mod decompressor;
 mod fault;
-mod gathering;
 pub mod laws;
+mod log_printer;
 mod numbers;
-mod order;
 mod printing;
-mod records;
+mod queue;
 mod report;
+mod showing;
+mod step;
 
 pub use decompressing::decompress;
+pub use decompressor::Decompressor;
 pub use fault::DecodeFault;
 pub use numbers::Numbers;
 pub use report::Report;
+pub use step::Step;

@@ -1,18 +1,21 @@
 //! Printing the lines of a log.
 
-ghost use Rattle.std.specs.Prelude.{◌≡◌, ◌≤◌, ◌++◌, ℕ, length, slice_get, Some, IfOk, OnOk};
+ghost use Rattle.std.specs.Prelude.{◌≡◌, ◌⊎◌, ◌<◌, ◌≤◌, ◌++◌, ◌||◌, ℕ, List, false, slice_get, get_or, Some, IsErrOf, OnOk, OnErr};
+ghost use Rattle.nl_io.specs.Count.{Rose};
 ghost use Rattle.log_dictionary.specs.declared.message.Message.{Message};
-ghost use Rattle.arg_records.specs.Calls.{IsCall, calls_by_writer};
-ghost use Rattle.direct_printf.specs.Lines.{Line, Direct};
-ghost use Rattle.decompressor.specs.Printing.{ArePrintable, PrintsText};
+ghost use Rattle.arg_records.specs.Calls.{IsCall};
+ghost use Rattle.checkpoint_io.specs.Blocks.{Block};
+ghost use Rattle.direct_printf.specs.Lines.{Line};
+ghost use Rattle.decompressor.specs.Decompressors.{HasToPrint, PrintsReady};
 
 use crate::fault::DecodeFault;
-use crate::order::print_order;
-use crate::records::{Remaining, WriterRecords};
+use crate::queue::RecordQueue;
+use crate::showing::show_first;
 use buffer_extent::LogRecord;
 use checkpoint_io::Reader;
 use direct_printf::line;
 use nl_io::{Sink, TextWriter};
+use stamp_merge::{Merger, Next};
 use std::alloc::{AllocError, Global};
 
 // The line of a record.
@@ -50,43 +53,49 @@ fn push_line(
     )
 }
 
-// The records of each writer, from its first one on.
-fn all_remaining(alloc: Global, writers: &[WriterRecords]) -> Result<Vec<Remaining<'_>>, AllocError>
-    ensures { IfOk result (λ remaining. remaining.items ≡ writers.now) }
+// Whether no records of the writer can come: the log has ended, or the writer is closed.
+fn is_done(ended: bool, reader: &Reader, writer: u32) -> bool
+    ensures { writer < 256 → result ≡ (ended || get_or reader.now.writers.closed writer false) }
 {
-    let mut remaining = Vec::with_capacity(alloc, writers.len())?;
-    for records in writers {
-        remaining.push(records.remaining())?;
-    }
-    Ok(remaining)
+    ended || reader.is_closed(writer)
 }
 
-/// Prints the lines of all records, in order, and answers how many there are.
-pub fn print_lines<K: Sink>(
+/// Prints the lines of the records before which none can come any more, and answers how many there are. Where the log
+/// has ended these are all.
+pub fn print_ready<K: Sink>(
     alloc: Global,
     reader: &Reader,
-    writers: &[WriterRecords],
+    ended: bool,
+    merger: &mut Merger,
+    waiting: &mut [RecordQueue],
     out: &mut K,
 ) -> Result<u64, DecodeFault>
-    requires { ArePrintable reader.now.header.clock reader.now.messages writers.now }
-    ensures printed { PrintsText (Direct reader.now.header.clock (calls_by_writer reader.now.messages writers.now))
-        (K.put out.old) (K.put out.new) (K.faults out.old) (K.faults out.new) result }
-    ensures lines { IfOk result (λ lines. lines ≡ length (calls_by_writer reader.now.messages writers.now)) }
+    requires { (first all : List Block) × HasToPrint ended reader.now first all waiting.old merger.old }
+    ensures printed { (first all : List Block) → HasToPrint ended reader.now first all waiting.old merger.old
+        → PrintsReady ended reader.now.header first all (K.put out.old) (K.put out.new)
+        (K.faults out.old) (K.faults out.new) waiting.new merger.new result }
+    ensures write_fault { IsErrOf result DecodeFault.WriteFault → Rose (K.faults out.old) (K.faults out.new) }
+    ensures written { ¬ (IsErrOf result DecodeFault.WriteFault) → K.faults out.new ≡ K.faults out.old }
+    ensures count { K.faults out.old ≤ K.faults out.new }
+    ensures fault { OnErr result (IsErrOf result DecodeFault.WriteFault ⊎ IsErrOf result DecodeFault.NoMemory) }
     ensures others { K.rest out.old out.new }
 {
-    let order = print_order(alloc, writers)?;
-    let mut remaining = all_remaining(alloc, writers)?;
     let mut text = TextWriter::make();
     let mut buffer = Vec::new(alloc);
-    for writer in &order {
-        // A writer stands in the order once for each of its records.
-        let Some(record) = remaining[*writer as usize].next() else {
+    let mut lines = 0;
+    while let Next::Take(writer) = merger.next() {
+        let queue = &mut waiting[writer as usize];
+        // The merger has the first record of each writer.
+        let Some(record) = queue.first() else {
             continue;
         };
         buffer.clear();
-        push_line(reader, *writer, record, &mut buffer)?;
+        push_line(reader, writer, record, &mut buffer)?;
         text.put(out, &buffer)?;
+        queue.remove_first();
+        show_first(merger, writer, queue, is_done(ended, reader, writer));
+        lines += 1;
     }
     text.flush(out)?;
-    Ok(order.len() as u64)
+    Ok(lines)
 }

@@ -21,14 +21,14 @@ module _ (input : List ℕ) (course : Course) (form : Form) (begun : Begun) (is_
       subst (λ (new : Scene). CommandEffect (printing_task input course form begun is_right) old new ending) as_it_was
       (nothing_came (printing_task input course form begun is_right) old desk ending sound reads)
 
-  pub text_told : (text : List ℕ) (put : Told) (faults : ℕ) (ending : Ending) → IsSound (printing_task input course form begun is_right)
+  pub text_told : (text : List ℕ) (put : Told) (faults : ℕ) (ending : Ending) → ((name : List ℕ) → ending ≡ WriteFault name → ¬ (begun ending old.desk text)) → IsSound (printing_task input course form begun is_right)
       → ReadsFile input form begun old.desk desk (text_alone text) ending → put ≡ with_end text old.put → faults ≡ old.faults
       → CommandEffect (printing_task input course form begun is_right) old (scene desk put faults) ending
-  text_told text put faults NoMemory sound reads printed counted =
+  text_told text put faults NoMemory unbroken sound reads printed counted =
       let none : text ≡ [] = ap (λ (product : Product). product.text) reads.1 in
       nothing_told put faults NoMemory sound (reads.0, refl) (printed ∙ ap (λ (t : List ℕ). with_end t old.put) none) counted
-  text_told text put faults (WriteFault name) sound reads printed counted = absurd reads
-  text_told text put faults (Usage lines) sound reads printed counted = absurd reads
-  text_told text put faults ending sound reads printed counted =
+  text_told text put faults (WriteFault name) unbroken sound reads printed counted = absurd (unbroken name refl reads.text)
+  text_told text put faults (Usage lines) unbroken sound reads printed counted = absurd reads
+  text_told text put faults ending unbroken sound reads printed counted =
       completes (printing_task input course form begun is_right) old (scene desk put faults) ending tt
       (has_completed (printing_task input course form begun is_right) old desk (text_alone text) ending put faults (record { read = desk; reading = reads; made = refl }) printed counted)

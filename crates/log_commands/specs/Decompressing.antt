@@ -5,7 +5,7 @@ use Rattle.std.specs.List.{flat_map}
 use Rattle.decompressor.specs.declared.report.Report.{Report}
 use Rattle.decompressor.specs.declared.fault.DecodeFault.{DecodeFault}
 use Rattle.decompressor.specs.declared.fault.DecodeFault.TheVariants as faults
-use Rattle.decompressor.specs.Decompressing.{IsTextOfWhole, IsTextOfDamaged, IsTextOfCut}
+use Rattle.decompressor.specs.Decompressing.{IsTextOfWhole, IsTextOfDamaged, IsTextOfCut, IsTextOfSettled}
 use Rattle.command_base.specs.Endings.{Ending, Done, StillOpen, ReadFault, Damaged, WriteFault, NoMemory}
 use Rattle.command_base.specs.HeldFiles.{HoldsSuch}
 use Rattle.command_base.specs.Tasks.{Streaming, Task}
@@ -44,10 +44,13 @@ GivesText log old product ending =
     (answer : Result Report DecodeFault) × (ending ≡ log_ending log answer) × (product.made ≡ None)
     × HoldsSuch old log (HaveText product.text answer)
 
--- where a read failed: the lines of those of its bytes that were taken before
+-- where a read failed: the lines of those of its bytes that were taken before; where a write failed in the middle of the
+-- log, or memory was wanting there: the lines that were settled before
 abbrev pub BeginsText : List ℕ → Begun
-BeginsText log old text =
+BeginsText log (ReadFault name) old text =
     HoldsSuch old log (λ bytes. (taken : List ℕ) × (rest : List ℕ) × (bytes ≡ taken ++ rest) × IsTextOfCut taken text)
+BeginsText log (WriteFault name) old text = HoldsSuch old log (λ bytes. IsTextOfSettled bytes text)
+BeginsText log ending old text = ⊥
 
 -- `decompress`: the lines of a log are printed
 abbrev pub decompress_task : List ℕ → Task

@@ -1,5 +1,5 @@
 -- What `decompress` gives of a log that `replay` wrote.
-use Rattle.std.proofs.Common.{◌≡◌, ℕ, zero, suc, ◌+◌, ◌<◌, ◌≤◌, Bool, false, cond, List, [], ◌∷◌, length, Option, Some, None, Result, Ok, Err, refl, sym, ap, subst, ◌∙◌, inl, inr, arith}
+use Rattle.std.proofs.Common.{◌≡◌, ◌≢◌, ℕ, zero, suc, ◌+◌, ◌<◌, ◌≤◌, Bool, false, cond, List, [], ◌∷◌, length, Option, Some, None, Result, Ok, Err, refl, sym, ap, subst, ◌∙◌, inl, inr, arith}
 use Rattle.std.specs.Prelude.{◌⊎◌, not, filter, is_some, ⊤}
 use Rattle.std.specs.List.{list_any, range_with_len}
 use Rattle.std.specs.FinMap as map
@@ -16,7 +16,8 @@ use Rattle.checkpoint_io.proofs.lemmas.FrontLaws.{one_front, whole_is_front}
 use Rattle.decompressor.specs.declared.report.Report.{Report}
 use Rattle.decompressor.specs.declared.fault.DecodeFault.{DecodeFault}
 use Rattle.decompressor.specs.declared.fault.DecodeFault.TheVariants as faults
-use Rattle.decompressor.specs.Decompressing.{open_writers, IsTextOfWhole}
+use Rattle.decompressor.specs.Decompressing.{IsTextOfWhole}
+use Rattle.decompressor.specs.Settling.{open_writers}
 use Rattle.decompressor.proofs.lemmas.DecompressionLaws.{one_text}
 use Rattle.decompressor.proofs.lemmas.TextLaws.{log_is_text}
 use Rattle.trace_text.specs.Recordings.{Recording, IsRecording}
@@ -131,12 +132,13 @@ module _ (log : List ℕ) (options : Options) (run : Recording) (drops : List Dr
   done_told ending effect done = absurd cc
 
   -- a command that completes was done
-  completes_told : (ending : Ending) → CommandEffect (decompress_task log) old new ending
+  completes_told : (ending : Ending) → ((name : List ℕ) → ending ≢ WriteFault name)
+      → CommandEffect (decompress_task log) old new ending
       → (whole : Completes (decompress_task log) old new ending) → ¬ (Rose old.desk.read_faults new.desk.read_faults)
       → ((ending ≡ Done) × (new.put ≡ with_end (taken_text run options.level drops) old.put)) ⊎ (ending ≡ NoMemory)
-  completes_told ending effect whole r =
+  completes_told ending unbroken effect whole r =
       elim ((decompress_sound log).done old.desk whole.read whole.product ending whole.reading right
-      (unfailed whole.product.made None old.desk whole.read new.desk whole.made r)) [
+      (unfailed whole.product.made None old.desk whole.read new.desk whole.made r) unbroken) [
         | inl done ↦ inl (done_told ending effect done)
         | inr wants ↦ inr wants
       ]
@@ -149,7 +151,7 @@ module _ (log : List ℕ) (options : Options) (run : Recording) (drops : List Dr
   read_again (WriteFault name) (inr lost) r o = let no : None ≡ Some name = lost.output in absurd cc
   read_again NoMemory effect r o = inr refl
   read_again (Usage lines) effect r o = absurd effect
-  read_again ending effect r o = completes_told ending effect effect r
+  read_again ending effect r o = completes_told ending (λ name e. cc) effect effect r
 
 pub replayed : (log : List ℕ) (options : Options) (run : Recording) (drops : List Dropped) (bytes : List ℕ)
     (old new : Scene) (ending : Ending) (held : Held) → LogLawful old.desk log run options drops bytes

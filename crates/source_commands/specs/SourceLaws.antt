@@ -209,9 +209,9 @@ source_sound names output gives = record {
     | inl given ↦ inl given.1
     | inr none ↦ nothing_changes names output gives old new product ending none.1 none.0
   ];
-  writes_nothing = λ old new product name reads. reads.0;
+  writes_nothing = λ old new name reads. reads.0;
   has_words = λ old new product lines reads. reads.0;
-  done = λ old new product ending reads right r. elim (parts_read names gives old new product ending reads) [
+  done = λ old new product ending reads right r unbroken. elim (parts_read names gives old new product ending reads) [
     | inl given ↦ inl (ap status_of given.0)
     | inr none ↦ inr (right_taken names old new ending none.0 right r)
   ];

@@ -1,26 +1,67 @@
-use Rattle.std.proofs.Common.{List, sym, subst}
-use Rattle.arg_records.specs.declared.call.Call.{Call}
-use Rattle.decompressor.specs.Gathering.{HoldRecords}
-use Rattle.decompressor.proofs.Outcomes.{cut_off, answered, nothing_out}
+use Rattle.std.proofs.Common.{ℕ, Ok, Err, ap, sym, subst, ◌∙◌}
+use Rattle.checkpoint_io.specs.declared.fault.BlockFault.{BlockFault}
+use Rattle.decompressor.specs.declared.fault.DecodeFault.{DecodeFault}
+use Rattle.decompressor.specs.declared.step.Step.{Step}
+use Rattle.decompressor.specs.Decompressing.{Decompresses}
+use Rattle.decompressor.specs.Decompressors.{Steps}
+use Rattle.decompressor.proofs.Outcomes.{without_header, on_next, falls, ended, failed_as}
 use Rattle.decompressor.proofs.decompressing.decompress.Goals as goal
 
-pub returns-in_err-scan-clause-text : goal.returns-in_err-scan-clause-text
-returns-in_err-scan-clause-text g c =
-    nothing_out (g.S.Source.left c.args.source.now) (g.S.Source.left c.scan_log.new.source) (g.S.Source.faults c.args.source.now) (g.S.Source.faults c.scan_log.new.source) (g.K.Sink.put c.args.out.now) c.from_residual.result c.from_residual.ensures.1
-    (c.in_err-scan.ensures.counted (λ wrong. wrong))
+pub returns-in-Err-clause-text : goal.returns-in-Err-clause-text
+returns-in-Err-clause-text g c =
+    let file = g.S.Source.left c.args.source.now in
+    let left = g.S.Source.left c.make.new.source in
+    let before = g.S.Source.faults c.args.source.now in
+    let after = g.S.Source.faults c.make.new.source in
+    let put = g.K.Sink.put c.args.out.now in
+    let e = c.in-Err.ensures in
+    subst (λ (fault : DecodeFault). Decompresses file left before after put put (Err fault)) (sym c.header_fault.ensures.is)
+    (without_header file left before after put c.in-Err.fault (λ cause is. e.damaged cause (ap Err is)) (λ is. e.cut (ap Err is)) (λ is. e.read_fault (ap Err is)) (λ other. e.counted (λ is. other cc)))
 
-pub returns-in_err-lines-clause-text : goal.returns-in_err-lines-clause-text
-returns-in_err-lines-clause-text g c =
-    let s = c.in_ok-scan.ensures.scanned in
-    let held = subst (λ (writers : List (List Call)). HoldRecords writers s.part) (sym c.deref.ensures.value) s.folded in
-    cut_off (g.S.Source.left c.args.source.now) (g.S.Source.left c.scan_log.new.source) s.part c.in_ok-scan.scan.end (g.S.Source.faults c.args.source.now) (g.S.Source.faults c.scan_log.new.source) (g.K.Sink.faults c.args.out.now) (g.K.Sink.faults c.print_read.new.out)
-    (g.K.Sink.put c.args.out.now) (g.K.Sink.put c.print_read.new.out) c.in_err-lines.field-0.0 c.from_residual-in_err-lines.result c.from_residual-in_err-lines.ensures.1
-    s.ends c.in_ok-scan.ensures.read_fault c.in_ok-scan.ensures.counted (c.in_err-lines.ensures.printed s.part s.read held)
+pub returns-in_err-step-clause-text : goal.returns-in_err-step-clause-text
+returns-in_err-step-clause-text g c =
+    let on = c.loop-log.invariant.on in
+    subst (λ (n : ℕ). Decompresses (g.S.Source.left c.args.source.now) (g.S.Source.left c.step.new.source) n (g.S.Source.faults c.step.new.source) (g.K.Sink.put c.args.out.now) (g.K.Sink.put c.step.new.out) c.from_residual.result) c.loop-log.invariant.counted
+    (failed_as (g.S.Source.left c.args.source.now) (g.K.Sink.put c.args.out.now) c.loop-log.log.printer (g.S.Source.left c.loop-log.source) (g.K.Sink.put c.loop-log.out) c.loop-log.invariant.on c.step.new.self.printer (g.S.Source.left c.step.new.source) (g.K.Sink.put c.step.new.out) (g.S.Source.faults c.loop-log.source) (g.S.Source.faults c.step.new.source) c.in_err-step.field-0.0 c.from_residual.result c.from_residual.ensures.1
+    (c.in_err-step.ensures.step on.taken on.text on.printed))
 
-pub returns-clause-text : goal.returns-clause-text
-returns-clause-text g c =
-    let s = c.in_ok-scan.ensures.scanned in
-    let held = subst (λ (writers : List (List Call)). HoldRecords writers s.part) (sym c.deref.ensures.value) s.folded in
-    answered (g.S.Source.left c.args.source.now) (g.S.Source.left c.scan_log.new.source) s.part c.in_ok-scan.scan.end (g.S.Source.faults c.args.source.now) (g.S.Source.faults c.scan_log.new.source)
-    (g.K.Sink.put c.args.out.now) (g.K.Sink.put c.print_read.new.out) c.in_ok-lines.lines c.answer_of.result (c.answer_of.ensures.answers s.part s.read s.whole)
-    s.ends c.in_ok-scan.ensures.read_fault c.in_ok-scan.ensures.counted (c.in_ok-lines.ensures.printed s.part s.read held).0 (c.in_ok-lines.ensures.lines s.part s.read held)
+pub returns-in_err-step-clause-out_others : goal.returns-in_err-step-clause-out_others
+returns-in_err-step-clause-out_others g c = g.met.K.Sink.rest_then _ _ _ c.loop-log.invariant.out_others c.step.ensures.out_others
+
+pub returns-in_err-step-clause-source_others : goal.returns-in_err-step-clause-source_others
+returns-in_err-step-clause-source_others g c = g.met.S.Source.rest_then _ _ _ c.loop-log.invariant.source_others c.step.ensures.source_others
+
+pub loop-log-smaller : goal.loop-log-smaller
+loop-log-smaller g c =
+    let on = c.loop-log.invariant.on in
+    let stepped = subst (λ (step : Step). Steps c.loop-log.log.printer c.step.new.self.printer on.taken on.text on.printed (g.S.Source.left c.loop-log.source) (g.S.Source.left c.step.new.source) (g.S.Source.faults c.loop-log.source) (g.S.Source.faults c.step.new.source) (g.K.Sink.put c.loop-log.out) (g.K.Sink.put c.step.new.out) (Ok step)) c.in-More.is
+    (c.in_ok-step.ensures.step on.taken on.text on.printed) in
+    falls (g.S.Source.left c.args.source.now) (g.K.Sink.put c.args.out.now) c.loop-log.log.printer (g.S.Source.left c.loop-log.source) (g.K.Sink.put c.loop-log.out) c.loop-log.invariant.on c.step.new.self.printer (g.S.Source.left c.step.new.source) (g.K.Sink.put c.step.new.out) stepped.0
+
+pub loop-log-preserved : goal.loop-log-preserved
+loop-log-preserved g c =
+    let on = c.loop-log.invariant.on in
+    let stepped = subst (λ (step : Step). Steps c.loop-log.log.printer c.step.new.self.printer on.taken on.text on.printed (g.S.Source.left c.loop-log.source) (g.S.Source.left c.step.new.source) (g.S.Source.faults c.loop-log.source) (g.S.Source.faults c.step.new.source) (g.K.Sink.put c.loop-log.out) (g.K.Sink.put c.step.new.out) (Ok step)) c.in-More.is
+    (c.in_ok-step.ensures.step on.taken on.text on.printed) in
+    record {
+      going = c.in_ok-step.ensures.more (ap Ok c.in-More.is);
+      on = on_next (g.S.Source.left c.args.source.now) (g.K.Sink.put c.args.out.now) c.loop-log.log.printer (g.S.Source.left c.loop-log.source) (g.K.Sink.put c.loop-log.out) c.loop-log.invariant.on c.step.new.self.printer (g.S.Source.left c.step.new.source) (g.K.Sink.put c.step.new.out) stepped.0;
+      counted = stepped.1 ∙ c.loop-log.invariant.counted;
+      written = c.in_ok-step.ensures.written (λ e. cc) ∙ c.loop-log.invariant.written;
+      source_others = g.met.S.Source.rest_then _ _ _ c.loop-log.invariant.source_others c.step.ensures.source_others;
+      out_others = g.met.K.Sink.rest_then _ _ _ c.loop-log.invariant.out_others c.step.ensures.out_others;
+    }
+
+pub returns-in-End-clause-text : goal.returns-in-End-clause-text
+returns-in-End-clause-text g c =
+    let on = c.loop-log.invariant.on in
+    let stepped = subst (λ (step : Step). Steps c.loop-log.log.printer c.step.new.self.printer on.taken on.text on.printed (g.S.Source.left c.loop-log.source) (g.S.Source.left c.step.new.source) (g.S.Source.faults c.loop-log.source) (g.S.Source.faults c.step.new.source) (g.K.Sink.put c.loop-log.out) (g.K.Sink.put c.step.new.out) (Ok step)) c.in-End.is
+    (c.in_ok-step.ensures.step on.taken on.text on.printed) in
+    subst (λ (n : ℕ). Decompresses (g.S.Source.left c.args.source.now) (g.S.Source.left c.step.new.source) n (g.S.Source.faults c.step.new.source) (g.K.Sink.put c.args.out.now) (g.K.Sink.put c.step.new.out) (Ok c.in-End.report)) c.loop-log.invariant.counted
+    (ended (g.S.Source.left c.args.source.now) (g.K.Sink.put c.args.out.now) c.loop-log.log.printer (g.S.Source.left c.loop-log.source) (g.K.Sink.put c.loop-log.out) c.loop-log.invariant.on c.step.new.self.printer (g.S.Source.left c.step.new.source) (g.K.Sink.put c.step.new.out) (g.S.Source.faults c.loop-log.source) (g.S.Source.faults c.step.new.source) c.in-End.report stepped)
+
+pub returns-in-End-clause-out_others : goal.returns-in-End-clause-out_others
+returns-in-End-clause-out_others g c = g.met.K.Sink.rest_then _ _ _ c.loop-log.invariant.out_others c.step.ensures.out_others
+
+pub returns-in-End-clause-source_others : goal.returns-in-End-clause-source_others
+returns-in-End-clause-source_others g c = g.met.S.Source.rest_then _ _ _ c.loop-log.invariant.source_others c.step.ensures.source_others

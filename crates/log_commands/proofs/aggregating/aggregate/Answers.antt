@@ -29,4 +29,4 @@ returns-clause-ends g c =
     let desk = g.F.Files.desk c.read_totals-totals.new.files in
     let printed = c.in_ok-print_line.ensures.printed in
     text_told c.args.log.now WhileReading (GivesTotals c.args.log.now c.args.id c.args.nth) never (HasNumber c.args.id c.args.nth) old desk
-    (totals_text c.read_totals-totals.result.0) _ _ _ (aggregate_sound c.args.log.now c.args.id c.args.nth) c.read_totals-totals.ensures.reads printed.0 printed.1
+    (totals_text c.read_totals-totals.result.0) _ _ _ (λ name is begun. begun) (aggregate_sound c.args.log.now c.args.id c.args.nth) c.read_totals-totals.ensures.reads printed.0 printed.1

@@ -38,7 +38,7 @@ returns-in_ok-note_of-in-Ok-clause-ends g c =
     subst (λ (ending : Ending). CommandEffect task old new ending) (sym c.in_ok-note_of-in-Ok.ensures)
     (all_told c.args.log.now old new.desk opens.content left
     (was_read _ _ _ _ _ _ opens c.decompress_open-decompressed.ensures.same c.decompress_open-decompressed.ensures.count leaves)
-    said.0 (Ok c.in-Ok.report) new.put new.faults said.2 said.1 (c.in-Ok.ensures.written (λ e. cc)))
+    said.0 (Ok c.in-Ok.report) new.put new.faults tt said.2 said.1 (c.in-Ok.ensures.written (λ e. cc)))
 
 pub returns-in_err-note_of-in-Ok-clause-ends : goal.returns-in_err-note_of-in-Ok-clause-ends
 returns-in_err-note_of-in-Ok-clause-ends g c =

@@ -1,0 +1,105 @@
+-- What a block that was read makes ready to be printed.
+use Rattle.std.proofs.Common.{◌≡◌, ℕ, ◌+◌, ◌<◌, ◌≤◌, Bool, true, false, ◌||◌, List, [], ◌∷◌, ◌++◌, length, drop, refl, ap, sym, subst, ◌∙◌, arith}
+use Rattle.std.specs.List.{list_any}
+use Rattle.std.proofs.lemmas.List.{append-nil, length-append, drop-append-le}
+use Rattle.std.proofs.lemmas.List.Folds.{list_any-append}
+use Rattle.arg_records.specs.declared.call.Call.{Call}
+use Rattle.checkpoint_io.specs.declared.header.Header.{Header}
+use Rattle.checkpoint_io.specs.Blocks.{Block, Fragment, Extent, Close, messages_of}
+use Rattle.checkpoint_io.specs.Validity.{block_records, records_of, closes, IsRightAfter, Valid}
+use Rattle.checkpoint_io.proofs.lemmas.ValidityLaws.{records-push, AreRightAfter-split}
+use Rattle.stamp_merge.specs.declared.merger.ListState.{ListState}
+use Rattle.direct_printf.specs.Lines.{in_order}
+use Rattle.decompressor.specs.Settling.{closed_by, settled_calls}
+use Rattle.decompressor.specs.Waiting.{HasHeads, MayStillCome, closed_behind, TakesRecords}
+use Rattle.decompressor.specs.Decompressors.{PrinterState, count_of, no_more_come, HasToPrint, HasTaken, HasLast}
+use Rattle.decompressor.proofs.WriterLists.{own}
+use Rattle.decompressor.proofs.Printed.{settled_printed}
+use Rattle.decompressor.proofs.Calls.{has_calls}
+use Rattle.decompressor.proofs.Growing.{front_valid}
+use Rattle.decompressor.proofs.Heads.{heads_by}
+use Rattle.decompressor.proofs.Turns.{no_more_calls}
+
+-- ---- which records may come
+
+not_closed : (writer : ℕ) (blocks : List Block) → ¬ (list_any (closes writer) blocks ≡ true) → closed_by blocks writer ≡ false
+not_closed writer blocks none = at (closed_by blocks writer) refl
+  where
+    at : (b : Bool) → closed_by blocks writer ≡ b → b ≡ false
+    at true is = absurd (none is)
+    at false is = refl
+
+may_come : (header : Header) (first : List Block) (block : Block) → IsRightAfter header first block → MayStillCome (closed_by first) header.writers block
+may_come header first (Fragment f messages) right w of = absurd of
+may_come header first (Extent v entries) right w of =
+    (subst (λ (u : ℕ). u < header.writers) of right.writer_open.known, subst (λ (u : ℕ). closed_by first u ≡ false) of (not_closed v first right.writer_open.unclosed))
+may_come header first (Close v) right w of =
+    (subst (λ (u : ℕ). u < header.writers) of right.known, subst (λ (u : ℕ). closed_by first u ≡ false) of (not_closed v first right.unclosed))
+
+or_nothing : (b : Bool) → (b || false) ≡ b
+or_nothing true = refl
+or_nothing false = refl
+
+module _ (state : PrinterState) (first : List Block) (block : Block) (read : HasTaken state first block) where
+  abbrev header : Header
+  header = state.reader.header
+
+  abbrev all : List Block
+  all = first ++ block ∷ []
+
+  pub come : MayStillCome (closed_by first) (length state.waiting) block
+  come w of =
+      let both = may_come header first block (AreRightAfter-split header [] first (block ∷ []) read.valid.blocks_right).1.0 w of in
+      (omega (arith, both.0, read.are_waiting.count), both.1)
+
+  -- ---- what is ready to be printed
+
+  module _ (changed : List (List Call)) (new : List ListState) (took : TakesRecords (closed_by first) block state.waiting changed new) where
+    few_printed : (w : ℕ) → count_of w (in_order (settled_calls header first)) ≤ length (records_of w first)
+    few_printed w =
+        let was : Valid header first = front_valid header first (block ∷ []) read.valid in
+        let settled = settled_printed header first (has_calls header first was) in
+        omega (
+          arith,
+          ap length (settled.whole w),
+          length-append (own w (in_order (settled_calls header first))) (settled.rest w),
+          no_more_calls header first was w,
+        )
+
+    pub ready : HasToPrint false state.reader first all changed new
+    ready = record {
+      more = block ∷ [];
+      joined = refl;
+      valid = read.valid;
+      few = read.few;
+      others = [];
+      known = read.known ∙ sym (append-nil (messages_of all));
+      closed = read.closed;
+      are_waiting = record {
+        count = took.count ∙ read.are_waiting.count;
+        each = λ w known.
+            let n = count_of w (in_order (settled_calls header first)) in
+            took.waiting w
+            ∙ ap (λ (entries : List Call). entries ++ block_records w block) (read.are_waiting.each w known)
+            ∙ sym (drop-append-le n (records_of w first) (block_records w block) (few_printed w))
+            ∙ ap (drop n) (sym (records-push w first block));
+      };
+      heads = heads_by (closed_behind (closed_by first) block) new changed took.heads (no_more_come false all)
+          (λ w known. sym (list_any-append (closes w) first (block ∷ []) ∙ ap (λ (b : Bool). closed_by first w || b) (or_nothing (closes w block))));
+    }
+
+-- ---- nothing more comes
+
+module _ (state : PrinterState) (blocks : List Block) (last : HasLast state blocks) where
+  pub all_ready_now : (new : List ListState) → HasHeads (λ writer. true) new state.waiting → HasToPrint true state.reader blocks blocks state.waiting new
+  all_ready_now new heads = record {
+    more = [];
+    joined = sym (append-nil blocks);
+    valid = last.valid;
+    few = last.few;
+    others = last.others;
+    known = last.known;
+    closed = λ w known. refl;
+    are_waiting = last.are_waiting;
+    heads = heads;
+  }

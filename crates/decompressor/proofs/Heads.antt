@@ -1,0 +1,193 @@
+-- What a merger has of the records that wait.
+use Rattle.std.proofs.Common.{◌≡◌, ◌≢◌, ℕ, ◌+◌, ◌<◌, Bool, true, false, ◌||◌, eqb, cond, Some, None, List, [], ◌∷◌, ◌++◌, length, refl, ap, sym, subst, ◌∙◌, inl, inr, arith}
+use Rattle.std.specs.Prelude.{slice_get, slice_set, OnOk, Result, Ok, Err}
+use Rattle.std.proofs.lemmas.Bool.Decides.{eqb_tells}
+use Rattle.std.proofs.lemmas.List.{append-nil, get_or-set_same, get_or-set_other, set-get_or, length-set}
+use Rattle.arg_records.specs.declared.call.Call.{Call}
+use Rattle.checkpoint_io.specs.declared.block.Block.{Block as ReadBlock}
+use Rattle.checkpoint_io.specs.declared.block.Block.TheVariants as read
+use Rattle.checkpoint_io.specs.Blocks.{Block, Fragment, Extent, Close}
+use Rattle.checkpoint_io.specs.Validity.{block_records, closes}
+use Rattle.checkpoint_io.specs.NextBlocks.{Describes}
+use Rattle.checkpoint_io.proofs.lemmas.FileLaws.{is_extent}
+use Rattle.stamp_merge.specs.declared.merger.ListState.{ListState}
+use Rattle.stamp_merge.specs.Mergers.{no_list, list_at, wants, with_head, with_close}
+use Rattle.stamp_merge.proofs.lemmas.Mergers.{wanting_is}
+use Rattle.decompressor.specs.Waiting.{list_of, records_at, HasHeads, MayStillCome, closed_behind, TakesRecords}
+
+-- ---- one list
+
+wanting_state : (list : ListState) → wants list ≡ true → list ≡ record { head = None; closed = false }
+wanting_state list want =
+    let is = wanting_is list.head list.closed want in
+    λ i. record { head = is.0 i; closed = is.1 i }
+
+-- what is there where a list has no first record, or has one
+none_first : (entries : List Call) → entries ≡ [] → (closed : Bool) → list_of closed entries ≡ record { head = None; closed = closed }
+none_first entries none closed = ap (list_of closed) none
+
+first_shown : (closed : Bool) (entries : List Call) (first : Call) → slice_get entries 0 ≡ Some first → list_of closed entries ≡ record { head = Some first.stamp; closed = false }
+first_shown closed [] first is = cc
+first_shown closed (entry ∷ entries) first is = let same : entry ≡ first = cc in λ i. record { head = Some (same i).stamp; closed = false }
+
+module _ (lists : List ListState) (writer : ℕ) where
+  pub shown_some : (closed : Bool) (entries : List Call) (first : Call) → wants (list_at lists writer) ≡ true → slice_get entries 0 ≡ Some first → with_head lists writer first.stamp ≡ slice_set lists writer (list_of closed entries)
+  shown_some closed entries first want is =
+      ap (slice_set lists writer) (ap (λ (s : ListState). record s { head = Some first.stamp }) (wanting_state (list_at lists writer) want) ∙ sym (first_shown closed entries first is))
+
+  pub shown_closed : (closed : Bool) (entries : List Call) → closed ≡ true → wants (list_at lists writer) ≡ true → entries ≡ [] → with_close lists writer ≡ slice_set lists writer (list_of closed entries)
+  shown_closed closed entries is_closed want none =
+      ap (slice_set lists writer) (ap (λ (s : ListState). record s { closed = true }) (wanting_state (list_at lists writer) want) ∙ sym (none_first entries none closed ∙ ap (λ (c : Bool). record { head = None; closed = c }) is_closed))
+
+  same_list : (list : ListState) → list_at lists writer ≡ list → lists ≡ slice_set lists writer list
+  same_list list is = sym (set-get_or lists writer no_list) ∙ ap (slice_set lists writer) is
+
+  pub shown_open : (closed : Bool) (entries : List Call) → closed ≡ false → wants (list_at lists writer) ≡ true → entries ≡ [] → lists ≡ slice_set lists writer (list_of closed entries)
+  shown_open closed entries is_open want none =
+      same_list (list_of closed entries) (wanting_state (list_at lists writer) want ∙ sym (none_first entries none closed ∙ ap (λ (c : Bool). record { head = None; closed = c }) is_open))
+
+  -- ---- a writer is closed
+
+  pub close_none : (closed : Bool) (entries : List Call) → list_at lists writer ≡ list_of closed entries → entries ≡ [] → with_close lists writer ≡ slice_set lists writer (list_of true entries)
+  close_none closed entries is none =
+      ap (slice_set lists writer) (ap (λ (s : ListState). record s { closed = true }) (is ∙ none_first entries none closed) ∙ sym (none_first entries none true))
+
+  some_same : (one other : Bool) (entries : List Call) → entries ≢ [] → list_of one entries ≡ list_of other entries
+  some_same one other [] some = absurd (some refl)
+  some_same one other (entry ∷ entries) some = refl
+
+  pub close_some : (closed : Bool) (entries : List Call) → list_at lists writer ≡ list_of closed entries → entries ≢ [] → lists ≡ slice_set lists writer (list_of true entries)
+  close_some closed entries is some = same_list (list_of true entries) (is ∙ some_same closed true entries some)
+
+  -- ---- records are added
+
+  pub add_wants : (entries : List Call) → list_at lists writer ≡ list_of false entries → entries ≡ [] → wants (list_at lists writer) ≡ true
+  add_wants entries is none = ap wants (is ∙ none_first entries none false)
+
+  more_same : (entries more : List Call) → entries ≢ [] → list_of false entries ≡ list_of false (entries ++ more)
+  more_same [] more some = absurd (some refl)
+  more_same (entry ∷ entries) more some = refl
+
+  pub add_some : (entries more all : List Call) → list_at lists writer ≡ list_of false entries → entries ≢ [] → all ≡ entries ++ more → lists ≡ slice_set lists writer (list_of false all)
+  add_some entries more all is some joined = same_list (list_of false all) (is ∙ more_same entries more some ∙ ap (list_of false) (sym joined))
+
+-- ---- all lists
+
+module _ (closed : ℕ → Bool) (lists : List ListState) (waiting : List (List Call)) (heads : HasHeads closed lists waiting) where
+  -- another function that tells the same of the writers
+  pub heads_by : (other : ℕ → Bool) → ((w : ℕ) → w < length waiting → closed w ≡ other w) → HasHeads other lists waiting
+  heads_by other same = record { many = heads.many; each = λ w known. heads.each w known ∙ ap (λ (c : Bool). list_of c (records_at waiting w)) (same w known) }
+
+  -- the list of one writer, and its records, change
+  pub heads_set : (other : ℕ → Bool) (writer : ℕ) (entries : List Call) → writer < length waiting → ((w : ℕ) → w ≢ writer → closed w ≡ other w) → HasHeads other (slice_set lists writer (list_of (other writer) entries)) (slice_set waiting writer entries)
+  heads_set other writer entries within same = record {
+    many = length-set lists writer (list_of (other writer) entries) ∙ heads.many ∙ sym (length-set waiting writer entries);
+    each = λ w known. elim (eqb_tells w writer) [
+      | inl one ↦
+          subst (λ (v : ℕ). list_at (slice_set lists writer (list_of (other writer) entries)) v ≡ list_of (other v) (records_at (slice_set waiting writer entries) v)) (sym one.1)
+          (get_or-set_same lists writer (list_of (other writer) entries) no_list (omega (arith, within, heads.many))
+          ∙ ap (list_of (other writer)) (sym (get_or-set_same waiting writer entries [] within)))
+      | inr apart ↦
+          get_or-set_other lists writer w (list_of (other writer) entries) no_list apart.1
+          ∙ heads.each w (omega (arith, known, length-set waiting writer entries))
+          ∙ (λ i. list_of (same w apart.1 i) (sym (get_or-set_other waiting writer w entries [] apart.1) i))
+    ];
+  }
+
+-- ---- a block
+
+pub is_fragment : (first count : ℕ) (block : Block) → Describes (read.Fragment first count) block → (writer : ℕ) → (block_records writer block ≡ []) × (closes writer block ≡ false)
+is_fragment first count (Fragment f messages) tells writer = (refl, refl)
+is_fragment first count (Extent w entries) tells writer = cc
+is_fragment first count (Close w) tells writer = cc
+
+pub is_close : (writer : ℕ) (block : Block) → Describes (read.Closed writer) block → block ≡ Close writer
+is_close writer (Fragment first messages) tells = cc
+is_close writer (Extent w entries) tells = cc
+is_close writer (Close w) tells = cc
+
+or_false : (b c : Bool) → c ≡ false → b ≡ (b || c)
+or_false true c is = refl
+or_false false c is = sym is
+
+or_true : (b c : Bool) → c ≡ true → (b || c) ≡ true
+or_true true c is = refl
+or_true false c is = is
+
+pub own_test : (writer : ℕ) → eqb writer writer ≡ true
+own_test writer = elim (eqb_tells writer writer) [ inl same ↦ same.0 | inr apart ↦ absurd (apart.1 refl) ]
+
+pub either_true : (b c : Bool) → c ≡ true → (b || c) ≡ true
+either_true = or_true
+
+other_test : (v w : ℕ) → w ≢ v → eqb v w ≡ false
+other_test v w apart = elim (eqb_tells v w) [ inl same ↦ absurd (apart (sym same.1)) | inr other ↦ other.0 ]
+
+module _ (closed : ℕ → Bool) (lists : List ListState) (waiting : List (List Call)) (heads : HasHeads closed lists waiting) where
+  pub takes_fragment : (block : Block) → ((writer : ℕ) → (block_records writer block ≡ []) × (closes writer block ≡ false)) → TakesRecords closed block waiting waiting lists
+  takes_fragment block none = record {
+    count = refl;
+    waiting = λ w. sym (ap (λ (es : List Call). records_at waiting w ++ es) (none w).0 ∙ append-nil (records_at waiting w));
+    heads = heads_by closed lists waiting heads (closed_behind closed block) (λ w known. or_false (closed w) (closes w block) (none w).1);
+  }
+
+  pub takes_extent : (writer : ℕ) (entries all : List Call) (changed : List (List Call)) (new : List ListState) → writer < length waiting → closed writer ≡ false → all ≡ records_at waiting writer ++ entries
+      → changed ≡ slice_set waiting writer all → new ≡ slice_set lists writer (list_of false all) → TakesRecords closed (Extent writer entries) waiting changed new
+  takes_extent writer entries all changed new within is_open joined changed_is new_is = record {
+    count = ap length changed_is ∙ length-set waiting writer all;
+    waiting = λ w.
+        ap (λ (lists : List (List Call)). records_at lists w) changed_is
+        ∙ elim (eqb_tells w writer) [
+          | inl one ↦
+              subst (λ (v : ℕ). records_at (slice_set waiting writer all) v ≡ records_at waiting v ++ block_records v (Extent writer entries)) (sym one.1)
+              (get_or-set_same waiting writer all [] within ∙ joined ∙ ap (λ (b : Bool). records_at waiting writer ++ cond b entries []) (sym (own_test writer)))
+          | inr apart ↦
+              get_or-set_other waiting writer w all [] apart.1
+              ∙ sym (append-nil (records_at waiting w))
+              ∙ ap (λ (b : Bool). records_at waiting w ++ cond b entries []) (sym (other_test writer w apart.1))
+        ];
+    heads =
+        subst (λ (ls : List ListState). HasHeads (closed_behind closed (Extent writer entries)) ls changed) (sym (new_is ∙ ap (λ (b : Bool). slice_set lists writer (list_of b all)) (sym is_open ∙ or_false (closed writer) false refl)))
+        (subst (HasHeads (closed_behind closed (Extent writer entries)) (slice_set lists writer (list_of (closed writer || false) all))) (sym changed_is)
+        (heads_set closed lists waiting heads (closed_behind closed (Extent writer entries)) writer all within (λ w apart. or_false (closed w) false refl)));
+  }
+
+  pub takes_close : (writer : ℕ) (new : List ListState) → writer < length waiting → new ≡ slice_set lists writer (list_of true (records_at waiting writer)) → TakesRecords closed (Close writer) waiting waiting new
+  takes_close writer new within new_is = record {
+    count = refl;
+    waiting = λ w. sym (append-nil (records_at waiting w));
+    heads =
+        let other = closed_behind closed (Close writer) in
+        let changed = heads_set closed lists waiting heads other writer (records_at waiting writer) within (λ w apart. or_false (closed w) (eqb writer w) (other_test writer w apart)) in
+        subst (λ (ls : List ListState). HasHeads other ls waiting) (sym (new_is ∙ ap (λ (b : Bool). slice_set lists writer (list_of b (records_at waiting writer))) (sym (or_true (closed writer) (eqb writer writer) (own_test writer)))))
+        (subst (HasHeads other (slice_set lists writer (list_of (other writer) (records_at waiting writer)))) (set-get_or waiting writer []) changed);
+  }
+
+  -- ---- no more records come
+
+  -- the first lists are closed, and one more
+  pub close_one : (done : ℕ) (new : List ListState) → done < length waiting → new ≡ slice_set lists done (list_of true (records_at waiting done)) → HasHeads (λ w. eqb w done || closed w) new waiting
+  close_one done new within new_is =
+      let other : ℕ → Bool = λ w. eqb w done || closed w in
+      let is_closed : other done ≡ true = ap (λ (b : Bool). b || closed done) (own_test done) in
+      let changed = heads_set closed lists waiting heads other done (records_at waiting done) within (λ w apart. ap (λ (b : Bool). b || closed w) (sym (other_test w done (λ e. apart (sym e))))) in
+      subst (λ (ls : List ListState). HasHeads other ls waiting) (sym (new_is ∙ ap (λ (b : Bool). slice_set lists done (list_of b (records_at waiting done))) (sym is_closed)))
+      (subst (HasHeads other (slice_set lists done (list_of (other done) (records_at waiting done)))) (set-get_or waiting done []) changed)
+
+-- ---- the writer of a block
+
+pub extent_may : (told : ReadBlock) (block : Block) (closed : ℕ → Bool) (count writer : ℕ) (entries : List Call) → told ≡ read.Extent writer entries → Describes told block → MayStillCome closed count block → (writer < count) × (closed writer ≡ false) × (block ≡ Extent writer entries)
+extent_may told block closed count writer entries named tells may =
+    let is = is_extent writer entries block (subst (λ (t : ReadBlock). Describes t block) named tells) in
+    let both = subst (MayStillCome closed count) is may writer refl in
+    (both.0, both.1, is)
+
+pub close_may : (told : ReadBlock) (block : Block) (closed : ℕ → Bool) (count writer : ℕ) → told ≡ read.Closed writer → Describes told block → MayStillCome closed count block → (writer < count) × (block ≡ Close writer)
+close_may told block closed count writer named tells may =
+    let is = is_close writer block (subst (λ (t : ReadBlock). Describes t block) named tells) in
+    ((subst (MayStillCome closed count) is may writer refl).0, is)
+
+-- both hold where a call succeeded
+pub on_both : {T E : Type 0} (A B C : Type 0) (r : Result T E) → (A → B → C) → OnOk r A → OnOk r B → OnOk r C
+on_both A B C (Ok x) then a b = then a b
+on_both A B C (Err e) then a b = tt

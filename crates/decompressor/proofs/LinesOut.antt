@@ -1,0 +1,239 @@
+-- The text of records that are printed one after the other.
+use Rattle.std.proofs.Common.{◌≡◌, ◌≢◌, ℕ, ◌+◌, ◌<◌, ◌≤◌, Bool, true, false, Some, List, [], ◌∷◌, ◌++◌, length, drop, Result, Ok, Err, refl, ap, sym, subst, ◌∙◌, append_assoc, arith}
+use Rattle.std.specs.Prelude.{slice_get, slice_set, sum_by}
+use Rattle.std.specs.List.{AllByRecursion, flat_map}
+use Rattle.std.specs.Result.{IsErrAnd}
+use Rattle.std.proofs.lemmas.List.{append-nil, length-append}
+use Rattle.std.proofs.lemmas.List.Sorted.{length_permutation}
+use Rattle.std.proofs.lemmas.Grind.{flat_map-append}
+use Rattle.nl_io.specs.Content.{Told, with_end}
+use Rattle.nl_io.specs.TextWriters.{Carries, IsCutOff}
+use Rattle.nl_io.proofs.lemmas.TextWriters.{carries_more, carries_all, carries_front, cut_more, cut_held}
+use Rattle.log_dictionary.specs.declared.clock.Clock.{Clock}
+use Rattle.log_dictionary.specs.declared.message.Message.{Message}
+use Rattle.log_dictionary.specs.Calls.{LogCall}
+use Rattle.arg_records.specs.declared.call.Call.{Call}
+use Rattle.checkpoint_io.specs.declared.header.Header.{Header}
+use Rattle.checkpoint_io.specs.Blocks.{Block, messages_of}
+use Rattle.checkpoint_io.specs.Validity.{Valid}
+use Rattle.checkpoint_io.specs.Readers.{ReaderState}
+use Rattle.stamp_merge.specs.declared.merger.ListState.{ListState}
+use Rattle.stamp_merge.specs.Merging.{merge_order}
+use Rattle.stamp_merge.specs.Mergers.{list_at, wants, NoneWants, heads_of, without_head}
+use Rattle.direct_printf.specs.Lines.{in_order, Line, Direct}
+use Rattle.direct_printf.proofs.lemmas.Sorting.{in_order-permutation}
+use Rattle.decompressor.specs.declared.fault.DecodeFault.{DecodeFault}
+use Rattle.decompressor.specs.declared.fault.DecodeFault.TheVariants.{WriteFault, NoMemory}
+use Rattle.decompressor.specs.Decompression.{all_calls}
+use Rattle.decompressor.specs.Settling.{closed_by, settled_calls}
+use Rattle.decompressor.specs.Waiting.{list_of, records_at}
+use Rattle.decompressor.specs.Decompressors.{AreWaiting, no_more_come, ready_calls, HasToPrint, HasMore, CutsMore, PrintsReady}
+use Rattle.decompressor.specs.Printing.{CutsText}
+use Rattle.decompressor.proofs.RecordCalls.{IsCallOf, line_is}
+use Rattle.decompressor.proofs.Rising.{all_as}
+use Rattle.decompressor.proofs.WriterLists.{IsOf}
+use Rattle.decompressor.proofs.Settled.{IsReached}
+use Rattle.decompressor.proofs.Printed.{HasCalls, IsPrinted, rest_mine, settled_later, settled_go_on, later, goes_on, settled_printed}
+use Rattle.decompressor.proofs.Calls.{has_calls}
+use Rattle.decompressor.proofs.Growing.{printed_on, front_valid, text_is, lines_go_on}
+use Rattle.decompressor.proofs.Turns.{IsAt, calls_there, Takes, takes, taken, wishes, fewer, more_is, either_false}
+
+many : (calls : List LogCall) → length (in_order calls) ≡ length calls
+many calls = sym (length_permutation (in_order calls) calls (in_order-permutation calls))
+
+module _ (header : Header) (all : List Block) where
+  -- where more is known to have ended, what is reached stays so
+  ended_more : (closed other : ℕ → Bool) (printed : List LogCall) → ((w : ℕ) → other w ≡ false → closed w ≡ false) → IsPrinted header all closed printed → IsPrinted header all other printed
+  ended_more closed other printed fewer is = record {
+    rest = is.rest;
+    whole = is.whole;
+    rises = is.rises;
+    reached = all_as (IsReached header all closed) (IsReached header all other) printed (λ call reached w known is_open. reached w known (fewer w is_open)) is.reached;
+  }
+
+-- the calls that can be printed, in order, begin with what was
+ready_go_on : (ended : Bool) (header : Header) (all : List Block) (printed : List LogCall) → HasCalls header all → IsPrinted header all (no_more_come ended all) printed → (more : List LogCall) × (in_order (ready_calls ended header all) ≡ printed ++ more)
+ready_go_on true header all printed has is = (later header all has (no_more_come true all) printed is, goes_on header all has (no_more_come true all) printed is)
+ready_go_on false header all printed has is = (settled_later header all has (no_more_come false all) printed is refl, settled_go_on header all has (no_more_come false all) printed is refl)
+
+-- Some of the records were printed, and their lines are on their way.
+pub record HasLines (ended : Bool) (header : Header) (first all : List Block) (valid : Valid header all) (lines : ℕ) (was is : Told) (held : List ℕ) (waiting : List (List Call)) (lists : List ListState) : Type 0 where
+  pub printed : List LogCall
+  pub at : IsAt header all valid (no_more_come ended all) printed waiting lists
+  pub text : List ℕ
+  pub joined : flat_map (Line header.clock) printed ≡ Direct header.clock (settled_calls header first) ++ text
+  pub carries : Carries text was is held
+  pub many : length (settled_calls header first) + lines ≡ length printed
+
+module _ (ended : Bool) (reader : ReaderState) (first all : List Block) (waiting : List (List Call)) (lists : List ListState) (ready : HasToPrint ended reader first all waiting lists) where
+  abbrev pub header : Header
+  header = reader.header
+
+  begun : IsPrinted header all (no_more_come ended all) (in_order (settled_calls header first))
+  begun =
+      let valid : Valid header (first ++ ready.more) = subst (Valid header) ready.joined ready.valid in
+      let settled = settled_printed header first (has_calls header first (front_valid header first ready.more valid)) in
+      ended_more header all (closed_by all) (no_more_come ended all) (in_order (settled_calls header first)) (λ w is_open. (either_false ended (closed_by all w) is_open).1)
+      (subst (λ (blocks : List Block). IsPrinted header blocks (closed_by blocks) (in_order (settled_calls header first))) (sym ready.joined) (printed_on header first ready.more (in_order (settled_calls header first)) valid settled))
+
+  pub begin_lines : (was : Told) (held : List ℕ) → Carries [] was was held → HasLines ended header first all ready.valid 0 was was held waiting lists
+  begin_lines was held carries = record {
+    printed = in_order (settled_calls header first);
+    at = record { is = begun; are_waiting = ready.are_waiting; heads = ready.heads };
+    text = [];
+    joined = sym (text_is header header.clock (settled_calls header first)) ∙ sym (append-nil (Direct header.clock (settled_calls header first)));
+    carries = carries;
+    many = omega (arith, many (settled_calls header first));
+  }
+
+  -- what stands behind the lines so far
+  pub lines_behind : (printed : List LogCall) (text : List ℕ) → IsPrinted header all (no_more_come ended all) printed → flat_map (Line header.clock) printed ≡ Direct header.clock (settled_calls header first) ++ text
+      → (rest : List ℕ) × (Direct header.clock (ready_calls ended header all) ≡ Direct header.clock (settled_calls header first) ++ (text ++ rest))
+  lines_behind printed text is joined =
+      let more = ready_go_on ended header all printed (has_calls header all ready.valid) is in
+      let rest = flat_map (Line header.clock) more.0 in (
+        rest,
+        lines_go_on header header.clock (ready_calls ended header all) printed more.0 more.1
+            ∙ ap (λ (bytes : List ℕ). bytes ++ rest) joined
+            ∙ append_assoc (Direct header.clock (settled_calls header first)) text rest,
+      )
+
+  -- no more calls are printed than there are
+  pub few_lines : (printed : List LogCall) (lines : ℕ) → IsPrinted header all (no_more_come ended all) printed → length (settled_calls header first) + lines ≡ length printed → lines ≤ 134217728
+  few_lines printed lines is counted =
+      let has = has_calls header all ready.valid in
+      omega (
+        arith,
+        counted,
+        ready.few,
+        many (all_calls header all),
+        ap length (goes_on header all has (no_more_come ended all) printed is),
+        length-append printed (later header all has (no_more_come ended all) printed is),
+      )
+
+  -- the printing was cut off
+  pub cut_lines : (printed : List LogCall) (text : List ℕ) (was is : Told) (before after : ℕ) (fault : DecodeFault) (answer : Result ℕ DecodeFault) (changed : List (List Call)) (new : List ListState)
+      → IsErrAnd answer (λ e. e ≡ fault) → IsPrinted header all (no_more_come ended all) printed → flat_map (Line header.clock) printed ≡ Direct header.clock (settled_calls header first) ++ text
+      → ((whole rest : List ℕ) → whole ≡ text ++ rest → CutsText whole was is before after fault) → PrintsReady ended header first all was is before after changed new answer
+  cut_lines printed text was is before after fault (Ok lines) changed new same is_printed joined cut = absurd same
+  cut_lines printed text was is before after fault (Err e) changed new same is_printed joined cut =
+      let behind = lines_behind printed text is_printed joined in
+      subst (CutsMore ended header first all was is before after) (sym same) (record { rest = text ++ behind.0; joined = behind.1; cut = cut (text ++ behind.0) behind.0 refl })
+
+  -- all that can be printed was
+  pub all_lines : (printed : List LogCall) (text : List ℕ) (lines : ℕ) (was is : Told) (changed : List (List Call)) (new : List ListState) → (at : IsAt header all ready.valid (no_more_come ended all) printed changed new) → flat_map (Line header.clock) printed ≡ Direct header.clock (settled_calls header first) ++ text
+      → length (settled_calls header first) + lines ≡ length printed → printed ≡ in_order (ready_calls ended header all) → is ≡ with_end text was → HasMore ended header first all lines was is changed new
+  all_lines printed text lines was is changed new at joined counted printed_are put = record {
+    text = text;
+    put = put;
+    joined = text_is header header.clock (ready_calls ended header all) ∙ ap (flat_map (Line header.clock)) (sym printed_are) ∙ joined;
+    lines_are = counted ∙ ap length printed_are ∙ many (ready_calls ended header all);
+    are_waiting = subst (λ (calls : List LogCall). AreWaiting header all calls changed) printed_are at.are_waiting;
+    heads = at.heads;
+  }
+
+  -- ---- a turn
+
+  module _ (lines : ℕ) (was is : Told) (held : List ℕ) (now : List (List Call)) (heads : List ListState) (so_far : HasLines ended header first all ready.valid lines was is held now heads) (writer : ℕ)
+      (none : NoneWants heads) (least : slice_get (merge_order (heads_of heads)) 0 ≡ Some writer) where
+    abbrev pub turn : Takes header all ready.valid (no_more_come ended all) so_far.printed now heads so_far.at writer
+    turn = takes header all ready.valid (no_more_come ended all) so_far.printed now heads so_far.at writer none least
+
+    abbrev pub call : LogCall
+    call = turn.first.call
+
+    abbrev pub clock : Clock
+    clock = header.clock
+
+    pub within : writer < length now
+    within = omega (arith, turn.known, so_far.at.are_waiting.count)
+
+    -- the calls that are printed behind the turn
+    abbrev pub longer : List LogCall
+    longer = so_far.printed ++ call ∷ []
+
+    abbrev after_turn : (changed : List (List Call)) (new : List ListState) → changed ≡ slice_set now writer turn.entries → new ≡ slice_set (without_head heads writer) writer (list_of (no_more_come ended all writer) turn.entries) → IsAt header all ready.valid (no_more_come ended all) longer changed new
+    after_turn = taken header all ready.valid (no_more_come ended all) so_far.printed now heads so_far.at writer none least turn
+
+    pub longer_is : IsPrinted header all (no_more_come ended all) longer
+    longer_is = (after_turn (slice_set now writer turn.entries) (slice_set (without_head heads writer) writer (list_of (no_more_come ended all writer) turn.entries)) refl refl).is
+
+    module _ (queue : List Call) (queue_is : queue ≡ records_at now writer) where
+      queue_at : queue ≡ turn.entry ∷ turn.entries
+      queue_at = queue_is ∙ turn.there
+
+      pub some_first : queue ≢ []
+      some_first empty = let wrong = sym queue_at ∙ empty in cc
+
+      pub rest_is : drop 1 queue ≡ turn.entries
+      rest_is = ap (drop 1) queue_at
+
+      module _ (entry : Call) (first_is : slice_get queue 0 ≡ Some entry) where
+        entry_is : turn.entry ≡ entry
+        entry_is = let same = sym (ap (λ (q : List Call). slice_get q 0) queue_at) ∙ first_is in cc
+
+        pub said : IsCallOf reader.messages clock.tick call entry
+        said =
+            subst (λ (messages : List Message). IsCallOf messages clock.tick call entry) (sym ready.known)
+            (more_is (messages_of all) clock.tick ready.others call entry (subst (IsCallOf (messages_of all) clock.tick call) entry_is turn.first.is))
+
+        -- the line of the record is that of the call
+        pub line_said : (empty line : List ℕ) → empty ≡ [] → ((message : Message) (ordinal : ℕ) → slice_get reader.messages entry.id ≡ Some message → line ≡ empty ++ Line clock (record { writer = writer; ordinal = ordinal; stamp = entry.stamp; message = message; args = entry.args }))
+            → line ≡ Line clock call
+        line_said empty line no_text pushed =
+            pushed call.message call.ordinal said.message
+            ∙ ap (λ (bytes : List ℕ). bytes ++ Line clock (record { writer = writer; ordinal = call.ordinal; stamp = entry.stamp; message = call.message; args = entry.args })) no_text
+            ∙ line_is clock reader.messages call entry writer said (subst (AllByRecursion (IsOf writer)) turn.first.there (rest_mine header all (calls_there header all ready.valid) (no_more_come ended all) so_far.printed so_far.at.is writer)).0
+
+        joined_next : (line : List ℕ) → line ≡ Line clock call → flat_map (Line clock) longer ≡ Direct clock (settled_calls header first) ++ (so_far.text ++ line)
+        joined_next line is_line =
+            flat_map-append (Line clock) so_far.printed (call ∷ [])
+            ∙ (λ i. so_far.joined i ++ (append-nil (Line clock call) ∙ sym is_line) i)
+            ∙ append_assoc (Direct clock (settled_calls header first)) so_far.text line
+
+        pub next_lines : (line : List ℕ) (put : Told) (left : List ℕ) (changed : List (List Call)) (new : List ListState) → line ≡ Line clock call → Carries (held ++ line) is put left → changed ≡ slice_set now writer (drop 1 queue)
+            → new ≡ slice_set (without_head heads writer) writer (list_of (no_more_come ended all writer) (drop 1 queue)) → HasLines ended header first all ready.valid (lines + 1) was put left changed new
+        next_lines line put left changed new is_line carried changed_is new_is = record {
+          printed = longer;
+          at = after_turn changed new (changed_is ∙ ap (slice_set now writer) rest_is) (new_is ∙ ap (λ (entries : List Call). slice_set (without_head heads writer) writer (list_of (no_more_come ended all writer) entries)) rest_is);
+          text = so_far.text ++ line;
+          joined = joined_next line is_line;
+          carries = carries_more (so_far.text ++ line) so_far.text line held left was is put refl so_far.carries carried;
+          many = omega (arith, so_far.many, length-append so_far.printed (call ∷ []));
+        }
+
+        -- the line was cut off
+        pub line_cut : (line : List ℕ) (put : Told) (low mid high : ℕ) (answer : Result ℕ DecodeFault) (changed : List (List Call)) (new : List ListState) → IsErrAnd answer (λ e. e ≡ WriteFault) → line ≡ Line clock call → mid ≡ low → IsCutOff (held ++ line) is put mid high
+            → PrintsReady ended header first all was put low high changed new answer
+        line_cut line put low mid high answer changed new same is_line counted cut =
+            cut_lines longer (so_far.text ++ line) was put low high WriteFault answer changed new same longer_is (joined_next line is_line)
+            (λ whole rest whole_is. cut_more whole so_far.text line rest held was is put low mid high whole_is so_far.carries counted cut)
+
+      -- one less waits
+      pub less_waits : sum_by length (slice_set now writer (drop 1 queue)) < sum_by length now
+      less_waits =
+          subst (λ (entries : List Call). sum_by length (slice_set now writer entries) < sum_by length now) (sym rest_is)
+          (fewer header all ready.valid (no_more_come ended all) so_far.printed now heads so_far.at writer none least turn)
+
+    -- the list from which the head was taken wants one
+    pub wished : (new : List ListState) → new ≡ without_head heads writer → wants (list_at new writer) ≡ true
+    wished new new_is = ap (λ (lists : List ListState). wants (list_at lists writer)) new_is ∙ wishes header all ready.valid (no_more_come ended all) so_far.printed now heads so_far.at writer none least turn
+
+    -- there is a place for one line more
+    pub few_next : lines + 1 ≤ 134217728
+    few_next = few_lines longer (lines + 1) longer_is (omega (arith, so_far.many, length-append so_far.printed (call ∷ [])))
+
+  -- memory was wanting for a line, or what is held back was cut off
+  module _ (lines : ℕ) (was is : Told) (held : List ℕ) (now : List (List Call)) (heads : List ListState) (so_far : HasLines ended header first all ready.valid lines was is held now heads) where
+    pub lacked : (low high : ℕ) (answer : Result ℕ DecodeFault) (changed : List (List Call)) (new : List ListState) → IsErrAnd answer (λ e. e ≡ NoMemory) → high ≡ low → PrintsReady ended header first all was is low high changed new answer
+    lacked low high answer changed new same counted =
+        cut_lines so_far.printed so_far.text was is low high NoMemory answer changed new same so_far.at.is so_far.joined
+        (λ whole rest whole_is. (carries_front whole so_far.text rest held was is whole_is so_far.carries, counted))
+
+    pub held_cut : (put : Told) (low mid high : ℕ) (answer : Result ℕ DecodeFault) (changed : List (List Call)) (new : List ListState) → IsErrAnd answer (λ e. e ≡ WriteFault) → mid ≡ low → IsCutOff held is put mid high → PrintsReady ended header first all was put low high changed new answer
+    held_cut put low mid high answer changed new same counted cut =
+        cut_lines so_far.printed so_far.text was put low high WriteFault answer changed new same so_far.at.is so_far.joined
+        (λ whole rest whole_is. cut_held whole so_far.text rest held was is put low mid high whole_is so_far.carries counted cut)
+
+    pub all_out : (put : Told) → so_far.printed ≡ in_order (ready_calls ended header all) → put ≡ with_end held is → HasMore ended header first all lines was put now heads
+    all_out put printed_are flushed = all_lines so_far.printed so_far.text lines was put now heads so_far.at so_far.joined so_far.many printed_are (carries_all so_far.text held was is put so_far.carries flushed)

@@ -1,0 +1,61 @@
+-- The parts of a step: what is printed in it.
+use Rattle.std.proofs.Common.{◌≡◌, ℕ, ◌+◌, ◌≤◌, Bool, true, false, cond, List, [], ◌∷◌, ◌++◌, length, Result, Ok, Err, refl, ap, sym, subst, ◌∙◌, arith}
+use Rattle.std.specs.Prelude.{filter, ⊤}
+use Rattle.std.specs.Result.{IsErrAnd}
+use Rattle.nl_io.specs.Content.{Told}
+use Rattle.nl_io.proofs.lemmas.Contents.{with_end-none}
+use Rattle.arg_records.specs.declared.call.Call.{Call}
+use Rattle.checkpoint_io.specs.declared.header.Header.{Header}
+use Rattle.checkpoint_io.specs.Blocks.{Block}
+use Rattle.checkpoint_io.specs.Validity.{Valid}
+use Rattle.stamp_merge.specs.declared.merger.ListState.{ListState}
+use Rattle.direct_printf.specs.Lines.{in_order}
+use Rattle.decompressor.specs.declared.fault.DecodeFault.{DecodeFault}
+use Rattle.decompressor.specs.declared.fault.DecodeFault.TheVariants.{NoMemory}
+use Rattle.decompressor.specs.Decompression.{all_calls}
+use Rattle.decompressor.specs.Settling.{is_settled, settled_calls}
+use Rattle.decompressor.specs.Waiting.{HasHeads}
+use Rattle.decompressor.specs.Decompressors.{PrinterState, AreWaiting, no_more_come, ready_calls, HasMore, CutsMore, PrintsReady, PrintsTo}
+use Rattle.decompressor.proofs.Growing.{settled_more}
+
+kept_few : {X : Type 0} (test : X → Bool) (xs : List X) → length (filter test xs) ≤ length xs
+kept_few test [] = omega arith
+kept_few test (x ∷ xs) = at (test x) (kept_few test xs)
+  where
+    at : (b : Bool) → length (filter test xs) ≤ length xs → length (cond b (x ∷ filter test xs) (filter test xs)) ≤ length (x ∷ xs)
+    at true few = omega (arith, few)
+    at false few = omega (arith, few)
+
+ready_few : (ended : Bool) (header : Header) (all : List Block) → length (ready_calls ended header all) ≤ length (all_calls header all)
+ready_few true header all = omega arith
+ready_few false header all = kept_few (is_settled header all) (all_calls header all)
+
+module _ (ended : Bool) (state : PrinterState) (first all : List Block) (counted : state.lines ≡ length (settled_calls state.reader.header first)) where
+  -- the count of lines fits
+  pub lines_fit : (lines : ℕ) (was is : Told) (waiting : List (List Call)) (lists : List ListState) → length (all_calls state.reader.header all) ≤ 134217728 → HasMore ended state.reader.header first all lines was is waiting lists → state.lines + lines ≤ 134217728
+  lines_fit lines was is waiting lists few more = omega (arith, counted, more.lines_are, ready_few ended state.reader.header all, few)
+
+  pub prints_on : (lines : ℕ) (was is : Told) (before after : ℕ) (waiting changed : List (List Call)) (lists : List ListState) → changed ≡ waiting → PrintsReady ended state.reader.header first all was is before after waiting lists (Ok lines)
+      → PrintsTo ended state (record { reader = state.reader; waiting = changed; lists = lists; lines = state.lines + lines }) first all was is before after (Ok tt)
+  prints_on lines was is before after waiting changed lists same (more, faults) = (
+    record {
+      text = more.text;
+      put = more.put;
+      joined = more.joined;
+      lines = ap (λ (n : ℕ). n + lines) counted ∙ more.lines_are;
+      are_waiting = subst (AreWaiting state.reader.header all (in_order (ready_calls ended state.reader.header all))) (sym same) more.are_waiting;
+      heads = subst (HasHeads (no_more_come ended all) lists) (sym same) more.heads;
+      same = refl;
+    },
+    faults,
+  )
+
+  pub prints_cut : (new : PrinterState) (was is : Told) (before after : ℕ) (result : Result ⊤ DecodeFault) (fault : DecodeFault) → IsErrAnd result (λ e. e ≡ fault) → CutsMore ended state.reader.header first all was is before after fault → PrintsTo ended state new first all was is before after result
+  prints_cut new was is before after (Ok done) fault same cut = absurd same
+  prints_cut new was is before after (Err e) fault same cut = subst (CutsMore ended state.reader.header first all was is before after) (sym same) cut
+
+-- memory was wanting before anything was printed
+pub none_put : (header : Header) (first : List Block) (block : Block) (was : Told) (before : ℕ) → Valid header (first ++ block ∷ []) → CutsMore false header first (first ++ block ∷ []) was was before before NoMemory
+none_put header first block was before valid =
+    let on = settled_more header first (block ∷ []) valid in
+    record { rest = on.0; joined = on.1; cut = ((0, omega arith, with_end-none on.0 was), refl) }

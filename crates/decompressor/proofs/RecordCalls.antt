@@ -1,0 +1,39 @@
+-- The calls that a writer's records stand for, and their lines.
+use Rattle.std.proofs.Common.{◌≡◌, ℕ, ◌+◌, ◌≤◌, List, [], ◌∷◌, Some, refl, sym, arith}
+use Rattle.std.specs.Prelude.{slice_get}
+use Rattle.std.specs.List.{AllByRecursion, filter_map, enumerate_from}
+use Rattle.log_dictionary.specs.declared.clock.Clock.{Clock}
+use Rattle.log_dictionary.specs.declared.message.Message.{Message}
+use Rattle.log_dictionary.specs.Calls.{LogCall}
+use Rattle.arg_records.specs.declared.call.Call.{Call}
+use Rattle.arg_records.specs.Calls.{IsCall, NeverFalls, log_call}
+use Rattle.direct_printf.specs.Lines.{Line}
+
+-- the call is the record's, and not before the tick
+pub record IsCallOf (messages : List Message) (tick : ℕ) (call : LogCall) (entry : Call) : Type 0 where
+  pub stamp : call.stamp ≡ entry.stamp
+  pub args : call.args ≡ entry.args
+  pub message : slice_get messages entry.id ≡ Some call.message
+  pub right : IsCall messages entry
+  pub not_before : tick ≤ entry.stamp
+
+-- the calls are those of the records, one for each
+abbrev pub AreCallsOf : List Message → ℕ → List LogCall → List Call → Type 0
+AreCallsOf messages tick [] [] = Unit {0}
+AreCallsOf messages tick [] (entry ∷ entries) = ⊥
+AreCallsOf messages tick (call ∷ calls) [] = ⊥
+AreCallsOf messages tick (call ∷ calls) (entry ∷ entries) = IsCallOf messages tick call entry × AreCallsOf messages tick calls entries
+
+pub calls_of_writer : (messages : List Message) (tick writer n least : ℕ) (entries : List Call) → tick ≤ least → AllByRecursion (IsCall messages) entries → NeverFalls least entries
+    → AreCallsOf messages tick (filter_map (log_call messages writer) (enumerate_from n entries)) entries
+calls_of_writer messages tick writer n least [] from all rises = tt
+calls_of_writer messages tick writer n least (entry ∷ entries) from all rises =
+    rw all.0.known (
+      record { stamp = refl; args = refl; message = all.0.known; right = all.0; not_before = omega (arith, from, rises.0) },
+      calls_of_writer messages tick writer (n + 1) entry.stamp entries (omega (arith, from, rises.0)) all.1 rises.1,
+    )
+
+-- a call is printed as what its record says
+pub line_is : (clock : Clock) (messages : List Message) (call : LogCall) (entry : Call) (writer : ℕ) → IsCallOf messages clock.tick call entry → call.writer ≡ writer
+    → Line clock (record { writer = writer; ordinal = call.ordinal; stamp = entry.stamp; message = call.message; args = entry.args }) ≡ Line clock call
+line_is clock messages call entry writer is own = λ i. Line clock (record { writer = sym own i; ordinal = call.ordinal; stamp = sym is.stamp i; message = call.message; args = sym is.args i })

@@ -1,0 +1,64 @@
+-- Behind the header nothing is printed, and nothing waits.
+use Rattle.std.proofs.Common.{◌≡◌, ℕ, zero, suc, ◌+◌, ◌<◌, false, List, [], ◌∷◌, length, drop, replicate, refl, ap, sym, subst, ◌∙◌, arith}
+use Rattle.std.specs.Prelude.{filter}
+use Rattle.std.specs.List.{flat_map, range_with_len}
+use Rattle.std.proofs.lemmas.List.{length-replicate, get_or-replicate}
+use Rattle.log_dictionary.specs.declared.clock.Clock.{Clock}
+use Rattle.log_dictionary.specs.Calls.{LogCall}
+use Rattle.arg_records.specs.declared.call.Call.{Call}
+use Rattle.checkpoint_io.specs.declared.header.Header.{Header}
+use Rattle.checkpoint_io.specs.Blocks.{Block}
+use Rattle.checkpoint_io.specs.Readers.{ReaderState, StandsFor}
+use Rattle.stamp_merge.specs.declared.merger.ListState.{ListState}
+use Rattle.stamp_merge.specs.Ordering.{in_order_by}
+use Rattle.stamp_merge.specs.Mergers.{fresh_list, no_list}
+use Rattle.direct_printf.specs.Lines.{in_order, Direct}
+use Rattle.decompressor.specs.Decompression.{CallsOf}
+use Rattle.decompressor.specs.Settling.{closed_by, is_settled, settled_calls}
+use Rattle.decompressor.specs.Waiting.{list_of, HasHeads}
+use Rattle.decompressor.specs.Decompressors.{AreWaiting, HasPrinted}
+
+no_calls : (from n : ℕ) → flat_map (CallsOf []) (range_with_len from n) ≡ []
+no_calls from zero = refl
+no_calls from (suc n) = no_calls (from + 1) n
+
+none_settled : (header : Header) → settled_calls header [] ≡ []
+none_settled header = ap (filter (is_settled header [])) (no_calls 0 header.writers)
+
+no_text : (clock : Clock) → Direct clock [] ≡ []
+unfolding in_order_by Direct
+no_text clock = refl
+
+nothing_behind : {A : Type 0} (n : ℕ) (xs : List A) → xs ≡ [] → drop n xs ≡ []
+nothing_behind zero xs none = none
+nothing_behind (suc n) [] none = refl
+nothing_behind (suc n) (x ∷ xs) none = cc
+
+none_wait : (header : Header) (printed : List LogCall) → AreWaiting header [] printed (replicate header.writers [])
+none_wait header printed = record {
+  count = length-replicate header.writers [];
+  each = λ w known. get_or-replicate header.writers w [] [] known ∙ sym (nothing_behind _ _ refl);
+}
+
+fresh_heads : (n : ℕ) → HasHeads (closed_by []) (replicate n fresh_list) (replicate n [])
+fresh_heads n = record {
+  many = length-replicate n fresh_list ∙ sym (length-replicate n []);
+  each = λ w known.
+      let below : w < n = omega (arith, known, length-replicate {A = List Call} n []) in
+      get_or-replicate n w fresh_list no_list below ∙ ap (list_of false) (sym (get_or-replicate {A = List Call} n w [] [] below));
+}
+
+pub started : (reader : ReaderState) (taken : List ℕ) (waiting : List (List Call)) (lists : List ListState) → reader.failed ≡ false → (read : StandsFor reader taken) → read.blocks ≡ [] → waiting ≡ replicate reader.header.writers [] → lists ≡ replicate reader.header.writers fresh_list
+    → (printed : HasPrinted (record { reader = reader; waiting = waiting; lists = lists; lines = 0 }) taken []) × (printed.read.blocks ≡ [])
+started reader taken waiting lists right read none waiting_is lists_is = (
+  record {
+    right = right;
+    read = read;
+    text_is = sym (ap (λ (bs : List Block). Direct reader.header.clock (settled_calls reader.header bs)) none ∙ ap (Direct reader.header.clock) (none_settled reader.header) ∙ no_text reader.header.clock);
+    lines = sym (ap (λ (bs : List Block). length (settled_calls reader.header bs)) none ∙ ap length (none_settled reader.header));
+    waiting = subst (λ (bs : List Block). AreWaiting reader.header bs (in_order (settled_calls reader.header bs)) waiting) (sym none) (subst (AreWaiting reader.header [] (in_order (settled_calls reader.header []))) (sym waiting_is) (none_wait reader.header (in_order (settled_calls reader.header []))));
+    heads = subst (λ (bs : List Block). HasHeads (closed_by bs) lists waiting) (sym none)
+        (subst (λ (ls : List ListState). HasHeads (closed_by []) ls waiting) (sym lists_is) (subst (HasHeads (closed_by []) (replicate reader.header.writers fresh_list)) (sym waiting_is) (fresh_heads reader.header.writers)));
+  },
+  none,
+)

@@ -1,0 +1,20 @@
+use Rattle.std.proofs.Common.{◌≡◌, List, length}
+use Rattle.std.specs.Prelude.{sum_by}
+use Rattle.checkpoint_io.specs.Blocks.{Block}
+use Rattle.decompressor.specs.Decompressors.{HasToPrint}
+use Rattle.decompressor.proofs.LinesOut.{HasLines}
+use Rattle.decompressor.proofs.printing.print_ready.Given as goal
+
+-- the lines so far are on their way, and the other records wait
+abbrev pub invariant-loop-writer : goal.invariant-loop-writer
+invariant-loop-writer g l =
+    record {
+      lines_so_far : (first all : List Block) (ready : HasToPrint l.ended l.reader first all l.fn.waiting l.fn.merger)
+          → HasLines l.ended l.reader.header first all ready.valid l.lines (g.K.Sink.put l.fn.out) (g.K.Sink.put l.out) l.text l.waiting l.merger;
+      counted : g.K.Sink.faults l.out ≡ g.K.Sink.faults l.fn.out;
+      others : g.K.Sink.rest l.fn.out l.out;
+    }
+
+-- each turn takes a record
+abbrev pub decreases-loop-writer : goal.decreases-loop-writer
+decreases-loop-writer g l = sum_by length l.waiting

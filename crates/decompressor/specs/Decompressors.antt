@@ -1,0 +1,203 @@
+-- What is kept between the steps of a decompressor, the bytes and the text for which it stands, and what a step says.
+use Rattle.std.specs.Prelude.{◌≡◌, ◌≢◌, ℕ, ◌+◌, ◌<◌, ◌≤◌, Bool, true, false, ◌||◌, ◌==◌, List, [], ◌∷◌, ◌++◌, length, drop, filter, get_or, Result, Ok, Err, ⊤}
+use Rattle.nl_io.specs.Content.{Told, with_end, PutsFront}
+use Rattle.log_dictionary.specs.declared.message.Message.{Message}
+use Rattle.log_dictionary.specs.Calls.{LogCall}
+use Rattle.arg_records.specs.declared.call.Call.{Call}
+use Rattle.checkpoint_io.specs.declared.heads.TheConstants.{MAX_LOG}
+use Rattle.checkpoint_io.specs.declared.header.Header.{Header}
+use Rattle.checkpoint_io.specs.Blocks.{Block, messages_of}
+use Rattle.checkpoint_io.specs.Validity.{records_of, Valid}
+use Rattle.checkpoint_io.specs.Places.{with_front}
+use Rattle.checkpoint_io.specs.Readers.{ReaderState, StandsFor}
+use Rattle.stamp_merge.specs.declared.merger.ListState.{ListState}
+use Rattle.direct_printf.specs.Lines.{in_order, Direct}
+use Rattle.decompressor.specs.declared.fault.DecodeFault.{DecodeFault}
+use Rattle.decompressor.specs.declared.fault.DecodeFault.TheVariants.{WriteFault, Damaged, ReadFault, NoMemory}
+use Rattle.decompressor.specs.declared.step.Step.{Step}
+use Rattle.decompressor.specs.declared.step.Step.TheVariants.{More, End}
+use Rattle.decompressor.specs.declared.report.Report.{Report}
+use Rattle.decompressor.specs.Decompression.{all_calls}
+use Rattle.decompressor.specs.Decompressing.{ReadsText}
+use Rattle.decompressor.specs.Settling.{closed_by, settled_calls}
+use Rattle.decompressor.specs.Waiting.{records_at, HasHeads}
+use Rattle.decompressor.specs.Printing.{CutsText}
+
+pub record PrinterState : Type 0 where
+  pub reader : ReaderState
+  -- of each writer the records that weren't printed yet
+  pub waiting : List (List Call)
+  -- what the merger has of the writers
+  pub lists : List ListState
+  -- how many lines were printed
+  pub lines : ℕ
+
+pub record DecompressorState : Type 0 where
+  pub printer : PrinterState
+  -- the log has ended, or a step failed
+  pub ended : Bool
+
+-- how many of the calls are the writer's
+abbrev pub count_of : ℕ → List LogCall → ℕ
+count_of writer calls = length (filter (λ call. call.writer == writer) calls)
+
+-- Of each writer the records wait that stand behind those whose calls were printed.
+pub record AreWaiting (header : Header) (blocks : List Block) (printed : List LogCall)
+    (waiting : List (List Call)) : Type 0 where
+  pub count : length waiting ≡ header.writers
+  pub each : (writer : ℕ) → writer < header.writers
+      → records_at waiting writer ≡ drop (count_of writer printed) (records_of writer blocks)
+
+-- These bytes were read, and the text is the lines of the calls that are settled by their blocks; all other records
+-- wait.
+pub record HasPrinted (printer : PrinterState) (taken text : List ℕ) : Type 0 where
+  pub right : printer.reader.failed ≡ false
+  pub read : StandsFor printer.reader taken
+  pub text_is : text ≡ Direct printer.reader.header.clock (settled_calls printer.reader.header read.blocks)
+  pub lines : printer.lines ≡ length (settled_calls printer.reader.header read.blocks)
+  pub waiting : AreWaiting printer.reader.header read.blocks
+      (in_order (settled_calls printer.reader.header read.blocks)) printer.waiting
+  pub heads : HasHeads (closed_by read.blocks) printer.lists printer.waiting
+
+-- ---- records that are printed
+
+-- no records of the writer can come: the log has ended, or the writer is closed
+abbrev pub no_more_come : Bool → List Block → ℕ → Bool
+no_more_come ended blocks writer = ended || closed_by blocks writer
+
+-- the calls that can be printed
+abbrev pub ready_calls : Bool → Header → List Block → List LogCall
+ready_calls true header blocks = all_calls header blocks
+ready_calls false header blocks = settled_calls header blocks
+
+-- The calls that were settled by the first blocks were printed, and the records of all blocks wait but for theirs.
+pub record HasToPrint (ended : Bool) (reader : ReaderState) (first all : List Block) (waiting : List (List Call))
+    (lists : List ListState) : Type 0 where
+  pub more : List Block
+  pub joined : all ≡ first ++ more
+  pub valid : Valid reader.header all
+  pub few : length (all_calls reader.header all) ≤ MAX_LOG
+  pub others : List Message
+  pub known : reader.messages ≡ messages_of all ++ others
+  pub closed : (writer : ℕ) → writer < reader.header.writers
+      → (ended || get_or reader.writers.closed writer false) ≡ no_more_come ended all writer
+  pub are_waiting : AreWaiting reader.header all (in_order (settled_calls reader.header first)) waiting
+  pub heads : HasHeads (no_more_come ended all) lists waiting
+
+-- All that can be printed was, so many lines, and the other records wait.
+pub record HasMore (ended : Bool) (header : Header) (first all : List Block) (lines : ℕ) (was is : Told)
+    (waiting : List (List Call)) (lists : List ListState) : Type 0 where
+  pub text : List ℕ
+  pub put : is ≡ with_end text was
+  pub joined : Direct header.clock (ready_calls ended header all)
+      ≡ Direct header.clock (settled_calls header first) ++ text
+  pub lines_are : length (settled_calls header first) + lines ≡ length (ready_calls ended header all)
+  pub are_waiting : AreWaiting header all (in_order (ready_calls ended header all)) waiting
+  pub heads : HasHeads (no_more_come ended all) lists waiting
+
+-- The printing was cut off: a front went out of the lines that can be printed, behind those that were before.
+pub record CutsMore (ended : Bool) (header : Header) (first all : List Block) (was is : Told) (before after : ℕ)
+    (fault : DecodeFault) : Type 0 where
+  pub rest : List ℕ
+  pub joined : Direct header.clock (ready_calls ended header all)
+      ≡ Direct header.clock (settled_calls header first) ++ rest
+  pub cut : CutsText rest was is before after fault
+
+abbrev pub PrintsReady : Bool → Header → List Block → List Block → Told → Told → ℕ → ℕ → List (List Call)
+    → List ListState → Result ℕ DecodeFault → Type 0
+PrintsReady ended header first all was is before after waiting lists (Ok lines) =
+    HasMore ended header first all lines was is waiting lists × (after ≡ before)
+PrintsReady ended header first all was is before after waiting lists (Err fault) =
+    CutsMore ended header first all was is before after fault
+
+-- ---- parts of a step
+
+-- The reader has read this block behind the first ones, and all else is as in front of it.
+pub record HasTaken (printer : PrinterState) (first : List Block) (block : Block) : Type 0 where
+  pub valid : Valid printer.reader.header (first ++ block ∷ [])
+  pub few : length (all_calls printer.reader.header (first ++ block ∷ [])) ≤ MAX_LOG
+  pub known : printer.reader.messages ≡ messages_of (first ++ block ∷ [])
+  pub closed : (writer : ℕ) → writer < printer.reader.header.writers
+      → get_or printer.reader.writers.closed writer false ≡ closed_by (first ++ block ∷ []) writer
+  pub lines : printer.lines ≡ length (settled_calls printer.reader.header first)
+  pub are_waiting : AreWaiting printer.reader.header first (in_order (settled_calls printer.reader.header first))
+      printer.waiting
+  pub heads : HasHeads (closed_by first) printer.lists printer.waiting
+
+-- Nothing stands behind these blocks, or it can't be read, but for some of its messages.
+pub record HasLast (printer : PrinterState) (blocks : List Block) : Type 0 where
+  pub valid : Valid printer.reader.header blocks
+  pub few : length (all_calls printer.reader.header blocks) ≤ MAX_LOG
+  pub others : List Message
+  pub known : printer.reader.messages ≡ messages_of blocks ++ others
+  pub lines : printer.lines ≡ length (settled_calls printer.reader.header blocks)
+  pub are_waiting : AreWaiting printer.reader.header blocks (in_order (settled_calls printer.reader.header blocks))
+      printer.waiting
+  pub heads : HasHeads (closed_by blocks) printer.lists printer.waiting
+
+-- all that can be printed was, and the other records wait
+pub record PrintsOn (ended : Bool) (old new : PrinterState) (first all : List Block) (was is : Told) : Type 0 where
+  pub text : List ℕ
+  pub put : is ≡ with_end text was
+  pub joined : Direct old.reader.header.clock (ready_calls ended old.reader.header all)
+      ≡ Direct old.reader.header.clock (settled_calls old.reader.header first) ++ text
+  pub lines : new.lines ≡ length (ready_calls ended old.reader.header all)
+  pub are_waiting : AreWaiting old.reader.header all (in_order (ready_calls ended old.reader.header all)) new.waiting
+  pub heads : HasHeads (no_more_come ended all) new.lists new.waiting
+  pub same : new.reader ≡ old.reader
+
+abbrev pub PrintsTo : Bool → (old new : PrinterState) → (first all : List Block) → (was is : Told) → ℕ → ℕ
+    → Result ⊤ DecodeFault → Type 0
+PrintsTo ended old new first all was is before after (Ok done) =
+    PrintsOn ended old new first all was is × (after ≡ before)
+PrintsTo ended old new first all was is before after (Err fault) =
+    CutsMore ended old.reader.header first all was is before after fault
+
+-- ---- a step
+
+-- Behind what was read stands this block. The text grows by what was put, and now the printer stands for these bytes
+-- and this text.
+pub record Advances (old new : PrinterState) (taken text : List ℕ) (before : HasPrinted old taken text)
+    (left behind was is : Told) : Type 0 where
+  pub block : Block
+  pub front : List ℕ
+  pub more : List ℕ
+  pub joined : with_front old.reader.waiting.bytes left ≡ with_front (front ++ new.reader.waiting.bytes) behind
+  pub put : is ≡ with_end more was
+  pub after : HasPrinted new (taken ++ front) (text ++ more)
+  pub blocks : after.read.blocks ≡ before.read.blocks ++ block ∷ []
+
+-- the step was the last one
+abbrev pub IsLastStep : Step → Type 0
+IsLastStep More = ⊥
+IsLastStep (End report) = ⊤
+
+-- the text was printed whole, and this is said of the file
+abbrev pub PrintsWhole : Told → Told → ℕ → ℕ → List ℕ → Told → Told → Result Report DecodeFault → Type 0
+PrintsWhole file behind before after text was is answer =
+    (more : List ℕ) × (is ≡ with_end more was) × ReadsText file behind before after (text ++ more) answer
+
+-- Behind the text a front went out of the rest of the text of what was read, however far the reading came.
+pub record IsCutBehind (file behind : Told) (before after : ℕ) (text : List ℕ) (was is : Told) : Type 0 where
+  pub rest : List ℕ
+  pub read : Result Report DecodeFault
+  pub put : PutsFront rest was is
+  pub reads : ReadsText file behind before after (text ++ rest) read
+
+-- What the answer of a step says. A write fails only where there is something to print.
+abbrev pub Steps : (old new : PrinterState) (taken text : List ℕ) → HasPrinted old taken text → (left behind : Told)
+    → ℕ → ℕ → (was is : Told) → Result Step DecodeFault → Type 0
+Steps old new taken text printed left behind before after was is (Ok More) =
+    Advances old new taken text printed left behind was is × (after ≡ before)
+Steps old new taken text printed left behind before after was is (Ok (End report)) =
+    PrintsWhole (with_front (taken ++ old.reader.waiting.bytes) left) behind before after text was is (Ok report)
+Steps old new taken text printed left behind before after was is (Err WriteFault) =
+    (cut : IsCutBehind (with_front (taken ++ old.reader.waiting.bytes) left) behind before after text was is)
+    × (cut.rest ≢ [])
+Steps old new taken text printed left behind before after was is (Err NoMemory) =
+    IsCutBehind (with_front (taken ++ old.reader.waiting.bytes) left) behind before after text was is
+Steps old new taken text printed left behind before after was is (Err (Damaged offset cause)) =
+    PrintsWhole (with_front (taken ++ old.reader.waiting.bytes) left) behind before after text was is
+    (Err (Damaged offset cause))
+Steps old new taken text printed left behind before after was is (Err ReadFault) =
+    PrintsWhole (with_front (taken ++ old.reader.waiting.bytes) left) behind before after text was is (Err ReadFault)

@@ -1,0 +1,208 @@
+//! Printing the lines of a log block by block.
+
+ghost use Rattle.std.specs.Prelude.{◌≡◌, ◌⊎◌, ◌≤◌, ◌++◌, ℕ, List, [], ◌∷◌, replicate, false, true, Ok, IfOk, IfSome, IsErrOf, IsOkAnd, OnErr, Err, Result};
+ghost use Rattle.nl_io.specs.Count.{Rose};
+ghost use Rattle.nl_io.specs.Content.{IsAtEnd};
+ghost use Rattle.checkpoint_io.specs.declared.cause.Cause.{Cause as LogCause};
+ghost use Rattle.checkpoint_io.specs.declared.cause.Cause.TheVariants.{Cut};
+ghost use Rattle.checkpoint_io.specs.Blocks.{Block as LogBlock};
+ghost use Rattle.checkpoint_io.specs.Fronts.{Break};
+ghost use Rattle.checkpoint_io.specs.NextBlocks.{Describes};
+ghost use Rattle.checkpoint_io.specs.Places.{with_front, TookSuch};
+ghost use Rattle.stamp_merge.specs.Mergers.{fresh_list};
+ghost use Rattle.decompressor.specs.Decompressors.{HasPrinted, HasTaken, HasLast, PrintsTo, Steps, IsLastStep};
+
+use crate::decompressing::open_writers;
+use crate::fault::DecodeFault;
+use crate::printing::print_ready;
+use crate::queue::RecordQueue;
+use crate::report::Report;
+use crate::showing::{add_block, close_all};
+use crate::step::Step;
+use checkpoint_io::{Block, BlockFault, Reader};
+use nl_io::{Sink, Source};
+use stamp_merge::Merger;
+use std::alloc::{AllocError, Global};
+use std::marker::Model;
+
+/// The lines of a log, which are printed block by block.
+#[derive(Debug, Drop)]
+pub struct LogPrinter {
+    alloc: Global,
+    reader: Reader,
+    merger: Merger,
+    // Of each writer the records that weren't printed yet.
+    waiting: Vec<RecordQueue>,
+    lines: u64,
+}
+
+impl Model for LogPrinter {
+    ghost use Rattle.decompressor.specs.Decompressors.{PrinterState};
+
+    ghost Value = { PrinterState };
+
+    ghost view = { λ p. record {
+      reader = p.reader;
+      waiting = p.waiting.items;
+      lists = p.merger;
+      lines = p.lines;
+    } };
+}
+
+// A merger of so many lists, and as many queues.
+fn without_records(alloc: Global, writers: u32) -> Result<(Merger, Vec<RecordQueue>), AllocError>
+    ensures lists { IfOk result (λ parts. parts.0 ≡ replicate writers fresh_list) }
+    ensures waiting { IfOk result (λ parts. parts.1.items ≡ replicate writers []) }
+{
+    let mut waiting = Vec::new(alloc);
+    for _ in 0..writers {
+        waiting.push(RecordQueue::make(alloc))?;
+    }
+    Ok((Merger::make(alloc, writers)?, waiting))
+}
+
+impl LogPrinter {
+    /// Reads the header that a source begins with.
+    ///
+    /// # Errors
+    ///
+    /// The source begins with no header, a read failed before its end, or there is no memory.
+    pub fn make<S: Source>(alloc: Global, source: &mut S) -> Result<LogPrinter, BlockFault>
+        // Nothing was printed, and no blocks were read.
+        ensures ok { IfOk result (λ made. (taken : List ℕ) × (printed : HasPrinted made taken [])
+            × (printed.read.blocks ≡ [])
+            × (S.left source.old ≡ with_front (taken ++ made.reader.waiting.bytes) (S.left source.new))) }
+        ensures damaged { (cause : LogCause) → result ≡ Err (BlockFault.Damaged cause)
+            → IfSome (S.left source.old) (λ bytes. Break bytes 0 cause) }
+        // The bytes that were taken end inside the header.
+        ensures cut { IsErrOf result BlockFault.ReadFault
+            → TookSuch (λ bytes. Break bytes 0 Cut) (S.left source.old) (S.left source.new) }
+        ensures read_fault { IsErrOf result BlockFault.ReadFault
+            → Rose (S.faults source.old) (S.faults source.new) }
+        ensures counted { ¬ (IsErrOf result BlockFault.ReadFault)
+            → S.faults source.new ≡ S.faults source.old }
+        ensures count { S.faults source.old ≤ S.faults source.new }
+        ensures others { S.rest source.old source.new }
+    {
+        let reader = Reader::start(alloc, source)?;
+        match without_records(alloc, reader.header().writers) {
+            Ok((merger, waiting)) => Ok(LogPrinter {
+                alloc,
+                reader,
+                merger,
+                waiting,
+                lines: 0,
+            }),
+            Err(AllocError) => Err(BlockFault::NoMemory),
+        }
+    }
+
+    // Takes a block that was read, and prints the lines of the records that are settled now.
+    fn take_block<K: Sink>(&mut self, block: Block, out: &mut K) -> Result<(), DecodeFault>
+        requires { (first : List LogBlock) × (next : LogBlock) × Describes block next × HasTaken self.old first next }
+        ensures printed { (first : List LogBlock) (next : LogBlock) → Describes block next
+            → HasTaken self.old first next
+            → PrintsTo false self.old self.new first (first ++ next ∷ []) (K.put out.old) (K.put out.new)
+            (K.faults out.old) (K.faults out.new) result }
+        ensures write_fault { IsErrOf result DecodeFault.WriteFault → Rose (K.faults out.old) (K.faults out.new) }
+        ensures written { ¬ (IsErrOf result DecodeFault.WriteFault) → K.faults out.new ≡ K.faults out.old }
+        ensures count { K.faults out.old ≤ K.faults out.new }
+        ensures fault { OnErr result (IsErrOf result DecodeFault.WriteFault ⊎ IsErrOf result DecodeFault.NoMemory) }
+        ensures others { K.rest out.old out.new }
+    {
+        add_block(&mut self.merger, &mut self.waiting, block)?;
+        self.lines += print_ready(
+            self.alloc,
+            &self.reader,
+            false,
+            &mut self.merger,
+            &mut self.waiting,
+            out,
+        )?;
+        Ok(())
+    }
+
+    // Prints the lines of all records that wait.
+    fn print_rest<K: Sink>(&mut self, out: &mut K) -> Result<(), DecodeFault>
+        requires { (blocks : List LogBlock) × HasLast self.old blocks }
+        ensures printed { (blocks : List LogBlock) → HasLast self.old blocks
+            → PrintsTo true self.old self.new blocks blocks (K.put out.old) (K.put out.new)
+            (K.faults out.old) (K.faults out.new) result }
+        ensures write_fault { IsErrOf result DecodeFault.WriteFault → Rose (K.faults out.old) (K.faults out.new) }
+        ensures written { ¬ (IsErrOf result DecodeFault.WriteFault) → K.faults out.new ≡ K.faults out.old }
+        ensures count { K.faults out.old ≤ K.faults out.new }
+        ensures fault { OnErr result (IsErrOf result DecodeFault.WriteFault ⊎ IsErrOf result DecodeFault.NoMemory) }
+        ensures others { K.rest out.old out.new }
+    {
+        close_all(&mut self.merger, &self.waiting);
+        self.lines += print_ready(
+            self.alloc,
+            &self.reader,
+            true,
+            &mut self.merger,
+            &mut self.waiting,
+            out,
+        )?;
+        Ok(())
+    }
+
+    /// Reads the next block, and prints all lines before which no later one can stand. Where the log has ended, or
+    /// breaks there, these are all lines that are left.
+    ///
+    /// # Errors
+    ///
+    /// The log is damaged there, a read or a write failed, or there is no memory.
+    pub fn step<S: Source, K: Sink>(
+        &mut self,
+        source: &mut S,
+        out: &mut K,
+    ) -> Result<Step, DecodeFault>
+        requires { (taken text : List ℕ) × HasPrinted self.old taken text }
+        // What was printed, and what the answer says of the bytes that stand behind those that were taken.
+        ensures step { (taken text : List ℕ) (printed : HasPrinted self.old taken text)
+            → Steps self.old self.new taken text printed (S.left source.old) (S.left source.new)
+            (S.faults source.old) (S.faults source.new) (K.put out.old) (K.put out.new) result }
+        ensures end { IsOkAnd result IsLastStep → IsAtEnd (S.left source.new) }
+
+        // A write fault is one of this call, and no other answer hides one.
+        ensures write_fault { IsErrOf result DecodeFault.WriteFault → Rose (K.faults out.old) (K.faults out.new) }
+        ensures written { ¬ (IsErrOf result DecodeFault.WriteFault) → K.faults out.new ≡ K.faults out.old }
+
+        // So is a read fault. A write fault and want of memory may come after it, and nothing else hides one.
+        ensures read_fault { IsErrOf result DecodeFault.ReadFault → Rose (S.faults source.old) (S.faults source.new) }
+        ensures read { ¬ (IsErrOf result DecodeFault.ReadFault) → ¬ (IsErrOf result DecodeFault.WriteFault)
+            → ¬ (IsErrOf result DecodeFault.NoMemory) → S.faults source.new ≡ S.faults source.old }
+        ensures out_count { K.faults out.old ≤ K.faults out.new }
+        ensures source_count { S.faults source.old ≤ S.faults source.new }
+
+        // All else is as it was.
+        ensures out_others { K.rest out.old out.new }
+        ensures source_others { S.rest source.old source.new }
+    {
+        match self.reader.next_block(source) {
+            Ok(Some(block)) => {
+                self.take_block(block, out)?;
+                Ok(Step::More)
+            }
+            Ok(None) => {
+                self.print_rest(out)?;
+                Ok(Step::End(Report {
+                    lines: self.lines,
+                    unclosed: open_writers(self.alloc, &self.reader)?,
+                }))
+            }
+            Err(BlockFault::Damaged(cause)) => {
+                self.print_rest(out)?;
+                Err(DecodeFault::Damaged {
+                    offset: self.reader.offset(),
+                    cause,
+                })
+            }
+            Err(BlockFault::ReadFault) => {
+                self.print_rest(out)?;
+                Err(DecodeFault::ReadFault)
+            }
+            Err(BlockFault::NoMemory) => Err(DecodeFault::NoMemory),
+        }
+    }
+}
