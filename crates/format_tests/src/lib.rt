@@ -20,6 +20,8 @@ mod records;
 #[cfg(test)]
 mod sources;
 #[cfg(test)]
+mod steps;
+#[cfg(test)]
 mod streams;
 #[cfg(test)]
 mod tables;
