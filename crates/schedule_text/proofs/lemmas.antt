@@ -1,0 +1,2 @@
+pub mod JudgedLaws
+pub mod Deciding
