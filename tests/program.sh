@@ -100,7 +100,7 @@ expect 1 '' "$usage" generate 1 1000001 1
 expect 1 '' "$usage" generate 18446744073709551616 2 1
 expect 1 '' "$usage" selftest 1 2 0
 expect 1 '' "$usage" selftest 1 2 65
-expect 1 '' "$usage" schedule t
+expect 1 '' "$usage" schedule t t
 expect 1 '' "$usage" inject d m.cc
 expect 1 '' "$usage" inject d l d
 expect 1 '' "$usage" inject d l l
@@ -293,6 +293,8 @@ expect 7 '' $'nanolog: nofile: absent\n' direct nofile
 expect 7 '' $'nanolog: no/file: absent\n' direct no/file
 expect 7 '' $'nanolog: nofile: absent\n' decompress nofile
 expect 7 '' $'nanolog: nofile: absent\n' replay nofile m
+expect 7 '' $'nanolog: nofile: absent\n' schedule nofile
+expect 2 '' $'nanolog: t:1: refused: 1 Header\n' schedule t
 
 mkdir folder
 expect 4 '' $'nanolog: folder: read fault\n' direct folder

@@ -241,6 +241,10 @@ selftest_lawful (Seed seed ∷ Number calls ∷ Number writers ∷ []) options f
     (fit.0, fit.1.0.1, fit.1.1.0.0, fit.1.1.0.1)
 selftest_lawful _ options fit bounds = tt
 
+schedule_lawful : AsksLawful forms.Schedule (called (codes "FILE") kind.File ∷ [])
+schedule_lawful (File file ∷ []) options fit bounds = fit.0
+schedule_lawful _ options fit bounds = tt
+
 inject_lawful : AsksLawful forms.Inject (
     called (codes "DICT") kind.File ∷ called (codes "FILE") kind.File ∷ called (codes "OUT") kind.OtherFile ∷ [])
 inject_lawful (File dictionary ∷ File source ∷ File output ∷ []) options fit bounds =
@@ -272,7 +276,7 @@ all_lawful = (
             generate_lawful,
             (
               selftest_lawful,
-              ((λ values options fit bounds. tt), (inject_lawful, (header_lawful, tt))),
+              (schedule_lawful, (inject_lawful, (header_lawful, tt))),
             ),
           ),
         ),

@@ -39,6 +39,7 @@ pub data Command : Type 0 where
   Aggregate : (log : WordBytes) (id nth : ℕ) → Command
   Generate : (seed calls writers : ℕ) → Command
   Selftest : (seed calls writers : ℕ) → Command
+  Schedule : (file : WordBytes) → Command
   Inject : (dictionary source output : WordBytes) → Command
   Header : (dictionary output : WordBytes) → Command
 
@@ -239,7 +240,7 @@ operand_values operands words = values_from [] operands words
 
 -- ---- the command
 
--- the command of this form with what its operands are given. `schedule` isn't built
+-- the command of this form with what its operands are given
 abbrev pub made : CommandForm → List OperandValue → Options → Option Command
 made form.Preprocess (File dictionary ∷ Sources sources ∷ []) options = Some (Preprocess dictionary sources)
 made form.Replay (File trace ∷ File log ∷ []) options = Some (Replay trace log options)
@@ -248,6 +249,7 @@ made form.Aggregate (File log ∷ Number id ∷ Number nth ∷ []) options = Som
 made form.Direct (File trace ∷ []) options = Some (Direct trace)
 made form.Generate (Seed seed ∷ Number calls ∷ Number writers ∷ []) options = Some (Generate seed calls writers)
 made form.Selftest (Seed seed ∷ Number calls ∷ Number writers ∷ []) options = Some (Selftest seed calls writers)
+made form.Schedule (File file ∷ []) options = Some (Schedule file)
 made form.Inject (File dictionary ∷ File source ∷ File output ∷ []) options = Some (Inject dictionary source output)
 made form.Header (File dictionary ∷ File output ∷ []) options = Some (Header dictionary output)
 made _ _ options = None

@@ -57,6 +57,10 @@ pub enum Command<'a> {
         calls: u32,
         writers: u32,
     },
+    /// To make the steps of a schedule, and to print a line for each.
+    Schedule {
+        file: &'a str,
+    },
     /// To write a source with calls by number in place of its log statements.
     Inject {
         dictionary: &'a str,
@@ -183,6 +187,17 @@ fn selftest_of<'a>(values: &[OperandValue<'_, 'a>]) -> Option<Command<'a>>
     }
 }
 
+/// The command `schedule`, if these are its operands.
+fn schedule_of<'a>(values: &[OperandValue<'_, 'a>]) -> Option<Command<'a>>
+    ensures { (options : Options) →
+        option_map command_is result ≡ made forms.Schedule (map value_is values.now) options }
+{
+    match values {
+        [OperandValue::File(file)] => Some(Command::Schedule { file }),
+        _ => None,
+    }
+}
+
 /// The command `inject`, if these are its operands.
 fn inject_of<'a>(values: &[OperandValue<'_, 'a>]) -> Option<Command<'a>>
     ensures { (options : Options) →
@@ -233,7 +248,7 @@ fn made<'a>(
         CommandForm::Direct => Ok(direct_of(values)),
         CommandForm::Generate => Ok(generate_of(values)),
         CommandForm::Selftest => Ok(selftest_of(values)),
-        CommandForm::Schedule => Ok(None),
+        CommandForm::Schedule => Ok(schedule_of(values)),
         CommandForm::Inject => Ok(inject_of(values)),
         CommandForm::Header => Ok(header_of(values)),
     }

@@ -4,7 +4,7 @@
 ghost use Rattle.std.specs.Prelude.{◌≡◌, Some, None, List, [], ◌∷◌, ◌++◌, codes};
 ghost use Rattle.cli_words.specs.Commands.{WordBytes, Name, Awaits, word_of, given_of, options_of, command_of};
 ghost use Rattle.cli_words.specs.Commands.{Command, Preprocess, Direct, Replay, Decompress};
-ghost use Rattle.cli_words.specs.Commands.{Aggregate, Generate, Selftest, Inject, Header};
+ghost use Rattle.cli_words.specs.Commands.{Aggregate, Generate, Selftest, Schedule, Inject, Header};
 ghost use Rattle.cli_words.specs.declared.operands.TheConstants.{MAX_SOURCES};
 ghost use Rattle.cli_words.specs.Rows.{meaning, replays, IsLawful, words_for};
 ghost use Rattle.cli_words.specs.Usage.{usage_text};
@@ -18,6 +18,7 @@ pub fn names_are_words()
     ensures dash { meaning (codes "direct -") ≡ Some (Direct (codes "-")) }
     ensures command { meaning (codes "direct direct") ≡ Some (Direct (codes "direct")) }
     ensures equals { meaning (codes "direct a=b") ≡ Some (Direct (codes "a=b")) }
+    ensures schedule { meaning (codes "schedule f") ≡ Some (Schedule (codes "f")) }
     ensures ended { meaning (codes "direct t --") ≡ Some (Direct (codes "t")) }
     ensures option { meaning (codes "direct -- --level") ≡ Some (Direct (codes "--level")) }
     ensures letter { meaning (codes "decompress -- -l") ≡ Some (Decompress (codes "-l")) }
@@ -52,7 +53,6 @@ pub fn commands_come_first()
     ensures none { command_of [] ≡ None }
     ensures empty { meaning (codes "") ≡ None }
     ensures unknown { meaning (codes "print t") ≡ None }
-    ensures not_built { meaning (codes "schedule f") ≡ None }
     ensures capital { meaning (codes "Direct t") ≡ None }
     ensures help { meaning (codes "help") ≡ None }
     ensures help_option { meaning (codes "--help") ≡ None }

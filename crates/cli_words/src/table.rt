@@ -163,7 +163,7 @@ pub(crate) const SESSION_OPTIONS: &[SessionOption] = &[
     },
 ];
 
-/// The commands, in the order of the usage text. `schedule` isn't built: its words ask for nothing.
+/// The commands, in the order of the usage text.
 pub(crate) const ROWS: &[CommandRow] = &[
     CommandRow {
         form: CommandForm::Preprocess,

@@ -20,6 +20,7 @@ use command_base::{Note, Refusal, Status, say_end};
 use dictionary_commands::{header, inject};
 use log_commands::{aggregate, decompress};
 use nl_io::{Files, Sink};
+use schedule_commands::schedule;
 use session_commands::{replay, selftest};
 use source_commands::preprocess;
 use std::alloc::Global;
@@ -77,6 +78,7 @@ fn run_quick<'a, F: Files, O: Sink>(
             calls,
             writers,
         } => without_note(generate(alloc, seed, calls, writers, out)),
+        Command::Schedule { file } => without_note(schedule(alloc, files, file, out)),
         Command::Inject {
             dictionary,
             source,
@@ -184,6 +186,7 @@ where
 /// log, the least, the greatest and the sum of them, also of what stands in front of a damage. `generate SEED CALLS
 /// WRITERS` prints a trace that is drawn from the seed. `selftest SEED CALLS WRITERS` makes the calls of that trace by
 /// a session in memory, decompresses its log, and prints how many calls there were; it may wait for its threads too.
+/// `schedule FILE` makes the steps of a schedule in rings of its own, and prints a line for each step and each ring.
 /// `inject DICT FILE OUT` writes the source with calls by number in place of its log statements, and prints how many
 /// these are; what is refused of the source is told as by `preprocess`. `header DICT OUT` writes what a program needs to
 /// know of the messages of the dictionary, and prints how many they are. A file that is no trace, or no dictionary, is

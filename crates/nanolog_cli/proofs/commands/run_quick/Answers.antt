@@ -42,6 +42,10 @@ returns-in-Generate-clause-ends g c =
     done_as quick_part _ _ _ _ _ _ c.in-Generate.is c.without_note-in-Generate.ensures
     (inr (c.generate.ensures.ends (g.F.Files.desk c.args.files.now)))
 
+pub returns-in-Schedule-clause-ends : goal.returns-in-Schedule-clause-ends
+returns-in-Schedule-clause-ends g c =
+    done_as quick_part _ _ _ _ _ _ c.in-Schedule.is c.without_note-in-Schedule.ensures (inr c.schedule.ensures.ends)
+
 pub returns-in-Inject-clause-ends : goal.returns-in-Inject-clause-ends
 returns-in-Inject-clause-ends g c =
     done_as quick_part _ _ _ _ _ _ c.in-Inject.is c.without_note-in-Inject.ensures (inr c.inject.ensures.ends)

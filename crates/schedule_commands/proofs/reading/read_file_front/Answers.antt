@@ -1,0 +1,23 @@
+use Rattle.std.proofs.Common.{refl, rules}
+use Rattle.nl_io.specs.DeskLaws.{visited, visited-whole, Opens-reading}
+use Rattle.command_base.specs.HeldLaws.{such_held, opened_there}
+use Rattle.schedule_commands.proofs.reading.read_file_front.Goals as goal
+
+pub read_open-read-requires : goal.read_open-read-requires
+read_open-read-requires g c = Opens-reading _ _ _ _ c.in_ok-id.ensures.opened
+
+pub returns-in-Ok-clause-front : goal.returns-in-Ok-clause-front
+returns-in-Ok-clause-front g c = such_held _ _ _ _ _ c.in_ok-id.ensures.opened c.in-Ok.ensures.front
+
+pub returns-in-Ok-clause-same : goal.returns-in-Ok-clause-same
+returns-in-Ok-clause-same g c =
+    visited-whole _ _ _ _ _ _ c.in_ok-id.ensures.opened c.read_open-read.ensures.same (c.read_open-read.ensures.counted (search rules)) c.leave.ensures.left
+
+pub returns-in-Err-Failed-clause-unread : goal.returns-in-Err-Failed-clause-unread
+returns-in-Err-Failed-clause-unread g c = (refl, visited _ _ _ _ _ _ c.in_ok-id.ensures.opened c.read_open-read.ensures.same c.read_open-read.ensures.count c.leave.ensures.left, search rules)
+
+pub returns-in-Err-NoMemory-clause-unread : goal.returns-in-Err-NoMemory-clause-unread
+returns-in-Err-NoMemory-clause-unread g c = (
+  visited-whole _ _ _ _ _ _ c.in_ok-id.ensures.opened c.read_open-read.ensures.same (c.read_open-read.ensures.counted (search rules)) c.leave.ensures.left,
+  opened_there _ _ _ _ c.in_ok-id.ensures.opened,
+)
