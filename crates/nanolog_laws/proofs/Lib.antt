@@ -1,2 +1,4 @@
 pub mod Commands
 pub mod Replays
+mod Right
+mod Unfinished

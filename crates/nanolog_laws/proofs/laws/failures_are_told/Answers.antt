@@ -1,6 +1,7 @@
-use Rattle.command_base.specs.TaskLaws.{reads_counted, writes_counted, write_rose}
+use Rattle.command_base.specs.TaskLaws.{reads_counted, writes_counted}
 use Rattle.nanolog_cli.specs.Outcomes.{task_of}
 use Rattle.nanolog_laws.proofs.Commands.{task_sound}
+use Rattle.nanolog_laws.proofs.Unfinished.{failing, write_rose}
 use Rattle.nanolog_laws.proofs.laws.failures_are_told.Goals as goal
 
 pub returns-clause-reading : goal.returns-clause-reading
@@ -9,5 +10,8 @@ returns-clause-reading c = λ command old new ending. reads_counted (task_of com
 pub returns-clause-writing : goal.returns-clause-writing
 returns-clause-writing c = λ command old new ending. writes_counted (task_of command) old new ending (task_sound command)
 
-pub returns-clause-written : goal.returns-clause-written
-returns-clause-written c = λ command old new name. write_rose (task_of command) old new name
+pub returns-clause-unread : goal.returns-clause-unread
+returns-clause-unread c = failing
+
+pub returns-clause-unwritten : goal.returns-clause-unwritten
+returns-clause-unwritten c = write_rose
