@@ -46,6 +46,13 @@ fn first_of(alloc: Global, bytes: &[u8], count: &str) -> Result<Vec<u8>> {
     Ok(front.to_vec(alloc)?)
 }
 
+/// The bytes from a place on.
+fn last_of(alloc: Global, bytes: &[u8], place: &str) -> Result<Vec<u8>> {
+    let place = place.parse::<usize>()?;
+    let back = bytes.get(place..).context("the file is too short")?;
+    Ok(back.to_vec(alloc)?)
+}
+
 /// Does the step of this verb, which changes the file that is named first.
 pub(crate) fn change(alloc: Global, held: &mut Held, verb: &str, words: &str) -> Result<()> {
     let (name, change) = two_of(words)?;
@@ -54,6 +61,7 @@ pub(crate) fn change(alloc: Global, held: &mut Held, verb: &str, words: &str) ->
         "edit" => edited(alloc, bytes, change)?.into_bytes(),
         "put" => overwritten(alloc, bytes, change)?,
         "cut" => first_of(alloc, bytes, change)?,
+        "from" => last_of(alloc, bytes, change)?,
         _ => return Err(anyhow!("no such step")),
     };
     hold(alloc, held, name, changed.as_slice())

@@ -10,7 +10,7 @@
 //! | `file FILE TEXT` | the file holds one of the texts for all cases |
 //! | `edit FILE OLD => NEW` | in the file, NEW stands where OLD stood first |
 //! | `put FILE PLACE DIGITS` | in the file, these bytes stand from that place on |
-//! | `cut FILE COUNT` | the file has its first COUNT bytes only |
+//! | `cut FILE COUNT`, `from FILE PLACE` | the file has its first COUNT bytes only, or those from PLACE on |
 //! | `piece COUNT` | one call of a file or an output moves COUNT bytes at most; else 16 |
 //! | `fail files NUMBER..`, `fail output ..`, `fail errors ..` | these calls of a run fail, counted from 0 |
 //! | `run WORD..` | runs `nanolog` on the words, and shows what it printed and said; `''` is an empty word |
