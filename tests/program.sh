@@ -595,6 +595,7 @@ try_page docs/log-statements.md 'An example'
 try_page docs/log-statements.md 'Calls by number'
 try_page docs/log-statements.md 'What is refused'
 try_page docs/sessions.md 'Replaying and reading it'
+try_page docs/rings.md 'A ring by hand'
 
 [ "$failures" = 0 ] && echo "program.sh: all is well"
 [ "$failures" = 0 ]
