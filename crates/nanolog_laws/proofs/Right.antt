@@ -18,8 +18,8 @@ use Rattle.aggregation.specs.declared.fault.AggregateFault.TheVariants as totals
 use Rattle.aggregation.specs.Totals.{has_number}
 use Rattle.aggregation.specs.Aggregating.{HaveAnswer}
 use Rattle.schedule_text.specs.declared.cause.ScheduleCause.{ScheduleCause}
-use Rattle.schedule_text.specs.Judged.{Outcome}
-use Rattle.schedule_text.specs.Schedules.{Comes}
+use Rattle.schedule_text.specs.Judged.{ScheduleOutcome}
+use Rattle.schedule_text.specs.Schedules.{ComesTo}
 use Rattle.trace_text.specs.Traces.{TraceText}
 use Rattle.trace_text.specs.Dictionaries.{DictionaryText, DictionaryBreak}
 use Rattle.cli_words.specs.Commands.{Command, Preprocess, Direct, Replay, Decompress, Aggregate, Generate, Selftest, Schedule, Inject, Header}
@@ -129,12 +129,12 @@ totals_right log id nth (Err fault) done bytes have = absurd have
 -- ---- schedules
 
 steps_right : (file text : List ℕ) (refused : Option (ℕ × ScheduleCause)) → IsDone (verdict_of file refused)
-    → (bytes : List ℕ) → Comes bytes (record { printed = text; refused = refused }) → IsSchedule bytes
+    → (bytes : List ℕ) → ComesTo bytes (record { printed = text; refused = refused }) → IsSchedule bytes
 steps_right file text None done bytes (inl (s, last, is, same)) = (s, last, is)
 steps_right file text None done bytes (inr (inl (line, head, same))) =
-    absurd (let none = ap (λ (o : Outcome). o.refused) same in cc)
+    absurd (let none = ap (λ (o : ScheduleOutcome). o.refused) same in cc)
 steps_right file text None done bytes (inr (inr (s, line, cause, breaks, same))) =
-    absurd (let none = ap (λ (o : Outcome). o.refused) same in cc)
+    absurd (let none = ap (λ (o : ScheduleOutcome). o.refused) same in cc)
 steps_right file text (Some (line, cause)) done bytes comes = absurd cc
 
 -- ---- all commands
@@ -199,7 +199,7 @@ reads_right (Selftest seed calls writers) old new held product ending reads done
 reads_right (Schedule file) old new held product ending reads done told =
     let gives : GivesSteps file old product ending =
     read_form file (GivesSteps file) never old new product ending reads done in
-    holds_so old held told file (λ bytes. Comes bytes (record { printed = product.text; refused = gives.0 }))
+    holds_so old held told file (λ bytes. ComesTo bytes (record { printed = product.text; refused = gives.0 }))
     IsSchedule gives.3 (steps_right file product.text gives.0 (subst IsDone gives.1 done))
 reads_right (Inject dictionary source output) old new held product ending reads done told =
     inject_right dictionary source output old new held product ending reads done told

@@ -40,7 +40,7 @@ use Rattle.schedule_commands.specs.Tasks.{verdict_of, GivesSteps}
 use Rattle.session_commands.specs.Headline.{HeadlineCut}
 use Rattle.session_commands.specs.Replays.{ReplayGives, replay_task}
 use Rattle.nanolog_cli.specs.Outcomes.{task_of, Answers}
-use Rattle.nanolog_laws.specs.Unfinished.{IsRefusal, IsCutShort, ComesWithText, PrintsFront}
+use Rattle.nanolog_laws.specs.Unfinished.{IsRefusedEnding, IsCutShort, ComesWithText, PrintsFront}
 use Rattle.nanolog_laws.proofs.Commands.{task_sound}
 
 -- ---- what is asked of a task
@@ -49,9 +49,9 @@ use Rattle.nanolog_laws.proofs.Commands.{task_sound}
 -- to be absent is so, and a read failed where that is told.
 record SaysWhy (task : Task) (Comes : Ending → Type 0) : Type 0 where
   unmade : (old new : Desk) (product : Product) (ending : Ending) → task.reads old new product ending
-      → IsRefusal ending → product.made ≡ None
+      → IsRefusedEnding ending → product.made ≡ None
   untold : (old new : Desk) (product : Product) (ending : Ending) → task.reads old new product ending
-      → IsRefusal ending → ¬ (Comes ending) → product.text ≡ []
+      → IsRefusedEnding ending → ¬ (Comes ending) → product.text ≡ []
   lacks : (old new : Desk) (product : Product) (name : List ℕ) → task.reads old new product (Absent name)
       → Contains task.inputs name × IsAbsent old name
   fails : (old new : Desk) (product : Product) (name : List ℕ) → task.reads old new product (ReadFault name)
@@ -59,15 +59,15 @@ record SaysWhy (task : Task) (Comes : Ending → Type 0) : Type 0 where
 
 -- the same of what a file gives
 record FormSaysWhy (form : Form) (begun : Begun) (Comes : Ending → Type 0) : Type 0 where
-  unmade : (desk : Desk) (product : Product) (ending : Ending) → form desk product ending → IsRefusal ending
+  unmade : (desk : Desk) (product : Product) (ending : Ending) → form desk product ending → IsRefusedEnding ending
       → product.made ≡ None
-  untold : (desk : Desk) (product : Product) (ending : Ending) → form desk product ending → IsRefusal ending
+  untold : (desk : Desk) (product : Product) (ending : Ending) → form desk product ending → IsRefusedEnding ending
       → ¬ (Comes ending) → product.text ≡ []
   begins : (desk : Desk) (text name : List ℕ) → begun (ReadFault name) desk text → Comes (ReadFault name)
 
 -- nothing comes of what isn't right
 nothing_comes : (form : Form) (Comes : Ending → Type 0)
-    → ((desk : Desk) (product : Product) (ending : Ending) → form desk product ending → IsRefusal ending
+    → ((desk : Desk) (product : Product) (ending : Ending) → form desk product ending → IsRefusedEnding ending
     → product ≡ nothing) → FormSaysWhy form never Comes
 nothing_comes form Comes none = record {
   unmade = λ desk product ending gives is. ap (λ (p : Product). p.made) (none desk product ending gives is);
@@ -85,7 +85,7 @@ data CameOf (form : Form) (begun : Begun) (old : Desk) (product : Product) (endi
   came_whole : form old product ending → CameOf form begun old product ending
 
 came_of : (input : List ℕ) (form : Form) (begun : Begun) (old new : Desk) (product : Product) (ending : Ending)
-    → ReadsFile input form begun old new product ending → IsRefusal ending → CameOf form begun old product ending
+    → ReadsFile input form begun old new product ending → IsRefusedEnding ending → CameOf form begun old product ending
 came_of input form begun old new product Done reads is = absurd is
 came_of input form begun old new product (StillOpen name numbers) reads is = absurd is
 came_of input form begun old new product (Usage lines) reads is = absurd reads
@@ -100,13 +100,13 @@ came_of input form begun old new product NoMemory reads is = absurd is
 
 module _ (form : Form) (begun : Begun) (Comes : Ending → Type 0) (says : FormSaysWhy form begun Comes) where
   came_unmade : (old : Desk) (product : Product) (ending : Ending) → CameOf form begun old product ending
-      → IsRefusal ending → product.made ≡ None
+      → IsRefusedEnding ending → product.made ≡ None
   came_unmade old product ending (came_nothing same) is = ap (λ (p : Product). p.made) same
   came_unmade old product ending (came_part made name text fails) is = made
   came_unmade old product ending (came_whole gives) is = says.unmade old product ending gives is
 
   came_untold : (old : Desk) (product : Product) (ending : Ending) → CameOf form begun old product ending
-      → IsRefusal ending → ¬ (Comes ending) → product.text ≡ []
+      → IsRefusedEnding ending → ¬ (Comes ending) → product.text ≡ []
   came_untold old product ending (came_nothing same) is not = ap (λ (p : Product). p.text) same
   came_untold old product ending (came_part made name text fails) is not =
       absurd (not (subst Comes (sym fails) (says.begins old product.text name text)))
@@ -148,7 +148,7 @@ module _ {V : Type 0} (first second : List ℕ) (refuses : Form) (has : Desk →
   pair = pair_task first second refuses has form output right
 
   pair_unmade : (old new : Desk) (product : Product) (ending : Ending) → pair.reads old new product ending
-      → IsRefusal ending → product.made ≡ None
+      → IsRefusedEnding ending → product.made ≡ None
   pair_unmade old new product ending (inl reads) is =
       came_unmade refuses never Comes first_says old product ending
       (came_of first refuses never old new product ending reads is) is
@@ -157,7 +157,7 @@ module _ {V : Type 0} (first second : List ℕ) (refuses : Form) (has : Desk →
       (came_of second (form value) never old new product ending reads is) is
 
   pair_untold : (old new : Desk) (product : Product) (ending : Ending) → pair.reads old new product ending
-      → IsRefusal ending → ¬ (Comes ending) → product.text ≡ []
+      → IsRefusedEnding ending → ¬ (Comes ending) → product.text ≡ []
   pair_untold old new product ending (inl reads) is not =
       came_untold refuses never Comes first_says old product ending
       (came_of first refuses never old new product ending reads is) is not
@@ -185,7 +185,7 @@ module _ {V : Type 0} (first second : List ℕ) (refuses : Form) (has : Desk →
 -- ---- no input
 
 free_done : (gives : Product → Type 0) (old new : Desk) (product : Product) (ending : Ending)
-    → ReadsNone gives old new product ending → ¬ (IsRefusal ending)
+    → ReadsNone gives old new product ending → ¬ (IsRefusedEnding ending)
 free_done gives old new product Done reads is = is
 free_done gives old new product NoMemory reads is = is
 free_done gives old new product ending reads is = reads
@@ -208,7 +208,7 @@ reached_among names desk name is =
     (has_first name is.others))
 
 nothing_of_sources : (names : List (List ℕ)) (gives : List SourceFile → Product → Type 0) (old new : Desk)
-    (product : Product) (ending : Ending) → ReadsSources names gives old new product ending → IsRefusal ending
+    (product : Product) (ending : Ending) → ReadsSources names gives old new product ending → IsRefusedEnding ending
     → product ≡ nothing
 nothing_of_sources names gives old new product Done reads is = absurd is
 nothing_of_sources names gives old new product ending reads is = reads.1
@@ -227,53 +227,53 @@ sources_say names output gives Comes = record {
 -- ---- each command's
 
 lines_nothing : (trace : List ℕ) (desk : Desk) (product : Product) (ending : Ending)
-    → GivesLines trace desk product ending → IsRefusal ending → product ≡ nothing
+    → GivesLines trace desk product ending → IsRefusedEnding ending → product ≡ nothing
 lines_nothing trace desk product Done gives is = absurd is
 lines_nothing trace desk product (Refused name line cause) gives is = gives.1
 lines_nothing trace desk product ending gives is = absurd gives
 
 session_nothing : (trace : List ℕ) (options : Options) (desk : Desk) (product : Product) (ending : Ending)
-    → ReplayGives trace options desk product ending → IsRefusal ending → product ≡ nothing
+    → ReplayGives trace options desk product ending → IsRefusedEnding ending → product ≡ nothing
 session_nothing trace options desk product Done gives is = absurd is
 session_nothing trace options desk product (Refused name line cause) gives is = gives.1
 session_nothing trace options desk product ending gives is = absurd gives
 
 header_nothing : (dictionary : List ℕ) (desk : Desk) (product : Product) (ending : Ending)
-    → GivesHeader dictionary desk product ending → IsRefusal ending → product ≡ nothing
+    → GivesHeader dictionary desk product ending → IsRefusedEnding ending → product ≡ nothing
 header_nothing dictionary desk product Done gives is = absurd is
 header_nothing dictionary desk product (Refused name line cause) gives is = gives.1
 header_nothing dictionary desk product ending gives is = absurd gives
 
 dictionary_nothing : (dictionary : List ℕ) (desk : Desk) (product : Product) (ending : Ending)
-    → IsRefusedText DictionaryBreak dictionary desk product ending → IsRefusal ending → product ≡ nothing
+    → IsRefusedText DictionaryBreak dictionary desk product ending → IsRefusedEnding ending → product ≡ nothing
 dictionary_nothing dictionary desk product (Refused name line cause) gives is = gives.1
 dictionary_nothing dictionary desk product ending gives is = absurd gives
 
 injected_nothing : (source : List ℕ) (messages : List Message) (desk : Desk) (product : Product) (ending : Ending)
-    → GivesInjected source messages desk product ending → IsRefusal ending → product ≡ nothing
+    → GivesInjected source messages desk product ending → IsRefusedEnding ending → product ≡ nothing
 injected_nothing source messages desk product Done gives is = absurd is
 injected_nothing source messages desk product (RefusedSources lines) gives is = gives.3
 injected_nothing source messages desk product (Refused name line cause) gives is = gives.1
 injected_nothing source messages desk product ending gives is = absurd gives
 
-whole_is_done : (log unclosed : List ℕ) → ¬ (IsRefusal (whole_ending log unclosed))
+whole_is_done : (log unclosed : List ℕ) → ¬ (IsRefusedEnding (whole_ending log unclosed))
 whole_is_done log [] is = is
 whole_is_done log (writer ∷ writers) is = is
 
-text_comes : (log : List ℕ) (answer : Result Report DecodeFault) → IsRefusal (log_ending log answer)
+text_comes : (log : List ℕ) (answer : Result Report DecodeFault) → IsRefusedEnding (log_ending log answer)
     → ComesWithText (Some (Decompress log)) (log_ending log answer)
 text_comes log (Ok report) is = absurd (whole_is_done log report.unclosed is)
 text_comes log (Err (text_faults.Damaged offset cause)) is = tt
 text_comes log (Err text_faults.ReadFault) is = tt
 text_comes log (Err fault) is = absurd is
 
-totals_come : (log : List ℕ) (id nth : ℕ) (answer : Result Totals AggregateFault) → IsRefusal (totals_ending log answer)
+totals_come : (log : List ℕ) (id nth : ℕ) (answer : Result Totals AggregateFault) → IsRefusedEnding (totals_ending log answer)
     → ¬ (ComesWithText (Some (Aggregate log id nth)) (totals_ending log answer)) → totals_text (totals_told answer) ≡ []
 totals_come log id nth (Ok totals) is not = absurd is
 totals_come log id nth (Err (totals_faults.Damaged offset cause front)) is not = absurd (not tt)
 totals_come log id nth (Err fault) is not = refl
 
-steps_come : (file : List ℕ) (refused : Option (ℕ × ScheduleCause)) → IsRefusal (verdict_of file refused)
+steps_come : (file : List ℕ) (refused : Option (ℕ × ScheduleCause)) → IsRefusedEnding (verdict_of file refused)
     → ComesWithText (Some (Schedule file)) (verdict_of file refused)
 steps_come file None is = absurd is
 steps_come file (Some (line, cause)) is = tt
@@ -283,7 +283,7 @@ text_says log = record {
   unmade = λ desk product ending (answer, told, made, have) is. made;
   untold = λ desk product ending (answer, told, made, have) is not.
       absurd (not (subst (ComesWithText (Some (Decompress log))) (sym told)
-      (text_comes log answer (subst IsRefusal told is))));
+      (text_comes log answer (subst IsRefusedEnding told is))));
   begins = λ desk text name begun. tt;
 }
 
@@ -293,7 +293,7 @@ totals_say log id nth = record {
   unmade = λ desk product ending (answer, told, shown, have) is. ap (λ (p : Product). p.made) shown;
   untold = λ desk product ending (answer, told, shown, have) is not.
       ap (λ (p : Product). p.text) shown
-      ∙ totals_come log id nth answer (subst IsRefusal told is)
+      ∙ totals_come log id nth answer (subst IsRefusedEnding told is)
       (λ comes. not (subst (ComesWithText (Some (Aggregate log id nth))) (sym told) comes));
   begins = λ desk text name begun. absurd begun;
 }
@@ -303,7 +303,7 @@ steps_say file = record {
   unmade = λ desk product ending (refused, told, made, comes) is. made;
   untold = λ desk product ending (refused, told, made, comes) is not.
       absurd (not (subst (ComesWithText (Some (Schedule file))) (sym told)
-      (steps_come file refused (subst IsRefusal told is))));
+      (steps_come file refused (subst IsRefusedEnding told is))));
   begins = λ desk text name begun. absurd begun;
 }
 
@@ -325,7 +325,7 @@ says_why (Header dictionary output) = file_says _ _ _ _ _ _ _ _ (nothing_comes _
 
 -- an end whose reasons are the words or the inputs is that of a command that completes
 completes_refusal : (task : Task) (old new : Scene) (ending : Ending) → CommandEffect task old new ending
-    → IsRefusal ending → Completes task old new ending
+    → IsRefusedEnding ending → Completes task old new ending
 completes_refusal task old new Done effect is = absurd is
 completes_refusal task old new (StillOpen name numbers) effect is = absurd is
 completes_refusal task old new (Usage lines) effect is = absurd effect
@@ -342,7 +342,7 @@ read_held task old read product ending sound reads = elim (sound.changes old rea
 ]
 
 command_held : (command : Command) (old new : Scene) (ending : Ending) → CommandEffect (task_of command) old new ending
-    → IsRefusal ending → new.desk.held ≡ old.desk.held
+    → IsRefusedEnding ending → new.desk.held ≡ old.desk.held
 command_held command old new ending effect is =
     let task = task_of command in
     let whole = completes_refusal task old new ending effect is in
@@ -352,7 +352,7 @@ command_held command old new ending effect is =
     ∙ read_held task old.desk whole.read whole.product ending (task_sound command) whole.reading
 
 command_put : (command : Command) (old new : Scene) (ending : Ending) → CommandEffect (task_of command) old new ending
-    → IsRefusal ending → ¬ (ComesWithText (Some command) ending) → new.put ≡ old.put
+    → IsRefusedEnding ending → ¬ (ComesWithText (Some command) ending) → new.put ≡ old.put
 command_put command old new ending effect is not =
     let whole = completes_refusal (task_of command) old new ending effect is in
     let untold = (says_why command).untold old.desk whole.read whole.product ending whole.reading is not in
@@ -360,13 +360,13 @@ command_put command old new ending effect is not =
 
 -- what was asked for wasn't read, or it was no command, and all is as it was
 pub same_held : (asked : Option Command) (old new : Scene) (ending : Ending) → Answers asked old new ending
-    → IsRefusal ending → new.desk.held ≡ old.desk.held
+    → IsRefusedEnding ending → new.desk.held ≡ old.desk.held
 same_held asked old new ending (inl (wants, same)) is = ap (λ (s : Scene). s.desk.held) same
 same_held None old new ending (inr (says, same)) is = ap (λ (s : Scene). s.desk.held) same
 same_held (Some command) old new ending (inr effect) is = command_held command old new ending effect is
 
 pub same_put : (asked : Option Command) (old new : Scene) (ending : Ending) → Answers asked old new ending
-    → IsRefusal ending → ¬ (ComesWithText asked ending) → new.put ≡ old.put
+    → IsRefusedEnding ending → ¬ (ComesWithText asked ending) → new.put ≡ old.put
 same_put asked old new ending (inl (wants, same)) is not = ap (λ (s : Scene). s.put) same
 same_put None old new ending (inr (says, same)) is not = ap (λ (s : Scene). s.put) same
 same_put (Some command) old new ending (inr effect) is not = command_put command old new ending effect is not

@@ -9,12 +9,12 @@ use Rattle.command_base.specs.Tasks.{Product}
 use Rattle.nanolog_cli.specs.Outcomes.{task_of}
 
 -- the words or the inputs are why not all was done
-abbrev pub IsRefusal : Ending → Type 0
-IsRefusal Done = ⊥
-IsRefusal (StillOpen name numbers) = ⊥
-IsRefusal (WriteFault name) = ⊥
-IsRefusal NoMemory = ⊥
-IsRefusal ending = ⊤
+abbrev pub IsRefusedEnding : Ending → Type 0
+IsRefusedEnding Done = ⊥
+IsRefusedEnding (StillOpen name numbers) = ⊥
+IsRefusedEnding (WriteFault name) = ⊥
+IsRefusedEnding NoMemory = ⊥
+IsRefusedEnding ending = ⊤
 
 -- a write failed, or memory was wanting
 abbrev pub IsCutShort : Ending → Type 0

@@ -19,7 +19,7 @@ ghost use Rattle.command_base.specs.Scenes.{Scene};
 ghost use Rattle.command_base.specs.Words.{standard_output};
 ghost use Rattle.session_commands.specs.Headline.{taken_text, LogLawful, TextSame, HeadlineCut};
 ghost use Rattle.nanolog_cli.specs.Outcomes.{input_names, output_name, IsRight, HidesReadFault, Ends, Answers};
-ghost use Rattle.nanolog_laws.specs.Unfinished.{IsRefusal, IsCutShort, ComesWithText, PrintsFront};
+ghost use Rattle.nanolog_laws.specs.Unfinished.{IsRefusedEnding, IsCutShort, ComesWithText, PrintsFront};
 
 /// A command whose files are held and right is done, where no call fails and memory suffices, and none is done whose
 /// files are told and aren't right. Where it is told that the first of them isn't there, that is the answer, unless a
@@ -102,9 +102,9 @@ pub fn refusals_have_their_reasons()
 /// for the ends that come with a text, which is then printed whole.
 pub fn refusals_leave_all_as_it_was()
     ensures held { (asked : Option Command) (old new : Scene) (ending : Ending) → Answers asked old new ending
-        → IsRefusal ending → new.desk.held ≡ old.desk.held }
+        → IsRefusedEnding ending → new.desk.held ≡ old.desk.held }
     ensures put { (asked : Option Command) (old new : Scene) (ending : Ending) → Answers asked old new ending
-        → IsRefusal ending → ¬ (ComesWithText asked ending) → new.put ≡ old.put }
+        → IsRefusedEnding ending → ¬ (ComesWithText asked ending) → new.put ≡ old.put }
 {}
 
 /// Where a write failed, or memory was wanting, nothing was printed or a front of a text that the inputs give without

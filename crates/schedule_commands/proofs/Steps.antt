@@ -10,9 +10,9 @@ use Rattle.schedule_text.specs.declared.cause.ScheduleCause.{ScheduleCause}
 use Rattle.schedule_text.specs.declared.playing.ScheduleFault.{ScheduleFault}
 use Rattle.schedule_text.specs.declared.playing.ScheduleFault.TheVariants as faults
 use Rattle.schedule_text.specs.declared.playing.TheConstants.{MAX_TEXT}
-use Rattle.schedule_text.specs.Judged.{Outcome, judged}
+use Rattle.schedule_text.specs.Judged.{ScheduleOutcome, judged}
 use Rattle.schedule_text.specs.Playing.{Plays}
-use Rattle.schedule_text.specs.Schedules.{Comes}
+use Rattle.schedule_text.specs.Schedules.{ComesTo}
 use Rattle.schedule_text.proofs.lemmas.JudgedLaws.{comes_judged}
 use Rattle.schedule_text.proofs.lemmas.Deciding.{front_decides}
 use Rattle.command_base.specs.Endings.{Ending, Done}
@@ -38,8 +38,8 @@ same_judged held = elim (cases_lt (length held) MAX_TEXT) [
   | inr more ↦ decided held more
 ]
 
-comes_whole : (held bytes : List ℕ) → bytes ≡ take MAX_TEXT held → Comes held (judged bytes)
-comes_whole held bytes is = subst (Comes held) (same_judged held ∙ ap judged (sym is)) (comes_judged held)
+comes_whole : (held bytes : List ℕ) → bytes ≡ take MAX_TEXT held → ComesTo held (judged bytes)
+comes_whole held bytes is = subst (ComesTo held) (same_judged held ∙ ap judged (sym is)) (comes_judged held)
 
 -- what is said of the bytes that a name holds, where that is told
 such_of : (told : Option Held) (file : List ℕ) (such other : List ℕ → Type 0) → ((bytes : List ℕ) → such bytes → other bytes)
@@ -48,8 +48,8 @@ such_of : (told : Option Held) (file : List ℕ) (such other : List ℕ → Type
 such_of None file such other follows holds = tt
 such_of (Some held) file such other follows (bytes, there, is) = (bytes, there, follows bytes is)
 
-holds_comes : (desk : Desk) (file bytes : List ℕ) → HoldsSuch desk file (λ held. bytes ≡ take MAX_TEXT held) → HoldsSuch desk file (λ held. Comes held (judged bytes))
-holds_comes desk file bytes holds = such_of desk.held file (λ held. bytes ≡ take MAX_TEXT held) (λ held. Comes held (judged bytes)) (λ held is. comes_whole held bytes is) holds
+holds_comes : (desk : Desk) (file bytes : List ℕ) → HoldsSuch desk file (λ held. bytes ≡ take MAX_TEXT held) → HoldsSuch desk file (λ held. ComesTo held (judged bytes))
+holds_comes desk file bytes holds = such_of desk.held file (λ held. bytes ≡ take MAX_TEXT held) (λ held. ComesTo held (judged bytes)) (λ held is. comes_whole held bytes is) holds
 
 -- ---- how the command ends
 
@@ -62,7 +62,7 @@ verdict_printed file None = tt
 verdict_printed file (Some (line, cause)) = tt
 
 module _ (file bytes : List ℕ) (old : Scene) (desk : Desk) (same : desk ≡ old.desk) (holds : HoldsSuch old.desk file (λ held. bytes ≡ take MAX_TEXT held)) where
-  abbrev outcome : Outcome
+  abbrev outcome : ScheduleOutcome
   outcome = judged bytes
 
   abbrev verdict : Ending
@@ -72,8 +72,8 @@ module _ (file bytes : List ℕ) (old : Scene) (desk : Desk) (same : desk ≡ ol
   there = such_there old.desk file (λ held. bytes ≡ take MAX_TEXT held) holds
 
   reads_by : (refused : Option (ℕ × ScheduleCause)) → outcome.refused ≡ refused → ReadsFile file (GivesSteps file) never old.desk desk (text_alone outcome.printed) (verdict_of file refused)
-  reads_by None is = (same, there, (None, refl, refl, subst (λ (r : Option (ℕ × ScheduleCause)). HoldsSuch old.desk file (λ held. Comes held (record { printed = outcome.printed; refused = r }))) is (holds_comes old.desk file bytes holds)))
-  reads_by (Some (line, cause)) is = (same, there, (Some (line, cause), refl, refl, subst (λ (r : Option (ℕ × ScheduleCause)). HoldsSuch old.desk file (λ held. Comes held (record { printed = outcome.printed; refused = r }))) is (holds_comes old.desk file bytes holds)))
+  reads_by None is = (same, there, (None, refl, refl, subst (λ (r : Option (ℕ × ScheduleCause)). HoldsSuch old.desk file (λ held. ComesTo held (record { printed = outcome.printed; refused = r }))) is (holds_comes old.desk file bytes holds)))
+  reads_by (Some (line, cause)) is = (same, there, (Some (line, cause), refl, refl, subst (λ (r : Option (ℕ × ScheduleCause)). HoldsSuch old.desk file (λ held. ComesTo held (record { printed = outcome.printed; refused = r }))) is (holds_comes old.desk file bytes holds)))
 
   has_read : HasRead (schedule_task file) old desk (text_alone outcome.printed) verdict
   has_read = record { read = desk; reading = reads_by outcome.refused refl; made = refl }

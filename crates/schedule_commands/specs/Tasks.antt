@@ -5,7 +5,7 @@ use Rattle.schedule_text.specs.declared.cause.ScheduleCause.{ScheduleCause}
 use Rattle.schedule_text.specs.declared.playing.ScheduleFault.{ScheduleFault}
 use Rattle.schedule_text.specs.declared.playing.ScheduleFault.TheVariants as faults
 use Rattle.schedule_text.specs.Causes.{cause_number, cause_name}
-use Rattle.schedule_text.specs.Schedules.{Schedule, ScheduleText, Comes}
+use Rattle.schedule_text.specs.Schedules.{Schedule, ScheduleText, ComesTo}
 use Rattle.command_base.specs.Endings.{ToldCause, Ending, Done, Refused, WriteFault, NoMemory}
 use Rattle.command_base.specs.HeldFiles.{HoldsSuch}
 use Rattle.command_base.specs.Tasks.{WhilePrinting, Task}
@@ -32,7 +32,7 @@ verdict_of name (Some (line, cause)) = Refused name (Some line) (schedule_cause 
 abbrev pub GivesSteps : List ℕ → Form
 GivesSteps file old product ending =
     (refused : Option (ℕ × ScheduleCause)) × (ending ≡ verdict_of file refused) × (product.made ≡ None)
-    × HoldsSuch old file (λ bytes. Comes bytes (record { printed = product.text; refused = refused }))
+    × HoldsSuch old file (λ bytes. ComesTo bytes (record { printed = product.text; refused = refused }))
 
 -- the bytes are the text of a schedule that is played
 abbrev pub IsSchedule : List ℕ → Type 0

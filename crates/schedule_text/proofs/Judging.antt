@@ -16,9 +16,9 @@ use Rattle.ring_machine.specs.Rings.{new_rings, view_of}
 use Rattle.schedule_text.specs.declared.cause.ScheduleCause.TheVariants as causes
 use Rattle.schedule_text.specs.declared.playing.TheConstants.{MAX_STEPS}
 use Rattle.schedule_text.specs.Causes.{bar_cause, told_bar}
-use Rattle.schedule_text.specs.Lines.{RingStep, step_at, sizes_at, first_line_says}
+use Rattle.schedule_text.specs.Lines.{NumberedStep, step_at, sizes_at, first_line_says}
 use Rattle.schedule_text.specs.Printed.{event_text, positions_text, shown_text, event_line, ring_lines}
-use Rattle.schedule_text.specs.Judged.{Outcome, refused_at, printing, event_of, first_line, line_number, by_bar, by_line, steps_judged, rings_judged, head_judged, judged}
+use Rattle.schedule_text.specs.Judged.{ScheduleOutcome, refused_at, printing, event_of, first_line, line_number, by_bar, by_line, steps_judged, rings_judged, head_judged, judged}
 
 -- ---- one line, where so many more may be made
 
@@ -29,10 +29,10 @@ too_many zero rings made (byte ∷ bytes) none some = refl
 too_many (suc left) rings made (byte ∷ bytes) none some = absurd (omega (arith, none))
 
 module _ (left : ℕ) (rings : List RingState) (made : ℕ) where
-  abbrev behind : List RingState → List ℕ → Outcome
+  abbrev behind : List RingState → List ℕ → ScheduleOutcome
   behind next rest = steps_judged left next (made + 1) rest
 
-  abbrev by_test : RingStep → List ℕ → Option Barred → Outcome
+  abbrev by_test : NumberedStep → List ℕ → Option Barred → ScheduleOutcome
   by_test said rest o = by_bar o made (event_line (made + 1) (event_of said) (after_event rings (event_of said))) (behind (after_event rings (event_of said)) rest)
 
   pub no_step : (bytes : List ℕ) → bytes ≢ [] → first_line_says step_at bytes ≡ None → steps_judged (suc left) rings made bytes ≡ refused_at (made + 3) causes.Step
@@ -40,13 +40,13 @@ module _ (left : ℕ) (rings : List RingState) (made : ℕ) where
   no_step [] some none = absurd (some refl)
   no_step (byte ∷ bytes) some none = ap (by_line behind rings made) none
 
-  pub barred_step : (bytes : List ℕ) (said : RingStep) (rest : List ℕ) (bar : Barred) → bytes ≢ [] → first_line_says step_at bytes ≡ Some (said, rest) → event_barred rings (event_of said) ≡ Some bar
+  pub barred_step : (bytes : List ℕ) (said : NumberedStep) (rest : List ℕ) (bar : Barred) → bytes ≢ [] → first_line_says step_at bytes ≡ Some (said, rest) → event_barred rings (event_of said) ≡ Some bar
       → steps_judged (suc left) rings made bytes ≡ refused_at (made + 3) (bar_cause bar)
   unfolding steps_judged
   barred_step [] said rest bar some reads barred = absurd (some refl)
   barred_step (byte ∷ bytes) said rest bar some reads barred = ap (by_line behind rings made) reads ∙ ap (by_test said rest) barred
 
-  pub step_on : (bytes : List ℕ) (said : RingStep) (rest : List ℕ) → bytes ≢ [] → first_line_says step_at bytes ≡ Some (said, rest) → event_barred rings (event_of said) ≡ None
+  pub step_on : (bytes : List ℕ) (said : NumberedStep) (rest : List ℕ) → bytes ≢ [] → first_line_says step_at bytes ≡ Some (said, rest) → event_barred rings (event_of said) ≡ None
       → steps_judged (suc left) rings made bytes
       ≡ printing (event_line (made + 1) (event_of said) (after_event rings (event_of said))) (steps_judged left (after_event rings (event_of said)) (made + 1) rest)
   unfolding steps_judged
@@ -76,11 +76,11 @@ module _ (rings : List RingState) (made : ℕ) (bytes : List ℕ) (some : bytes 
   pub stops_unread : first_line_says step_at bytes ≡ None → steps_judged (MAX_STEPS - made) rings made bytes ≡ refused_at (made + 3) causes.Step
   stops_unread none = here ∙ no_step left rings made bytes some none
 
-  pub stops_barred : (said : RingStep) (rest : List ℕ) (bar : Barred) → first_line_says step_at bytes ≡ Some (said, rest) → event_barred rings (event_of said) ≡ Some bar
+  pub stops_barred : (said : NumberedStep) (rest : List ℕ) (bar : Barred) → first_line_says step_at bytes ≡ Some (said, rest) → event_barred rings (event_of said) ≡ Some bar
       → steps_judged (MAX_STEPS - made) rings made bytes ≡ refused_at (made + 3) (bar_cause bar)
   stops_barred said rest bar reads barred = here ∙ barred_step left rings made bytes said rest bar some reads barred
 
-  pub goes_on : (said : RingStep) (rest : List ℕ) (next : List RingState) (view : RingView) → first_line_says step_at bytes ≡ Some (said, rest) → IsEvent rings (event_of said) next
+  pub goes_on : (said : NumberedStep) (rest : List ℕ) (next : List RingState) (view : RingView) → first_line_says step_at bytes ≡ Some (said, rest) → IsEvent rings (event_of said) next
       → option_map view_of (slice_get next said.0) ≡ Some view
       → steps_judged (MAX_STEPS - made) rings made bytes ≡ printing (event_text (made + 1) (event_of said) ++ positions_text view) (steps_judged left next (made + 1) rest)
   goes_on said rest next view reads is shown =

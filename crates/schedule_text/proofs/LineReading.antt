@@ -17,8 +17,8 @@ use Rattle.ring_machine.specs.declared.steps.Step.{Step as StepKind}
 use Rattle.ring_machine.specs.declared.steps.Step.TheVariants as steps
 use Rattle.ring_machine.specs.declared.steps.Event.{Event}
 use Rattle.schedule_text.specs.declared.head_line.TheConstants.{MAX_WORDS}
-use Rattle.schedule_text.specs.StepLines.{step_name, step_word, step_line, FitsWord, FitsLine}
-use Rattle.schedule_text.specs.Lines.{number_at, sizes_within, sizes_of, sizes_at, plain_step, RingStep, store_at, plain_at, step_with, step_at, first_line_says}
+use Rattle.schedule_text.specs.StepLines.{step_name, step_word, step_line, FitsWord, FitsStep}
+use Rattle.schedule_text.specs.Lines.{number_at, sizes_within, sizes_of, sizes_at, plain_step, NumberedStep, store_at, plain_at, step_with, step_at, first_line_says}
 use Rattle.schedule_text.specs.Judged.{event_of}
 use Rattle.schedule_text.specs.Schedules.{AreSizes, rings_line}
 
@@ -82,10 +82,10 @@ line_taken {A = A} says bytes said rest e =
 -- ---- the line of a step
 
 -- the line of a step without its line feed
-abbrev pub step_bytes : RingStep → List ℕ
+abbrev pub step_bytes : NumberedStep → List ℕ
 step_bytes (ring, step) = step_name step ++ 32 ∷ (decimal ring ++ step_word step)
 
-pub step_line-bytes : (said : RingStep) (rest : List ℕ) → step_line (event_of said) ++ rest ≡ step_bytes said ++ 10 ∷ rest
+pub step_line-bytes : (said : NumberedStep) (rest : List ℕ) → step_line (event_of said) ++ rest ≡ step_bytes said ++ 10 ∷ rest
 step_line-bytes (ring, step) rest = simp append_assoc
 
 abbrev lacks : ℕ → List ℕ → Bool
@@ -124,13 +124,13 @@ word_none steps.Load fits = λ i x h. absurd (omega (arith, h))
 word_none steps.Read fits = λ i x h. absurd (omega (arith, h))
 word_none steps.Release fits = λ i x h. absurd (omega (arith, h))
 
-step_none : (said : RingStep) → FitsLine (event_of said) → All (λ x. x ≢ 10) (step_bytes said)
+step_none : (said : NumberedStep) → FitsStep (event_of said) → All (λ x. x ≢ 10) (step_bytes said)
 step_none (ring, step) fits =
     All-append (λ x. x ≢ 10) (step_name step) (32 ∷ (decimal ring ++ step_word step)) (name_none 10 no_feed step)
     (All-cons (λ x. x ≢ 10) 32 (decimal ring ++ step_word step) (λ e. omega (arith, e))
     (All-append (λ x. x ≢ 10) (decimal ring) (step_word step) (decimal_none 10 ring (inl (omega arith)) fits.ring) (word_none step fits.word)))
 
-with_name : (ring : ℕ) (step : StepKind) → FitsLine (event_of (ring, step)) → step_with (step_name step) (decimal ring ++ step_word step) ≡ Some (ring, step)
+with_name : (ring : ℕ) (step : StepKind) → FitsStep (event_of (ring, step)) → step_with (step_name step) (decimal ring ++ step_word step) ≡ Some (ring, step)
 with_name ring (steps.Store word) fits = rw (split_again 32 (decimal ring) (decimal word) (decimal_none 32 ring (inl (omega arith)) fits.ring), number_read ring fits.ring, number_read word fits.word) refl
 with_name ring steps.Look fits = rw (append-nil (decimal ring), number_read ring fits.ring) refl
 with_name ring steps.Skip fits = rw (append-nil (decimal ring), number_read ring fits.ring) refl
@@ -141,7 +141,7 @@ with_name ring steps.Read fits = rw (append-nil (decimal ring), number_read ring
 with_name ring steps.Release fits = rw (append-nil (decimal ring), number_read ring fits.ring) refl
 
 -- the line of an event is read as the event
-pub step_read : (said : RingStep) (rest : List ℕ) → FitsLine (event_of said) → first_line_says step_at (step_line (event_of said) ++ rest) ≡ Some (said, rest)
+pub step_read : (said : NumberedStep) (rest : List ℕ) → FitsStep (event_of said) → first_line_says step_at (step_line (event_of said) ++ rest) ≡ Some (said, rest)
 step_read (ring, step) rest fits =
     ap (first_line_says step_at) (step_line-bytes (ring, step) rest)
     ∙ line_read step_at (step_bytes (ring, step)) rest (ring, step) (step_none (ring, step) fits)
@@ -150,16 +150,16 @@ step_read (ring, step) rest fits =
     ∙ with_name ring step fits)
 
 -- what a line says that is read
-pub record SaysStep (bytes : List ℕ) (said : RingStep) (rest : List ℕ) : Type 0 where
+pub record SaysStep (bytes : List ℕ) (said : NumberedStep) (rest : List ℕ) : Type 0 where
   pub joined : bytes ≡ step_line (event_of said) ++ rest
-  pub fits : FitsLine (event_of said)
+  pub fits : FitsStep (event_of said)
 
-record IsNamed (name fields : List ℕ) (said : RingStep) : Type 0 where
+record IsNamed (name fields : List ℕ) (said : NumberedStep) : Type 0 where
   name_is : name ≡ step_name said.1
   fields_are : fields ≡ decimal said.0 ++ step_word said.1
-  fits : FitsLine (event_of said)
+  fits : FitsStep (event_of said)
 
-store_taken : (fields : List ℕ) (said : RingStep) → store_at fields ≡ Some said → IsNamed (codes "store") fields said
+store_taken : (fields : List ℕ) (said : NumberedStep) → store_at fields ≡ Some said → IsNamed (codes "store") fields said
 store_taken fields said e =
     let parts = found (split_at_first 32 fields) (λ (parts : List ℕ × List ℕ). number_at parts.0 >>= (λ (ring : ℕ). number_at parts.1 >>= (λ (word : ℕ). Some (ring, steps.Store word)))) said e in
     let ring = found (number_at parts.x.0) (λ (ring : ℕ). number_at parts.x.1 >>= (λ (word : ℕ). Some (ring, steps.Store word))) said parts.second in
@@ -206,7 +206,7 @@ plain_named name step e = at0 e
     at0 : cond (bytes_eq name (codes "publish")) (Some steps.Publish) (cond (bytes_eq name (codes "release")) (Some steps.Release) (cond (bytes_eq name (codes "look")) (Some steps.Look) (cond (bytes_eq name (codes "skip")) (Some steps.Skip) (cond (bytes_eq name (codes "close")) (Some steps.Close) (cond (bytes_eq name (codes "load")) (Some steps.Load) (cond (bytes_eq name (codes "read")) (Some steps.Read) (None))))))) ≡ Some step → Named name step
     at0 e = named_at name (codes "publish") steps.Publish step (cond (bytes_eq name (codes "release")) (Some steps.Release) (cond (bytes_eq name (codes "look")) (Some steps.Look) (cond (bytes_eq name (codes "skip")) (Some steps.Skip) (cond (bytes_eq name (codes "close")) (Some steps.Close) (cond (bytes_eq name (codes "load")) (Some steps.Load) (cond (bytes_eq name (codes "read")) (Some steps.Read) (None))))))) refl refl tt at1 (bytes_eq name (codes "publish")) refl e
 
-plain_taken : (name fields : List ℕ) (said : RingStep) → plain_at name fields ≡ Some said → IsNamed name fields said
+plain_taken : (name fields : List ℕ) (said : NumberedStep) → plain_at name fields ≡ Some said → IsNamed name fields said
 plain_taken name fields said e =
     let step = found (plain_step name) (λ (step : StepKind). number_at fields >>= (λ (ring : ℕ). Some (ring, step))) said e in
     let ring = found (number_at fields) (λ (ring : ℕ). Some (ring, step.x)) said step.second in
@@ -219,12 +219,12 @@ plain_taken name fields said e =
       fits = record { ring = ring_is.1; word = named.2 };
     })
 
-with_taken : (name fields : List ℕ) (said : RingStep) (b : Bool) → bytes_eq name (codes "store") ≡ b → cond b (store_at fields) (plain_at name fields) ≡ Some said → IsNamed name fields said
+with_taken : (name fields : List ℕ) (said : NumberedStep) (b : Bool) → bytes_eq name (codes "store") ≡ b → cond b (store_at fields) (plain_at name fields) ≡ Some said → IsNamed name fields said
 with_taken name fields said true is e = subst (λ (n : List ℕ). IsNamed n fields said) (sym ((bytes_eq-Decides name (codes "store")).0 is)) (store_taken fields said e)
 with_taken name fields said false is e = plain_taken name fields said e
 
 -- bytes of whose first line a step is read begin with the line of its event
-pub step_taken : (bytes : List ℕ) (said : RingStep) (rest : List ℕ) → first_line_says step_at bytes ≡ Some (said, rest) → SaysStep bytes said rest
+pub step_taken : (bytes : List ℕ) (said : NumberedStep) (rest : List ℕ) → first_line_says step_at bytes ≡ Some (said, rest) → SaysStep bytes said rest
 step_taken bytes said rest e =
     let line = line_taken step_at bytes said rest e in
     let parts = found (split_at_first 32 line.line) (λ (parts : List ℕ × List ℕ). step_with parts.0 parts.1) said line.says_so in

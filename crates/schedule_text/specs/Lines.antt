@@ -52,11 +52,11 @@ plain_step name =
     else short_step name
 
 -- a step in a ring, by its number
-abbrev pub RingStep : Type 0
-RingStep = ℕ × StepKind
+abbrev pub NumberedStep : Type 0
+NumberedStep = ℕ × StepKind
 
 -- a ring, and the word that is stored
-abbrev pub store_at : List ℕ → Option RingStep
+abbrev pub store_at : List ℕ → Option NumberedStep
 store_at fields = do
   parts ← split_at_first 32 fields
   ring ← number_at parts.0
@@ -64,17 +64,17 @@ store_at fields = do
   Some (ring, steps.Store word)
 
 -- a ring, for the step of this name
-abbrev pub plain_at : List ℕ → List ℕ → Option RingStep
+abbrev pub plain_at : List ℕ → List ℕ → Option NumberedStep
 plain_at name fields = do
   step ← plain_step name
   ring ← number_at fields
   Some (ring, step)
 
-abbrev pub step_with : List ℕ → List ℕ → Option RingStep
+abbrev pub step_with : List ℕ → List ℕ → Option NumberedStep
 step_with name fields = if bytes_eq name (codes "store") then store_at fields else plain_at name fields
 
 -- what a line of a step says
-abbrev pub step_at : List ℕ → Option RingStep
+abbrev pub step_at : List ℕ → Option NumberedStep
 step_at line = split_at_first 32 line >>= (λ parts. step_with parts.0 parts.1)
 
 -- what is said by the first line of the bytes, and the bytes behind it

@@ -1,7 +1,7 @@
 -- Worked schedules.
 use Rattle.std.specs.Prelude.{◌≡◌, ℕ, List, [], ◌++◌, codes, None, Some}
 use Rattle.schedule_text.specs.declared.cause.ScheduleCause.{ScheduleCause}
-use Rattle.schedule_text.specs.Judged.{Outcome, judged}
+use Rattle.schedule_text.specs.Judged.{ScheduleOutcome, judged}
 
 -- a ring of 1,024 words, and further lines
 abbrev pub with_ring : List ℕ → List ℕ
@@ -28,9 +28,9 @@ one_frame_lines =
     ++ codes "ring 0: sent 1 got 1 open\n"
 
 -- all of it is right, and this is printed
-abbrev pub done_with : List ℕ → Outcome
+abbrev pub done_with : List ℕ → ScheduleOutcome
 done_with printed = record { printed = printed; refused = None }
 
 -- behind what is printed, a line is refused
-abbrev pub refused_behind : List ℕ → ℕ → ScheduleCause → Outcome
+abbrev pub refused_behind : List ℕ → ℕ → ScheduleCause → ScheduleOutcome
 refused_behind printed line cause = record { printed = printed; refused = Some (line, cause) }

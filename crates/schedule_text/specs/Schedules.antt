@@ -13,9 +13,9 @@ use Rattle.schedule_text.specs.declared.cause.ScheduleCause.TheVariants as cause
 use Rattle.schedule_text.specs.declared.head_line.TheConstants.{MAX_WORDS}
 use Rattle.schedule_text.specs.declared.playing.TheConstants.{MAX_STEPS}
 use Rattle.schedule_text.specs.Causes.{bar_cause}
-use Rattle.schedule_text.specs.StepLines.{step_line, FitsLine}
+use Rattle.schedule_text.specs.StepLines.{step_line, FitsStep}
 use Rattle.schedule_text.specs.Printed.{event_line, ring_lines}
-use Rattle.schedule_text.specs.Judged.{Outcome, refused_at, line_number, first_line}
+use Rattle.schedule_text.specs.Judged.{ScheduleOutcome, refused_at, line_number, first_line}
 
 -- so many rings of so many words, and what happens in them, one event after the other
 pub record Schedule : Type 0 where
@@ -42,7 +42,7 @@ schedule_text s = first_line ++ rings_line s.rings s.words ++ flat_map step_line
 pub record IsPlayed (s : Schedule) (last : List RingState) : Type 0 where
   pub sizes : AreSizes s.rings s.words
   pub few : length s.events ≤ MAX_STEPS
-  pub fits : AllByRecursion FitsLine s.events
+  pub fits : AllByRecursion FitsStep s.events
   pub run : Run (new_rings s.rings s.words) s.events last
 
 -- the lines of events, behind so many others
@@ -69,13 +69,13 @@ HeadBreak bytes line =
 abbrev pub StepBreak : List RingState → ℕ → List ℕ → ScheduleCause → Type 0
 StepBreak rings made bytes cause =
     ((made ≡ MAX_STEPS) × (cause ≡ causes.TooMany))
-    ⊎ ((made < MAX_STEPS) × ((event : Event) (rest : List ℕ) → FitsLine event → bytes ≢ step_line event ++ rest)
+    ⊎ ((made < MAX_STEPS) × ((event : Event) (rest : List ℕ) → FitsStep event → bytes ≢ step_line event ++ rest)
     × (cause ≡ causes.Step))
-    ⊎ ((made < MAX_STEPS) × ((event : Event) × (rest : List ℕ) × (bar : Barred) × FitsLine event
+    ⊎ ((made < MAX_STEPS) × ((event : Event) × (rest : List ℕ) × (bar : Barred) × FitsStep event
     × (bytes ≡ step_line event ++ rest) × (event_barred rings event ≡ Some bar) × (cause ≡ bar_cause bar)))
 
 -- the bytes begin with the text of a schedule that is played, and the line behind it is refused
-pub record BreaksBehind (bytes : List ℕ) (s : Schedule) (line : ℕ) (cause : ScheduleCause) : Type 0 where
+pub record RefusesStep (bytes : List ℕ) (s : Schedule) (line : ℕ) (cause : ScheduleCause) : Type 0 where
   pub last : List RingState
   pub rest : List ℕ
   pub joined : bytes ≡ schedule_text s ++ rest
@@ -92,16 +92,16 @@ pub record ScheduleText (bytes : List ℕ) (s : Schedule) (last : List RingState
 -- the text is refused at this line, from 1, for this cause
 abbrev pub ScheduleBreak : List ℕ → ℕ → ScheduleCause → Type 0
 ScheduleBreak bytes line cause =
-    (HeadBreak bytes line × (cause ≡ causes.Header)) ⊎ ((s : Schedule) × BreaksBehind bytes s line cause)
+    (HeadBreak bytes line × (cause ≡ causes.Header)) ⊎ ((s : Schedule) × RefusesStep bytes s line cause)
 
 -- ---- what is printed
 
 -- The bytes are the text of a schedule that is played, whose lines and those of its rings are printed; or they are refused
 -- in the first two lines, and nothing is printed; or behind a schedule that is played, whose lines are printed.
-abbrev pub Comes : List ℕ → Outcome → Type 0
-Comes bytes outcome =
+abbrev pub ComesTo : List ℕ → ScheduleOutcome → Type 0
+ComesTo bytes outcome =
     ((s : Schedule) × (last : List RingState) × ScheduleText bytes s last
     × (outcome ≡ record { printed = played_lines s ++ ring_lines 0 last; refused = None }))
     ⊎ ((line : ℕ) × HeadBreak bytes line × (outcome ≡ refused_at line causes.Header))
-    ⊎ ((s : Schedule) × (line : ℕ) × (cause : ScheduleCause) × BreaksBehind bytes s line cause
+    ⊎ ((s : Schedule) × (line : ℕ) × (cause : ScheduleCause) × RefusesStep bytes s line cause
     × (outcome ≡ record { printed = played_lines s; refused = Some (line, cause) }))

@@ -29,6 +29,6 @@ FitsWord (steps.Store word) = word < 2 ^ 64
 FitsWord _ = ⊤
 
 -- the numbers of an event that has a line
-pub record FitsLine (event : Event) : Type 0 where
+pub record FitsStep (event : Event) : Type 0 where
   pub ring : event.ring < 2 ^ 64
   pub word : FitsWord event.step

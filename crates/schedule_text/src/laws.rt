@@ -7,8 +7,8 @@ ghost use Rattle.schedule_text.specs.declared.cause.ScheduleCause.{ScheduleCause
 ghost use Rattle.schedule_text.specs.declared.cause.ScheduleCause.TheVariants as causes;
 ghost use Rattle.schedule_text.specs.declared.playing.TheConstants.{MAX_STEPS, MAX_TEXT};
 ghost use Rattle.schedule_text.specs.declared.head_line.TheConstants.{MAX_WORDS};
-ghost use Rattle.schedule_text.specs.Judged.{Outcome, refused_at, judged};
-ghost use Rattle.schedule_text.specs.Schedules.{Schedule, ScheduleText, ScheduleBreak, Comes};
+ghost use Rattle.schedule_text.specs.Judged.{ScheduleOutcome, refused_at, judged};
+ghost use Rattle.schedule_text.specs.Schedules.{Schedule, ScheduleText, ScheduleBreak, ComesTo};
 ghost use Rattle.schedule_text.specs.Rows.{with_ring, one_frame, one_frame_lines, done_with, refused_behind};
 
 /// The limits of schedules, as numbers.
@@ -74,8 +74,8 @@ pub fn texts_are_told_apart()
         → ScheduleText bytes s last → ¬ (ScheduleBreak bytes line cause) }
     ensures one_break { (bytes : List ℕ) (i j : ℕ) (a b : CauseValue) → ScheduleBreak bytes i a
         → ScheduleBreak bytes j b → (i ≡ j) × (a ≡ b) }
-    ensures comes { (bytes : List ℕ) → Comes bytes (judged bytes) }
-    ensures comes_once { (bytes : List ℕ) (outcome : Outcome) → Comes bytes outcome → judged bytes ≡ outcome }
+    ensures comes { (bytes : List ℕ) → ComesTo bytes (judged bytes) }
+    ensures comes_once { (bytes : List ℕ) (outcome : ScheduleOutcome) → ComesTo bytes outcome → judged bytes ≡ outcome }
 {}
 
 /// As many bytes as the limit of texts decide what longer ones come to.

@@ -6,7 +6,7 @@ ghost use Rattle.ring_machine.specs.declared.rings.TheConstants.{MAX_RINGS};
 ghost use Rattle.ring_machine.specs.Rings.{new_rings};
 ghost use Rattle.schedule_text.specs.declared.head_line.TheConstants.{MAX_WORDS};
 ghost use Rattle.schedule_text.specs.Judged.{steps_judged, judged};
-ghost use Rattle.schedule_text.specs.Playing.{Reached, StopsAt, Runs, Plays};
+ghost use Rattle.schedule_text.specs.Playing.{Reached, StopsInHead, RunsSteps, Plays};
 
 use crate::cause::ScheduleCause;
 use crate::head_line::read_sizes;
@@ -59,7 +59,7 @@ fn head_of(text: &[u8]) -> Result<Head<'_>, ScheduleFault>
     ensures words { IfOk result (λ head. (MIN_RING ≤ head.words) × (head.words ≤ MAX_WORDS)) }
     ensures steps { IfOk result (λ head. judged text.now
         ≡ steps_judged MAX_STEPS (new_rings head.rings head.words) 0 head.steps.now) }
-    ensures stops { IfErr result (StopsAt (judged text.now)) }
+    ensures stops { IfErr result (StopsInHead (judged text.now)) }
 {
     let Some(rest) = text.strip_prefix(FIRST_LINE) else {
         return Err(refused(1));
@@ -83,7 +83,7 @@ fn run_steps<O: Sink>(
 ) -> Result<(), ScheduleFault>
     requires empty { writer.old ≡ [] }
     requires reached { Reached 0 rings.old }
-    ensures runs { Runs (steps_judged MAX_STEPS rings.old 0 text.now) rings.new (O.put out.old) (O.put out.new)
+    ensures runs { RunsSteps (steps_judged MAX_STEPS rings.old 0 text.now) rings.new (O.put out.old) (O.put out.new)
         (O.faults out.old) (O.faults out.new) writer.new result }
     ensures few { OnOk result (length rings.new ≤ MAX_RINGS) }
     ensures others { O.rest out.old out.new }

@@ -10,7 +10,7 @@ ghost use Rattle.ring_machine.specs.Rings.{view_of};
 ghost use Rattle.schedule_text.specs.declared.playing.TheConstants.{MAX_STEPS};
 ghost use Rattle.schedule_text.specs.Printed.{event_text, positions_text};
 ghost use Rattle.schedule_text.specs.Judged.{event_of, printing, steps_judged};
-ghost use Rattle.schedule_text.specs.Playing.{Reached, StopsAt};
+ghost use Rattle.schedule_text.specs.Playing.{Reached, StopsInHead};
 
 use crate::cause::{ScheduleCause, told_bar};
 use crate::playing::{MAX_STEPS, ScheduleFault};
@@ -69,7 +69,7 @@ pub(crate) fn go_on<'a>(
     ensures made { IfOk result (λ next. steps_judged (MAX_STEPS - made) rings.old made bytes.now ≡
         printing (event_text (made + 1) (event_of (next.ring, next.step)) ++ positions_text next.view)
         (steps_judged (MAX_STEPS - (made + 1)) rings.new (made + 1) next.rest.now)) }
-    ensures stops { IfErr result (StopsAt (steps_judged (MAX_STEPS - made) rings.old made bytes.now)) }
+    ensures stops { IfErr result (StopsInHead (steps_judged (MAX_STEPS - made) rings.old made bytes.now)) }
 {
     if made == MAX_STEPS {
         return Err(refused(made, ScheduleCause::TooMany));

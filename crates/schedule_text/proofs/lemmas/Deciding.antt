@@ -11,9 +11,9 @@ use Rattle.ring_machine.specs.declared.steps.Event.{Event}
 use Rattle.ring_machine.specs.RingStates.{RingState}
 use Rattle.schedule_text.specs.declared.cause.ScheduleCause.{ScheduleCause}
 use Rattle.schedule_text.specs.declared.playing.TheConstants.{MAX_STEPS, MAX_TEXT}
-use Rattle.schedule_text.specs.StepLines.{step_name, step_word, step_line, FitsWord, FitsLine}
-use Rattle.schedule_text.specs.Judged.{Outcome, first_line, judged}
-use Rattle.schedule_text.specs.Schedules.{Schedule, AreSizes, rings_line, schedule_text, IsPlayed, HeadBreak, StepBreak, BreaksBehind, Comes}
+use Rattle.schedule_text.specs.StepLines.{step_name, step_word, step_line, FitsWord, FitsStep}
+use Rattle.schedule_text.specs.Judged.{ScheduleOutcome, first_line, judged}
+use Rattle.schedule_text.specs.Schedules.{Schedule, AreSizes, rings_line, schedule_text, IsPlayed, HeadBreak, StepBreak, RefusesStep, ComesTo}
 use Rattle.schedule_text.proofs.lemmas.JudgedLaws.{comes_judged, only_judged}
 
 -- ---- how long lines are
@@ -42,7 +42,7 @@ word_short steps.Read fits = omega arith
 word_short steps.Release fits = omega arith
 
 -- a line of a step has 50 bytes at most
-step_short : (event : Event) → FitsLine event → length (step_line event) ≤ 50
+step_short : (event : Event) → FitsStep event → length (step_line event) ≤ 50
 step_short event fits = omega (
   arith,
   length-append (step_name event.step ++ 32 ∷ decimal event.ring ++ step_word event.step) (10 ∷ []),
@@ -53,7 +53,7 @@ step_short event fits = omega (
   word_short event.step fits.word,
 )
 
-steps_short : (events : List Event) → AllByRecursion FitsLine events → length (flat_map step_line events) ≤ 50 * length events
+steps_short : (events : List Event) → AllByRecursion FitsStep events → length (flat_map step_line events) ≤ 50 * length events
 steps_short [] fits = omega arith
 steps_short (event ∷ events) (fit, fits) = omega (
   arith,
@@ -116,7 +116,7 @@ step_goes_on rings made rest more cause enough (inr (inl (room, none, is))) =
 step_goes_on rings made rest more cause enough (inr (inr (room, (event, behind, bar, fits, joined, barred, is)))) =
     inr (inr (room, (event, behind ++ more, bar, fits, ap (λ (l : List ℕ). l ++ more) joined ∙ append_assoc (step_line event) behind more, barred, is)))
 
-goes_on : (bytes more : List ℕ) (outcome : Outcome) → MAX_TEXT ≤ length bytes → Comes bytes outcome → Comes (bytes ++ more) outcome
+goes_on : (bytes more : List ℕ) (outcome : ScheduleOutcome) → MAX_TEXT ≤ length bytes → ComesTo bytes outcome → ComesTo (bytes ++ more) outcome
 goes_on bytes more outcome long (inl (s, last, text, is)) = absurd (omega (arith, long, ap (λ (l : List ℕ). length l) text.spelled, text_short s last text.played))
 goes_on bytes more outcome long (inr (inl (line, breaks, is))) = inr (inl (line, head_goes_on bytes more line long breaks, is))
 goes_on bytes more outcome long (inr (inr (s, line, cause, breaks, is))) =

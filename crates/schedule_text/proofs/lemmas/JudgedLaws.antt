@@ -16,11 +16,11 @@ use Rattle.schedule_text.specs.declared.cause.ScheduleCause.{ScheduleCause}
 use Rattle.schedule_text.specs.declared.cause.ScheduleCause.TheVariants as causes
 use Rattle.schedule_text.specs.declared.playing.TheConstants.{MAX_STEPS}
 use Rattle.schedule_text.specs.Causes.{bar_cause}
-use Rattle.schedule_text.specs.StepLines.{step_line, FitsLine}
-use Rattle.schedule_text.specs.Lines.{RingStep, step_at, sizes_at, first_line_says}
+use Rattle.schedule_text.specs.StepLines.{step_line, FitsStep}
+use Rattle.schedule_text.specs.Lines.{NumberedStep, step_at, sizes_at, first_line_says}
 use Rattle.schedule_text.specs.Printed.{event_line, ring_lines}
-use Rattle.schedule_text.specs.Judged.{Outcome, refused_at, printing, event_of, line_number, first_line, steps_judged, rings_judged, head_judged, judged}
-use Rattle.schedule_text.specs.Schedules.{Schedule, AreSizes, rings_line, schedule_text, IsPlayed, event_lines, played_lines, HeadBreak, StepBreak, BreaksBehind, ScheduleText, ScheduleBreak, Comes}
+use Rattle.schedule_text.specs.Judged.{ScheduleOutcome, refused_at, printing, event_of, line_number, first_line, steps_judged, rings_judged, head_judged, judged}
+use Rattle.schedule_text.specs.Schedules.{Schedule, AreSizes, rings_line, schedule_text, IsPlayed, event_lines, played_lines, HeadBreak, StepBreak, RefusesStep, ScheduleText, ScheduleBreak, ComesTo}
 use Rattle.schedule_text.proofs.Judging.{too_many, no_step, barred_step, step_on, at_end}
 use Rattle.schedule_text.proofs.LineReading.{step_read, step_taken, sizes_read, sizes_taken}
 
@@ -40,12 +40,12 @@ some_line event rest = by_step event.ring event.step
 -- ---- what the lines of steps come to
 
 -- events, and the bytes behind their lines
-pub record StepsCome (rings : List RingState) (made left : ℕ) (bytes : List ℕ) (outcome : Outcome) : Type 0 where
+pub record StepsCome (rings : List RingState) (made left : ℕ) (bytes : List ℕ) (outcome : ScheduleOutcome) : Type 0 where
   pub events : List Event
   pub last : List RingState
   pub rest : List ℕ
   pub joined : bytes ≡ flat_map step_line events ++ rest
-  pub fits : AllByRecursion FitsLine events
+  pub fits : AllByRecursion FitsStep events
   pub run : Run rings events last
   pub few : length events ≤ left
   pub ends :
@@ -55,7 +55,7 @@ pub record StepsCome (rings : List RingState) (made left : ℕ) (bytes : List �
 
 module _ (rings : List RingState) (made left : ℕ) (bytes : List ℕ) where
   -- the first line is refused
-  first_refused : (outcome : Outcome) (cause : ScheduleCause) → bytes ≢ [] → StepBreak rings made bytes cause → outcome ≡ refused_at (line_number made) cause → StepsCome rings made left bytes outcome
+  first_refused : (outcome : ScheduleOutcome) (cause : ScheduleCause) → bytes ≢ [] → StepBreak rings made bytes cause → outcome ≡ refused_at (line_number made) cause → StepsCome rings made left bytes outcome
   first_refused outcome cause some breaks is =
       let same : made + 0 ≡ made = omega arith in
       record {
@@ -75,7 +75,7 @@ module _ (rings : List RingState) (made left : ℕ) (bytes : List ℕ) where
       }
 
   -- the first line is that of an event, and the others come to this
-  first_made : (next : List RingState) (event : Event) (rest : List ℕ) (outcome : Outcome) → bytes ≡ step_line event ++ rest → FitsLine event → IsEvent rings event next → StepsCome next (made + 1) left rest outcome
+  first_made : (next : List RingState) (event : Event) (rest : List ℕ) (outcome : ScheduleOutcome) → bytes ≡ step_line event ++ rest → FitsStep event → IsEvent rings event next → StepsCome next (made + 1) left rest outcome
       → StepsCome rings made (suc left) bytes (printing (event_line (made + 1) event (after_event rings event)) outcome)
   first_made next event rest outcome joined fits is more =
       let count : (made + 1) + length more.events ≡ made + suc (length more.events) = omega arith in
@@ -109,7 +109,7 @@ module _ (rings : List RingState) (made left : ℕ) (bytes : List ℕ) where
 
 module _ (left : ℕ) (rings : List RingState) (made : ℕ) (bytes : List ℕ) (some : bytes ≢ []) (room : made < MAX_STEPS)
     (behind : (next : List RingState) (rest : List ℕ) → StepsCome next (made + 1) left rest (steps_judged left next (made + 1) rest)) where
-  by_bar : (said : RingStep) (rest : List ℕ) → first_line_says step_at bytes ≡ Some (said, rest) → (o : Option Barred) → event_barred rings (event_of said) ≡ o
+  by_bar : (said : NumberedStep) (rest : List ℕ) → first_line_says step_at bytes ≡ Some (said, rest) → (o : Option Barred) → event_barred rings (event_of said) ≡ o
       → StepsCome rings made (suc left) bytes (steps_judged (suc left) rings made bytes)
   by_bar said rest reads (Some bar) barred =
       let says = step_taken bytes said rest reads in
@@ -120,10 +120,10 @@ module _ (left : ℕ) (rings : List RingState) (made : ℕ) (bytes : List ℕ) (
       subst (StepsCome rings made (suc left) bytes) (sym (step_on left rings made bytes said rest some reads barred))
       (first_made rings made left bytes next (event_of said) rest (steps_judged left next (made + 1) rest) says.joined says.fits (record { not_barred = barred; next_is = refl }) (behind next rest))
 
-  none_read : (said : RingStep) (rest : List ℕ) → ¬ (◌≡◌ {A = Option (RingStep × List ℕ)} None (Some (said, rest)))
+  none_read : (said : NumberedStep) (rest : List ℕ) → ¬ (◌≡◌ {A = Option (NumberedStep × List ℕ)} None (Some (said, rest)))
   none_read said rest e = cc
 
-  steps_from : (o : Option (RingStep × List ℕ)) → first_line_says step_at bytes ≡ o → StepsCome rings made (suc left) bytes (steps_judged (suc left) rings made bytes)
+  steps_from : (o : Option (NumberedStep × List ℕ)) → first_line_says step_at bytes ≡ o → StepsCome rings made (suc left) bytes (steps_judged (suc left) rings made bytes)
   steps_from None unread =
       first_refused rings made (suc left) bytes (steps_judged (suc left) rings made bytes) causes.Step some
       (inr (inl (room, (λ event rest fits is. none_read (event.ring, event.step) rest (sym unread ∙ ap (first_line_says step_at) is ∙ step_read (event.ring, event.step) rest fits)), refl)))
@@ -149,7 +149,7 @@ steps_come (suc left) rings made (byte ∷ bytes) all =
 -- ---- and the other way
 
 -- behind the lines of events that happen, the lines come to what those behind them do
-pub steps_on : (events : List Event) (left : ℕ) (rings last : List RingState) (made : ℕ) (rest : List ℕ) → Run rings events last → AllByRecursion FitsLine events → length events ≤ left
+pub steps_on : (events : List Event) (left : ℕ) (rings last : List RingState) (made : ℕ) (rest : List ℕ) → Run rings events last → AllByRecursion FitsStep events → length events ≤ left
     → steps_judged left rings made (flat_map step_line events ++ rest)
     ≡ printing (event_lines made rings events) (steps_judged (left - length events) last (made + length events) rest)
 steps_on [] left rings last made rest run fits few =
@@ -181,7 +181,7 @@ breaks_judged left rings made bytes cause all some (inl (full, is)) = too_many l
 breaks_judged zero rings made bytes cause all some (inr breaks) = absurd (elim breaks [ inl unread ↦ omega (arith, all, unread.0) | inr barred ↦ omega (arith, all, barred.0) ])
 breaks_judged (suc left) rings made bytes cause all some (inr (inl (room, none, is))) = no_step left rings made bytes some (unread (first_line_says step_at bytes) refl) ∙ ap (refused_at (line_number made)) (sym is)
   where
-    unread : (o : Option (RingStep × List ℕ)) → first_line_says step_at bytes ≡ o → first_line_says step_at bytes ≡ None
+    unread : (o : Option (NumberedStep × List ℕ)) → first_line_says step_at bytes ≡ o → first_line_says step_at bytes ≡ None
     unread None e = e
     unread (Some (said, rest)) e = let says = step_taken bytes said rest e in absurd (none (event_of said) rest says.fits says.joined)
 breaks_judged (suc left) rings made bytes cause all some (inr (inr (room, (event, rest, bar, fits, joined, barred, is)))) =
@@ -204,7 +204,7 @@ text_judged s last rest played =
     ∙ steps_on s.events MAX_STEPS (new_rings s.rings s.words) last 0 rest played.run played.fits played.few
     ∙ ap (λ (n : ℕ). printing (played_lines s) (steps_judged (MAX_STEPS - length s.events) last n rest)) count
 
-pub only_judged : (bytes : List ℕ) (outcome : Outcome) → Comes bytes outcome → judged bytes ≡ outcome
+pub only_judged : (bytes : List ℕ) (outcome : ScheduleOutcome) → ComesTo bytes outcome → judged bytes ≡ outcome
 only_judged bytes outcome (inl (s, last, text, is)) =
     ap judged (text.spelled ∙ sym (append-nil (schedule_text s)))
     ∙ text_judged s last [] text.played
@@ -233,7 +233,7 @@ only_judged bytes outcome (inr (inr (s, line, cause, breaks, is))) =
     ∙ sym is
 
 -- what it comes to is what its lines say
-steps_text : (first second : List ℕ) (sizes : ℕ × ℕ) (bytes : List ℕ) → AreSizes sizes.0 sizes.1 → bytes ≡ first_line ++ (rings_line sizes.0 sizes.1 ++ second) → Comes bytes (steps_judged MAX_STEPS (new_rings sizes.0 sizes.1) 0 second)
+steps_text : (first second : List ℕ) (sizes : ℕ × ℕ) (bytes : List ℕ) → AreSizes sizes.0 sizes.1 → bytes ≡ first_line ++ (rings_line sizes.0 sizes.1 ++ second) → ComesTo bytes (steps_judged MAX_STEPS (new_rings sizes.0 sizes.1) 0 second)
 steps_text first second sizes bytes are joined =
     let came = steps_come MAX_STEPS (new_rings sizes.0 sizes.1) 0 second refl in
     let s : Schedule = record { rings = sizes.0; words = sizes.1; events = came.events } in
@@ -259,7 +259,7 @@ steps_text first second sizes bytes are joined =
       ))
     ]
 
-rings_text : (bytes rest : List ℕ) (o : Option ((ℕ × ℕ) × List ℕ)) → bytes ≡ first_line ++ rest → first_line_says sizes_at rest ≡ o → Comes bytes (rings_judged o)
+rings_text : (bytes rest : List ℕ) (o : Option ((ℕ × ℕ) × List ℕ)) → bytes ≡ first_line ++ rest → first_line_says sizes_at rest ≡ o → ComesTo bytes (rings_judged o)
 rings_text bytes rest None joined e =
     inr (inl (2, inr (refl, (rest, joined, λ rings words more are is. none_read (sym e ∙ ap (first_line_says sizes_at) is ∙ sizes_read rings words more are))), refl))
   where
@@ -269,14 +269,14 @@ rings_text bytes rest (Some (sizes, more)) joined e =
     let says = sizes_taken rest sizes more e in
     steps_text rest more sizes bytes says.are (joined ∙ ap (λ (l : List ℕ). first_line ++ l) says.joined)
 
-head_text : (bytes : List ℕ) (o : Option (List ℕ)) → after first_line bytes ≡ o → Comes bytes (head_judged o)
+head_text : (bytes : List ℕ) (o : Option (List ℕ)) → after first_line bytes ≡ o → ComesTo bytes (head_judged o)
 head_text bytes None e = inr (inl (1, inl (refl, λ rest is. none_after (sym e ∙ ap (after first_line) is ∙ after_again first_line rest)), refl))
   where
     none_after : {rest : List ℕ} → None ≡ Some rest → ⊥
     none_after e = cc
 head_text bytes (Some rest) e = rings_text bytes rest (first_line_says sizes_at rest) (after_takes first_line bytes rest e) refl
 
-pub comes_judged : (bytes : List ℕ) → Comes bytes (judged bytes)
+pub comes_judged : (bytes : List ℕ) → ComesTo bytes (judged bytes)
 comes_judged bytes = head_text bytes (after first_line bytes) refl
 
 -- ---- one of both
@@ -290,15 +290,15 @@ one_holds bytes = elim (comes_judged bytes) [
 
 -- a text that is refused comes to that
 refusal_is : (bytes : List ℕ) (line : ℕ) (cause : ScheduleCause) → ScheduleBreak bytes line cause → (judged bytes).refused ≡ Some (line, cause)
-refusal_is bytes line cause (inl (breaks, is)) = ap (λ (o : Outcome). o.refused) (only_judged bytes (refused_at line causes.Header) (inr (inl (line, breaks, refl)))) ∙ ap (λ (c : ScheduleCause). Some (line, c)) (sym is)
-refusal_is bytes line cause (inr (s, breaks)) = ap (λ (o : Outcome). o.refused) (only_judged bytes (record { printed = played_lines s; refused = Some (line, cause) }) (inr (inr (s, line, cause, breaks, refl))))
+refusal_is bytes line cause (inl (breaks, is)) = ap (λ (o : ScheduleOutcome). o.refused) (only_judged bytes (refused_at line causes.Header) (inr (inl (line, breaks, refl)))) ∙ ap (λ (c : ScheduleCause). Some (line, c)) (sym is)
+refusal_is bytes line cause (inr (s, breaks)) = ap (λ (o : ScheduleOutcome). o.refused) (only_judged bytes (record { printed = played_lines s; refused = Some (line, cause) }) (inr (inr (s, line, cause, breaks, refl))))
 
 no_refusal : (line : ℕ) (cause : ScheduleCause) → ¬ (◌≡◌ {A = Option (ℕ × ScheduleCause)} None (Some (line, cause)))
 no_refusal line cause e = cc
 
 pub not_both : (bytes : List ℕ) (s : Schedule) (last : List RingState) (line : ℕ) (cause : ScheduleCause) → ScheduleText bytes s last → ¬ (ScheduleBreak bytes line cause)
 not_both bytes s last line cause text breaks =
-    let none : (judged bytes).refused ≡ None = ap (λ (o : Outcome). o.refused) (only_judged bytes (record { printed = played_lines s ++ ring_lines 0 last; refused = None }) (inl (s, last, text, refl))) in
+    let none : (judged bytes).refused ≡ None = ap (λ (o : ScheduleOutcome). o.refused) (only_judged bytes (record { printed = played_lines s ++ ring_lines 0 last; refused = None }) (inl (s, last, text, refl))) in
     no_refusal line cause (sym none ∙ refusal_is bytes line cause breaks)
 
 same_pair : (i j : ℕ) (a b : ScheduleCause) → ◌≡◌ {A = Option (ℕ × ScheduleCause)} (Some (i, a)) (Some (j, b)) → (i ≡ j) × (a ≡ b)
