@@ -33,14 +33,6 @@ numbers-push id nth blocks block = ap (numbers_in id nth) (entries-push blocks b
 
 -- ---- records that are taken one after the other
 
--- the record that is taken stands behind those before
-pub walked : {A : Type 0} (seen rest more all : List A) (x : A) → seen ++ rest ≡ all → rest ≡ x ∷ more → (seen ++ x ∷ []) ++ more ≡ all
-walked {A} seen rest more all x joined is = append_assoc seen (x ∷ []) more ∙ sym (ap (λ (r : List A). seen ++ r) is) ∙ joined
-
-pub walked_all : {A : Type 0} (seen rest all : List A) → seen ++ rest ≡ all → length rest ≡ 0 → seen ≡ all
-walked_all {A} seen [] all joined none = sym (append-nil seen) ∙ joined
-walked_all {A} seen (x ∷ rest) all joined none = absurd (omega arith)
-
 -- one was left at least
 pub seen_few : {A : Type 0} (seen rest more all : List A) (x : A) → seen ++ rest ≡ all → rest ≡ x ∷ more → length seen + 1 ≤ length all
 seen_few {A} seen rest more all x joined is = omega (arith, ap length joined, length-append seen rest, ap length is)

@@ -1,20 +1,17 @@
 -- Which calls fit their messages, and which stamps fall.
-use Rattle.std.proofs.Common.{◌≡◌, ℕ, ◌<◌, ◌≤◌, ◌≢◌, lit≤, List, [], ◌∷◌, ◌++◌, replicate, refl, subst, arith}
+use Rattle.std.proofs.Common.{◌≡◌, ℕ, ◌<◌, ◌≤◌, lit≤, List, [], ◌∷◌, ◌++◌, refl, subst, arith}
 use Rattle.std.specs.Prelude.{Some, slice_get}
 use Rattle.std.proofs.lemmas.List.{length-replicate}
-use Rattle.printf_grammar.specs.Types.{Types, Fits, IsText}
-use Rattle.printf_grammar.proofs.lemmas.Worked.{all_copies}
+use Rattle.printf_grammar.specs.Types.{Types, Fits}
 use Rattle.log_dictionary.specs.declared.message.Message.{Message}
 use Rattle.arg_records.specs.declared.call.Call.{Call}
 use Rattle.arg_records.specs.Calls.{IsCall, NeverFalls}
 use Rattle.arg_records.specs.Rows.{texts_message, texts_call}
+use Rattle.arg_records.proofs.lemmas.Fitted.{copies_are_text}
 
 pub falls : (least : ℕ) (before : List Call) (call next : Call) (others : List Call) → next.stamp < call.stamp → ¬ (NeverFalls least (before ++ call ∷ next ∷ others))
 falls least [] call next others fall h = omega (arith, fall, h.1.0)
 falls least (first ∷ before) call next others fall h = falls first.stamp before call next others fall h.1
-
-copies_are_text : (n : ℕ) → n ≤ 4000 → IsText (replicate n 97)
-copies_are_text n small = record { short = omega (arith, length-replicate {A = ℕ} n 97, small); no_nul = all_copies (λ b. b ≢ 0) 97 n (λ e. omega (arith, e)) }
 
 pub texts_are_call : (n : ℕ) → n ≤ 64 → IsCall (texts_message ∷ []) (texts_call n)
 texts_are_call n few = record {

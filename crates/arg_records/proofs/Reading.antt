@@ -13,7 +13,7 @@ use Rattle.printf_grammar.specs.Types.{IsText}
 use Rattle.arg_records.specs.Frames.{words_of_bytes, words_of_argument, FrameLen}
 use Rattle.arg_records.specs.Kinds.{HoldsBytes}
 use Rattle.arg_records.specs.Reading.{IsFrameOf, SpellsArguments, BeginsWithWordsOf, bytes_of_words, IsPadded}
-use Rattle.arg_records.proofs.lemmas.Lengths.{length-words_of_bytes, length-arguments, length-Frame}
+use Rattle.arg_records.proofs.lemmas.Lengths.{length-words_of_bytes, length-arguments, length-Frame, some_words}
 use Rattle.arg_records.proofs.Unique.{argument_same}
 use Rattle.arg_records.proofs.lemmas.Fitted.{kind_fits, argument_fits, AreArguments-from_Fits, Frame-unique-Fits}
 use Rattle.arg_records.proofs.lemmas.TextWords.{bytes_below, length-bytes_of_words, padded_words, text_padded}
@@ -78,11 +78,6 @@ text_made words rest text back first count below is short count_is room text_is 
 pub BeginsWithWordsOf-unique : (type : ArgType) (words : List ℕ) (v w : Value) (vs ws : List ℕ) → BeginsWithWordsOf type words v vs → BeginsWithWordsOf type words w ws → (v ≡ w) × (vs ≡ ws)
 BeginsWithWordsOf-unique type words v w vs ws left right =
     argument_same v w vs ws (kind_fits v type left.fits ∙ sym (kind_fits w type right.fits)) (argument_fits v type left.fits left.bytes) (argument_fits w type right.fits right.bytes) (sym left.parts ∙ right.parts)
-
-some_words : (value : Value) → 0 < length (words_of_argument value)
-some_words (values.Signed z) = omega arith
-some_words (values.Unsigned n) = omega arith
-some_words (values.Text bytes) = omega arith
 
 -- there is a first word
 pub argument_room : (type : ArgType) (words : List ℕ) (value : Value) (back : List ℕ) → BeginsWithWordsOf type words value back → 0 < length words

@@ -15,6 +15,7 @@ use Rattle.buffer_extent.specs.declared.numbers.Number.{Number}
 use Rattle.buffer_extent.specs.declared.fault.BodyFault.{BodyFault}
 use Rattle.buffer_extent.specs.declared.fault.BodyFault.TheVariants.{Damaged, NoMemory}
 use Rattle.nibble_pack.proofs.lemmas.Parsing.{IsReadSoFar, StandsAt, one_broken}
+use Rattle.arg_records.proofs.lemmas.CallLists.{last_stamp-push}
 use Rattle.buffer_extent.proofs.RecordForms.{record_taken, not_started}
 use Rattle.buffer_extent.proofs.lemmas.BodyLaws.{read_or_broken, record_first, first_record, first_read, some_byte, IsBody-not_broken, BodyBreak-unique}
 
@@ -28,10 +29,6 @@ next_damaged types numbers bytes front place rest type number (Damaged cause) so
 next_damaged types numbers bytes front place rest type number NoMemory so_far stands broken = tt
 
 -- ---- reading on
-
-last_of_more : (least : ℕ) (entries : List Call) (entry : Call) → last_stamp least (entries ++ entry ∷ []) ≡ entry.stamp
-last_of_more least [] entry = refl
-last_of_more least (x ∷ entries) entry = last_of_more x.stamp entries entry
 
 -- These records were read, and this is left: a body of it comes behind them.
 pub record AreReadSoFar (messages : List Message) (tick last : ℕ) (body : List ℕ) (entries : List Call) (before least : ℕ) (rest : List ℕ) : Type 0 where
@@ -61,8 +58,8 @@ one_read messages tick last body entries before least rest entry back so_far are
           let all = so_far.so_far (entry ∷ more) (taken.front ++ behind) (record_first messages before least entry more taken.front behind taken.spelled taken.right taken.rises is) in
           let joined = subst (IsBody messages tick last (entries ++ entry ∷ more)) (sym (append_assoc so_far.front taken.front behind)) all in
           subst (λ (es : List Call). IsBody messages tick last es ((so_far.front ++ taken.front) ++ behind)) (sym (append_assoc entries (entry ∷ []) more)) joined;
-      before_is = sym (last_of_more tick entries entry);
-      least_is = sym (last_of_more last entries entry);
+      before_is = sym (last_stamp-push tick entries entry);
+      least_is = sym (last_stamp-push last entries entry);
     }
 
 -- nothing is left

@@ -14,7 +14,7 @@ use Rattle.nibble_pack.specs.declared.unpack.UnpackFault.{UnpackFault}
 use Rattle.nibble_pack.specs.declared.unpack.UnpackFault.TheVariants as faults
 use Rattle.nibble_pack.specs.Packing.{Kind, unsigned, signed, IsCode, byte_count, IsLeastCount, PacksSigned, small, negative, wide, IsWide, Packed, IsCut, IsNotShortest}
 use Rattle.nibble_pack.specs.PackingLaws.{IsLeastCount-zero, IsLeastCount-suc, wide_number, signed_count-low, signed_count-high, Packed-take}
-use Rattle.nibble_pack.proofs.lemmas.SignedForms.{no_spelling_low, no_spelling_high}
+use Rattle.nibble_pack.proofs.lemmas.SignedForms.{no_spelling_low, no_spelling_high, wide_in_range}
 use Rattle.buffer_extent.specs.declared.fault.Cause.{Cause}
 use Rattle.buffer_extent.specs.declared.fault.Cause.TheVariants as causes
 use Rattle.nibble_pack.specs.Parsing.{Parse, ◌>>=◌, provided, so_many}
@@ -104,10 +104,6 @@ unsigned_taken n code bytes rest are_bytes e =
     record { front = held.front; parts = held.parts; packed = (n, refl, record { fits = omega arith; count = held.least; spelled = held.spelled }) }
 
 -- ---- signed numbers
-
-wide_in_range : (z : ℤ) → IsWide z → FitsSigned w64 z
-wide_in_range (pos n) h = record { sfits = omega arith }
-wide_in_range (negsuc n) h = record { sfits = omega arith }
 
 wide_test : (z : ℤ) → IsWide z → is_wide z ≡ true
 wide_test (pos n) h = le-leb (2 ^ 56) n h.0

@@ -107,11 +107,6 @@ first_of_words (values.Signed z) = refl
 first_of_words (values.Unsigned n) = refl
 first_of_words (values.Text bytes) = refl
 
-pub some_words : (value : Value) → 0 < length (words_of_argument value)
-some_words (values.Signed z) = omega arith
-some_words (values.Unsigned n) = omega arith
-some_words (values.Text bytes) = omega arith
-
 -- ---- how many
 
 pub id_short : (id code : ℕ) (bytes : List ℕ) → Packed unsigned (pos id) code bytes → id < 65536 → code ≤ 2

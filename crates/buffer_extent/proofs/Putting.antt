@@ -17,9 +17,9 @@ use Rattle.arg_records.specs.Places.{with_words}
 use Rattle.arg_records.proofs.lemmas.Fitted.{AreArguments-from_Fits}
 use Rattle.arg_records.proofs.lemmas.Lengths.{length-Frame}
 use Rattle.arg_records.proofs.lemmas.Places.{words_first}
-use Rattle.nibble_pack.specs.Packing.{Kind, unsigned, signed, IsWide, PacksSigned, small, negative, wide, Packed}
+use Rattle.nibble_pack.specs.Packing.{unsigned, signed, IsWide, PacksSigned, small, negative, wide, Packed}
 use Rattle.nibble_pack.specs.Bytes.{length-bytes_low_first}
-use Rattle.nibble_pack.specs.PackingLaws.{Packed-code, Packed-length, byte_count-le}
+use Rattle.nibble_pack.specs.PackingLaws.{Packed-length, Packed-short}
 use Rattle.buffer_extent.specs.Records.{PackedNumber, kind_of, packed_value, PacksArguments, code_bytes, RecordBytes, codes_of, packed_bytes}
 use Rattle.buffer_extent.specs.Writing.{AreWordsOf, IsFrameSince, HeadBytes, number_room, record_room}
 
@@ -95,14 +95,11 @@ width_room z code bytes fits packed =
     let at : ℤ → Type 0 = λ z. FitsType (values.Signed z) argument_types.Width in
     signed_room z code 2 bytes packed (width_narrow z fits) (λ n is. width_high n (subst at is fits)) (λ n is. width_low n (subst at is fits))
 
-most_bytes : (kind : Kind) (z : ℤ) (code : ℕ) (bytes : List ℕ) → Packed kind z code bytes → length bytes ≤ 8
-most_bytes kind z code bytes packed = omega (arith, Packed-length kind z code bytes packed, byte_count-le kind code (Packed-code kind z code bytes packed))
-
 room_of_number : (type : ArgType) (value : Value) (code : ℕ) (bytes : List ℕ) → FitsType value type → Packed (kind_of type) (packed_value value) code bytes → length bytes ≤ number_room type
 room_of_number argument_types.Int (values.Signed z) code bytes fits packed = int_room z code bytes fits packed
 room_of_number argument_types.UInt (values.Unsigned n) code bytes fits packed = unsigned_room n code 4 bytes packed (omega arith)
-room_of_number argument_types.Long value code bytes fits packed = most_bytes signed (packed_value value) code bytes packed
-room_of_number argument_types.ULong value code bytes fits packed = most_bytes unsigned (packed_value value) code bytes packed
+room_of_number argument_types.Long value code bytes fits packed = Packed-short signed (packed_value value) code bytes packed
+room_of_number argument_types.ULong value code bytes fits packed = Packed-short unsigned (packed_value value) code bytes packed
 room_of_number argument_types.Width (values.Signed z) code bytes fits packed = width_room z code bytes fits packed
 room_of_number argument_types.Precision (values.Signed z) code bytes fits packed = int_room z code bytes fits.0 packed
 room_of_number argument_types.Text (values.Text text) code bytes fits packed = let short = fits.short in unsigned_room (length text) code 2 bytes packed (omega arith)

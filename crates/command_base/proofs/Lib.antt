@@ -1,2 +1,2 @@
+pub mod lemmas
 mod Sayings
-mod Printings

@@ -2,13 +2,11 @@
 use Rattle.std.proofs.Common.{◌≡◌, ◌≢◌, ℕ, ◌<◌, ◌≤◌, Bool, true, false, not, T, ltb, ltb→lt, nltb→le, List, take, Option, Some, None, refl, sym, ap, subst, ◌∙◌, inl, inr}
 use Rattle.std.specs.Prelude.{◌⊎◌, IfSome, is_some, option_map}
 use Rattle.std.specs.FinMap as map
+use Rattle.std.proofs.lemmas.Option.{same_Some}
 use Rattle.nl_io.specs.Content.{Told, PutsFront}
 use Rattle.nl_io.specs.Desk.{Desk, Held, OnlyReadFaults, IsAbsent, IsReading, Opens, Leaves, SameButLeft, Creates, Finishes, SameButHeld, put_by}
 use Rattle.nl_io.specs.DeskLaws.{Opens-content, visited, written, written-holds}
 use Rattle.command_base.specs.HeldFiles.{IsHeld, HoldsFront, IsThere, HoldsSuch, Holds}
-
-some_same : {A : Type 0} (a b : A) → Some a ≡ Some b → a ≡ b
-some_same a b e = cc
 
 -- ---- what a name holds
 
@@ -58,7 +56,7 @@ such_is desk name form such holds so = is_of desk.held holds.held name holds.byt
 pub none_there : (told : Option Held) (held : Held) (name : List ℕ) → told ≡ Some held → map.get held name ≡ None
     → ¬ (IfSome told (λ names. map.get names name ≢ None))
 none_there None held name is none there = absurd cc
-none_there (Some names) held name is none there = there (ap (λ (h : Held). map.get h name) (some_same names held is) ∙ none)
+none_there (Some names) held name is none there = there (ap (λ (h : Held). map.get h name) (same_Some names held is) ∙ none)
 
 absent_of : (told : Option Held) (held : Held) (name bytes : List ℕ) → told ≡ Some held
     → map.get held name ≡ Some bytes → ¬ (IfSome told (λ names. map.get names name ≡ None))
@@ -150,7 +148,7 @@ pub holds_written : (old new : Option Held) (name bytes : List ℕ) → is_some 
     → IfSome new (λ held. map.get held name ≡ Some bytes)
 holds_written old None name bytes told found = tt
 holds_written None (Some after) name bytes told found = absurd cc
-holds_written (Some before) (Some after) name bytes told found = some_same (map.get after name) (Some bytes) found
+holds_written (Some before) (Some after) name bytes told found = same_Some (map.get after name) (Some bytes) found
 
 -- a front of the bytes that were to be written to a name is what it holds
 pub front_written : (old created put new : Desk) (name bytes : List ℕ) (id : ℕ) → Creates old name id created

@@ -10,10 +10,10 @@ use Rattle.checkpoint_io.specs.declared.cause.Cause.{Cause}
 use Rattle.checkpoint_io.specs.declared.cause.Cause.TheVariants as causes
 use Rattle.checkpoint_io.specs.declared.fault.BlockFault.{BlockFault}
 use Rattle.checkpoint_io.specs.declared.fault.BlockFault.TheVariants as reading
-use Rattle.checkpoint_io.specs.Blocks.{Block, FileOf}
+use Rattle.checkpoint_io.specs.Blocks.{FileOf}
 use Rattle.checkpoint_io.specs.Fronts.{Break}
 use Rattle.checkpoint_io.specs.Places.{with_front, TookSuch}
-use Rattle.checkpoint_io.proofs.lemmas.FileLaws.{file_on, one_log}
+use Rattle.checkpoint_io.proofs.lemmas.FileLaws.{file_on, one_log, longer}
 use Rattle.log_scan.proofs.lemmas.Ends.{some_of, header_damaged, header_cut}
 use Rattle.decompressor.specs.declared.fault.DecodeFault.{DecodeFault}
 use Rattle.decompressor.specs.declared.fault.DecodeFault.TheVariants.{WriteFault, Damaged, ReadFault, NoMemory}
@@ -54,9 +54,6 @@ pub record IsOn (file was : Told) (state : PrinterState) (left put : Told) : Typ
 no_parts : (xs ys : List ℕ) → xs ++ ys ≡ [] → ys ≡ []
 no_parts [] ys none = none
 no_parts (x ∷ xs) ys none = absurd cc
-
-longer : (blocks : List Block) (block : Block) → blocks ≡ blocks ++ block ∷ [] → ⊥
-longer blocks block same = omega (arith, ap length same, length-append blocks (block ∷ []))
 
 module _ (file was : Told) (old : PrinterState) (left put : Told) (on : IsOn file was old left put) (new : PrinterState) (behind is : Told) where
   abbrev taken : List ℕ

@@ -4,8 +4,9 @@ use Rattle.std.specs.List.{AllZip}
 use Rattle.std.proofs.Math.ListN.{set, length-set}
 use Rattle.std.proofs.lemmas.Bool.Decides.{eqb_tells}
 use Rattle.std.proofs.lemmas.Option.{same_Some, slice_get_within}
-use Rattle.log_ends.proofs.Lists.{get_set, get_other, by_place}
+use Rattle.log_ends.proofs.Lists.{get_set, by_place}
 use Rattle.std.specs.Prelude.{slice_get}
+use Rattle.roaming_consumer.proofs.lemmas.OnePlace.{get_set_other}
 use Rattle.log_ends.specs.declared.writer.WriterEnd.{WriterEnd}
 use Rattle.log_ends.specs.Writers.{IsFinishedFrom}
 
@@ -31,9 +32,9 @@ finishing_one upto before now old new finishing here is = record {
             let first : old ≡ x = same_Some old x (sym here ∙ sym (ap (slice_get now) same.1) ∙ finishing.others place (omega (arith, same.1)) ∙ was) in
             let last : new ≡ y = same_Some new y (sym (get_set now upto old new here) ∙ sym (ap (slice_get (set now upto new)) same.1) ∙ is_now) in
             subst (λ (pair : WriterEnd × WriterEnd). IsFinishedFrom pair.0 pair.1) (λ i. (first i, last i)) is
-        | inr apart ↦ finishing.finished place x y (omega (arith, apart.1)) was (sym (get_other now upto place new apart.1) ∙ is_now)
+        | inr apart ↦ finishing.finished place x y (omega (arith, apart.1)) was (sym (get_set_other now upto place new apart.1) ∙ is_now)
       ];
-  others = λ place from. get_other now upto place new (λ same. omega (arith, same)) ∙ finishing.others place (omega arith);
+  others = λ place from. get_set_other now upto place new (λ same. omega (arith, same)) ∙ finishing.others place (omega arith);
 }
 
 pub all_finished : (upto : ℕ) (before now : List WriterEnd) → length before ≤ upto → IsFinishing upto before now → AllZip IsFinishedFrom before now

@@ -5,11 +5,12 @@ use Rattle.std.specs.List.{AllZip}
 use Rattle.std.proofs.lemmas.Bool.Decides.{eqb_tells}
 use Rattle.std.proofs.lemmas.List.{append-nil}
 use Rattle.std.proofs.lemmas.Option.{same_Some, slice_get_within}
-use Rattle.log_ends.proofs.Lists.{get_set, get_other}
+use Rattle.log_ends.proofs.Lists.{get_set}
 use Rattle.word_ring.specs.Ends.{WordRoamerEnd}
 use Rattle.roaming_consumer.specs.declared.visit.Visit.{Visit}
 use Rattle.roaming_consumer.specs.declared.visit.Visit.TheVariants as visits
 use Rattle.roaming_consumer.specs.Roamers.{is_marked, IsSameRun}
+use Rattle.roaming_consumer.proofs.lemmas.OnePlace.{get_set_other}
 use Rattle.log_ends.specs.declared.consumer.ConsumerEnd.{ConsumerEnd}
 use Rattle.log_ends.specs.Consumers.{HasPut, consumer_ends, waiting, is_over, EndGoesOn, FoundNone}
 use Rattle.log_ends.specs.Rounds.{VisitAnswers, IsVisited, Passes}
@@ -111,7 +112,7 @@ module _ (old cur new : ConsumerEnd) (first writer : ℕ) (all_ended : Bool) (an
   at_writer = ap (λ (ends : List WordRoamerEnd). slice_get ends writer) visited.now ∙ get_set (consumer_ends cur) writer visited.before visited.after visited.was
 
   elsewhere : (other : ℕ) → other ≢ writer → slice_get (consumer_ends new) other ≡ slice_get (consumer_ends cur) other
-  elsewhere other apart = ap (λ (ends : List WordRoamerEnd). slice_get ends other) visited.now ∙ get_other (consumer_ends cur) writer other visited.after apart
+  elsewhere other apart = ap (λ (ends : List WordRoamerEnd). slice_get ends other) visited.now ∙ get_set_other (consumer_ends cur) writer other visited.after apart
 
   ends_go_on : AllZip EndGoesOn (consumer_ends old) (consumer_ends new)
   ends_go_on =

@@ -1,5 +1,5 @@
 -- Writers that log one call more.
-use Rattle.std.proofs.Common.{◌≡◌, true, false, ℕ, ◌+◌, ◌%◌, ◌<◌, ◌≤◌, ◌^◌, List, [], ◌∷◌, ◌++◌, length, refl, sym, ap, subst, ◌∙◌, arith, inl, inr, ⊎_elim}
+use Rattle.std.proofs.Common.{◌≡◌, true, false, ℕ, ◌+◌, ◌<◌, ◌≤◌, ◌^◌, List, [], ◌∷◌, ◌++◌, length, refl, sym, ap, subst, ◌∙◌, arith, inl, inr}
 use Rattle.std.specs.Prelude.{All, Option, None, Some, option_map, slice_get}
 use Rattle.std.proofs.lemmas.Bool.{cases_lt}
 use Rattle.std.proofs.lemmas.List.{length-append, length-map}
@@ -19,9 +19,10 @@ use Rattle.arg_records.specs.Calls.{last_stamp}
 use Rattle.arg_records.specs.Frames.{AreArguments, Frame, FrameLen}
 use Rattle.arg_records.specs.Kinds.{HoldsBytes}
 use Rattle.arg_records.proofs.lemmas.Fitted.{AreArguments-from_Fits}
+use Rattle.arg_records.proofs.lemmas.CallLists.{last_stamp-push}
 use Rattle.ring_core.specs.Plans.{Plan, plan_of, call_of, AreFramesOf, MayFollow, Lawful}
 use Rattle.ring_core.specs.Positions.{Need, Position, position_from}
-use Rattle.ring_core.proofs.lemmas.Frames.{AreFramesOf-push, last_stamp-push}
+use Rattle.ring_core.proofs.lemmas.Frames.{AreFramesOf-push}
 use Rattle.ring_core.proofs.lemmas.Needs.{Need-least, position_from-push}
 use Rattle.ring_core.proofs.lemmas.OneReading.{AreFramesOf-unique}
 use Rattle.log_session.specs.Writers.{WriterView, IsDictionaryPlan, Knows, AppendsCall, HasLogged, knows_taken}

@@ -75,6 +75,11 @@ pub byte_count-le : (kind : Kind) (code : ℕ) → IsCode kind code → byte_cou
 byte_count-le unsigned code h = h
 byte_count-le signed code h = grind arith
 
+-- so a packed number has 8 bytes at most
+pub Packed-short : (kind : Kind) (z : ℤ) (code : ℕ) (bytes : List ℕ) → Packed kind z code bytes → length bytes ≤ 8
+Packed-short kind z code bytes packed =
+    omega (arith, Packed-length kind z code bytes packed, byte_count-le kind code (Packed-code kind z code bytes packed))
+
 -- every code has four bits
 pub IsCode-lt : (kind : Kind) (code : ℕ) → IsCode kind code → code < 16
 IsCode-lt unsigned code h = omega arith

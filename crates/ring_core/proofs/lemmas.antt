@@ -1,3 +1,4 @@
+pub mod DictionaryCalls
 pub mod Frames
 pub mod Needs
 pub mod OneReading

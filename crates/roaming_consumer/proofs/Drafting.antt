@@ -8,9 +8,9 @@ use Rattle.printf_grammar.specs.Types.{Types, Fits}
 use Rattle.log_dictionary.specs.declared.message.Message.{Message}
 use Rattle.arg_records.specs.declared.call.Call.{Call}
 use Rattle.arg_records.specs.Calls.{last_stamp}
+use Rattle.arg_records.proofs.lemmas.CallLists.{last_stamp-push}
 use Rattle.buffer_extent.specs.Records.{RecordBytes}
 use Rattle.buffer_extent.specs.Bodies.{SpellsRecord, SpellsRecords}
-use Rattle.checkpoint_io.proofs.lemmas.ValidityLaws.{last_stamp-push}
 use Rattle.roaming_consumer.specs.declared.draft.Draft.{Draft}
 use Rattle.roaming_consumer.specs.Drafts.{IsFrameOfCall, IsDraft}
 use Rattle.roaming_consumer.proofs.Used.{ids_used-push}

@@ -5,13 +5,14 @@ use Rattle.std.proofs.lemmas.List.{append-nil, map-append, length-append}
 use Rattle.std.proofs.lemmas.List.Elements.{All-push, All-from_recursion, recursion_from_All}
 use Rattle.std.proofs.lemmas.Option.{same_Some}
 use Rattle.printf_grammar.specs.declared.arg_type.ArgType.{ArgType}
-use Rattle.printf_grammar.specs.Types.{Types, Fits}
+use Rattle.printf_grammar.specs.Types.{Types}
 use Rattle.log_dictionary.specs.declared.message.Message.{Message}
 use Rattle.arg_records.specs.declared.call.Call.{Call}
 use Rattle.arg_records.specs.Calls.{IsCall, NeverFalls, last_stamp}
-use Rattle.ring_core.specs.Plans.{types_by_id, plan_of, IsPlanned, frame_of, frames_of, AreFramesOf, Lawful, MayFollow}
+use Rattle.ring_core.specs.Plans.{types_by_id, plan_of, frame_of, frames_of, AreFramesOf, Lawful, MayFollow}
 use Rattle.ring_core.proofs.lemmas.Frames.{AreFramesOf-push, Lawful-front, Lawful-last}
 use Rattle.ring_core.proofs.lemmas.OneReading.{AreFramesOf-unique}
+use Rattle.ring_core.proofs.lemmas.DictionaryCalls.{IsCall-from_IsPlanned}
 use Rattle.roaming_consumer.specs.declared.draft.Draft.{Draft}
 use Rattle.roaming_consumer.specs.Drafts.{IsFrameOfCall, IsDraft}
 use Rattle.roaming_consumer.specs.Gathering.{CallsCame, DraftsFrames, FramesCame}
@@ -23,12 +24,6 @@ message_of_types : (messages : List Message) (id : ℕ) (types : List ArgType) �
 message_of_types [] id types known = absurd cc
 message_of_types (message ∷ messages) zero types known = (message, refl, same_Some (Types message.format.pieces) types known)
 message_of_types (message ∷ messages) (suc id) types known = message_of_types messages id types known
-
--- a call that is planned names one of the messages and fits it
-planned_call : (messages : List Message) (call : Call) → IsPlanned (types_by_id messages) call → IsCall messages call
-planned_call messages call planned =
-    let found = message_of_types messages call.id planned.types planned.known in
-    record { message = found.0; known = found.1; fits = subst (Fits call.args) (sym found.2) planned.fits; short = planned.staged.within }
 
 -- ---- stamps
 
@@ -65,7 +60,7 @@ next_call messages tick before after entries last frame comes last_is lawful =
     let not_before : last ≤ call.stamp = omega (arith, last_is, last_behind tick first.0 entries rising, ap (last_stamp tick) whole, may.not_before) in
     record {
       call = call;
-      is = record { named = planned_call messages call may.planned; bytes = may.planned.bytes; staged = may.planned.staged; not_before = not_before; is = ends.3 };
+      is = record { named = IsCall-from_IsPlanned messages call may.planned; bytes = may.planned.bytes; staged = may.planned.staged; not_before = not_before; is = ends.3 };
       comes = record {
         joined =
             ap (λ (l : List (List ℕ)). l ++ frame ∷ []) comes.joined ∙ append_assoc before (frames_of entries) (frame ∷ [])

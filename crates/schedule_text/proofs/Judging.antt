@@ -1,11 +1,12 @@
 -- What the first line of a step comes to.
-use Rattle.std.proofs.Common.{◌≡◌, ◌≢◌, ℕ, zero, suc, ◌+◌, ◌-◌, ◌<◌, ◌≤◌, List, [], ◌∷◌, ◌++◌, Option, Some, None, refl, sym, ap, subst, ◌∙◌, inl, inr, arith, true, eqb, take, drop}
+use Rattle.std.proofs.Common.{◌≡◌, ◌≢◌, ℕ, zero, suc, ◌+◌, ◌-◌, ◌<◌, List, [], ◌∷◌, ◌++◌, Option, Some, None, refl, sym, ap, ◌∙◌, inl, inr, arith, true, eqb, take, drop}
 use Rattle.std.specs.Prelude.{◌⊎◌, slice_get, IfSome, length}
 use Rattle.std.specs.Cmp.Lexicographic.{pointwise, bytes_decides}
 use Rattle.std.proofs.lemmas.List.{take-append-drop}
 use Rattle.log_dictionary.specs.Fields.{after}
 use Rattle.log_dictionary.proofs.lemmas.Splits.{after_again}
 use Rattle.std.specs.Option.{option_map}
+use Rattle.std.proofs.lemmas.Option.{same_Some}
 use Rattle.ring_machine.specs.declared.steps.Barred.{Barred}
 use Rattle.ring_machine.specs.declared.steps.Barred.TheVariants as bars
 use Rattle.schedule_text.specs.declared.cause.ScheduleCause.{ScheduleCause}
@@ -18,7 +19,7 @@ use Rattle.schedule_text.specs.declared.playing.TheConstants.{MAX_STEPS}
 use Rattle.schedule_text.specs.Causes.{bar_cause, told_bar}
 use Rattle.schedule_text.specs.Lines.{NumberedStep, step_at, sizes_at, first_line_says}
 use Rattle.schedule_text.specs.Printed.{event_text, positions_text, shown_text, event_line, ring_lines}
-use Rattle.schedule_text.specs.Judged.{ScheduleOutcome, refused_at, printing, event_of, first_line, line_number, by_bar, by_line, steps_judged, rings_judged, head_judged, judged}
+use Rattle.schedule_text.specs.Judged.{ScheduleOutcome, refused_at, printing, event_of, first_line, by_bar, by_line, steps_judged, rings_judged, head_judged, judged}
 
 -- ---- one line, where so many more may be made
 
@@ -55,12 +56,9 @@ module _ (left : ℕ) (rings : List RingState) (made : ℕ) where
 
 -- ---- the first line of a schedule, behind so many others
 
-some_same : {A : Type 0} (a b : A) → Some a ≡ Some b → a ≡ b
-some_same a b e = cc
-
 shown_is : (o : Option RingState) (view : RingView) → option_map view_of o ≡ Some view → shown_text o ≡ positions_text view
 shown_is None view e = absurd cc
-shown_is (Some s) view e = ap positions_text (some_same (view_of s) view e)
+shown_is (Some s) view e = ap positions_text (same_Some (view_of s) view e)
 
 -- one more may be made
 one_more : (made : ℕ) → made < MAX_STEPS → MAX_STEPS - made ≡ suc (MAX_STEPS - (made + 1))

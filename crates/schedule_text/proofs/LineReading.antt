@@ -1,40 +1,26 @@
 -- The lines of steps and of rings, as they are read.
-use Rattle.std.proofs.Common.{◌≡◌, ◌≢◌, ℕ, ◌+◌, ◌<◌, ◌≤◌, ◌^◌, Bool, true, false, cond, eqb, leb, ltb, List, [], ◌∷◌, ◌++◌, length, All, Option, Some, None, refl, sym, ap, ◌∙◌, subst, append_assoc, append-nil, inl, arith}
+use Rattle.std.proofs.Common.{◌≡◌, ◌≢◌, ℕ, ◌+◌, ◌<◌, ◌^◌, Bool, true, false, cond, eqb, leb, ltb, List, [], ◌∷◌, ◌++◌, All, Option, Some, None, refl, sym, ap, ◌∙◌, subst, append_assoc, append-nil, inl, arith}
 use Rattle.std.specs.Prelude.{codes, decimal, ◌&&◌, not}
 use Rattle.std.specs.Str.{bytes_eq}
 use Rattle.std.specs.List.{list_all}
 use Rattle.std.proofs.lemmas.Bool.{ltb-true, lt-ltb, cond-true, and_parts, leb-true, le-leb}
 use Rattle.std.proofs.lemmas.List.Elements.{All-append, All-cons, All-from_recursion}
 use Rattle.std.proofs.lemmas.Slice.Eq.{bytes_eq-Decides}
+use Rattle.std.proofs.lemmas.Option.{same_Some}
 use Rattle.log_dictionary.specs.Numbers.{natural_of, if_small}
-use Rattle.log_dictionary.specs.Fields.{◌>>=◌, IsFirstSplit, after, split_at_first}
-use Rattle.log_dictionary.proofs.lemmas.Splits.{split_again, split_takes, after_again, after_takes}
+use Rattle.log_dictionary.specs.Fields.{◌>>=◌, after, split_at_first}
+use Rattle.log_dictionary.proofs.lemmas.Splits.{split_again, split_takes, after_again, after_takes, found}
 use Rattle.log_dictionary.proofs.lemmas.Lines.{none_by_test, decimal_none}
 use Rattle.log_dictionary.proofs.lemmas.NumberLaws.{natural_decimal, decimal_natural}
 use Rattle.session_options.specs.declared.limits.TheConstants.{MIN_RING}
 use Rattle.ring_machine.specs.declared.rings.TheConstants.{MAX_RINGS}
 use Rattle.ring_machine.specs.declared.steps.Step.{Step as StepKind}
 use Rattle.ring_machine.specs.declared.steps.Step.TheVariants as steps
-use Rattle.ring_machine.specs.declared.steps.Event.{Event}
 use Rattle.schedule_text.specs.declared.head_line.TheConstants.{MAX_WORDS}
 use Rattle.schedule_text.specs.StepLines.{step_name, step_word, step_line, FitsWord, FitsStep}
 use Rattle.schedule_text.specs.Lines.{number_at, sizes_within, sizes_of, sizes_at, plain_step, NumberedStep, store_at, plain_at, step_with, step_at, first_line_says}
 use Rattle.schedule_text.specs.Judged.{event_of}
 use Rattle.schedule_text.specs.Schedules.{AreSizes, rings_line}
-
--- ---- what came of a part that was found
-
-pub record Found {A B : Type 0} (o : Option A) (next : A → Option B) (y : B) : Type 0 where
-  pub x : A
-  pub first : o ≡ Some x
-  pub second : next x ≡ Some y
-
-pub found : {A B : Type 0} (o : Option A) (next : A → Option B) (y : B) → (o >>= next) ≡ Some y → Found o next y
-found None next y e = absurd cc
-found (Some x) next y e = record { x = x; first = refl; second = e }
-
-some_same : {A : Type 0} (a b : A) → Some a ≡ Some b → a ≡ b
-some_same a b e = cc
 
 -- ---- numbers
 
@@ -72,7 +58,7 @@ pub line_taken : {A : Type 0} (says : List ℕ → Option A) (bytes : List ℕ) 
 line_taken {A = A} says bytes said rest e =
     let parts = found (split_at_first 10 bytes) (λ (parts : List ℕ × List ℕ). says parts.0 >>= (λ (x : A). Some (x, parts.1))) (said, rest) e in
     let here = found (says parts.x.0) (λ (x : A). Some (x, parts.x.1)) (said, rest) parts.second in
-    let both : (here.x, parts.x.1) ≡ (said, rest) = some_same _ _ here.second in
+    let both : (here.x, parts.x.1) ≡ (said, rest) = same_Some _ _ here.second in
     record {
       line = parts.x.0;
       says_so = here.first ∙ ap (λ (p : A × List ℕ). Some p.0) both;
@@ -167,7 +153,7 @@ store_taken fields said e =
     let ring_is = number_taken parts.x.0 ring.x ring.first in
     let word_is = number_taken parts.x.1 word.x word.first in
     let split = split_takes 32 fields parts.x.0 parts.x.1 parts.first in
-    subst (IsNamed (codes "store") fields) (some_same (ring.x, steps.Store word.x) said word.second)
+    subst (IsNamed (codes "store") fields) (same_Some (ring.x, steps.Store word.x) said word.second)
     (record {
       name_is = refl;
       fields_are = split.parts ∙ (λ i. ring_is.0 i ++ 32 ∷ word_is.0 i);
@@ -179,7 +165,7 @@ Named name step = (name ≡ step_name step) × (step_word step ≡ []) × FitsWo
 
 named_at : (name word : List ℕ) (this step : StepKind) (more : Option StepKind) → word ≡ step_name this → step_word this ≡ [] → FitsWord this → (more ≡ Some step → Named name step) → (b : Bool) → bytes_eq name word ≡ b
     → cond b (Some this) more ≡ Some step → Named name step
-named_at name word this step more named alone fits others true is e = subst (Named name) (some_same this step e) ((bytes_eq-Decides name word).0 is ∙ named, alone, fits)
+named_at name word this step more named alone fits others true is e = subst (Named name) (same_Some this step e) ((bytes_eq-Decides name word).0 is ∙ named, alone, fits)
 named_at name word this step more named alone fits others false is e = others e
 
 plain_named : (name : List ℕ) (step : StepKind) → plain_step name ≡ Some step → Named name step
@@ -212,7 +198,7 @@ plain_taken name fields said e =
     let ring = found (number_at fields) (λ (ring : ℕ). Some (ring, step.x)) said step.second in
     let named = plain_named name step.x step.first in
     let ring_is = number_taken fields ring.x ring.first in
-    subst (IsNamed name fields) (some_same (ring.x, step.x) said ring.second)
+    subst (IsNamed name fields) (same_Some (ring.x, step.x) said ring.second)
     (record {
       name_is = named.0;
       fields_are = ring_is.0 ∙ sym (append-nil (decimal ring.x)) ∙ ap (λ (word : List ℕ). decimal ring.x ++ word) (sym named.1);
@@ -252,7 +238,7 @@ within_taken rings words sizes e = by_test (leb 1 rings && leb rings MAX_RINGS &
         let last = and_parts (leb 1 rings && leb rings MAX_RINGS && leb MIN_RING words) (leb words MAX_WORDS) is in
         let third = and_parts (leb 1 rings && leb rings MAX_RINGS) (leb MIN_RING words) last.0 in
         let first = and_parts (leb 1 rings) (leb rings MAX_RINGS) third.0 in (
-          some_same (rings, words) sizes e,
+          same_Some (rings, words) sizes e,
           record { some_ring = leb-true _ _ first.0; few_rings = leb-true _ _ first.1; least = leb-true _ _ third.1; most = leb-true _ _ last.1 },
         )
 

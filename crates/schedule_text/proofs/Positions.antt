@@ -1,9 +1,8 @@
 -- How far the rings of a schedule come.
-use Rattle.std.proofs.Common.{◌≡◌, ℕ, ◌+◌, ◌*◌, ◌-◌, ◌%◌, ◌≤◌, Bool, true, false, List, [], ◌∷◌, ◌++◌, length, replicate, set, refl, sym, ap, subst, ◌∙◌, arith}
-use Rattle.std.specs.Prelude.{if◌then◌else◌, Option, None, Some, IfSome, slice_get, All}
+use Rattle.std.proofs.Common.{◌≡◌, ℕ, ◌+◌, ◌*◌, ◌-◌, ◌≤◌, Bool, true, false, List, [], ◌∷◌, ◌++◌, length, refl, sym, subst, arith}
+use Rattle.std.specs.Prelude.{if◌then◌else◌, Option, None, Some, IfSome, slice_get}
 use Rattle.std.proofs.lemmas.List.{length-set, length-append, length-replicate}
 use Rattle.std.proofs.lemmas.List.Elements.{All-set, All-replicate, All-weaker}
-use Rattle.std.proofs.lemmas.Option.{slice_get_within, get_or_from_slice_get}
 use Rattle.session_options.specs.declared.limits.TheConstants.{MIN_RING}
 use Rattle.ring_core.specs.declared.limits.TheConstants.{MAX_POSITION}
 use Rattle.ring_machine.specs.declared.rings.TheConstants.{MAX_RINGS}
@@ -14,6 +13,7 @@ use Rattle.ring_machine.specs.Streams.{Walk, start, is_wrap_mark, is_whole_frame
 use Rattle.ring_machine.specs.RingStates.{RingState, new_ring, written}
 use Rattle.ring_machine.specs.Steps.{after_step, rings_after, IsEvent}
 use Rattle.ring_machine.specs.Rings.{new_rings}
+use Rattle.ring_machine.proofs.lemmas.Schedules.{All-get}
 use Rattle.schedule_text.specs.declared.head_line.TheConstants.{MAX_WORDS}
 use Rattle.schedule_text.specs.declared.playing.TheConstants.{MAX_STEPS}
 use Rattle.schedule_text.specs.Playing.{HasStored, Reached}
@@ -53,9 +53,6 @@ stored_after made s steps.Read has = record { least = has.least; most = has.most
 stored_after made s steps.Release has = record { least = has.least; most = has.most; few = omega (arith, has.few) }
 
 -- ---- several rings
-
-All-get : (P : RingState → Type 0) (rings : List RingState) (ring : ℕ) (s : RingState) → All P rings → slice_get rings ring ≡ Some s → P s
-All-get P rings ring s all is = subst P (get_or_from_slice_get rings ring s s is) (all ring s (slice_get_within rings ring s is))
 
 pub reached_new : (count words : ℕ) → count ≤ MAX_RINGS → MIN_RING ≤ words → words ≤ MAX_WORDS → Reached 0 (new_rings count words)
 reached_new count words few least most = record {

@@ -1,5 +1,5 @@
 -- Lines piece by piece.
-use Rattle.std.proofs.Common.{◌≡◌, ℕ, suc, zero, ◌+◌, ◌<◌, ◌≤◌, List, [], ◌∷◌, ◌++◌, subst, drop, length, codes, Option, Some, None, refl, sym, ap, ◌∙◌, append_assoc, append-nil, arith}
+use Rattle.std.proofs.Common.{◌≡◌, ℕ, suc, zero, ◌+◌, ◌<◌, ◌≤◌, List, [], ◌∷◌, ◌++◌, subst, drop, length, codes, refl, sym, ap, ◌∙◌, append_assoc, append-nil, arith}
 use Rattle.std.specs.Prelude.{decimal, slice_get, IfSome}
 use Rattle.std.specs.List.{concat}
 use Rattle.std.proofs.lemmas.List.{drop_all}
@@ -30,9 +30,6 @@ pub ring_pieces : (ring : ℕ) (view : RingView) (ring_text sent got name : List
 ring_pieces ring view ring_text sent got name a b c d = λ i. concat (codes "ring " ∷ a i ∷ codes ": sent " ∷ b i ∷ codes " got " ∷ c i ∷ codes " " ∷ d i ∷ codes "\n" ∷ [])
 
 -- ---- the lines of the rings
-
-some_same : {A : Type 0} (a b : A) → Some a ≡ Some b → a ≡ b
-some_same a b e = cc
 
 -- the lines of the rings from one on are its line and those of the others
 pub rings_more : (rings : List RingState) (n ring : ℕ) (view : RingView) → ring < length rings → IfSome (slice_get rings ring) (λ s. view ≡ view_of s)

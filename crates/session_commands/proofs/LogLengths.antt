@@ -1,6 +1,6 @@
 -- How long the log of a generated trace is at most.
 use Rattle.std.proofs.Common.{◌≡◌, ℕ, zero, suc, ◌+◌, ◌*◌, ◌<◌, ◌≤◌, Bool, true, false, ◌||◌, cond, eqb, List, [], ◌∷◌, ◌++◌, map, length, get_or, refl, sym, ap, subst, ◌∙◌, inl, inr, arith}
-use Rattle.std.specs.Prelude.{sum_by, ℤ, pos, ◌-◌}
+use Rattle.std.specs.Prelude.{sum_by, pos, ◌-◌}
 use Rattle.std.specs.Hash.{le_bytes}
 use Rattle.std.specs.List.{flat_map, filter, list_any, range_with_len}
 use Rattle.std.proofs.lemmas.Bool.{true≢false}
@@ -12,8 +12,8 @@ use Rattle.std.proofs.lemmas.List.Sums.{sum_by-cons, sum_by-append, sum_by-le}
 use Rattle.printf_grammar.specs.declared.arg_type.ArgType.{ArgType}
 use Rattle.printf_grammar.specs.declared.argument.Value.{Value}
 use Rattle.printf_grammar.specs.Types.{text_of}
-use Rattle.nibble_pack.specs.Packing.{Kind, unsigned, Packed}
-use Rattle.nibble_pack.specs.PackingLaws.{Packed-code, Packed-length, byte_count-le}
+use Rattle.nibble_pack.specs.Packing.{unsigned}
+use Rattle.nibble_pack.specs.PackingLaws.{Packed-short}
 use Rattle.log_dictionary.specs.declared.message.Message.{Message}
 use Rattle.log_dictionary.specs.declared.clock.Clock.{Clock}
 use Rattle.log_dictionary.specs.BinaryEntries.{text_bytes, SpellsEntry}
@@ -97,17 +97,12 @@ only_there place n start (suc count) from to =
 abbrev call_size : Call → ℕ
 call_size call = 23 + 9 * length call.args + length (flat_map text_of call.args)
 
--- a packed number has 8 bytes at most
-packed_short : (kind : Kind) (z : ℤ) (code : ℕ) (bytes : List ℕ) → Packed kind z code bytes → length bytes ≤ 8
-packed_short kind z code bytes packed =
-    omega (arith, Packed-length kind z code bytes packed, byte_count-le kind code (Packed-code kind z code bytes packed))
-
 -- there are as many numbers as arguments, of 8 bytes at most each
 numbers_short : (types : List ArgType) (args : List Value) (numbers : List PackedNumber) → PacksArguments types args numbers → (length numbers ≡ length args) × (length (packed_bytes numbers) ≤ 8 * length args)
 numbers_short [] [] [] packed = (refl, omega arith)
 numbers_short (type ∷ types) (arg ∷ args) (number ∷ numbers) packed =
     let rest = numbers_short types args numbers packed.1 in
-    let here = packed_short (kind_of type) (packed_value arg) number.code number.bytes packed.0 in
+    let here = Packed-short (kind_of type) (packed_value arg) number.code number.bytes packed.0 in
     (ap suc rest.0, omega (arith, length-append number.bytes (packed_bytes numbers), here, rest.1))
 numbers_short _ _ _ packed = absurd packed
 
@@ -123,8 +118,8 @@ record_short messages before entry bytes spells =
     omega (
       arith,
       ap length s.joined,
-      packed_short unsigned (pos entry.id) s.id_number.code s.id_number.bytes s.id_packed,
-      packed_short unsigned (pos (entry.stamp - before)) s.step_number.code s.step_number.bytes s.step_packed,
+      Packed-short unsigned (pos entry.id) s.id_number.code s.id_number.bytes s.id_packed,
+      Packed-short unsigned (pos (entry.stamp - before)) s.step_number.code s.step_number.bytes s.step_packed,
       length-append (head ++ codes ++ numbers) texts,
       length-append (head ++ codes) numbers,
       length-append head codes,

@@ -1,10 +1,10 @@
 -- What a session came to, on its way to the output.
-use Rattle.std.proofs.Common.{◌≡◌, ℕ, List, [], ◌∷◌, ◌++◌, Result, Ok, Err, refl, sym, ap, append_assoc, append-nil, arith, ◌∙◌}
+use Rattle.std.proofs.Common.{◌≡◌, ℕ, List, [], ◌∷◌, ◌++◌, refl, sym, ap, append_assoc, append-nil, arith, ◌∙◌}
 use Rattle.std.specs.List.{flat_map}
-use Rattle.std.specs.Prelude.{length, OnOk, OnErr}
-use Rattle.nl_io.specs.Content.{Told, with_end}
+use Rattle.std.specs.Prelude.{length}
+use Rattle.nl_io.specs.Content.{Told}
 use Rattle.nl_io.specs.TextWriters.{Carries, IsCutOff}
-use Rattle.nl_io.proofs.lemmas.TextWriters.{carries_held, carries_more, carries_all, cut_held, cut_more}
+use Rattle.nl_io.proofs.lemmas.TextWriters.{carries_held, carries_more, cut_more}
 use Rattle.trace_session.specs.declared.drops.Dropped.{Dropped}
 use Rattle.session_commands.specs.Headline.{drop_line, counts_line, outcome_text}
 
@@ -90,17 +90,3 @@ pub outcome_carried : (drops left : List Dropped) (accepted dropped filtered : �
 outcome_carried drops left accepted dropped filtered was mid is held now none many so_far more =
     carries_more (outcome_text drops accepted filtered) so_far.text (counts_line accepted dropped filtered) held now was mid
     is (all_drops drops left was mid held accepted dropped filtered none many so_far) so_far.carries more
-
--- what was held back was put
-pub outcome_put : {T E : Type 0} (r : Result T E) (text held : List ℕ) (was mid is : Told) → Carries text was mid held
-    → OnOk r (is ≡ with_end held mid) → OnOk r (is ≡ with_end text was)
-outcome_put (Ok x) text held was mid is carried put = carries_all text held was mid is carried put
-outcome_put (Err e) text held was mid is carried put = tt
-
--- what was held back was cut off
-pub outcome_cut : {T E : Type 0} (r : Result T E) (text held : List ℕ) (was mid is : Told) (before between after : ℕ)
-    → Carries text was mid held → between ≡ before → OnErr r (IsCutOff held mid is between after)
-    → OnErr r (IsCutOff text was is before after)
-outcome_cut (Ok x) text held was mid is before between after carried same cut = tt
-outcome_cut (Err e) text held was mid is before between after carried same cut =
-    cut_held text text [] held was mid is before between after (sym (append-nil text)) carried same cut

@@ -1,6 +1,7 @@
 -- What the log of a session in memory gives.
 use Rattle.std.proofs.Common.{◌≡◌, ◌≢◌, ℕ, ◌≤◌, List, [], ◌++◌, length, Some, Err, refl, sym, ap, subst, ◌∙◌}
 use Rattle.std.specs.Prelude.{IfSome}
+use Rattle.std.proofs.lemmas.Option.{same_Some}
 use Rattle.nl_io.specs.Content.{Told, with_end}
 use Rattle.arg_records.specs.declared.call.Call.{Call}
 use Rattle.checkpoint_io.specs.declared.cause.Cause.{Cause}
@@ -33,12 +34,9 @@ use Rattle.session_commands.proofs.lemmas.Soundness.{selftest_sound}
 use Rattle.trace_commands.specs.Texts.{direct_text}
 use Rattle.session_commands.proofs.lemmas.WholeRuns.{taken_writers}
 
-some_same : {A : Type 0} (a b : A) → Some a ≡ Some b → a ≡ b
-some_same a b e = cc
-
 -- what was put into an empty sink
 pub put_all : (old new bytes : List ℕ) → Some new ≡ with_end bytes (Some old) → old ≡ [] → new ≡ bytes
-put_all old new bytes put none = some_same new (old ++ bytes) put ∙ ap (λ (front : List ℕ). front ++ bytes) none
+put_all old new bytes put none = same_Some new (old ++ bytes) put ∙ ap (λ (front : List ℕ). front ++ bytes) none
 
 -- a session with the default options takes all calls
 pub session_log : {D : Type 0} (sent got : D → List (List ℕ)) (run : Recording) (options : Options) (outcome : Outcome D) (bytes : List ℕ) → IsRecording run → options ≡ default_options → IsSession sent got run options outcome bytes

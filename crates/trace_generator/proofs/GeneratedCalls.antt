@@ -12,6 +12,7 @@ use Rattle.log_dictionary.specs.declared.dictionary.Added.TheVariants.{Old, New}
 use Rattle.log_dictionary.specs.Additions.{IsAdded}
 use Rattle.arg_records.specs.declared.call.Call.{Call}
 use Rattle.arg_records.specs.Calls.{IsCall}
+use Rattle.arg_records.proofs.lemmas.CallLists.{last_stamp-push}
 use Rattle.trace_generator.specs.declared.generator.Generator.{Generator}
 use Rattle.trace_text.specs.Recordings.{Recording, IsRecording}
 use Rattle.trace_text.specs.Lines.{WriterCall}
@@ -126,10 +127,6 @@ there [] place within = absurd (omega (arith, within))
 there (list ∷ lists) zero within = (list, refl)
 there (list ∷ lists) (suc place) within = there lists place (omega (arith, within))
 
-last-push : (least : ℕ) (calls : List Call) (call : Call) → last_stamp least (calls ++ call ∷ []) ≡ call.stamp
-last-push least [] call = refl
-last-push least (first ∷ calls) call = last-push first.stamp calls call
-
 -- no writer's last stamp is above this
 abbrev EndBy : ℕ → List (List Call) → Type 0
 EndBy most lists = AllByRecursion (λ calls. last_stamp 1000 calls ≤ most) lists
@@ -184,7 +181,7 @@ module _ (seed writers : ℕ) (some : 1 ≤ writers) (few : writers ≤ 64) wher
         count = omega (arith, ap (λ (run : Recording). sum_by length run.writers) next, sum_by-with_call_of run.writers made.writer made.call at.0 at.1, before.count);
         ends = subst (λ (run : Recording). EndBy made.call.stamp run.writers) (sym next)
             (all_after (λ calls. last_stamp 1000 calls ≤ made.call.stamp) run.writers made.writer made.call at.0 at.1
-            (omega (arith, last-push 1000 at.0 made.call))
+            (omega (arith, last_stamp-push 1000 at.0 made.call))
             (end_by-more generator.stamp made.call.stamp run.writers (stamp_rises generator) before.ends));
       }
 

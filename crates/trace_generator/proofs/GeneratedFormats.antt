@@ -1,14 +1,13 @@
 -- The formats of the generated messages are spelled so.
-use Rattle.std.proofs.Common.{◌≡◌, ℕ, ◌+◌, lit<, lit≤, Bool, true, false, cond, eqb, eq-eqb, List, [], ◌∷◌, length, refl, inl, inr, arith}
+use Rattle.std.proofs.Common.{◌≡◌, ℕ, ◌+◌, lit≤, Bool, true, false, cond, eqb, eq-eqb, List, [], ◌∷◌, length, refl, inl, inr, arith}
 use Rattle.std.specs.Prelude.{codes}
-use Rattle.std.specs.Fmt.{digits}
 use Rattle.std.specs.List.{AllByRecursion}
-use Rattle.printf_grammar.specs.declared.piece.Size.TheVariants.{Given}
 use Rattle.printf_grammar.specs.declared.piece.Length.TheVariants.{L, LL}
 use Rattle.printf_grammar.specs.declared.piece.Conversion.TheVariants.{U, X, S, C}
-use Rattle.printf_grammar.specs.Spelling.{IsLiteralByte, SpellsWidth, SpellsField, SpellsLiteral, Spells}
+use Rattle.printf_grammar.specs.Spelling.{IsLiteralByte, SpellsField, SpellsLiteral, Spells}
 use Rattle.printf_grammar.specs.Narrow.{plain_d}
 use Rattle.printf_grammar.proofs.lemmas.NarrowLaws.{plain_d_spelled}
+use Rattle.printf_grammar.proofs.lemmas.Worked.{field_5d}
 use Rattle.trace_generator.specs.Generated.{disk_format, disk_pieces, queue_format, queue_pieces, request_format, request_pieces, state_format, state_pieces}
 
 -- ---- pieces
@@ -89,22 +88,6 @@ long_unsigned = record {
   takes_length = tt;
 }
 
-five : SpellsWidth (codes "5") (Given 5)
-unfolding digits
-five = (lit< tt, lit≤ tt, refl)
-
-wide : SpellsField (codes "%5d") (record plain_d { width = Given 5 })
-wide = record {
-  flags = [];
-  width = codes "5";
-  precision = [];
-  whole = refl;
-  flags_spelled = record { flags = tt; minus = refl; plus = refl; space = refl; sharp = refl; zero = refl };
-  width_spelled = five;
-  precision_spelled = refl;
-  takes_length = tt;
-}
-
 -- ---- formats
 
 pub disk : Spells disk_format disk_pieces
@@ -139,7 +122,7 @@ request = record {
     codes "%llu took %5d us",
     refl,
     literal 0 _ _ refl,
-    (codes "%llu", codes " took %5d us", refl, long_unsigned, (codes " took ", codes "%5d us", refl, literal 12 _ _ refl, (codes "%5d", codes " us", refl, wide, (codes " us", [], refl, literal 21 _ _ refl, refl)))),
+    (codes "%llu", codes " took %5d us", refl, long_unsigned, (codes " took ", codes "%5d us", refl, literal 12 _ _ refl, (codes "%5d", codes " us", refl, field_5d, (codes " us", [], refl, literal 21 _ _ refl, refl)))),
   );
 }
 

@@ -1,9 +1,7 @@
 -- Workers for new writers.
-use Rattle.std.proofs.Common.{◌≡◌, ℕ, ◌+◌, ◌<◌, List, [], ◌∷◌, ◌++◌, map, length, refl, sym, ap, subst, ◌∙◌, arith}
-use Rattle.std.specs.Prelude.{All}
+use Rattle.std.proofs.Common.{◌≡◌, ℕ, ◌+◌, ◌<◌, List, [], ◌∷◌, ◌++◌, map, length, refl, sym, ap, ◌∙◌, arith}
 use Rattle.std.specs.List.{AllZip, enumerate_from}
 use Rattle.std.proofs.lemmas.List.{length-append, length-map, map-append}
-use Rattle.std.proofs.lemmas.List.Elements.{All-nil, All-cons, All-head, All-tail}
 use Rattle.std.proofs.lemmas.List.FromFn.{length-enumerate_from}
 use Rattle.session_options.specs.declared.options.Options.{Options}
 use Rattle.trace_text.specs.Recordings.{Recording}
@@ -12,12 +10,6 @@ use Rattle.trace_session.specs.Finishing.{work_at, works_of}
 use Rattle.trace_session.proofs.Taking.{numbered_push}
 
 -- ---- two lists, place by place
-
--- what follows for each of the first list
-pub zip_first : {A B : Type 0} (R : A → B → Type 0) (P : A → Type 0) → ((x : A) (y : B) → R x y → P x) → (xs : List A) (ys : List B) → AllZip R xs ys → All P xs
-zip_first R P then [] ys all = All-nil P
-zip_first R P then (a ∷ xs) [] all = absurd all
-zip_first R P then (a ∷ xs) (b ∷ ys) all = All-cons P a xs (then a b all.0) (zip_first R P then xs ys all.1)
 
 -- what both lists give is the same
 pub zip_maps : {A B C : Type 0} (R : A → B → Type 0) (f : A → C) (g : B → C) → ((x : A) (y : B) → R x y → f x ≡ g y) → (xs : List A) (ys : List B) → AllZip R xs ys → map f xs ≡ map g ys
@@ -58,12 +50,6 @@ workers_more {A} {B} run options f g seen x workers after are more =
     ∙ sym (works_more run options f seen x)
 
 -- ---- a list that is walked through
-
--- what holds of all that is left holds of the next
-pub all_next : {A : Type 0} (P : A → Type 0) (rest more : List A) (x : A) → rest ≡ x ∷ more → All P rest → P x × All P more
-all_next {A} P rest more x is all =
-    let here : All P (x ∷ more) = subst (All P) is all in
-    (All-head P x more here, All-tail P x more here)
 
 -- fewer were seen than there are
 pub fewer_seen : {A : Type 0} (seen rest more all : List A) (x : A) (count : ℕ) → seen ++ rest ≡ all → rest ≡ x ∷ more → length all ≡ count → length seen < count

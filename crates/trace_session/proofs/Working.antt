@@ -15,11 +15,11 @@ use Rattle.arg_records.specs.declared.call.Call.{Call}
 use Rattle.arg_records.specs.declared.frame.TheConstants.{MAX_FRAME_WORDS}
 use Rattle.arg_records.specs.Calls.{IsCall, NeverFalls, last_stamp}
 use Rattle.arg_records.specs.Frames.{FrameLen}
+use Rattle.arg_records.proofs.lemmas.CallLists.{last_stamp-push}
 use Rattle.ring_core.specs.declared.answers.Full.{Full}
 use Rattle.ring_core.specs.Answers.{IsFull}
 use Rattle.ring_core.specs.Plans.{AreFramesOf}
 use Rattle.ring_core.specs.Positions.{Need, Position, position_from}
-use Rattle.ring_core.proofs.lemmas.Frames.{last_stamp-push}
 use Rattle.ring_core.proofs.lemmas.Needs.{Need-most, position_from-push}
 use Rattle.trace_text.specs.declared.trace.TheConstants.{MAX_CALLS}
 use Rattle.trace_text.specs.Recordings.{Recording, IsRecording}

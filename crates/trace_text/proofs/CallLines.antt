@@ -10,7 +10,7 @@ use Rattle.log_dictionary.specs.declared.message.Message.{Message}
 use Rattle.log_dictionary.specs.declared.dictionary.TheConstants.{MAX_MESSAGES}
 use Rattle.log_dictionary.specs.Fields.{after, split_at_first, ◌>>=◌ as ◌>>>◌}
 use Rattle.log_dictionary.specs.Fields.{first_field}
-use Rattle.log_dictionary.proofs.lemmas.Splits.{split_takes, after_takes}
+use Rattle.log_dictionary.proofs.lemmas.Splits.{split_takes, after_takes, found}
 use Rattle.arg_records.specs.declared.call.Call.{Call}
 use Rattle.arg_records.specs.declared.frame.TheConstants.{MAX_FRAME_WORDS}
 use Rattle.arg_records.specs.Frames.{FrameLen}
@@ -23,7 +23,7 @@ use Rattle.trace_text.specs.Lines.{WriterCall, SpellsCall}
 use Rattle.trace_text.specs.LineFields.{begins_with, field_number, CallHead, head_at}
 use Rattle.trace_text.specs.CallReading.{refused_if, ends_field, arguments_at, last_stamp, call_at}
 use Rattle.trace_text.proofs.NumberFields.{number_read, number_taken}
-use Rattle.trace_text.proofs.HeadLines.{found, split_number, three_joined}
+use Rattle.trace_text.proofs.HeadLines.{split_number, three_joined}
 use Rattle.trace_text.proofs.DecimalBytes.{decimal_all}
 use Rattle.trace_text.proofs.ArgumentLines.{first_read, first_taken, arguments_end, arguments_read, arguments_taken, bind-Ok}
 use Rattle.trace_text.proofs.CallSteps.{made_of, with_args, with_message, when_risen, when_ticked, with_calls, with_head, when_few, accepted}

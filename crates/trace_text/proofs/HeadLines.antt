@@ -5,22 +5,12 @@ use Rattle.std.proofs.lemmas.Bool.{eqb-false, ne_eqb, and_parts, leb-true, le-le
 use Rattle.std.proofs.lemmas.Option.{cond_some}
 use Rattle.log_dictionary.specs.declared.clock.Clock.{Clock}
 use Rattle.log_dictionary.specs.Fields.{◌>>=◌, after, split_at_first}
-use Rattle.log_dictionary.proofs.lemmas.Splits.{split_again, split_takes, after_takes}
+use Rattle.log_dictionary.proofs.lemmas.Splits.{split_again, split_takes, after_takes, found}
 use Rattle.log_dictionary.proofs.lemmas.Lines.{decimal_none}
 use Rattle.session_options.specs.declared.limits.TheConstants.{MAX_WRITERS}
 use Rattle.trace_text.specs.Lines.{clock_line, writers_line, FitsLine}
 use Rattle.trace_text.specs.LineFields.{field_number, clock_of, clock_at, writer_count, writers_at}
 use Rattle.trace_text.proofs.NumberFields.{number_read, number_taken}
-
--- what came of a part that was found
-pub record Found {A B : Type 0} (o : Option A) (next : A → Option B) (y : B) : Type 0 where
-  pub x : A
-  pub first : o ≡ Some x
-  pub second : next x ≡ Some y
-
-pub found : {A B : Type 0} (o : Option A) (next : A → Option B) (y : B) → (o >>= next) ≡ Some y → Found o next y
-found None next y e = absurd cc
-found (Some x) next y e = record { x = x; first = refl; second = e }
 
 pub split_number : (n : ℕ) (back : List ℕ) → n < 2 ^ 64 → split_at_first 32 (decimal n ++ 32 ∷ back) ≡ Some (decimal n, back)
 split_number n back small = split_again 32 (decimal n) back (decimal_none 32 n (inl (omega arith)) small)

@@ -7,7 +7,7 @@ use Rattle.std.specs.Cmp.Lexicographic.{pointwise, bytes_decides}
 use Rattle.std.proofs.lemmas.Bool.Decides.{Decides-eqb, same_from_decides}
 use Rattle.std.proofs.lemmas.Bool.{false≢true, not-true, not-false}
 use Rattle.log_dictionary.specs.Fields.{after}
-use Rattle.trace_text.proofs.HeadLines.{found}
+use Rattle.log_dictionary.proofs.lemmas.Splits.{found}
 use Rattle.trace_text.specs.LineFields.{begins_with, CallHead, head_of, head_at}
 
 -- a line of a call begins with the word

@@ -10,7 +10,6 @@ use Rattle.printf_grammar.specs.declared.argument.Value.{Value}
 use Rattle.printf_grammar.specs.declared.argument.Value.TheVariants.{Text}
 use Rattle.printf_grammar.specs.declared.arg_type.ArgType.TheVariants as types
 use Rattle.printf_grammar.specs.declared.limits.TheConstants.{MAX_TEXT}
-use Rattle.printf_grammar.specs.Types.{IsText}
 use Rattle.printf_grammar.proofs.lemmas.Worked.{all_copies}
 use Rattle.log_dictionary.specs.declared.message.Message.{Message}
 use Rattle.log_dictionary.specs.Texts.{IsPlain, SpellsText, has_nul}
@@ -19,6 +18,7 @@ use Rattle.log_dictionary.proofs.lemmas.TextLaws.{opens_read}
 use Rattle.arg_records.specs.declared.frame.TheConstants.{MAX_FRAME_WORDS}
 use Rattle.arg_records.specs.Frames.{FrameLen}
 use Rattle.arg_records.specs.Rows.{row_call, full_message}
+use Rattle.arg_records.proofs.lemmas.Fitted.{copies_are_text}
 use Rattle.trace_text.specs.declared.cause.TraceCause.{TraceCause}
 use Rattle.trace_text.specs.declared.cause.TraceCause.TheVariants.{TooMany, CallForm, ArgKind, TooLong}
 use Rattle.trace_text.specs.declared.trace.TheConstants.{MAX_CALLS}
@@ -52,9 +52,6 @@ spelled n = plain_text (replicate n 97) (all_copies IsPlain 97 n (high 97 (lit�
 both_spelled : (n m : ℕ) → SpellsArgumentFields (letters_text n ++ letters_text m) (two_texts n m)
 both_spelled n m = (34 ∷ replicate n 97 ++ 34 ∷ [], letters_text m, refl, (replicate n 97, refl, spelled n), (34 ∷ replicate m 97 ++ 34 ∷ [], [], sym (append-nil (letters_text m)), (replicate m 97, refl, spelled m), refl))
 
-is_text : (n : ℕ) → n ≤ 4000 → IsText (replicate n 97)
-is_text n small = record { short = omega (arith, length-replicate {A = ℕ} n 97, small); no_nul = all_copies (λ b. b ≢ 0) 97 n (λ e. omega (arith, e)) }
-
 -- the line up to its arguments is right
 head_is : (n m : ℕ) → head_at (texts_line n m) ≡ Some (texts_head n m)
 unfolding digits
@@ -65,7 +62,7 @@ begun n m = ap (λ (o : Option CallHead). ok_or o CallForm >>= with_head begun_r
 
 -- two texts that are short enough are read
 both_read : (n m : ℕ) → n ≤ 4000 → m ≤ 4000 → arguments_at (types.Text ∷ types.Text ∷ []) (letters_text n ++ letters_text m) ≡ Ok (two_texts n m)
-both_read n m first second = arguments_read (types.Text ∷ types.Text ∷ []) (letters_text n ++ letters_text m) (two_texts n m) (both_spelled n m) (is_text n first, (is_text m second, tt))
+both_read n m first second = arguments_read (types.Text ∷ types.Text ∷ []) (letters_text n ++ letters_text m) (two_texts n m) (both_spelled n m) (copies_are_text n first, (copies_are_text m second, tt))
 
 frame_is : (n m : ℕ) → FrameLen (two_texts n m) ≡ 4 + (n + 7) / 8 + (m + 7) / 8
 frame_is n m = omega (arith, ap (λ (k : ℕ). (k + 7) / 8) (length-replicate {A = ℕ} n 97), ap (λ (k : ℕ). (k + 7) / 8) (length-replicate {A = ℕ} m 97))

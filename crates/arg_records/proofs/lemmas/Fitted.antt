@@ -1,14 +1,16 @@
 -- Values that fit types.
-use Rattle.std.proofs.Common.{◌≡◌, ℕ, ◌≤◌, List, [], ◌∷◌, length, map, refl, sym, ap, ◌∙◌, arith}
+use Rattle.std.proofs.Common.{◌≡◌, ℕ, ◌≤◌, List, [], ◌∷◌, length, map, refl, sym, ap, ◌∙◌, arith, ◌≢◌, replicate}
 use Rattle.std.specs.Prelude.{All}
 use Rattle.std.proofs.lemmas.Int.{ints}
 use Rattle.std.proofs.lemmas.List.Elements.{All-nil, All-cons, All-head, All-tail}
+use Rattle.std.proofs.lemmas.List.{length-replicate}
 use Rattle.printf_grammar.specs.declared.argument.Value.{Value}
 use Rattle.printf_grammar.specs.declared.argument.Value.TheVariants as values
 use Rattle.printf_grammar.specs.declared.arg_type.ArgType.{ArgType}
 use Rattle.printf_grammar.specs.declared.arg_type.ArgType.TheVariants as types
-use Rattle.printf_grammar.specs.Types.{FitsType, Fits}
+use Rattle.printf_grammar.specs.Types.{FitsType, Fits, IsText}
 use Rattle.printf_grammar.proofs.lemmas.Fitting.{Fits-length}
+use Rattle.printf_grammar.proofs.lemmas.Worked.{all_copies}
 use Rattle.arg_records.specs.Frames.{IsShort, AreArguments, Frame}
 use Rattle.arg_records.specs.Kinds.{ArgKind, arg_kind, type_kind, IsArgument, HoldsBytes}
 use Rattle.arg_records.proofs.Unique.{Frame-unique}
@@ -98,3 +100,6 @@ AreArguments-from_Fits values types fits few = record { few = omega (arith, few,
 pub Frame-unique-Fits : (types : List ArgType) (i j s t : ℕ) (a b : List Value) → Fits a types → Fits b types → All HoldsBytes a → All HoldsBytes b → Frame i s a ≡ Frame j t b → (i ≡ j) × (s ≡ t) × (a ≡ b)
 Frame-unique-Fits types i j s t a b left right left_bytes right_bytes e =
     Frame-unique i j s t a b (kinds_fit a types left ∙ sym (kinds_fit b types right)) (arguments_fit a types left left_bytes) (arguments_fit b types right right_bytes) e
+
+pub copies_are_text : (n : ℕ) → n ≤ 4000 → IsText (replicate n 97)
+copies_are_text n small = record { short = omega (arith, length-replicate {A = ℕ} n 97, small); no_nul = all_copies (λ b. b ≢ 0) 97 n (λ e. omega (arith, e)) }

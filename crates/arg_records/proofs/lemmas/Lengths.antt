@@ -1,5 +1,5 @@
 -- How many words arguments take.
-use Rattle.std.proofs.Common.{◌≡◌, ℕ, suc, ◌+◌, ◌/◌, List, [], ◌∷◌, length, refl, ap, ◌∙◌, arith}
+use Rattle.std.proofs.Common.{◌≡◌, ℕ, suc, ◌+◌, ◌/◌, List, [], ◌∷◌, length, refl, ap, ◌∙◌, arith, ◌<◌}
 use Rattle.std.specs.Prelude.{sum_by}
 use Rattle.std.specs.List.{flat_map}
 use Rattle.std.proofs.lemmas.List.{length-append}
@@ -36,3 +36,8 @@ length-arguments (value ∷ args) =
 
 pub length-Frame : (id stamp : ℕ) (args : List Value) → length (Frame id stamp args) ≡ FrameLen args
 length-Frame id stamp args = omega (arith, length-arguments args)
+
+pub some_words : (value : Value) → 0 < length (words_of_argument value)
+some_words (values.Signed z) = omega arith
+some_words (values.Unsigned n) = omega arith
+some_words (values.Text bytes) = omega arith

@@ -53,7 +53,7 @@ one_log header other blocks others bytes file valid file_too valid_too =
     let one = one_front bytes header other blocks others (length bytes) (length bytes) (whole_is_front header blocks bytes file valid) (whole_is_front other others bytes file_too valid_too) in
     (one.0, one.1)
 
-longer : (blocks : List Block) (block : Block) → blocks ≡ blocks ++ block ∷ [] → ⊥
+pub longer : (blocks : List Block) (block : Block) → blocks ≡ blocks ++ block ∷ [] → ⊥
 longer blocks block same = omega (arith, ap length same, length-append blocks (block ∷ []))
 
 -- up to an offset bytes begin with one log

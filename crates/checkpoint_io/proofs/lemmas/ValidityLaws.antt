@@ -139,10 +139,6 @@ other_records writer another before entries others differs =
       | inr other ↦ ap (λ (b : Bool). records_of writer before ++ (cond b entries [] ++ records_of writer others)) other.0
     ]
 
-pub last_stamp-push : (least : ℕ) (entries : List Call) (entry : Call) → last_stamp least (entries ++ entry ∷ []) ≡ entry.stamp
-last_stamp-push least [] entry = refl
-last_stamp-push least (first ∷ entries) entry = last_stamp-push first.stamp entries entry
-
 -- each record names a message of the log and fits it
 pub records_fit : (header : Header) (blocks : List Block) (writer : ℕ) → Valid header blocks → AllByRecursion (IsCall (messages_of blocks)) (records_of writer blocks)
 records_fit header blocks writer valid = right_after header writer [] blocks valid.blocks_right tt

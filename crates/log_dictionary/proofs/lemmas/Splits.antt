@@ -10,7 +10,7 @@ use Rattle.std.proofs.lemmas.List.Quantifiers.{position-Some}
 use Rattle.std.proofs.lemmas.Option.{some_pair_parts}
 use Rattle.std.specs.Option.{option_copied, MatchOption}
 use denote.Ref.{Bor}
-use Rattle.log_dictionary.specs.Fields.{IsFirstSplit, split_at_first, after}
+use Rattle.log_dictionary.specs.Fields.{IsFirstSplit, split_at_first, after, ◌>>=◌}
 
 abbrev is_byte : ℕ → ℕ → Bool
 is_byte separator byte = eqb byte separator
@@ -75,3 +75,15 @@ after_at bytes front (Some rest) e none = absurd (none rest (after_takes front b
 pub after_is : (bytes front : List ℕ) (r : Option (Bor (List ℕ))) → MatchOption r ((rest : List ℕ) → bytes ≢ front ++ rest) (λ x. bytes ≡ front ++ x.now) → option_copied r ≡ after front bytes
 after_is bytes front None h = after_at bytes front (after front bytes) refl h
 after_is bytes front (Some rest) h = sym (after_again front rest.now) ∙ ap (after front) (sym h)
+
+-- ---- parts one after the other
+
+-- what came of a part that was found
+pub record Found {A B : Type 0} (o : Option A) (next : A → Option B) (y : B) : Type 0 where
+  pub x : A
+  pub first : o ≡ Some x
+  pub second : next x ≡ Some y
+
+pub found : {A B : Type 0} (o : Option A) (next : A → Option B) (y : B) → (o >>= next) ≡ Some y → Found o next y
+found None next y e = absurd cc
+found (Some x) next y e = record { x = x; first = refl; second = e }

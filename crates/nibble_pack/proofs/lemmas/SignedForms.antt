@@ -50,9 +50,9 @@ reads_wide bytes m are_bytes stand is is_wide =
     let fits = spells.0 in
     wide is_wide refl (spells.1 ∙ ap (bytes_low_first 0 8) (sym (of_z-to_z w64 m (omega arith))))
 
-wide_fits : (z : ℤ) → IsWide z → FitsSigned w64 z
-wide_fits (pos n) h = record { sfits = omega arith }
-wide_fits (negsuc n) h = record { sfits = omega arith }
+pub wide_in_range : (z : ℤ) → IsWide z → FitsSigned w64 z
+wide_in_range (pos n) h = record { sfits = omega arith }
+wide_in_range (negsuc n) h = record { sfits = omega arith }
 
 -- another number is none of code 8
 pub reads_no_wide : (bytes : List ℕ) (m : ℕ) → All (λ b. b < 256) bytes → 8 ≤ length bytes → m ≡ from_le_bytes w64 (take 8 bytes ++ replicate (8 - 8) 0) → ¬ IsWide (cast_signed w64 m) → (z : ℤ) → ¬ Packed signed z 8 (take 8 bytes)
@@ -63,7 +63,7 @@ reads_no_wide bytes m are_bytes stand is narrow z (wide z_is of_code spelled) =
     let held = spells.0 in
     let z_below = wide_number z z_is in
     let same : m ≡ cast_unsigned w64 z = same_number 8 m (cast_unsigned w64 z) (omega arith) (omega arith) (sym spells.1 ∙ spelled) in
-    let back : cast_signed w64 m ≡ z = ap (cast_signed w64) same ∙ to_z-of_z w64 z (wide_fits z z_is) in
+    let back : cast_signed w64 m ≡ z = ap (cast_signed w64) same ∙ to_z-of_z w64 z (wide_in_range z z_is) in
     narrow (subst IsWide (sym back) z_is)
 
 -- ---- where nothing is spelled

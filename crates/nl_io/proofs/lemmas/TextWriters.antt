@@ -12,7 +12,7 @@ use Rattle.nl_io.proofs.lemmas.Contents.{with_end-none, with_end-both, front-fir
 
 -- ---- texts in which there is something
 
-filled-left : (a b : List ℕ) → a ≢ [] → a ++ b ≢ []
+pub filled-left : (a b : List ℕ) → a ≢ [] → a ++ b ≢ []
 filled-left [] b some = absurd (some refl)
 filled-left (x ∷ a) b some = λ none. cc
 

@@ -26,7 +26,7 @@ five = (lit< tt, lit≤ tt, refl)
 bar : (at : ℕ) (next : ℕ) → next ≡ at + 1 → SpellsLiteral at (codes "|") at next
 bar at next e = record { start_is = refl; end_is = e; nonempty = lit< tt; literal = ((λ h. cc, λ h. cc), tt) }
 
-field_5d : SpellsField (codes "%5d") (record plain_d { width = Given 5 })
+pub field_5d : SpellsField (codes "%5d") (record plain_d { width = Given 5 })
 field_5d = record {
   flags = [];
   width = codes "5";

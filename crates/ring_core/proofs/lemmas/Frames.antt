@@ -9,6 +9,7 @@ use Rattle.arg_records.specs.Calls.{NeverFalls, last_stamp}
 use Rattle.arg_records.specs.Frames.{FrameLen, IsFrame}
 use Rattle.arg_records.specs.declared.frame.TheConstants.{MAX_FRAME_WORDS}
 use Rattle.arg_records.proofs.lemmas.Lengths.{length-Frame}
+use Rattle.arg_records.proofs.lemmas.CallLists.{NeverFalls-push}
 use Rattle.ring_core.specs.Plans.{Plan, IsPlanned, frame_of, frames_of, AreFramesOf, Lawful, MayFollow}
 
 -- the first of calls whose stamps never fall
@@ -16,15 +17,6 @@ pub NeverFalls-take : (n least : ℕ) (calls : List Call) → NeverFalls least c
 NeverFalls-take zero least calls h = tt
 NeverFalls-take (suc n) least [] h = tt
 NeverFalls-take (suc n) least (call ∷ calls) h = (h.0, NeverFalls-take n call.stamp calls h.1)
-
--- one call more, which isn't before the last
-pub NeverFalls-push : (least : ℕ) (calls : List Call) (call : Call) → NeverFalls least calls → last_stamp least calls ≤ call.stamp → NeverFalls least (calls ++ call ∷ [])
-NeverFalls-push least [] call h after = (after, tt)
-NeverFalls-push least (first ∷ calls) call h after = (h.0, NeverFalls-push first.stamp calls call h.1 after)
-
-pub last_stamp-push : (least : ℕ) (calls : List Call) (call : Call) → last_stamp least (calls ++ call ∷ []) ≡ call.stamp
-last_stamp-push least [] call = refl
-last_stamp-push least (first ∷ calls) call = last_stamp-push first.stamp calls call
 
 -- no frames at all
 pub AreFramesOf-nil : (plan : Plan) → AreFramesOf plan [] []

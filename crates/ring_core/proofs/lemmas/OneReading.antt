@@ -13,8 +13,9 @@ use Rattle.arg_records.specs.Calls.{last_stamp}
 use Rattle.arg_records.specs.Frames.{Frame, FrameLen, IsFrame}
 use Rattle.arg_records.proofs.lemmas.Fitted.{Frame-unique-Fits}
 use Rattle.arg_records.proofs.lemmas.Lengths.{length-Frame}
+use Rattle.arg_records.proofs.lemmas.CallLists.{last_stamp-push}
 use Rattle.ring_core.specs.Plans.{Plan, IsPlanned, frame_of, frames_of, AreFramesOf, Lawful, MayFollow, BeginsWith}
-use Rattle.ring_core.proofs.lemmas.Frames.{AreFramesOf-push, Lawful-last, last_stamp-push}
+use Rattle.ring_core.proofs.lemmas.Frames.{AreFramesOf-push, Lawful-last}
 
 -- planned calls with one frame are the same
 call_same : (known_types : List (List ArgType)) (c d : Call) → IsPlanned known_types c → IsPlanned known_types d → frame_of c ≡ frame_of d → c ≡ d

@@ -96,7 +96,7 @@ lawful_read plan s h lawful =
 
 -- ---- several rings
 
-All-get : (P : RingState → Type 0) (rings : List RingState) (ring : ℕ) (s : RingState) → All P rings → slice_get rings ring ≡ Some s → P s
+pub All-get : (P : RingState → Type 0) (rings : List RingState) (ring : ℕ) (s : RingState) → All P rings → slice_get rings ring ≡ Some s → P s
 All-get P rings ring s all is = subst P (get_or_from_slice_get rings ring s s is) (all ring s (slice_get_within rings ring s is))
 
 kept : (rings : List RingState) (ring : ℕ) (step : StepKind) (o : Option RingState) → slice_get rings ring ≡ o → All RingOk rings → barred_in o step ≡ None → All RingOk (rings_after rings ring o step)

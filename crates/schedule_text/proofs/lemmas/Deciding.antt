@@ -1,10 +1,11 @@
 -- The first bytes of a long text decide what it comes to.
-use Rattle.std.proofs.Common.{◌≡◌, ◌≢◌, ℕ, ◌+◌, ◌*◌, ◌-◌, ◌<◌, ◌≤◌, ◌^◌, List, [], ◌∷◌, ◌++◌, length, take, drop, codes, Some, None, refl, sym, ap, ◌∙◌, subst, append_assoc, append-nil, inl, inr, arith}
-use Rattle.std.specs.Prelude.{◌⊎◌, decimal}
+use Rattle.std.proofs.Common.{◌≡◌, ℕ, ◌+◌, ◌*◌, ◌-◌, ◌<◌, ◌≤◌, ◌^◌, List, [], ◌∷◌, ◌++◌, length, take, drop, codes, refl, sym, ap, ◌∙◌, append_assoc, inl, inr, arith}
+use Rattle.std.specs.Prelude.{decimal}
 use Rattle.std.specs.List.{flat_map, AllByRecursion}
 use Rattle.std.proofs.lemmas.Fmt.{length-decimal-le}
 use Rattle.std.proofs.lemmas.List.{take_at, take-append-drop, take-append-le, length-append}
 use Rattle.std.proofs.lemmas.List.Concat.{flat_map-cons}
+use Rattle.nl_io.proofs.lemmas.TextWriters.{filled-left}
 use Rattle.ring_machine.specs.declared.steps.Step.{Step as StepKind}
 use Rattle.ring_machine.specs.declared.steps.Step.TheVariants as steps
 use Rattle.ring_machine.specs.declared.steps.Event.{Event}
@@ -13,7 +14,7 @@ use Rattle.schedule_text.specs.declared.cause.ScheduleCause.{ScheduleCause}
 use Rattle.schedule_text.specs.declared.playing.TheConstants.{MAX_STEPS, MAX_TEXT}
 use Rattle.schedule_text.specs.StepLines.{step_name, step_word, step_line, FitsWord, FitsStep}
 use Rattle.schedule_text.specs.Judged.{ScheduleOutcome, first_line, judged}
-use Rattle.schedule_text.specs.Schedules.{Schedule, AreSizes, rings_line, schedule_text, IsPlayed, HeadBreak, StepBreak, RefusesStep, ComesTo}
+use Rattle.schedule_text.specs.Schedules.{Schedule, AreSizes, rings_line, schedule_text, IsPlayed, HeadBreak, StepBreak, ComesTo}
 use Rattle.schedule_text.proofs.lemmas.JudgedLaws.{comes_judged, only_judged}
 
 -- ---- how long lines are
@@ -92,10 +93,6 @@ front_within bytes more line rest joined short =
     let front : take n bytes ≡ line = sym (take-append-le n bytes more short) ∙ ap (take n) joined ∙ take_at line rest n refl in
     sym (take-append-drop n bytes) ∙ ap (λ (l : List ℕ). l ++ drop n bytes) front
 
-some_more : (rest more : List ℕ) → rest ≢ [] → rest ++ more ≢ []
-some_more [] more some = absurd (some refl)
-some_more (byte ∷ rest) more some = λ e. cc
-
 head_goes_on : (bytes more : List ℕ) (line : ℕ) → MAX_TEXT ≤ length bytes → HeadBreak bytes line → HeadBreak (bytes ++ more) line
 head_goes_on bytes more line long (inl (first, none)) = inl (first, λ rest is. none (drop (length first_line) bytes) (front_within bytes more first_line rest is (omega (arith, long))))
 head_goes_on bytes more line long (inr (second, (rest, joined, none))) =
@@ -129,7 +126,7 @@ goes_on bytes more outcome long (inr (inr (s, line, cause, breaks, is))) =
         last = breaks.last;
         rest = breaks.rest ++ more;
         joined = ap (λ (l : List ℕ). l ++ more) breaks.joined ∙ append_assoc (schedule_text s) breaks.rest more;
-        some = some_more breaks.rest more breaks.some;
+        some = filled-left breaks.rest more breaks.some;
         played = breaks.played;
         line_is = breaks.line_is;
         breaks = step_goes_on breaks.last (length s.events) breaks.rest more cause enough breaks.breaks;

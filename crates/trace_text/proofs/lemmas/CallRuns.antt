@@ -10,6 +10,7 @@ use Rattle.std.proofs.lemmas.Option.{slice_get_within, get_or_from_slice_get}
 use Rattle.log_dictionary.specs.declared.message.Message.{Message}
 use Rattle.arg_records.specs.declared.call.Call.{Call}
 use Rattle.arg_records.specs.Calls.{IsCall, NeverFalls}
+use Rattle.arg_records.proofs.lemmas.CallLists.{NeverFalls-push}
 use Rattle.trace_text.specs.declared.trace.TheConstants.{MAX_CALLS}
 use Rattle.trace_text.specs.Recordings.{Recording, IsRecording}
 use Rattle.trace_text.specs.Lines.{WriterCall}
@@ -82,10 +83,6 @@ calls-before : (messages : List Message) (calls : List Call) (call : Call) → A
 calls-before messages [] call all = (tt, all.0)
 calls-before messages (first ∷ calls) call all = let others = calls-before messages calls call all.1 in ((all.0, others.0), others.1)
 
-stamps-append : (least : ℕ) (calls : List Call) (call : Call) → NeverFalls least calls → last_stamp least calls ≤ call.stamp → NeverFalls least (calls ++ call ∷ [])
-stamps-append least [] call never later = (later, tt)
-stamps-append least (first ∷ calls) call never later = (never.0, stamps-append first.stamp calls call never.1 later)
-
 stamps-before : (least : ℕ) (calls : List Call) (call : Call) → NeverFalls least (calls ++ call ∷ []) → NeverFalls least calls × (last_stamp least calls ≤ call.stamp)
 stamps-before least [] call never = (tt, never.0)
 stamps-before least (first ∷ calls) call never = let others = stamps-before first.stamp calls call never.1 in ((never.0, others.0), others.1)
@@ -108,7 +105,7 @@ recorded_after run made recorded next =
       few_calls = omega (arith, sum_by-with_call_of run.writers writer call next.calls next.known, next.few);
       rate = recorded.rate;
       calls = all_after (AllByRecursion (IsCall run.dictionary)) run.writers writer call next.calls next.known (all-push (IsCall run.dictionary) next.calls call (all_at (AllByRecursion (IsCall run.dictionary)) run.writers writer next.calls next.known recorded.calls) next.is_call) recorded.calls;
-      stamps = all_after (NeverFalls run.clock.tick) run.writers writer call next.calls next.known (stamps-append run.clock.tick next.calls call (all_at (NeverFalls run.clock.tick) run.writers writer next.calls next.known recorded.stamps) next.risen) recorded.stamps;
+      stamps = all_after (NeverFalls run.clock.tick) run.writers writer call next.calls next.known (NeverFalls-push run.clock.tick next.calls call (all_at (NeverFalls run.clock.tick) run.writers writer next.calls next.known recorded.stamps) next.risen) recorded.stamps;
     }
 
 -- and its last call could follow

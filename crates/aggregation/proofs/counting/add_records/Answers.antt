@@ -1,8 +1,9 @@
 use Rattle.std.proofs.Common.{List, [], ◌∷◌, ◌++◌, length, refl, subst, arith}
 use Rattle.arg_records.specs.declared.call.Call.{Call}
+use Rattle.arg_records.proofs.lemmas.Walks.{walked, walked_all}
 use Rattle.aggregation.specs.Totals.{numbers_in, Adds}
 use Rattle.aggregation.proofs.Sums.{adds_none}
-use Rattle.aggregation.proofs.Entries.{walked, walked_all, adds_more, seen_few}
+use Rattle.aggregation.proofs.Entries.{adds_more, seen_few}
 use Rattle.aggregation.proofs.counting.add_records.Goals as goal
 
 pub loop-entry-init : goal.loop-entry-init

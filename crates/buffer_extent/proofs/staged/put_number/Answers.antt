@@ -1,6 +1,7 @@
 use Rattle.std.proofs.Common.{◌∷◌, ◌+◌, List, ℕ, length, take, drop, get_or, sym, ap, ◌∙◌, arith}
 use Rattle.arg_records.specs.Frames.{words_of_argument}
-use Rattle.buffer_extent.proofs.Packing.{some_words, first_of_words, length-its_bytes}
+use Rattle.arg_records.proofs.lemmas.Lengths.{some_words}
+use Rattle.buffer_extent.proofs.Packing.{first_of_words, length-its_bytes}
 use Rattle.buffer_extent.proofs.staged.put_number.Goals as goal
 
 pub bounds-argument-0 : goal.bounds-argument-0

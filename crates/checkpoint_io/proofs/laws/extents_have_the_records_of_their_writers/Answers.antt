@@ -1,4 +1,5 @@
-use Rattle.checkpoint_io.proofs.lemmas.ValidityLaws.{own_records, other_records, last_stamp-push}
+use Rattle.arg_records.proofs.lemmas.CallLists.{last_stamp-push}
+use Rattle.checkpoint_io.proofs.lemmas.ValidityLaws.{own_records, other_records}
 use Rattle.checkpoint_io.proofs.laws.extents_have_the_records_of_their_writers.Goals as goal
 
 pub returns-clause-own : goal.returns-clause-own

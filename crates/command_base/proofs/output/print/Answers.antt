@@ -2,7 +2,7 @@ use Rattle.std.proofs.Common.{sym, subst, ◌∙◌}
 use Rattle.command_base.specs.Endings.{Ending}
 use Rattle.command_base.specs.EffectLaws.{prints_free}
 use Rattle.command_base.specs.Printing.{Prints}
-use Rattle.command_base.proofs.Printings.{prints_written}
+use Rattle.command_base.proofs.lemmas.Printings.{prints_written}
 use Rattle.command_base.proofs.output.print.Goals as goal
 
 pub returns-clause-printed : goal.returns-clause-printed

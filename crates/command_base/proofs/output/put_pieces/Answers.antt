@@ -1,5 +1,5 @@
 use Rattle.nl_io.proofs.lemmas.Outcomes.{at_err}
-use Rattle.command_base.proofs.Printings.{flushed_whole, flushed_cut}
+use Rattle.command_base.proofs.lemmas.Printings.{flushed_whole, flushed_cut}
 use Rattle.command_base.proofs.output.put_pieces.Goals as goal
 
 pub returns-in_err-put_pieces-clause-cut_off : goal.returns-in_err-put_pieces-clause-cut_off

@@ -4,7 +4,7 @@ use Rattle.word_ring.specs.Ends.{WordRoamerEnd}
 use Rattle.roaming_consumer.specs.Roamers.{roamer_header}
 use Rattle.log_ends.specs.Ends.{IsWriterFor}
 use Rattle.std.proofs.lemmas.Slice.Zip.{AllZip-long}
-use Rattle.log_ends.proofs.Lists.{zip_first}
+use Rattle.arg_records.proofs.lemmas.Walks.{zip_first}
 use Rattle.log_ends.proofs.Consumers.{planned_same}
 use Rattle.log_ends.proofs.Faultless.{header_succeeds, no_error}
 use Rattle.log_ends.proofs.Visiting.{stands_after}

@@ -6,7 +6,8 @@ use Rattle.word_ring.specs.Ends.{WordWriterEnd}
 use Rattle.log_ends.specs.declared.writer.WriterEnd.{WriterEnd}
 use Rattle.log_ends.specs.Ends.{IsWriterFor}
 use Rattle.std.proofs.lemmas.List.Elements.{All-push}
-use Rattle.log_ends.proofs.Lists.{all_next, moved_next, moved_all, one_less}
+use Rattle.arg_records.proofs.lemmas.Walks.{all_next, one_less}
+use Rattle.log_ends.proofs.Lists.{moved_next, moved_all}
 use Rattle.log_ends.proofs.opening.writer_ends.Goals as goal
 
 pub loop-writer-init : goal.loop-writer-init

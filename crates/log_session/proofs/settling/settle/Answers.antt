@@ -5,7 +5,7 @@ use Rattle.log_session.specs.Writers.{WriterView}
 use Rattle.log_session.specs.Starts.{ShareRings}
 use Rattle.log_session.specs.Settling.{IsRejoined, AllZip3}
 use Rattle.log_session.proofs.Rings.{AllZip3-snoc, zip_head, zip_ends, zip_goes_on, sum_more, sum_less}
-use Rattle.log_session.proofs.lemmas.Walks.{walked, walked_all, one_less}
+use Rattle.arg_records.proofs.lemmas.Walks.{walked, walked_all, one_less}
 use Rattle.log_session.proofs.settling.settle.Goals as goal
 use Rattle.log_session.proofs.settling.settle.Goals.{in-None, in-Some+in_default}
 

@@ -4,7 +4,7 @@ use Rattle.printf_grammar.specs.Types.{values_of, Fits}
 use Rattle.log_dictionary.specs.declared.dictionary.TheConstants.{MAX_MESSAGES}
 use Rattle.arg_records.specs.Frames.{FrameLen}
 use Rattle.arg_records.proofs.lemmas.Fitted.{AreArguments-from_Fits}
-use Rattle.ring_core.proofs.DictionaryCalls.{IsPlanned-message}
+use Rattle.ring_core.proofs.lemmas.DictionaryCalls.{IsPlanned-message}
 use Rattle.ring_core.proofs.planned.planned_frame.Goals as goal
 
 pub frame_words-requires-clause-arguments : goal.frame_words-requires-clause-arguments

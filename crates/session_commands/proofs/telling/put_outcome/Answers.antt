@@ -1,6 +1,7 @@
 use Rattle.std.proofs.Common.{refl, ◌∙◌}
 use Rattle.nl_io.proofs.lemmas.Outcomes.{at_err}
-use Rattle.session_commands.proofs.OutcomeTexts.{none_carried, drop_carried, drop_cut, counts_cut, outcome_carried, outcome_put, outcome_cut}
+use Rattle.command_base.proofs.lemmas.Printings.{flushed_whole, flushed_cut}
+use Rattle.session_commands.proofs.OutcomeTexts.{none_carried, drop_carried, drop_cut, counts_cut, outcome_carried}
 use Rattle.session_commands.proofs.telling.put_outcome.Goals as goal
 
 pub loop-drop-init : goal.loop-drop-init
@@ -42,14 +43,14 @@ returns-in_err-put_counts-clause-others g c =
 
 pub returns-clause-ok : goal.returns-clause-ok
 returns-clause-ok g c =
-    outcome_put c.flush.result _ _ _ _ _
+    flushed_whole c.flush.result _ _ _ _ _
     (outcome_carried _ _ c.args.accepted c.len.result c.args.filtered _ _ _ _ _ c.in-None.ensures.steps.0 c.len.ensures
     c.loop-drop.invariant.carried c.in_ok-put_counts.ensures.ok)
     c.flush.ensures.ok
 
 pub returns-clause-cut_off : goal.returns-clause-cut_off
 returns-clause-cut_off g c =
-    outcome_cut c.flush.result _ _ _ _ _ _ _ _
+    flushed_cut c.flush.result _ _ _ _ _ _ _ _
     (outcome_carried _ _ c.args.accepted c.len.result c.args.filtered _ _ _ _ _ c.in-None.ensures.steps.0 c.len.ensures
     c.loop-drop.invariant.carried c.in_ok-put_counts.ensures.ok)
     (c.in_ok-put_counts.ensures.counted ∙ c.loop-drop.invariant.counted) c.flush.ensures.cut_off

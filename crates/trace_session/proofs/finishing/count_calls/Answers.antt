@@ -2,7 +2,7 @@ use Rattle.std.proofs.Common.{List, [], ◌∷◌, ◌++◌, length, refl, ap, �
 use Rattle.std.proofs.lemmas.List.Sums.{sum_by_push}
 use Rattle.arg_records.specs.declared.call.Call.{Call}
 use Rattle.trace_session.specs.Drops.{call_count}
-use Rattle.log_session.proofs.lemmas.Walks.{walked, walked_all}
+use Rattle.arg_records.proofs.lemmas.Walks.{walked, walked_all}
 use Rattle.trace_session.proofs.Leaving.{calls_within}
 use Rattle.trace_session.proofs.finishing.count_calls.Goals as goal
 

@@ -6,8 +6,8 @@ use Rattle.log_session.specs.Writers.{WriterView}
 use Rattle.trace_session.specs.Workers.{work_of}
 use Rattle.trace_session.specs.Finishing.{works_of}
 use Rattle.trace_session.specs.Running.{IsNewWriter}
-use Rattle.log_session.proofs.lemmas.Walks.{walked, walked_all, one_less}
-use Rattle.trace_session.proofs.NewWorkers.{workers_count, workers_more, all_next, fewer_seen}
+use Rattle.arg_records.proofs.lemmas.Walks.{walked, walked_all, one_less, all_next}
+use Rattle.trace_session.proofs.NewWorkers.{workers_count, workers_more, fewer_seen}
 use Rattle.trace_session.proofs.preparing.make_workers.Goals as goal
 
 pub loop-writer-init : goal.loop-writer-init

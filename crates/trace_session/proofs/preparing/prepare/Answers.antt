@@ -2,6 +2,7 @@ use Rattle.std.proofs.Common.{◌≡◌, ℕ, List, map, length, ap, ◌∙◌, 
 use Rattle.std.specs.Arc.{arc_value}
 use Rattle.std.proofs.lemmas.List.{length-map}
 use Rattle.std.proofs.lemmas.Result.{IfErr-at_err}
+use Rattle.arg_records.proofs.lemmas.Walks.{zip_first}
 use Rattle.ring_core.specs.Plans.{Plan, plan_of}
 use Rattle.roaming_consumer.specs.Roamers.{ends_of}
 use Rattle.trace_text.specs.Recordings.{Recording}
@@ -9,7 +10,7 @@ use Rattle.log_session.specs.Writers.{WriterView}
 use Rattle.trace_session.specs.Workers.{Work, work_of}
 use Rattle.trace_session.specs.Finishing.{works_of}
 use Rattle.trace_session.specs.Running.{IsNewWriter}
-use Rattle.trace_session.proofs.NewWorkers.{zip_first, zip_maps, works_count}
+use Rattle.trace_session.proofs.NewWorkers.{zip_maps, works_count}
 use Rattle.trace_session.proofs.preparing.prepare.Goals as goal
 
 pub make_workers-requires-clause-new : goal.make_workers-requires-clause-new

@@ -2,12 +2,13 @@ use Rattle.std.proofs.Common.{◌≡◌, ◌++◌, length, map, sym, ap, ◌∙�
 use Rattle.printf_grammar.specs.Types.{values_of}
 use Rattle.arg_records.specs.Calls.{last_stamp}
 use Rattle.arg_records.specs.declared.call.Call.{Call}
+use Rattle.arg_records.proofs.lemmas.CallLists.{last_stamp-push}
 use Rattle.ring_core.specs.declared.stored_out.Entry.{Entry}
 use Rattle.ring_core.specs.declared.stored_out.Entry.TheVariants.{Frame as FrameEntry}
 use Rattle.ring_core.specs.Plans.{Plan, plan_of, AreFramesOf, MayFollow, call_of, frame_of}
 use Rattle.ring_core.specs.Stored.{stored_frames}
 use Rattle.ring_core.specs.StoredInside.{entry_words}
-use Rattle.ring_core.proofs.lemmas.Frames.{AreFramesOf-push, last_stamp-push}
+use Rattle.ring_core.proofs.lemmas.Frames.{AreFramesOf-push}
 use Rattle.ring_core.proofs.Storing.{frames-push}
 use Rattle.ring_core.proofs.stored_out.StoredOut.push.Goals as goal
 

@@ -4,7 +4,7 @@ use Rattle.trace_text.specs.Recordings.{Recording}
 use Rattle.log_session.specs.Writers.{WriterView}
 use Rattle.trace_session.specs.Workers.{Work, work_of}
 use Rattle.trace_session.specs.Seats.{worker_of, works_at}
-use Rattle.log_session.proofs.lemmas.Walks.{walked, one_less}
+use Rattle.arg_records.proofs.lemmas.Walks.{walked, one_less}
 use Rattle.trace_session.proofs.Leaving.{next_work, pairs_more, as_many, all_seen}
 use Rattle.trace_session.proofs.finishing.Finished.add_all.Goals as goal
 
