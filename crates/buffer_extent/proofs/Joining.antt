@@ -7,27 +7,8 @@ use Rattle.std.proofs.lemmas.Nat.{shr_high}
 use Rattle.std.specs.Int.{w64, to_le_bytes, bytes_low_first}
 use Rattle.nibble_pack.specs.Bytes.{AreBytes, number_of_bytes, length-bytes_low_first, bytes_low_first-below, number_of_bytes-low_first, number_of_bytes-lt, low_first-number_of_bytes}
 use Rattle.nibble_pack.proofs.lemmas.Counts.{pow256}
+use Rattle.nibble_pack.proofs.lemmas.Fronts.{number_of_bytes-append, bytes_cut}
 use Rattle.arg_records.specs.Places.{with_words}
-
-number_of_bytes-append : (xs ys : List ℕ) → number_of_bytes (xs ++ ys) ≡ number_of_bytes xs + 256 ^ length xs * number_of_bytes ys
-number_of_bytes-append [] ys = omega arith
-number_of_bytes-append (x ∷ xs) ys =
-    omega (arith, number_of_bytes-append xs ys, ap (λ (p : ℕ). p * number_of_bytes ys) (pow-succ' 256 (length xs)), mul_assoc 256 (256 ^ length xs) (number_of_bytes ys))
-
--- a number of bytes, cut behind `len` of them
-number_cut : (bytes : List ℕ) (len : ℕ) → AreBytes bytes → len ≤ length bytes
-    → (number_of_bytes bytes ≡ number_of_bytes (take len bytes) + 2 ^ (8 * len) * number_of_bytes (drop len bytes))
-    × (number_of_bytes bytes / 2 ^ (8 * len) * 2 ^ (8 * len) ≡ 2 ^ (8 * len) * number_of_bytes (drop len bytes))
-number_cut bytes len are within =
-    let low : List ℕ = take len bytes in
-    let high : ℕ = number_of_bytes (drop len bytes) in
-    let long : length low ≡ len = length-take-le len bytes within in
-    let power : 256 ^ length low ≡ 2 ^ (8 * len) = ap (λ (n : ℕ). 256 ^ n) long ∙ pow256 len in
-    let cut : number_of_bytes bytes ≡ number_of_bytes low + 2 ^ (8 * len) * high =
-    ap number_of_bytes (sym (take-append-drop len bytes)) ∙ number_of_bytes-append low (drop len bytes) ∙ ap (λ (p : ℕ). number_of_bytes low + p * high) power in
-    let below : number_of_bytes low < 2 ^ (8 * len) = omega (arith, number_of_bytes-lt low (All-take (λ (b : ℕ). b < 256) len bytes are), power) in
-    let turned : number_of_bytes bytes ≡ high * 2 ^ (8 * len) + number_of_bytes low = omega (arith, cut, mul_comm high (2 ^ (8 * len))) in
-    (cut, ap (λ (n : ℕ). n / 2 ^ (8 * len) * 2 ^ (8 * len)) turned ∙ ap (λ (n : ℕ). n * 2 ^ (8 * len)) (shr_high high (8 * len) (number_of_bytes low) below) ∙ mul_comm high (2 ^ (8 * len)))
 
 -- the first bytes of the one word, and the others of the other
 joined_number : (front back len : ℕ) → front < 2 ^ 64 → back < 2 ^ 64 → len ≤ 8
@@ -41,9 +22,9 @@ joined_number front back len fits fits_too few =
     let of_back : number_of_bytes ys ≡ back = number_of_bytes-low_first 8 back (omega arith) in
     let power : 256 ^ length (take len xs) ≡ 2 ^ (8 * len) = ap (λ (n : ℕ). 256 ^ n) (length-take-le len xs (omega arith)) ∙ pow256 len in
     let whole = number_of_bytes-append (take len xs) (drop len ys) ∙ ap (λ (p : ℕ). number_of_bytes (take len xs) + p * number_of_bytes (drop len ys)) power in
-    let cut = rw of_front at (number_cut xs len (bytes_low_first-below 0 8 front) (omega arith)) in
-    let cut_too = rw of_back at (number_cut ys len (bytes_low_first-below 0 8 back) (omega arith)) in
-    omega (arith, whole, cut.0, cut.1, cut_too.1)
+    let cut = bytes_cut xs len (bytes_low_first-below 0 8 front) (omega arith) in
+    let cut_too = bytes_cut ys len (bytes_low_first-below 0 8 back) (omega arith) in
+    omega (arith, whole, rw of_front at cut.whole, rw of_front at cut.high, rw of_back at cut_too.high)
 
 joined_are : (front back len : ℕ) → AreBytes (take len (to_le_bytes w64 front) ++ drop len (to_le_bytes w64 back))
 joined_are front back len =

@@ -2,6 +2,7 @@
 
 ghost use Rattle.std.specs.Prelude.{◌≡◌, ◌≢◌, ◌↔◌, ℕ, ◌<◌, ◌≤◌, ◌-◌, List, ◌++◌, length, take, replicate, ℤ, pos, IfOk};
 ghost use Rattle.std.specs.Option.{SomeIff};
+ghost use Rattle.nibble_pack.specs.Bytes.{number_of_bytes};
 ghost use Rattle.nibble_pack.specs.Packing.{Packed, unsigned, signed, IsCode, byte_count, IsCut, IsNotShortest};
 
 use crate::pack::{is_wide, least_count};
@@ -46,6 +47,32 @@ fn front(bytes: &[u8], count: usize) -> [u8; 8]
     front
 }
 
+/// The masks of a word's lowest bytes, by how many these are.
+const LOW_BYTES: [u64; 9] = [
+    0,
+    0xff,
+    0xffff,
+    0xff_ffff,
+    0xffff_ffff,
+    0xff_ffff_ffff,
+    0xffff_ffff_ffff,
+    0xff_ffff_ffff_ffff,
+    0xffff_ffff_ffff_ffff,
+];
+
+/// The number of the first `count` bytes. Where eight are there they are read at once, since a copy of a varying length
+/// takes longer.
+fn front_number(bytes: &[u8], count: usize) -> u64
+    requires most { count ≤ 8 }
+    requires stands { count ≤ length bytes.now }
+    ensures { result ≡ number_of_bytes (take count bytes.now) }
+{
+    match bytes.first_chunk::<8>() {
+        Some(word) => u64::from_le_bytes(*word) & LOW_BYTES[count],
+        None => u64::from_le_bytes(front(bytes, count)),
+    }
+}
+
 /// The unsigned number that the code and the first bytes spell.
 pub fn unpack_unsigned(code: u8, bytes: &[u8]) -> Result<u64, UnpackFault>
     ensures ok { IfOk result (λ v. Packed unsigned (pos v) code (take (byte_count unsigned code) bytes.now)) }
@@ -63,7 +90,7 @@ pub fn unpack_unsigned(code: u8, bytes: &[u8]) -> Result<u64, UnpackFault>
     if bytes.len() < count {
         return Err(UnpackFault::Cut);
     }
-    let v = u64::from_le_bytes(front(bytes, count));
+    let v = front_number(bytes, count);
     if least_count(v) != code {
         return Err(UnpackFault::NotShortest);
     }
@@ -83,7 +110,7 @@ fn unpack_wide(bytes: &[u8]) -> Result<i64, UnpackFault>
     if bytes.len() < 8 {
         return Err(UnpackFault::Cut);
     }
-    let v = i64::from_le_bytes(front(bytes, 8));
+    let v = front_number(bytes, 8).cast_signed();
     if !is_wide(v) {
         return Err(UnpackFault::NotShortest);
     }

@@ -1,9 +1,10 @@
 -- What the codes of signed numbers spell.
-use Rattle.std.proofs.Common.{◌≡◌, ◌↔◌, inl, inr, ℕ, ◌+◌, ◌-◌, ◌*◌, ◌^◌, ◌<◌, ◌≤◌, List, ◌++◌, length, take, replicate, refl, sym, ap, subst, ◌∙◌, arith}
+use Rattle.std.proofs.Common.{◌≡◌, ◌↔◌, inl, inr, ℕ, ◌+◌, ◌*◌, ◌^◌, ◌<◌, ◌≤◌, List, length, take, refl, sym, ap, subst, ◌∙◌, arith}
 use Rattle.std.proofs.lemmas.Bool.{cases_lt}
 use Rattle.std.proofs.lemmas.Int.{of_z-to_z, to_z-of_z}
 use Rattle.std.specs.Prelude.{All, ℤ, pos, negsuc, FitsSigned}
-use Rattle.std.specs.Int.{w64, cast_signed, cast_unsigned, from_le_bytes, bytes_low_first}
+use Rattle.std.specs.Int.{w64, cast_signed, cast_unsigned, bytes_low_first}
+use Rattle.nibble_pack.specs.Bytes.{number_of_bytes}
 use Rattle.nibble_pack.specs.Packing.{unsigned, signed, IsLeastCount, IsWide, small, negative, wide, Packed, byte_count, IsNotShortest}
 use Rattle.nibble_pack.specs.PackingLaws.{same_number, wide_number, signed_count-low, signed_count-high}
 use Rattle.nibble_pack.proofs.lemmas.Counts.{pow256, pow-mono}
@@ -44,7 +45,7 @@ count_from_signed z code count bytes is_code (negative n other is below least of
 count_from_signed z code count bytes is_code (wide is of_code spelled) = absurd (omega arith)
 
 -- what eight bytes are in two's complement
-pub reads_wide : (bytes : List ℕ) (m : ℕ) → All (λ b. b < 256) bytes → 8 ≤ length bytes → m ≡ from_le_bytes w64 (take 8 bytes ++ replicate (8 - 8) 0) → IsWide (cast_signed w64 m) → Packed signed (cast_signed w64 m) 8 (take 8 bytes)
+pub reads_wide : (bytes : List ℕ) (m : ℕ) → All (λ b. b < 256) bytes → 8 ≤ length bytes → m ≡ number_of_bytes (take 8 bytes) → IsWide (cast_signed w64 m) → Packed signed (cast_signed w64 m) 8 (take 8 bytes)
 reads_wide bytes m are_bytes stand is is_wide =
     let spells = read_spells bytes 8 m are_bytes (omega arith) stand is in
     let fits = spells.0 in
@@ -55,7 +56,7 @@ wide_in_range (pos n) h = record { sfits = omega arith }
 wide_in_range (negsuc n) h = record { sfits = omega arith }
 
 -- another number is none of code 8
-pub reads_no_wide : (bytes : List ℕ) (m : ℕ) → All (λ b. b < 256) bytes → 8 ≤ length bytes → m ≡ from_le_bytes w64 (take 8 bytes ++ replicate (8 - 8) 0) → ¬ IsWide (cast_signed w64 m) → (z : ℤ) → ¬ Packed signed z 8 (take 8 bytes)
+pub reads_no_wide : (bytes : List ℕ) (m : ℕ) → All (λ b. b < 256) bytes → 8 ≤ length bytes → m ≡ number_of_bytes (take 8 bytes) → ¬ IsWide (cast_signed w64 m) → (z : ℤ) → ¬ Packed signed z 8 (take 8 bytes)
 reads_no_wide bytes m are_bytes stand is narrow z (small n z_is below least spelled) = let low = least.least 7 (omega arith) in absurd (omega arith)
 reads_no_wide bytes m are_bytes stand is narrow z (negative n count z_is below least of_code spelled) = absurd (omega arith)
 reads_no_wide bytes m are_bytes stand is narrow z (wide z_is of_code spelled) =
