@@ -1,5 +1,6 @@
 -- How a value is padded.
 use Rattle.std.proofs.Common.{◌≡◌, ℕ, ◌+◌, ◌-◌, ◌≤◌, ℤ, Option, is_none, Bool, ◌&&◌, ◌||◌, true, false, List, ◌++◌, length, replicate, cond, [], refl, sym, ap, ◌∙◌, arith}
+use Rattle.std.proofs.Math.Nat.{zero-sub}
 use Rattle.std.proofs.lemmas.List.{append_assoc, append-nil, length-append, length-replicate, replicate-append-replicate}
 use Rattle.printf_grammar.specs.declared.piece.Spec.{Spec}
 use Rattle.printf_grammar.specs.declared.argument.Value.{Value}
@@ -10,6 +11,10 @@ not_padded : (left zeros : Bool) (front body : List ℕ) → front ++ body ≡ c
 not_padded true zeros front body = sym (append-nil (front ++ body))
 not_padded false true front body = ap (λ text. text ++ body) (sym (append-nil front))
 not_padded false false front body = refl
+
+-- a text without a width
+pub padded-no_width : (left zeros : Bool) (text : Converted) → padded left zeros 0 text ≡ text.front ++ text.body
+padded-no_width left zeros text = rw zero-sub (sym (not_padded left zeros text.front text.body))
 
 -- the zeros of the padding and those of the precision stand side by side
 pub padded-zeros : (left zeros : Bool) (width missing count : ℕ) (front body : List ℕ) → left ≡ false → zeros ≡ true → missing ≡ width - length front - count - length body → front ++ replicate (missing + count) 48 ++ body ≡ padded left zeros width (record { front = front; body = replicate count 48 ++ body })

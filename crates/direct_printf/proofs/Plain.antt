@@ -1,8 +1,7 @@
 -- What a `%d` without flags, width and precision writes.
-use Rattle.std.proofs.Common.{◌≡◌, ℕ, suc, ◌-◌, ◌<◌, ◌^◌, false, List, [], ◌∷◌, ◌++◌, length, take, drop, replicate, ℤ, pos, negsuc, FitsSigned, w8, w64, None, Bool, cond, neg_ℤ, get_or, codes, ◌+◌, ◌≤◌, ◌==◌, ◌&&◌, refl, sym, ◌∙◌, ap, arith}
+use Rattle.std.proofs.Common.{◌≡◌, ℕ, suc, ◌-◌, ◌<◌, ◌^◌, false, List, [], ◌∷◌, ◌++◌, length, take, drop, replicate, ℤ, pos, negsuc, FitsSigned, w8, w64, Option, Some, None, is_some, Bool, cond, neg_ℤ, get_or, codes, ◌+◌, ◌≤◌, ◌==◌, ◌&&◌, refl, sym, ◌∙◌, ap, arith}
 use Rattle.std.specs.Int.{w16, int_wrap}
 use Rattle.std.proofs.Math.Bool.{and-false}
-use Rattle.std.proofs.Math.Nat.{zero-sub}
 use Rattle.std.proofs.lemmas.Bool.Decides.{nat_tests}
 use Rattle.std.proofs.lemmas.Int.{SFits-int_wrap}
 use Rattle.std.proofs.lemmas.List.{append_assoc, take-append-le, take-replicate, take-append-drop}
@@ -12,9 +11,11 @@ use Rattle.std.specs.Fmt.{decimal, signed_decimal}
 use Rattle.std.specs.Str.Parse.{digits_value, signed_digits_value, starts_with_minus, without_leading_plus}
 use Rattle.printf_grammar.specs.declared.piece.Length.{Length}
 use Rattle.printf_grammar.specs.declared.piece.Length.TheVariants.{Plain, HH, H, L, LL, J, Z, T}
+use Rattle.printf_grammar.specs.declared.piece.Spec.{Spec}
 use Rattle.printf_grammar.specs.declared.argument.Value.TheVariants as values
 use Rattle.printf_grammar.specs.Narrow.{plain_d}
-use Rattle.direct_printf.specs.Fields.{Digits, Field, wrap_signed, sign_of, signed_number, padded}
+use Rattle.direct_printf.specs.Fields.{Digits, Field, wrap_signed, sign_of, signed_number, unsigned_number, padded}
+use Rattle.direct_printf.proofs.Padded.{padded-no_width}
 use Rattle.direct_printf.proofs.Spelling.{Digits-some}
 
 -- at precision 1 nothing stands in front of the least spelling
@@ -36,21 +37,27 @@ wrap_signed-fits Z z fits = fits
 wrap_signed-fits T z fits = fits
 
 -- a number that is not negative has no sign without flags
-sign_of-pos : (length : Length) (n : ℕ) → sign_of (record plain_d { length = length }) (pos n) ≡ []
-sign_of-pos length n = grind (arith, nat_tests)
+sign_of-pos : (spec : Spec) (n : ℕ) → spec.plus ≡ false → spec.space ≡ false → sign_of spec (pos n) ≡ []
+sign_of-pos spec n plus space = rw (plus, space) (grind (arith, nat_tests))
 
--- the wrapped number's decimal spelling
-plain_number : (length : Length) (z : ℤ) → FitsSigned w64 z → padded false false 0 (signed_number (record plain_d { length = length }) None z) ≡ signed_decimal z
-plain_number length (pos n) h =
+-- without flags, width and precision a number has its decimal spelling
+pub plain_signed : (left zeros : Bool) (width : ℕ) (spec : Spec) (precision : Option ℕ) (z : ℤ) → FitsSigned w64 z → width ≡ 0 → is_some precision ≡ false → spec.plus ≡ false → spec.space ≡ false → padded left zeros width (signed_number spec precision z) ≡ signed_decimal z
+plain_signed left zeros width spec (Some most) z h no_width no_precision plus space = absurd cc
+plain_signed left zeros width spec None (pos n) h no_width no_precision plus space =
     let small : n < 2 ^ 64 = omega (arith, h.sfits) in
-    rw (zero-sub, sign_of-pos length n, Digits-one n small)
-plain_number length (negsuc n) h =
+    rw no_width (padded-no_width left zeros (signed_number spec None (pos n)) ∙ rw (sign_of-pos spec n plus space, Digits-one n small))
+plain_signed left zeros width spec None (negsuc n) h no_width no_precision plus space =
     let small : suc n < 2 ^ 64 = omega (arith, h.sfits) in
-    rw (zero-sub, Digits-one (suc n) small)
+    rw no_width (padded-no_width left zeros (signed_number spec None (negsuc n)) ∙ rw (Digits-one (suc n) small))
+
+pub plain_unsigned : (left zeros : Bool) (width : ℕ) (precision : Option ℕ) (n : ℕ) → n < 2 ^ 64 → width ≡ 0 → is_some precision ≡ false → padded left zeros width (unsigned_number precision n) ≡ decimal n
+plain_unsigned left zeros width (Some most) n h no_width no_precision = absurd cc
+plain_unsigned left zeros width None n h no_width no_precision =
+    rw no_width (padded-no_width left zeros (unsigned_number None n) ∙ Digits-one n h)
 
 Field-plain_d : (length : Length) (z : ℤ) → FitsSigned w64 z → Field (record plain_d { length = length }) (values.Signed z ∷ []) ≡ signed_decimal (wrap_signed length z)
 unfolding Field
-Field-plain_d length z fits = plain_number length (wrap_signed length z) (wrap_signed-fits length z fits)
+Field-plain_d length z fits = plain_signed false false 0 (record plain_d { length = length }) None (wrap_signed length z) (wrap_signed-fits length z fits) refl refl refl refl
 
 -- bytes without a sign read as their digits
 value_without_sign : (minus : Bool) (bytes : List ℕ) (n : ℕ) → minus ≡ false → without_leading_plus bytes ≡ bytes → digits_value 10 bytes ≡ n → cond minus (neg_ℤ (pos (digits_value 10 (cond minus (drop 1 bytes) (without_leading_plus bytes))))) (pos (digits_value 10 (cond minus (drop 1 bytes) (without_leading_plus bytes)))) ≡ pos n

@@ -111,8 +111,11 @@ fn append_signed(
         (signed_number spec.now precision value)) }
     ensures err { OnErr result (take (vec_len out.old) out.new.items ≡ out.old.items) }
 {
-    let magnitude = value.unsigned_abs();
     let mut buffer = Buffer::new();
+    if padding.width == 0 && precision.is_none() && !spec.plus && !spec.space {
+        return out.extend_from_slice(buffer.format(value).as_bytes());
+    }
+    let magnitude = value.unsigned_abs();
     let spelled = buffer.format(magnitude).as_bytes();
     let parts = number(sign(spec, value), precision, magnitude, spelled);
     append_padded(padding, parts, out)
@@ -145,6 +148,9 @@ fn append_unsigned(
 {
     let mut buffer = Buffer::new();
     let spelled = buffer.format(value).as_bytes();
+    if padding.width == 0 && precision.is_none() {
+        return out.extend_from_slice(spelled);
+    }
     append_padded(padding, number(b"", precision, value, spelled), out)
 }
 
@@ -229,6 +235,9 @@ fn append_bytes(padding: Padding, bytes: &[u8], out: &mut Vec<u8>) -> Result<(),
         (record { front = []; body = bytes.now })) }
     ensures err { OnErr result (take (vec_len out.old) out.new.items ≡ out.old.items) }
 {
+    if padding.width == 0 {
+        return out.extend_from_slice(bytes);
+    }
     let parts = FieldParts {
         front: b"",
         zeros: 0,

@@ -7,7 +7,7 @@ ghost use Rattle.printf_grammar.specs.Types.{Fits, field_types};
 ghost use Rattle.direct_printf.specs.Fields.{Field, argument_count, stars, width_of, is_left_star, precision_of, is_integer};
 
 use crate::conversion::{append_converted, signed};
-use crate::padding::Padding;
+use crate::padding::{NO_PADDING, Padding};
 use printf_grammar::{Argument, Conversion, Size, Spec};
 use std::alloc::AllocError;
 
@@ -38,6 +38,9 @@ pub fn append_field<A: Argument>(
     ensures ok { OnOk result (out.new.items ≡ out.old.items ++ Field spec.now (map A.value args.now)) }
     ensures err { OnErr result (take (vec_len out.old) out.new.items ≡ out.old.items) }
 {
+    if spec.width == Size::Absent && spec.precision == Size::Absent {
+        return append_converted(spec, NO_PADDING, None, args[0].arg(), out);
+    }
     let precision_at = count_stars(spec.width);
     let value_at = precision_at + count_stars(spec.precision);
     let precision = field_precision(spec.precision, signed(args[precision_at].arg()));

@@ -9,7 +9,7 @@ ghost use Rattle.direct_printf.specs.Fields.{Digits};
 ghost use Rattle.direct_printf.specs.Lines.{Line, seconds_text};
 
 use crate::text::render;
-use itoa::{Buffer, Integer, write_digits};
+use itoa::{Buffer, write_digits};
 use log_dictionary::{Clock, Message, Severity};
 use printf_grammar::Argument;
 use std::alloc::AllocError;
@@ -105,13 +105,27 @@ fn append_seconds(time: u128, out: &mut Vec<u8>) -> Result<(), AllocError>
         return append_time(time / u128::from(NANOS), rest, out);
     }
     let time = time as u64;
-    append_time(time / NANOS, (time % NANOS) as u32, out)
+    append_short_time(time / NANOS, (time % NANOS) as u32, out)
 }
 
-fn append_time<I: Integer>(seconds: I, rest: u32, out: &mut Vec<u8>) -> Result<(), AllocError>
+// Seconds that the years up to 2554 have. All is put together from the end on, so that it is copied once.
+fn append_short_time(seconds: u64, rest: u32, out: &mut Vec<u8>) -> Result<(), AllocError>
     requires { rest < 10 ^ 9 }
     ensures ok { OnOk result (out.new.items
-        ≡ out.old.items ++ ((I.text seconds ++ 46 ∷ Digits rest 10 false 9) ++ 32 ∷ [])) }
+        ≡ out.old.items ++ ((decimal seconds ++ 46 ∷ Digits rest 10 false 9) ++ 32 ∷ [])) }
+    ensures err { OnErr result (take (vec_len out.old) out.new.items ≡ out.old.items) }
+{
+    let mut text = *b"                    .000000000 ";
+    write_digits(u64::from(rest), &mut text, 30);
+    let start = write_digits(seconds, &mut text, 20);
+    out.extend_from_slice(&text[start..])?;
+    Ok(())
+}
+
+fn append_time(seconds: u128, rest: u32, out: &mut Vec<u8>) -> Result<(), AllocError>
+    requires { rest < 10 ^ 9 }
+    ensures ok { OnOk result (out.new.items
+        ≡ out.old.items ++ ((decimal seconds ++ 46 ∷ Digits rest 10 false 9) ++ 32 ∷ [])) }
     ensures err { OnErr result (take (vec_len out.old) out.new.items ≡ out.old.items) }
 {
     let mut buffer = Buffer::new();

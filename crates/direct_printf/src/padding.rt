@@ -15,6 +15,13 @@ pub struct Padding {
     pub zeros: bool,
 }
 
+/// That of a field without a width.
+pub const NO_PADDING: Padding = Padding {
+    width: 0,
+    left: false,
+    zeros: false,
+};
+
 /// A converted value before it is padded.
 #[derive(Clone, Copy)]
 pub struct FieldParts<'a> {
@@ -86,5 +93,8 @@ fn append_run(byte: u8, count: usize, out: &mut Vec<u8>) -> Result<(), AllocErro
     ensures ok { OnOk result (out.new.items ≡ out.old.items ++ replicate count byte) }
     ensures err { OnErr result (out.new.items ≡ out.old.items) }
 {
+    if count == 0 {
+        return Ok(());
+    }
     out.resize(out.len() + count, byte)
 }
