@@ -1,12 +1,12 @@
 -- The arguments of a record that are read: their codes, their numbers and their texts.
-use Rattle.std.proofs.Common.{◌≡◌, ℕ, zero, suc, ◌+◌, ◌/◌, ◌^◌, ◌-◌, ◌<◌, ◌≤◌, true, false, List, [], ◌∷◌, ◌++◌, length, get_or, take, drop, map, Ok, Err, refl, sym, ap, subst, ◌∙◌, append_assoc, arith, rules}
-use Rattle.std.specs.Prelude.{ℤ, pos, negsuc, ◌≢◌, ◌&&◌, not, nat_eq, ⊤, sum_by}
+use Rattle.std.proofs.Common.{◌≡◌, ℕ, zero, suc, ◌+◌, ◌/◌, ◌^◌, ◌-◌, ◌<◌, ◌≤◌, true, false, List, [], ◌∷◌, ◌++◌, length, get_or, take, drop, map, Result, Ok, Err, is_ok, refl, sym, ap, subst, ◌∙◌, append_assoc, arith, rules}
+use Rattle.std.specs.Prelude.{ℤ, pos, negsuc, ◌≢◌, ◌&&◌, not, nat_eq, MatchResult, ⊤, sum_by}
 use Rattle.std.specs.List.{flat_map, list_all, AllByRecursion}
 use Rattle.std.proofs.lemmas.Int.{ints}
 use Rattle.std.proofs.lemmas.List.Elements.{All-take}
 use Rattle.std.proofs.lemmas.List.Sums.{sum_by-cons}
 use Rattle.std.proofs.lemmas.Bool.{le-leb, leb-true, lt-ltb, ltb-true, and_parts, and_from, eqb-true, false_from_ne_true, eq-eqb, not-true, not_from_false}
-use Rattle.std.proofs.lemmas.List.{length-take-le, drop_more, drop_all}
+use Rattle.std.proofs.lemmas.List.{length-take-le, take-append-drop, drop_more, drop_all}
 use Rattle.std.proofs.Math.Bool.{and-true}
 use Rattle.printf_grammar.specs.declared.arg_type.ArgType.{ArgType}
 use Rattle.printf_grammar.specs.declared.arg_type.ArgType.TheVariants as types
@@ -251,17 +251,35 @@ numbers_taken (type ∷ types) (code ∷ codes) bytes rest numbers are_bytes e =
       parts = first.parts ∙ ap (λ (r : List ℕ). first.front ++ r) more.parts ∙ sym (append_assoc first.front (packed_bytes more.packed) two.x.1);
     })
 
+value_of_number : (arg : Value) → number_value (number_for arg) ≡ packed_value arg
+value_of_number (values.Signed z) = refl
+value_of_number (values.Unsigned n) = refl
+value_of_number (values.Text bytes) = refl
+
+packs_numbers : (types : List ArgType) (args : List Value) (packed : List PackedNumber) → PacksArguments types args packed → PacksNumbers types (map number_for args) packed
+packs_numbers [] [] [] packs = tt
+packs_numbers (type ∷ types) (arg ∷ args) (number ∷ packed) packs =
+    (subst (λ (z : ℤ). Packed (kind_of type) z number.code number.bytes) (sym (value_of_number arg)) packs.0, packs_numbers types args packed packs.1)
+packs_numbers _ _ _ packs = absurd packs
+
 -- ---- codes
 
 is_code_of : (kind : Kind) (code : ℕ) → IsCode kind code → is_code kind code ≡ true
 is_code_of unsigned code known = le-leb code 8 known
 is_code_of signed code known = le-leb code 15 known
 
-are_codes_of : (types : List ArgType) (args : List Value) (packed : List PackedNumber) (extra : List ℕ) → PacksArguments types args packed → list_all (λ code. nat_eq code 0) extra ≡ true → are_codes types (codes_of packed ++ extra) ≡ true
+are_codes_of : (types : List ArgType) (numbers : List Number) (packed : List PackedNumber) (extra : List ℕ) → PacksNumbers types numbers packed → list_all (λ code. nat_eq code 0) extra ≡ true → are_codes types (codes_of packed ++ extra) ≡ true
 are_codes_of [] [] [] extra packs none = none
-are_codes_of (type ∷ types) (arg ∷ args) (number ∷ packed) extra packs none =
-    and_from _ _ (is_code_of (kind_of type) number.code (Packed-code (kind_of type) (packed_value arg) number.code number.bytes packs.0)) (are_codes_of types args packed extra packs.1 none)
+are_codes_of (type ∷ types) (number ∷ numbers) (one ∷ packed) extra packs none =
+    and_from _ _ (is_code_of (kind_of type) one.code (Packed-code (kind_of type) (number_value number) one.code one.bytes packs.0)) (are_codes_of types numbers packed extra packs.1 none)
 are_codes_of _ _ _ extra packs none = absurd packs
+
+-- the codes of numbers that were read, where no other code stands behind them
+codes_read : (types : List ArgType) (codes bytes rest : List ℕ) (numbers : List Number) → AreBytes bytes → numbers_at types codes bytes ≡ Ok (numbers, rest) → are_codes [] (drop (length types) codes) ≡ true → are_codes types codes ≡ true
+codes_read types codes bytes rest numbers are_bytes e none =
+    let taken = numbers_taken types codes bytes rest numbers are_bytes e in
+    ap (are_codes types) (sym (take-append-drop (length types) codes) ∙ ap (λ (front : List ℕ). front ++ drop (length types) codes) (sym taken.codes_are))
+    ∙ are_codes_of types numbers taken.packed (drop (length types) codes) taken.packs none
 
 padding_zero : (codes : List ℕ) → list_all (λ code. nat_eq code 0) (padding codes) ≡ true
 padding_zero [] = refl
@@ -283,9 +301,19 @@ coded_again types args packed rest packs fits =
     let many = numbers_are_as_many types args packed packs in
     let len : length (code_bytes codes) ≡ (length types + 1) / 2 = omega (arith, length-code_bytes codes, many) in
     let read : codes_in (code_bytes codes) ≡ codes ++ padding codes = codes_again codes (small_codes types args packed packs) in
-    let right : are_codes types (codes_in (code_bytes codes)) ≡ true = ap (are_codes types) read ∙ are_codes_of types args packed (padding codes) packs (padding_zero codes) in
+    let right : are_codes types (codes_in (code_bytes codes)) ≡ true = ap (are_codes types) read ∙ are_codes_of types (map number_for args) packed (padding codes) (packs_numbers types args packed packs) (padding_zero codes) in
     let numbers : numbers_at types (codes_in (code_bytes codes)) behind ≡ Ok (map number_for args, rest) = ap (λ (cs : List ℕ). numbers_at types cs behind) read ∙ numbers_again types args packed (padding codes) rest packs fits in
     rw (so_many_again ((length types + 1) / 2) causes.RecordCut (code_bytes codes) behind len, right, numbers) refl
+
+-- numbers that were read behind their codes
+pub coded_read : {B : Type 0} (now : B → List ℕ) (read : Result B Cause) (types : List ArgType) (bytes front rest : List ℕ) (numbers : List Number) → AreBytes bytes → so_many ((length types + 1) / 2) causes.RecordCut bytes ≡ Ok (front, rest) → are_codes [] (drop (length types) (codes_in front)) ≡ true → is_ok read ≡ true
+    → MatchResult read (λ back. numbers_at types (codes_in front) rest ≡ Ok (numbers, now back)) (λ cause. numbers_at types (codes_in front) rest ≡ Err cause)
+    → MatchResult read (λ back. coded_numbers_at types bytes ≡ Ok (numbers, now back)) (λ cause. coded_numbers_at types bytes ≡ Err cause)
+coded_read now (Ok back) types bytes front rest numbers are_bytes split none ok is =
+    let taken = so_many_taken ((length types + 1) / 2) causes.RecordCut bytes front rest split in
+    let right = codes_read types (codes_in front) rest (now back) numbers (back_bytes bytes front rest taken.parts are_bytes) is none in
+    rw (split, right) is
+coded_read now (Err cause) types bytes front rest numbers are_bytes split none ok is = absurd cc
 
 pub record TakenCoded (types : List ArgType) (bytes : List ℕ) (numbers : List Number) (rest : List ℕ) : Type 0 where
   pub packed : List PackedNumber
@@ -346,12 +374,8 @@ values_taken (type ∷ types) [] bytes rest args stand e = absurd stand
 -- the numbers of arguments stand for them
 pub packs_arguments : (types : List ArgType) (args : List Value) (packed : List PackedNumber) → PacksNumbers types (map number_for args) packed → PacksArguments types args packed
 packs_arguments [] [] [] packs = tt
-packs_arguments (type ∷ types) (arg ∷ args) (number ∷ packed) packs = (subst (λ (z : ℤ). Packed (kind_of type) z number.code number.bytes) (value arg) packs.0, packs_arguments types args packed packs.1)
-  where
-    value : (arg : Value) → number_value (number_for arg) ≡ packed_value arg
-    value (values.Signed z) = refl
-    value (values.Unsigned n) = refl
-    value (values.Text bytes) = refl
+packs_arguments (type ∷ types) (arg ∷ args) (number ∷ packed) packs =
+    (subst (λ (z : ℤ). Packed (kind_of type) z number.code number.bytes) (value_of_number arg) packs.0, packs_arguments types args packed packs.1)
 packs_arguments _ _ _ packs = absurd packs
 
 words_of_one : (type : ArgType) (arg : Value) → FitsType arg type → number_words type (number_for arg) ≡ argument_words arg
@@ -394,10 +418,9 @@ pub codes_left : (types : List ArgType) (codes : List ℕ) (place : ℕ) (type :
 codes_left types codes place type code within coded = λ t. are_codes (drop_more types place type within t) (drop_more codes place code coded t)
 
 -- behind the codes of all types stand none, or one that is 0
-pub codes_past : (types : List ArgType) (codes : List ℕ) (place : ℕ) → length types ≤ place → length codes ≤ place → are_codes (drop place types) (drop place codes) ≡ true
-codes_past types codes place past coded = λ t. are_codes (drop_all place types past t) (drop_all place codes coded t)
+pub codes_past : (codes : List ℕ) (place : ℕ) → length codes ≤ place → are_codes [] (drop place codes) ≡ true
+codes_past codes place past = ap (are_codes []) (drop_all place codes past)
 
-pub one_code_past : (types : List ArgType) (codes : List ℕ) (place : ℕ) → length types ≤ place → length codes ≡ place + 1 → are_codes (drop place types) (drop place codes) ≡ nat_eq (get_or codes place 0) 0
-one_code_past types codes place past coded =
-    let one : drop place codes ≡ get_or codes place 0 ∷ [] = drop_more codes place 0 (omega arith) ∙ ap (λ (r : List ℕ). get_or codes place 0 ∷ r) (drop_all (place + 1) codes (omega arith)) in
-    (λ t. are_codes (drop_all place types past t) (one t)) ∙ and-true (nat_eq (get_or codes place 0) 0)
+pub one_code_past : (codes : List ℕ) (place : ℕ) → length codes ≡ place + 1 → are_codes [] (drop place codes) ≡ nat_eq (get_or codes place 0) 0
+one_code_past codes place one =
+    ap (are_codes []) (drop_more codes place 0 (omega arith) ∙ ap (λ (r : List ℕ). get_or codes place 0 ∷ r) (drop_all (place + 1) codes (omega arith))) ∙ and-true (nat_eq (get_or codes place 0) 0)

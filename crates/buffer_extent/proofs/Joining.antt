@@ -1,9 +1,7 @@
 -- The first of eight bytes, and the others of eight more.
-use Rattle.std.proofs.Common.{◌≡◌, ℕ, ◌+◌, ◌-◌, ◌*◌, ◌/◌, ◌^◌, ◌<◌, ◌≤◌, List, [], ◌∷◌, ◌++◌, length, take, drop, sym, ap, ◌∙◌, append_assoc, mul_assoc, mul_comm, arith}
-use Rattle.std.proofs.Math.Nat.{pow-succ'}
+use Rattle.std.proofs.Common.{◌≡◌, ℕ, ◌+◌, ◌-◌, ◌*◌, ◌/◌, ◌^◌, ◌<◌, ◌≤◌, List, ◌++◌, length, take, drop, sym, ap, ◌∙◌, append_assoc, arith}
 use Rattle.std.proofs.lemmas.List.{append-nil, length-append, length-take-le, length-drop, take-append-drop, take_rest, drop_all, drop-append-le, drop-drop}
 use Rattle.std.proofs.lemmas.List.Elements.{All-take, All-drop, All-append}
-use Rattle.std.proofs.lemmas.Nat.{shr_high}
 use Rattle.std.specs.Int.{w64, to_le_bytes, bytes_low_first}
 use Rattle.nibble_pack.specs.Bytes.{AreBytes, number_of_bytes, length-bytes_low_first, bytes_low_first-below, number_of_bytes-low_first, number_of_bytes-lt, low_first-number_of_bytes}
 use Rattle.nibble_pack.proofs.lemmas.Counts.{pow256}

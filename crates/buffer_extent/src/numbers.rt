@@ -1,6 +1,6 @@
 //! The numbers of a record's arguments at the front of bytes.
 
-ghost use Rattle.std.specs.Prelude.{◌≡◌, ◌+◌, ◌*◌, ◌/◌, ◌<◌, ◌≤◌, ◌↔◌, length, take, get_or, IsTrue, MatchResult, Ok, Err};
+ghost use Rattle.std.specs.Prelude.{◌≡◌, ◌+◌, ◌*◌, ◌/◌, ◌<◌, ◌≤◌, ◌↔◌, [], length, take, drop, get_or, IsTrue, MatchResult, Ok, Err};
 ghost use Rattle.printf_grammar.specs.declared.limits.TheConstants.{MAX_ARGUMENTS};
 ghost use Rattle.arg_records.specs.declared.frame.TheConstants.{MAX_FRAME_WORDS};
 ghost use Rattle.buffer_extent.specs.Records.{kind_of};
@@ -137,6 +137,14 @@ fn is_code(kind: ArgType, code: u8) -> bool
     }
 }
 
+/// Whether no code but 0 stands behind those of so many types.
+pub(crate) fn are_padded(types: usize, codes: &[u8]) -> bool
+    requires { length codes.now ≡ (types + 1) / 2 }
+    ensures { result ≡ are_codes [] (drop types (codes_in codes.now)) }
+{
+    types % 2 == 0 || code_at(codes, types) == 0
+}
+
 /// Whether the bytes hold codes of the types, and 0 where one more has room.
 pub(crate) fn are_codes(types: &[ArgType], codes: &[u8]) -> bool
     requires { length codes.now ≡ (length types.now + 1) / 2 }
@@ -147,7 +155,7 @@ pub(crate) fn are_codes(types: &[ArgType], codes: &[u8]) -> bool
             return false;
         }
     }
-    types.len() % 2 == 0 || code_at(codes, types.len()) == 0
+    are_padded(types.len(), codes)
 }
 
 /// The numbers that stand for arguments of the types, whose codes stand in bytes of their own.

@@ -1,12 +1,14 @@
 //! What a record has in front of its texts, at the front of bytes. Each call gives the bytes behind what it read.
 
-ghost use Rattle.std.specs.Prelude.{◌≡◌, ◌*◌, ◌≤◌, length, take, MatchResult, Ok, Err, ⊤};
+ghost use Rattle.std.specs.Prelude.{◌≡◌, ◌+◌, ◌/◌, ◌≤◌, length, take, MatchResult, Ok, Err, ⊤};
+ghost use Rattle.nibble_pack.specs.Parsing.{so_many};
 ghost use Rattle.printf_grammar.specs.declared.limits.TheConstants.{MAX_ARGUMENTS};
-ghost use Rattle.buffer_extent.specs.Reading.{head_codes_at, id_at, stamp_at, head_at, codes_in, codes_at, coded_numbers_at};
+ghost use Rattle.buffer_extent.specs.declared.fault.Cause.{Cause as BodyCause};
+ghost use Rattle.buffer_extent.specs.Reading.{head_codes_at, id_at, stamp_at, head_at, coded_numbers_at};
 
 use crate::fault::Cause;
 use crate::numbers::{
-    CODE_LIMIT, MAX_UNSIGNED_CODE, Number, are_codes, take_numbers, take_unsigned,
+    CODE_LIMIT, MAX_UNSIGNED_CODE, Number, are_codes, are_padded, take_numbers, take_unsigned,
 };
 use printf_grammar::{ArgType, MAX_ARGUMENTS};
 
@@ -90,22 +92,19 @@ pub(crate) fn take_head(
     Ok((RecordHeader { id, stamp }, rest))
 }
 
-/// The bytes that hold the codes of numbers of arguments of the types.
-fn take_codes<'a>(types: &[ArgType], bytes: &'a [u8]) -> Result<(&'a [u8], &'a [u8]), Cause>
-    ensures codes { MatchResult result
-        (λ pair. codes_at types.now bytes.now ≡ Ok (codes_in pair.0.now, pair.1.now))
-        (λ cause. codes_at types.now bytes.now ≡ Err cause) }
-    ensures enough { MatchResult result (λ pair. length types.now ≤ 2 * length pair.0.now) (λ _. ⊤) }
+/// The bytes that hold the codes of arguments of so many types.
+fn split_codes(types: usize, bytes: &[u8]) -> Result<(&[u8], &[u8]), Cause>
+    requires { types ≤ MAX_ARGUMENTS }
+    ensures split { MatchResult result
+        (λ pair. so_many ((types + 1) / 2) BodyCause.RecordCut bytes.now ≡ Ok (pair.0.now, pair.1.now))
+        (λ cause. so_many ((types + 1) / 2) BodyCause.RecordCut bytes.now ≡ Err cause) }
+    ensures len { MatchResult result (λ pair. length pair.0.now ≡ (types + 1) / 2) (λ _. ⊤) }
 {
-    let len = types.len().div_ceil(2);
+    let len = types.div_ceil(2);
     if bytes.len() < len {
         return Err(Cause::RecordCut);
     }
-    let (codes, rest) = bytes.split_at(len);
-    if !are_codes(types, codes) {
-        return Err(Cause::BadNibble);
-    }
-    Ok((codes, rest))
+    Ok(bytes.split_at(len))
 }
 
 /// The numbers that stand for arguments of the types, with their codes in front.
@@ -119,6 +118,15 @@ pub(crate) fn take_coded_numbers<'a>(
         (λ rest. coded_numbers_at types.now bytes.now ≡ Ok (take (length types.now) numbers.new, rest.now))
         (λ cause. coded_numbers_at types.now bytes.now ≡ Err cause) }
 {
-    let (codes, rest) = take_codes(types, bytes)?;
-    take_numbers(types, codes, rest, numbers)
+    let (codes, rest) = split_codes(types.len(), bytes)?;
+    let read = take_numbers(types, codes, rest, numbers);
+    // Where all numbers were read their codes are right. Else a code that is none comes before what is wrong with a
+    // number in front of it.
+    if read.is_ok() && are_padded(types.len(), codes) {
+        return read;
+    }
+    if !are_codes(types, codes) {
+        return Err(Cause::BadNibble);
+    }
+    read
 }

@@ -1,12 +1,12 @@
 use Rattle.std.proofs.Common.{◌≡◌, ◌+◌, ◌<◌, ℕ, Bool, true, false, List, length, get_or, drop, sym, ap, ◌∙◌, arith}
-use Rattle.std.specs.Prelude.{◌&&◌, nat_eq}
-use Rattle.std.proofs.lemmas.Bool.{eq-eqb}
+use Rattle.std.specs.Prelude.{◌&&◌}
+use Rattle.std.proofs.lemmas.List.{drop_all}
 use Rattle.printf_grammar.specs.declared.arg_type.ArgType.{ArgType}
 use Rattle.printf_grammar.specs.declared.arg_type.ArgType.TheVariants.{Int}
 use Rattle.buffer_extent.specs.Records.{kind_of}
 use Rattle.buffer_extent.specs.Reading.{is_code, codes_in, are_codes}
 use Rattle.buffer_extent.proofs.lemmas.Codes.{length-codes_in}
-use Rattle.buffer_extent.proofs.Arguments.{codes_left, codes_past, one_code_past}
+use Rattle.buffer_extent.proofs.Arguments.{codes_left}
 use Rattle.buffer_extent.proofs.numbers.are_codes.Goals as goal
 
 -- what the codes at a place and behind it are, by the one at the place
@@ -27,13 +27,8 @@ loop-place-preserved c =
     let kept : c.is_code.result ≡ true = cc in
     c.loop-place.invariant ∙ left ∙ ap (λ (b : Bool). b && are_codes (drop (c.loop-place.place + 1) c.args.types.now) (drop (c.loop-place.place + 1) (codes_in c.args.codes.now))) kept
 
-pub returns-then-types-eq0 : goal.returns-then-types-eq0
-returns-then-types-eq0 c =
-    eq-eqb _ 0 c.if-types-eq0.true
-    ∙ sym (c.loop-place.invariant ∙ codes_past c.args.types.now (codes_in c.args.codes.now) c.loop-place.place (omega arith) (omega (arith, c.requires, length-codes_in c.args.codes.now, c.loop-place-test.false, c.if-types-eq0.true)))
-
-pub returns-else-types-eq0 : goal.returns-else-types-eq0
-returns-else-types-eq0 c =
+pub returns : goal.returns
+returns c =
     let place : c.loop-place.place ≡ length c.args.types.now = omega (arith, c.loop-place-test.false, c.loop-place.auto.place-end) in
-    let last = one_code_past c.args.types.now (codes_in c.args.codes.now) c.loop-place.place (omega arith) (omega (arith, c.requires, length-codes_in c.args.codes.now, place, c.if-types-eq0.false)) in
-    ap (λ (code : ℕ). nat_eq code 0) (c.code_at-else-types-eq0.ensures.code ∙ ap (λ (k : ℕ). get_or (codes_in c.args.codes.now) k 0) (sym place)) ∙ sym (c.loop-place.invariant ∙ last)
+    let codes = codes_in c.args.codes.now in
+    c.are_padded.ensures ∙ sym (c.loop-place.invariant ∙ (λ t. are_codes (drop_all c.loop-place.place c.args.types.now (omega arith) t) (drop (place t) codes)))
