@@ -44,6 +44,7 @@ impl Calls {
     }
 
     /// Adds a call at the end. Where that is refused the call is dropped.
+    #[inline(always)]
     pub fn push(&mut self, call: Call) -> Result<(), AllocError>
         ensures ok { OnOk result (self.new ≡ self.old ++ call ∷ []) }
         ensures err { OnErr result (self.new ≡ self.old) }

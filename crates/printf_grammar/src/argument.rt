@@ -122,6 +122,7 @@ impl Values {
     }
 
     /// Appends the value, which is dropped where there is no memory.
+    #[inline(always)]
     pub fn push(&mut self, item: Value) -> Result<(), AllocError>
         requires { length self.old < MAX_ARGUMENTS }
         ensures ok { OnOk result (self.new ≡ self.old ++ item ∷ []) }
