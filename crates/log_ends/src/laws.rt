@@ -4,7 +4,7 @@ ghost use Rattle.std.specs.Prelude.{◌≡◌, ◌≢◌, ℕ, List, ◌++◌};
 ghost use Rattle.printf_grammar.specs.declared.arg_type.ArgType.{ArgType};
 ghost use Rattle.printf_grammar.specs.Types.{FitsType};
 ghost use Rattle.word_ring.specs.Ends.{WordRoamerEnd};
-ghost use Rattle.roaming_consumer.specs.Roamers.{IsLogOfEnds};
+ghost use Rattle.roaming_consumer.specs.Roamers.{roamer_progress, IsLogOfEnds};
 ghost use Rattle.log_ends.specs.declared.argument.Argument.{Argument};
 ghost use Rattle.log_ends.specs.declared.argument.TheConstants.{SIGNED, UNSIGNED, TEXT};
 ghost use Rattle.log_ends.specs.declared.consumer.ConsumerEnd.{ConsumerEnd};
@@ -16,9 +16,10 @@ ghost use Rattle.log_ends.specs.Consumers.{HasGiven, IsAllGiven, waiting};
 pub fn given_bytes_are_of_a_log()
     ensures front { (consumer : ConsumerEnd) (given : List ℕ) → HasGiven consumer given
         → IsLogOfEnds (λ (end : WordRoamerEnd). end.got) (λ (end : WordRoamerEnd). end.ended) consumer.roamer
-        (given ++ waiting consumer) }
+        (roamer_progress consumer.roamer) (given ++ waiting consumer) }
     ensures all { (consumer : ConsumerEnd) (given : List ℕ) → HasGiven consumer given → IsAllGiven consumer
-        → IsLogOfEnds (λ (end : WordRoamerEnd). end.got) (λ (end : WordRoamerEnd). end.ended) consumer.roamer given }
+        → IsLogOfEnds (λ (end : WordRoamerEnd). end.got) (λ (end : WordRoamerEnd). end.ended) consumer.roamer
+        (roamer_progress consumer.roamer) given }
 {}
 
 /// The kinds of arguments have these numbers, and an argument of no kind fits no conversion.

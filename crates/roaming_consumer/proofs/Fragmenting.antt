@@ -1,21 +1,25 @@
 -- Entries and fragments that are put into a buffer.
-use Rattle.std.proofs.Common.{◌≡◌, ℕ, ◌+◌, ◌-◌, ◌<◌, ◌≤◌, ◌^◌, min, List, [], ◌∷◌, ◌++◌, length, get_or, take, drop, refl, sym, ap, subst, ◌∙◌, append_assoc, ◌⊎◌, inl, inr, arith}
+use Rattle.std.proofs.Common.{◌≡◌, ℕ, zero, suc, ◌+◌, ◌-◌, ◌<◌, ◌≤◌, ◌^◌, min, List, [], ◌∷◌, ◌++◌, length, get_or, take, drop, refl, sym, ap, subst, ◌∙◌, append_assoc, ◌⊎◌, inl, inr, arith}
 use Rattle.std.proofs.lemmas.List.{append-nil, take_at, take_more, take-append-drop, length-append, length-take, length-take-le, length-drop, drop-take, take-take, drop-drop, drop_all}
 use Rattle.std.specs.Hash.{le_bytes}
-use Rattle.std.specs.Prelude.{Result, Ok, Err, IsErr}
+use Rattle.std.specs.List.{flat_map}
+use Rattle.std.specs.Prelude.{All, Result, Ok, Err, IsErr}
+use Rattle.std.proofs.lemmas.List.Elements.{All-head, All-tail, All-take, All-drop}
 use Rattle.std.proofs.lemmas.Bool.{cases_lt}
 use borrow.Rule.Slice.PartMut.{put_mid}
 use Rattle.log_dictionary.specs.declared.message.Message.{Message}
 use Rattle.log_dictionary.specs.BinaryEntries.{entry_bytes, SpellsEntry}
+use Rattle.log_dictionary.specs.Messages.{AreFormed}
 use Rattle.nl_io.specs.Count.{Rose}
 use Rattle.nl_io.specs.Content.{Told, with_end, PutsFront}
 use Rattle.nl_io.proofs.lemmas.Contents.{with_end-none, with_end-both}
 use Rattle.checkpoint_io.specs.Blocks.{Fragment, fragment_head_bytes, SpellsEntries, SpellsFragment}
 use Rattle.checkpoint_io.specs.Logs.{AreFragments}
-use Rattle.roaming_consumer.specs.Growth.{FragmentsFor}
+use Rattle.roaming_consumer.specs.Growth.{LinesFit, FragmentsFor}
 use Rattle.roaming_consumer.specs.Sinks.{SendsFragments}
-use Rattle.roaming_consumer.proofs.lemmas.Sending.{sends_then, sends_stop}
+use Rattle.roaming_consumer.proofs.lemmas.Sending.{sends_then, sends_err}
 use Rattle.checkpoint_io.proofs.lemmas.BlockLaws.{le_length, entries_push}
+use Rattle.checkpoint_io.proofs.lemmas.LimitLaws.{entry_joined, fragment_within}
 
 -- what stands in front of the end of bytes that were put in the middle
 pub put_in_middle : (into put front tail : List ℕ) (at k end : ℕ) → at ≤ length into → put ≡ front ++ tail → end ≡ at + length front → take end (put_mid at k into put) ≡ take at into ++ front
@@ -92,6 +96,46 @@ fragment_then dictionary first count up_to front back within known full spelled 
       spelled = λ tick before. (front, back, refl, spelled, others.spelled tick (before ++ Fragment first messages ∷ []));
     }
 
+-- as many as a fragment takes, and no more than are left
+fragment_count : (next end count : ℕ) → next < end → count ≡ min (end - next) 16 → (1 ≤ count) × (count ≤ 16) × (next + count ≤ end) × ((count ≡ 16) ⊎ (next + count ≡ end))
+fragment_count next end count left is =
+    elim (cases_lt (end - next) 16) [
+      | inl few ↦ (omega (arith, left, is, few), omega (arith, is), omega (arith, left, is), inr (omega (arith, left, is, few)))
+      | inr many ↦ (omega (arith, left, is, many), omega (arith, is), omega (arith, left, is), inl (omega (arith, is, many)))
+    ]
+
+-- each of the messages has an entry
+abbrev HaveEntries : List Message → Type 0
+HaveEntries messages = All (λ message. SpellsEntry (entry_bytes message) message) messages
+
+entries_are_there : (messages : List Message) → HaveEntries messages → SpellsEntries messages (flat_map entry_bytes messages)
+entries_are_there [] each = refl
+entries_are_there (message ∷ messages) each =
+    let P : Message → Type 0 = λ m. SpellsEntry (entry_bytes m) m in
+    entry_joined message messages (entry_bytes message) (flat_map entry_bytes messages) (All-head P message messages each) (entries_are_there messages (All-tail P message messages each))
+
+-- there are fragments of messages that have entries; so many messages are left at most
+fragments_are_there : (dictionary : List Message) (left next end : ℕ) → end ≤ next + left → end ≤ length dictionary → end < 2 ^ 32 → HaveEntries dictionary → (bytes : List ℕ) × FragmentsFor next (drop next (take end dictionary)) bytes
+fragments_are_there dictionary zero next end near known few each = ([], none_for dictionary next end (omega (arith, near)))
+fragments_are_there dictionary (suc left) next end near known few each =
+    elim (cases_lt next end) [
+      | inl more ↦
+          let P : Message → Type 0 = λ m. SpellsEntry (entry_bytes m) m in
+          let count = min (end - next) 16 in
+          let counts = fragment_count next end count more refl in
+          let messages = take count (drop next dictionary) in
+          let many : length messages ≡ count = length-take-le count (drop next dictionary) (omega (arith, counts.2, known, length-drop next dictionary)) in
+          let spelled = entries_are_there messages (All-take P count (drop next dictionary) (All-drop P next dictionary each)) in
+          let others = fragments_are_there dictionary left (next + count) end (omega (arith, near, counts.0)) known few each in
+          let front = fragment_within next messages (flat_map entry_bytes messages) (omega (arith, many, counts.0)) (omega (arith, many, counts.1)) (omega (arith, more, few)) spelled in
+          (_, fragment_then dictionary next count end _ others.0 counts.2 known counts.3 front others.1)
+      | inr none ↦ ([], none_for dictionary next end none)
+    ]
+
+-- a message has an entry where its line is in range
+have_entries : (messages : List Message) → AreFormed messages → LinesFit messages → HaveEntries messages
+have_entries messages formed lines = λ k d within. record { spelled = refl; line_fits = lines k d within; formed = formed k d within }
+
 -- So far fragments were put of the messages from the first one on. Whatever fragments are put behind them, they are
 -- together those of the messages up to where those end.
 pub record Goes (dictionary : List Message) (first next end : ℕ) (put put_after : Told) : Type 0 where
@@ -102,14 +146,6 @@ pub record Goes (dictionary : List Message) (first next end : ℕ) (put put_afte
 
 pub goes_from : (dictionary : List Message) (first end : ℕ) (put : Told) → first ≤ end → Goes dictionary first first end put put
 goes_from dictionary first end put within = record { within = within; bytes = []; joined = with_end-none [] put; goes = λ up_to more below inside are. are }
-
--- as many as a fragment takes, and no more than are left
-fragment_count : (next end count : ℕ) → next < end → count ≡ min (end - next) 16 → (1 ≤ count) × (count ≤ 16) × (next + count ≤ end) × ((count ≡ 16) ⊎ (next + count ≡ end))
-fragment_count next end count left is =
-    elim (cases_lt (end - next) 16) [
-      | inl few ↦ (omega (arith, left, is, few), omega (arith, is), omega (arith, left, is), inr (omega (arith, left, is, few)))
-      | inr many ↦ (omega (arith, left, is, many), omega (arith, is), omega (arith, left, is), inl (omega (arith, is, many)))
-    ]
 
 -- one fragment more
 pub goes_on : (dictionary : List Message) (first next end count : ℕ) (front : List ℕ) (put put_mid put_after : Told) → Goes dictionary first next end put put_mid → next < end → end ≤ length dictionary → count ≡ min (end - next) 16 → SpellsFragment next (take count (drop next dictionary)) front → put_after ≡ with_end front put_mid
@@ -130,12 +166,14 @@ goes_on dictionary first next end count front put put_mid put_after was left kno
 pub goes_all : {E : Type 0} (dictionary : List Message) (first next end : ℕ) (put put_after : Told) (faults faults_after : ℕ) → Goes dictionary first next end put put_after → end ≤ next → faults_after ≡ faults → SendsFragments {T = Unit {0}} {E = E} (Ok tt) dictionary first end put put_after faults faults_after
 goes_all dictionary first next end put put_after faults faults_after was done counted =
     let last : next ≡ end = let within = was.within in omega (arith, within, done) in
+    let all = was.goes end [] (omega (arith, last)) (omega arith) (none_for dictionary next end done) in
     record {
       up_to = end;
       within = omega arith;
       whole = refl;
       bytes = was.bytes ++ [];
-      spelled = was.goes end [] (omega (arith, last)) (omega arith) (none_for dictionary next end done);
+      spelled = all;
+      goes_on = λ lines. ([], subst (FragmentsFor first (drop first (take end dictionary))) (sym (append-nil (was.bytes ++ []))) all);
       sent = record {
         ok = was.joined ∙ ap (λ (l : List ℕ). with_end l put) (sym (append-nil was.bytes));
         counted = counted;
@@ -146,17 +184,25 @@ goes_all dictionary first next end put put_after faults faults_after was done co
     }
 
 -- a fragment wasn't written whole
-pub goes_stop : {T E : Type 0} (r : Result T E) (dictionary : List Message) (first next end count : ℕ) (front : List ℕ) (put mid put_after : Told) (faults faults_mid faults_after : ℕ) → IsErr r → Goes dictionary first next end put mid → next < end → end ≤ length dictionary → count ≡ min (end - next) 16 → SpellsFragment next (take count (drop next dictionary)) front → faults_mid ≡ faults → PutsFront front mid put_after → Rose faults_mid faults_after → faults_mid ≤ faults_after
+pub goes_stop : {T E : Type 0} (r : Result T E) (dictionary : List Message) (first next end count : ℕ) (front : List ℕ) (put mid put_after : Told) (faults faults_mid faults_after : ℕ) → IsErr r → Goes dictionary first next end put mid → next < end → end ≤ length dictionary → end < 2 ^ 32 → AreFormed dictionary → count ≡ min (end - next) 16 → SpellsFragment next (take count (drop next dictionary)) front → faults_mid ≡ faults → PutsFront front mid put_after → Rose faults_mid faults_after → faults_mid ≤ faults_after
     → SendsFragments r dictionary first end put put_after faults faults_after
-goes_stop (Ok x) dictionary first next end count front put mid put_after faults faults_mid faults_after failed was left known is spelled counted puts rose more = absurd cc
-goes_stop (Err e) dictionary first next end count front put mid put_after faults faults_mid faults_after failed was left known is spelled counted puts rose more =
+goes_stop (Ok x) dictionary first next end count front put mid put_after faults faults_mid faults_after failed was left known few formed is spelled counted puts rose more = absurd cc
+goes_stop (Err e) dictionary first next end count front put mid put_after faults faults_mid faults_after failed was left known few formed is spelled counted puts rose more =
     let counts = fragment_count next end count left is in
     let within = counts.2 in
     record {
       up_to = next + count;
       within = within;
       whole = tt;
-      bytes = was.bytes ++ (front ++ []);
-      spelled = was.goes (next + count) (front ++ []) (omega arith) within (fragment_then dictionary next count (next + count) front [] (omega arith) (omega (arith, within, known)) (inr refl) spelled (none_for dictionary (next + count) (next + count) (omega arith)));
-      sent = sends_then (Err e) was.bytes (front ++ []) put mid put_after faults faults_mid faults_after was.joined counted (sends_stop (Err e) front [] mid put_after faults_mid faults_after refl puts rose more);
+      bytes = was.bytes ++ front;
+      spelled =
+          subst (λ (l : List ℕ). FragmentsFor first (drop first (take (next + count) dictionary)) (was.bytes ++ l)) (append-nil front)
+          (was.goes (next + count) (front ++ []) (omega arith) within (fragment_then dictionary next count (next + count) front [] (omega arith) (omega (arith, within, known)) (inr refl) spelled (none_for dictionary (next + count) (next + count) (omega arith))));
+      goes_on = λ lines.
+          let others = fragments_are_there dictionary (end - (next + count)) (next + count) end (omega arith) known few (have_entries dictionary formed lines) in (
+            others.0,
+            subst (FragmentsFor first (drop first (take end dictionary))) (sym (append_assoc was.bytes front others.0))
+                (was.goes end (front ++ others.0) (omega (arith, left)) (omega arith) (fragment_then dictionary next count end front others.0 within known counts.3 spelled others.1)),
+          );
+      sent = sends_then (Err e) was.bytes front put mid put_after faults faults_mid faults_after was.joined counted (sends_err (Err e) front mid put_after faults_mid faults_after refl puts rose more);
     }

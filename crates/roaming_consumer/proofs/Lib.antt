@@ -6,4 +6,5 @@ mod Drafting
 mod Fragmenting
 mod TakenFrames
 mod Standing
+mod Additions
 mod Stopping

@@ -1,36 +1,28 @@
 -- Where visits stop: of which a write failed, and which take no more frames.
 use Rattle.std.proofs.Common.{◌≡◌, ℕ, ◌<◌, ◌≤◌, Bool, true, List, ◌++◌, length, take, refl, ap, subst, ◌∙◌, inl, inr, arith}
-use Rattle.std.specs.Prelude.{◌⊎◌, max, Result, Ok, Err, is_err, OnErr}
+use Rattle.std.specs.Prelude.{◌⊎◌, max, Result, is_err}
 use Rattle.nl_io.specs.Count.{Rose}
 use Rattle.nl_io.specs.Content.{Told}
-use Rattle.log_dictionary.specs.declared.message.Message.{Message}
 use Rattle.checkpoint_io.specs.Logs.{ids_used}
 use Rattle.ring_core.specs.Plans.{Plan}
 use Rattle.roaming_consumer.specs.declared.draft.Draft.{Draft}
 use Rattle.roaming_consumer.specs.declared.roamer.Roamer.{Roamer}
 use Rattle.roaming_consumer.specs.Gathering.{StopsTaking}
 use Rattle.roaming_consumer.specs.Gathering.StopsTaking.{batch_is_full, body_is_full, nothing_is_there, all_has_ended}
-use Rattle.roaming_consumer.specs.Growth.{LogProgress}
-use Rattle.roaming_consumer.specs.Sinks.{SendsExtent}
 use Rattle.roaming_consumer.specs.Roamers.{ends_of, roamer_messages, roamer_clock, roamer_batch, roamer_progress, KeepsLog, ChangesOne}
 use Rattle.roaming_consumer.specs.Visits.{VisitStops}
-use Rattle.roaming_consumer.proofs.Standing.{Collected, spells_extent}
+use Rattle.roaming_consumer.proofs.lemmas.Sending.{err_of}
+use Rattle.roaming_consumer.proofs.Standing.{spells_extent}
+use Rattle.roaming_consumer.proofs.Additions.{Collected, SendsFor, sends_of_old}
 
--- what holds of an answer that is Err
-err_of : {T E P : Type 0} (r : Result T E) → true ≡ is_err r → OnErr r P → P
-err_of (Ok x) failed holds = absurd cc
-err_of (Err e) failed holds = holds
-
-pub stopped_in_extent : {S T E : Type 0} (got : S → List (List ℕ)) (ended : S → Bool) (loads : S → ℕ) (pair : S → List ℕ) (plan : S → Plan) (old mid : Roamer S) (ends_now : List S) (writer : ℕ) (draft : Draft) (all : Bool) (body : List ℕ) (r : Result T E) (p q : Told) (f g : ℕ) → ChangesOne (ends_of old) (ends_of mid) writer (Collected got ended loads pair plan old draft all body) → KeepsLog old mid → ends_now ≡ ends_of mid → 1 ≤ draft.records → draft.records ≤ roamer_batch old → writer < 64 → length body ≤ 65536 → true ≡ is_err r → SendsExtent r (roamer_messages mid) (roamer_progress mid).defined (max (roamer_progress mid).defined draft.ids) writer (take draft.len body) p q f g
+pub stopped_in_extent : {S T E : Type 0} (got : S → List (List ℕ)) (ended : S → Bool) (loads : S → ℕ) (pair : S → List ℕ) (plan : S → Plan) (old mid : Roamer S) (ends_now : List S) (writer : ℕ) (draft : Draft) (all : Bool) (body : List ℕ) (r : Result T E) (p q : Told) (f g : ℕ) → ChangesOne (ends_of old) (ends_of mid) writer (Collected got ended loads pair plan old draft all body) → KeepsLog old mid → ends_now ≡ ends_of mid → 1 ≤ draft.records → draft.records ≤ roamer_batch old → writer < 64 → length body ≤ 65536 → true ≡ is_err r → SendsFor r mid writer draft body p q f g
     → ChangesOne (ends_of old) ends_now writer (VisitStops got ended old writer p q)
 stopped_in_extent got ended loads pair plan old mid ends_now writer draft all body r p q f g one keeps same_ends some few known room failed went =
     let gathers = one.step.0 in
     let drafted = gathers.drafted in
     let ids = drafted.ids in
     let records = drafted.records in
-    let sent : SendsExtent r (roamer_messages old) (roamer_progress old).defined (max (roamer_progress old).defined draft.ids) writer (take draft.len body) p q f g =
-    subst (λ (ms : List Message). SendsExtent r ms (roamer_progress old).defined (max (roamer_progress old).defined draft.ids) writer (take draft.len body) p q f g) keeps.same_run.messages
-    (subst (λ (o : LogProgress). SendsExtent r (roamer_messages mid) o.defined (max o.defined draft.ids) writer (take draft.len body) p q f g) keeps.progress went) in
+    let sent = sends_of_old old mid writer draft body r p q f g keeps went in
     let within = sent.within in
     let end : max (roamer_progress old).defined draft.ids ≡ max (roamer_progress old).defined (ids_used gathers.entries) = ap (max (roamer_progress old).defined) ids in
     record {

@@ -1,5 +1,6 @@
 -- What a roamer keeps, and the bytes for which it stands.
-use Rattle.std.specs.Prelude.{◌≡◌, ◌<◌, ◌≤◌, ℕ, Bool, true, false, List, [], ◌∷◌, ◌++◌, get_or, All, Some, slice_get, slice_set, length}
+use Rattle.std.specs.Prelude.{◌≡◌, ◌<◌, ◌≤◌, ℕ, Bool, true, false, List, [], ◌++◌, get_or, All, Some, slice_get, slice_set, length}
+use Rattle.std.specs.List.{AllZip}
 use Rattle.nl_io.specs.Count.{Rose}
 use Rattle.nl_io.specs.Content.{Told, with_end}
 use Rattle.checkpoint_io.specs.declared.header.Header.{Header}
@@ -8,9 +9,9 @@ use Rattle.checkpoint_io.specs.Validity.{IsClosed}
 use Rattle.log_dictionary.specs.declared.clock.Clock.{Clock}
 use Rattle.log_dictionary.specs.declared.message.Message.{Message}
 use Rattle.arg_records.specs.declared.call.Call.{Call}
-use Rattle.ring_core.specs.Plans.{Plan, plan_of, AreFramesOf}
+use Rattle.ring_core.specs.Plans.{Plan, plan_of, frames_of, AreFramesOf, BeginsWith}
 use Rattle.roaming_consumer.specs.declared.roamer.Roamer.{Roamer}
-use Rattle.roaming_consumer.specs.Growth.{LogProgress, IsLogSoFar}
+use Rattle.roaming_consumer.specs.Growth.{LogProgress, IsLogSoFar, LinesFit}
 
 -- the ends of the writers, by their numbers
 abbrev pub ends_of : {S : Type 0} → Roamer S → List S
@@ -74,11 +75,16 @@ pub record ChangesOne {S : Type 0} (ends ends_after : List S) (writer : ℕ) (St
 
 -- of each end the frames that were taken are those of the calls of one list
 abbrev pub FramesAreTaken : {S : Type 0} → Plan → (S → List (List ℕ)) → List S → List (List Call) → Type 0
-FramesAreTaken plan got [] [] = Unit {0}
-FramesAreTaken plan got (end ∷ ends) (calls ∷ taken) =
-    AreFramesOf plan (got end) calls × FramesAreTaken plan got ends taken
-FramesAreTaken plan got [] (calls ∷ taken) = ⊥
-FramesAreTaken plan got (end ∷ ends) [] = ⊥
+FramesAreTaken plan got ends taken = AllZip (λ end calls. AreFramesOf plan (got end) calls) ends taken
+
+-- the frames begin with those of the calls, which are lawful
+pub record BeginWithFramesOf (plan : Plan) (frames : List (List ℕ)) (calls : List Call) : Type 0 where
+  pub front : BeginsWith frames (frames_of calls)
+  pub lawful : AreFramesOf plan (frames_of calls) calls
+
+-- of each end the first frames that were taken are those of the calls of one list
+abbrev pub FramesWereTaken : {S : Type 0} → Plan → (S → List (List ℕ)) → List S → List (List Call) → Type 0
+FramesWereTaken plan got ends taken = AllZip (λ end calls. BeginWithFramesOf plan (got end) calls) ends taken
 
 -- a writer whose close mark was written has ended
 abbrev pub HaveEnded : {S : Type 0} → (S → Bool) → List S → List Bool → Type 0
@@ -87,14 +93,24 @@ HaveEnded {S} ended ends closed = (writer : ℕ) (end : S) → slice_get ends wr
     → ended end ≡ true
 
 -- The bytes are the log of the calls whose frames were taken from the ends, with a close mark of each writer that was
--- closed, and they give what the roamer keeps of the log.
+-- closed, and this is kept of it.
 pub record IsLogOfEnds {S : Type 0} (got : S → List (List ℕ)) (ended : S → Bool) (roamer : Roamer S)
-    (wrote : List ℕ) : Type 0 where
+    (progress : LogProgress) (wrote : List ℕ) : Type 0 where
   pub taken : List (List Call)
   pub frames : FramesAreTaken (plan_of_roamer roamer) got (ends_of roamer) taken
-  pub log : IsLogSoFar wrote taken (roamer_messages roamer) (roamer_clock roamer) (roamer_batch roamer)
-      (roamer_progress roamer)
-  pub closed : HaveEnded ended (ends_of roamer) (roamer_progress roamer).closed
+  pub log : IsLogSoFar wrote taken (roamer_messages roamer) (roamer_clock roamer) (roamer_batch roamer) progress
+  pub closed : HaveEnded ended (ends_of roamer) progress.closed
+
+-- The bytes are the front of a log. It is that of the first calls whose frames were taken from the ends, and has close
+-- marks of writers that have ended alone.
+pub record IsCutLogOfEnds {S : Type 0} (got : S → List (List ℕ)) (ended : S → Bool) (roamer : Roamer S)
+    (wrote : List ℕ) : Type 0 where
+  pub taken : List (List Call)
+  pub frames : FramesWereTaken (plan_of_roamer roamer) got (ends_of roamer) taken
+  pub rest : List ℕ
+  pub log : LogOf (wrote ++ rest) taken (roamer_messages roamer) (roamer_clock roamer) (roamer_batch roamer)
+  pub closed : (writer : ℕ) (end : S) → slice_get (ends_of roamer) writer ≡ Some end → IsClosed writer log.blocks
+      → ended end ≡ true
 
 -- The bytes are the log of the calls whose frames were taken from the ends, and the close mark of each writer is in it.
 pub record IsClosedLogOfEnds {S : Type 0} (got : S → List (List ℕ)) (roamer : Roamer S) (wrote : List ℕ) : Type 0 where
@@ -104,14 +120,18 @@ pub record IsClosedLogOfEnds {S : Type 0} (got : S → List (List ℕ)) (roamer 
   pub closed : (writer : ℕ) → writer < length taken → IsClosed writer log.blocks
 
 -- The roamer's calls have put these bytes. Before the header there are none, and nothing was taken, defined or closed;
--- from then on and until a write fails they are the log of what was taken.
+-- from then on and until a write fails they are the log of what was taken. Once one has failed they stay the front of a
+-- log of what was taken by then, the frames that were to be written among it.
 pub record RoamerStandsFor {S : Type 0} (got : S → List (List ℕ)) (ended : S → Bool) (roamer : Roamer S)
     (wrote : List ℕ) : Type 0 where
   pub nothing : is_begun roamer ≡ false → wrote ≡ []
   pub untaken : is_begun roamer ≡ false → All (λ end. got end ≡ []) (ends_of roamer)
   pub undefined : is_begun roamer ≡ false → (roamer_progress roamer).defined ≡ 0
   pub unclosed : is_begun roamer ≡ false → (writer : ℕ) → get_or (roamer_progress roamer).closed writer false ≡ false
-  pub lawful : is_begun roamer ≡ true → is_faulted roamer ≡ false → IsLogOfEnds got ended roamer wrote
+  pub lawful : is_begun roamer ≡ true → is_faulted roamer ≡ false
+      → IsLogOfEnds got ended roamer (roamer_progress roamer) wrote
+  pub cut : is_begun roamer ≡ true → is_faulted roamer ≡ true → LinesFit (roamer_messages roamer)
+      → IsCutLogOfEnds got ended roamer wrote
 
 -- what is told of an end from which so many frames were taken, and of which the last answer was that all had ended or not
 pub record EndAfterTaking {S : Type 0} (ended : S → Bool) (loads : S → ℕ) (pair : S → List ℕ) (plan : S → Plan)

@@ -1,6 +1,7 @@
 //! The fragments of messages that a log doesn't define yet.
 
 ghost use Rattle.std.specs.Prelude.{◌+◌, ◌*◌, ◌<◌, ◌≤◌, length, take, drop};
+ghost use Rattle.log_dictionary.specs.Messages.{AreFormed};
 ghost use Rattle.checkpoint_io.specs.declared.heads.TheConstants.{MAX_FRAGMENT_MESSAGES};
 ghost use Rattle.checkpoint_io.specs.Blocks.{SpellsEntries, SpellsFragment};
 ghost use Rattle.roaming_consumer.specs.Sinks.{SendsFragments};
@@ -65,6 +66,7 @@ pub(crate) fn write_fragments<K: Sink>(
     requires forward { first ≤ end }
     requires within { end ≤ length messages.now }
     requires room { MAX_FRAGMENT ≤ length buffer.old }
+    requires formed { AreFormed messages.now }
     ensures sent { SendsFragments result messages.now first end
         (K.put sink.old) (K.put sink.new) (K.faults sink.old) (K.faults sink.new) }
     ensures others { K.rest sink.old sink.new }

@@ -62,11 +62,13 @@ impl<'d, S: StageOut> Roamer<'d, S> {
     /// A visit after a write has failed.
     fn throw_visit(&mut self, writer: u32) -> Visit
         requires known { writer < length (ends_of self.old) }
+        requires begun { is_begun self.old ≡ true }
         requires faulted { is_faulted self.old ≡ true }
         ensures visits { ChangesOne (ends_of self.old) (ends_of self.new) writer (λ before after.
             VisitTells S.got S.ended S.loads result before after
             × KeepsRing S.ended S.loads S.pair S.plan before after) }
         ensures thrown { IsThrown result }
+        ensures wrote { (put : Told) → AppendsToLog S.got S.ended self.old self.new put put }
         ensures writes { (put : Told) → ChangesOne (ends_of self.old) (ends_of self.new) writer
             (VisitWrites S.got S.ended S.loads self.old writer put put result) }
         ensures few { TakesAtMost (roamer_batch self.old) result }

@@ -1,6 +1,7 @@
 -- A list of which one item is set.
-use Rattle.std.proofs.Common.{◌≡◌, ◌≢◌, ℕ, zero, suc, List, [], ◌∷◌, refl, ap}
+use Rattle.std.proofs.Common.{◌≡◌, ◌≢◌, ℕ, zero, suc, List, [], ◌∷◌, get_or, refl, ap, subst}
 use Rattle.std.specs.Prelude.{Some, slice_get, slice_set}
+use Rattle.std.specs.List.{AllZip}
 use Rattle.std.proofs.lemmas.Option.{same_Some}
 
 -- the others stay
@@ -16,3 +17,33 @@ pub get_set_same : {A : Type 0} (items : List A) (place : ℕ) (item found : A) 
 get_set_same [] place item found there = absurd cc
 get_set_same (x ∷ items) zero item found there = same_Some item found there
 get_set_same (x ∷ items) (suc place) item found there = get_set_same items place item found there
+
+-- ---- two lists, side by side
+
+-- what holds of an item and of the one beside it
+pub zip_at : {A B : Type 0} (R : A → B → Type 0) (items : List A) (others : List B) (place : ℕ) (item : A) (default : B) → AllZip R items others → slice_get items place ≡ Some item → R item (get_or others place default)
+zip_at R [] others place item default all there = absurd cc
+zip_at R (x ∷ items) [] place item default all there = absurd all
+zip_at R (x ∷ items) (y ∷ others) zero item default all there = subst (λ (x : _). R x y) (same_Some x item there) all.0
+zip_at R (x ∷ items) (y ∷ others) (suc place) item default all there = zip_at R items others place item default all.1 there
+
+-- both are set at one place
+pub zip_set : {A B : Type 0} (R : A → B → Type 0) (items : List A) (others : List B) (place : ℕ) (item : A) (other : B) → AllZip R items others → R item other → AllZip R (slice_set items place item) (slice_set others place other)
+zip_set R [] [] place item other all here = tt
+zip_set R [] (y ∷ others) place item other all here = absurd all
+zip_set R (x ∷ items) [] place item other all here = absurd all
+zip_set R (x ∷ items) (y ∷ others) zero item other all here = (here, all.1)
+zip_set R (x ∷ items) (y ∷ others) (suc place) item other all here = (all.0, zip_set R items others place item other all.1 here)
+
+-- one is set at a place, to what fits the item beside it as what was there does
+pub zip_step : {A B : Type 0} (R : A → B → Type 0) (items : List A) (others : List B) (place : ℕ) (before after : A) → AllZip R items others → slice_get items place ≡ Some before → ((other : B) → R before other → R after other) → AllZip R (slice_set items place after) others
+zip_step R [] others place before after all there keeps = all
+zip_step R (x ∷ items) [] place before after all there keeps = absurd all
+zip_step R (x ∷ items) (y ∷ others) zero before after all there keeps = (keeps y (subst (λ (x : _). R x y) (same_Some x before there) all.0), all.1)
+zip_step R (x ∷ items) (y ∷ others) (suc place) before after all there keeps = (all.0, zip_step R items others place before after all.1 there keeps)
+
+pub zip_weaker : {A B : Type 0} (R Q : A → B → Type 0) (items : List A) (others : List B) → ((item : A) (other : B) → R item other → Q item other) → AllZip R items others → AllZip Q items others
+zip_weaker R Q [] [] weaker all = tt
+zip_weaker R Q [] (y ∷ others) weaker all = absurd all
+zip_weaker R Q (x ∷ items) [] weaker all = absurd all
+zip_weaker R Q (x ∷ items) (y ∷ others) weaker all = (weaker x y all.0, zip_weaker R Q items others weaker all.1)

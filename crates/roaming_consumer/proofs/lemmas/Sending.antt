@@ -1,6 +1,6 @@
 -- What a sink took in several calls, one after another.
-use Rattle.std.proofs.Common.{◌≡◌, ℕ, ◌+◌, ◌≤◌, List, [], ◌++◌, length, take, drop, refl, ap, subst, ◌∙◌, inl, inr, arith}
-use Rattle.std.specs.Prelude.{Result, Ok, Err, IsErr, is_err, OnOk, OnErr, false}
+use Rattle.std.proofs.Common.{◌≡◌, ℕ, ◌+◌, ◌≤◌, List, [], ◌++◌, length, take, drop, refl, sym, ap, subst, ◌∙◌, append_assoc, append-nil, inl, inr, arith}
+use Rattle.std.specs.Prelude.{Result, Ok, Err, IsErr, is_err, OnOk, OnErr, true, false}
 use Rattle.nl_io.specs.Count.{Rose}
 use Rattle.nl_io.specs.Content.{Told, with_end, PutsFront}
 use Rattle.nl_io.proofs.lemmas.Contents.{with_end-both, front-first, front-second}
@@ -48,6 +48,9 @@ sends_err (Err e) bytes p q f g failed puts rose count = record { ok = tt; count
 
 -- ---- an extent, and its fragments in front
 
+whole_fragments : (dictionary : List Message) (first up_to end : ℕ) (bytes : List ℕ) → up_to ≡ end → FragmentsFor first (drop first (take up_to dictionary)) bytes → FragmentsFor first (drop first (take end dictionary)) bytes
+whole_fragments dictionary first up_to end bytes whole = subst (λ (n : ℕ). FragmentsFor first (drop first (take n dictionary)) bytes) whole
+
 -- the fragments failed
 pub extent_stops_early : {T E U F : Type 0} (r : Result T E) (e : F) (dictionary : List Message) (first end writer : ℕ) (body : List ℕ) (p q : Told) (f g : ℕ) → IsErr r → SendsFragments {T = U} (Err e) dictionary first end p q f g → SendsExtent r dictionary first end writer body p q f g
 extent_stops_early (Ok x) e dictionary first end writer body p q f g failed sent = absurd cc
@@ -59,6 +62,9 @@ extent_stops_early (Err u) e dictionary first end writer body p q f g failed sen
   extent = [];
   behind = inl refl;
   whole = tt;
+  goes_on = λ lines.
+      let (rest, all) = sent.goes_on lines in
+      (rest ++ (extent_head_bytes writer (length body) ++ body), sent.bytes ++ rest, all, append_assoc sent.bytes rest _ ∙ ap (λ (l : List ℕ). l ++ (rest ++ (extent_head_bytes writer (length body) ++ body))) (sym (append-nil sent.bytes)));
   sent = sends_stop (Err u) sent.bytes [] p q f g refl sent.sent.err sent.sent.cause sent.sent.count;
 }
 
@@ -72,6 +78,7 @@ extent_behind (Ok y) x dictionary first end writer body p q s f g h sent extent 
   extent = extent_head_bytes writer (length body) ++ body;
   behind = inr (sent.whole, refl);
   whole = (sent.whole, refl);
+  goes_on = λ lines. ([], sent.bytes, whole_fragments dictionary first sent.up_to end sent.bytes sent.whole sent.spelled, sym (append-nil _));
   sent = sends_then (Ok y) sent.bytes (extent_head_bytes writer (length body) ++ body) p q s f g h sent.sent.ok sent.sent.counted extent;
 }
 extent_behind (Err e) x dictionary first end writer body p q s f g h sent extent = record {
@@ -82,6 +89,7 @@ extent_behind (Err e) x dictionary first end writer body p q s f g h sent extent
   extent = extent_head_bytes writer (length body) ++ body;
   behind = inr (sent.whole, refl);
   whole = tt;
+  goes_on = λ lines. ([], sent.bytes, whole_fragments dictionary first sent.up_to end sent.bytes sent.whole sent.spelled, sym (append-nil _));
   sent = sends_then (Err e) sent.bytes (extent_head_bytes writer (length body) ++ body) p q s f g h sent.sent.ok sent.sent.counted extent;
 }
 
@@ -102,7 +110,7 @@ pub extent_sent : {T E : Type 0} (r : Result T E) (dictionary : List Message) (f
 extent_sent (Ok x) dictionary first end writer body p q f g passed sent = record {
   fragments = sent.fragments;
   extent = sent.extent;
-  spelled = subst (λ (n : ℕ). FragmentsFor first (drop first (take n dictionary)) sent.fragments) sent.whole.0 sent.spelled;
+  spelled = whole_fragments dictionary first sent.up_to end sent.fragments sent.whole.0 sent.spelled;
   extent_is = sent.whole.1;
   put_is = sent.sent.ok;
 }
@@ -112,3 +120,8 @@ extent_sent (Err e) dictionary first end writer body p q f g passed sent = absur
 pub ok_of : {T E P : Type 0} (r : Result T E) → false ≡ is_err r → OnOk r P → P
 ok_of (Ok x) passed holds = holds
 ok_of (Err e) passed holds = absurd cc
+
+-- what holds of an answer that is Err
+pub err_of : {T E P : Type 0} (r : Result T E) → true ≡ is_err r → OnErr r P → P
+err_of (Ok x) failed holds = absurd cc
+err_of (Err e) failed holds = holds

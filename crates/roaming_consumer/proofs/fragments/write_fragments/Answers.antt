@@ -13,7 +13,7 @@ pub returns-in_err-write_all-clause-sent : goal.returns-in_err-write_all-clause-
 returns-in_err-write_all-clause-sent g c =
     let w = c.in_err-write_all.ensures in
     let count : c.min-count.result ≡ min (c.args.end - c.loop-next.next) 16 = omega (arith, c.min-count.ensures, c.from.ensures) in
-    goes_stop c.from_residual.result _ _ c.loop-next.next _ c.min-count.result _ _ _ _ _ _ _ c.from_residual.ensures.0 c.loop-next.invariant.written c.loop-next-test.true c.requires.within count c.put_fragment-len.ensures.spelled c.loop-next.invariant.counted w.err w.cause w.count
+    goes_stop c.from_residual.result _ _ c.loop-next.next _ c.min-count.result _ _ _ _ _ _ _ c.from_residual.ensures.0 c.loop-next.invariant.written c.loop-next-test.true c.requires.within (omega arith) c.requires.formed count c.put_fragment-len.ensures.spelled c.loop-next.invariant.counted w.err w.cause w.count
 
 pub loop-next-preserved : goal.loop-next-preserved
 loop-next-preserved g c =

@@ -9,4 +9,5 @@ returns-clause-stands g c = record {
   undefined = λ unbegun. refl;
   unclosed = λ unbegun writer. false_everywhere 64 writer;
   lawful = λ begun unfaulted. absurd (cc begun);
+  cut = λ begun faulted. absurd (cc begun);
 }

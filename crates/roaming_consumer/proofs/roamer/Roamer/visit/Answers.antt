@@ -3,11 +3,11 @@ use Rattle.std.proofs.lemmas.Bool.{both_ways}
 use Rattle.roaming_consumer.specs.Growth.{LogProgress}
 use Rattle.roaming_consumer.specs.Roamers.{is_faulted}
 use Rattle.roaming_consumer.proofs.lemmas.Marking.{marks_stay}
-use Rattle.roaming_consumer.proofs.Standing.{threw, planned_after, count_after}
+use Rattle.roaming_consumer.proofs.Standing.{planned_after, count_after}
 use Rattle.roaming_consumer.proofs.roamer.Roamer.visit.Goals as goal
 
 pub returns-then-self-clause-wrote : goal.returns-then-self-clause-wrote
-returns-then-self-clause-wrote g c = threw g.S.StageOut.got g.S.StageOut.ended c.args.self.now c.throw_visit.new.self _ c.requires.begun c.if-self.true c.throw_visit.ensures.others
+returns-then-self-clause-wrote g c = c.throw_visit.ensures.wrote _
 
 pub returns-then-self-clause-planned : goal.returns-then-self-clause-planned
 returns-then-self-clause-planned g c =

@@ -1,7 +1,8 @@
-use Rattle.std.proofs.Common.{Bool, true, false, List, length, get_or, sym, ap, ◌∙◌, arith}
+use Rattle.std.proofs.Common.{Bool, true, false, List, length, get_or, refl, sym, ap, ◌∙◌, arith}
 use Rattle.std.specs.Prelude.{slice_set}
-use Rattle.roaming_consumer.proofs.lemmas.Sending.{ok_of, extent_sent, sent_whole}
-use Rattle.roaming_consumer.proofs.Standing.{draft_some, draft_ids, writes_extent, wrote_extent, wrote_nothing, wrote_mark}
+use Rattle.roaming_consumer.proofs.lemmas.Sending.{ok_of, err_of, sent_whole}
+use Rattle.roaming_consumer.proofs.Standing.{draft_some, draft_ids}
+use Rattle.roaming_consumer.proofs.Additions.{writes_extent, extent_appended, extent_cut, nothing_appended, mark_appended, mark_cut}
 use Rattle.roaming_consumer.specs.Growth.{LogProgress}
 use Rattle.roaming_consumer.proofs.lemmas.Marking.{marks_stay, mark_written}
 use Rattle.roaming_consumer.proofs.Stopping.{stopped_in_extent}
@@ -20,13 +21,24 @@ pub returns-then-draft-gt0-clause-wrote : goal.returns-then-draft-gt0-clause-wro
 returns-then-draft-gt0-clause-wrote g c =
     let w = c.write_draft.ensures in
     let mid = c.collect-ended.new.self in
-    wrote_extent g.S.StageOut.got g.S.StageOut.ended g.S.StageOut.loads g.S.StageOut.pair g.S.StageOut.plan c.args.self.now mid c.write_draft.new.self c.args.writer c.collect-ended.result.draft c.collect-ended.result.ended mid.body.items _ _ c.requires.begun c.requires.unfaulted c.collect-ended.ensures.gathers c.collect-ended.ensures.others w.same_run w.same_ends w.same_flags.0 (ok_of c.write_draft.result c.if-is_err.ensures.value w.ok) w.distinct w.few c.args.self.now.few_ends (omega (arith, mid.body_room, mid.body.ok.0)) (omega arith) c.collect-ended.ensures.few
-    (extent_sent c.write_draft.result _ _ _ _ _ _ _ _ _ c.if-is_err.ensures.value w.sent)
+    extent_appended g.S.StageOut.got g.S.StageOut.ended g.S.StageOut.loads g.S.StageOut.pair g.S.StageOut.plan c.args.self.now mid c.write_draft.new.self c.args.writer c.collect-ended.result.draft c.collect-ended.result.ended mid.body.items c.collect-ended.ensures.gathers c.collect-ended.ensures.others w.same_ends c.args.self.now.few_ends (omega (arith, mid.body_room, mid.body.ok.0)) (omega arith) c.write_draft.result _ _ _ _ w.sent c.requires.begun c.requires.unfaulted w.same_run w.same_flags.0 w.distinct w.few c.collect-ended.ensures.few c.if-is_err.ensures.value (ok_of c.write_draft.result c.if-is_err.ensures.value w.ok)
+
+pub returns-then-is_err-clause-wrote : goal.returns-then-is_err-clause-wrote
+returns-then-is_err-clause-wrote g c =
+    let w = c.write_draft.ensures in
+    let mid = c.collect-ended.new.self in
+    extent_cut g.S.StageOut.got g.S.StageOut.ended g.S.StageOut.loads g.S.StageOut.pair g.S.StageOut.plan c.args.self.now mid _ c.args.writer c.collect-ended.result.draft c.collect-ended.result.ended mid.body.items c.collect-ended.ensures.gathers c.collect-ended.ensures.others w.same_ends c.args.self.now.few_ends (omega (arith, mid.body_room, mid.body.ok.0)) (omega arith) c.write_draft.result _ _ _ _ w.sent c.requires.begun c.requires.unfaulted (record { messages = w.same_run.messages; clock = w.same_run.clock; batch = w.same_run.batch }) w.same_flags.0 w.distinct w.few c.collect-ended.ensures.few c.if-is_err.ensures.value refl
+
+pub returns-then-is_err-2-clause-wrote : goal.returns-then-is_err-2-clause-wrote
+returns-then-is_err-2-clause-wrote g c =
+    let m = c.write_mark.ensures in
+    let mid = c.collect-ended.new.self in
+    mark_cut g.S.StageOut.got g.S.StageOut.ended g.S.StageOut.loads g.S.StageOut.pair g.S.StageOut.plan c.args.self.now mid _ c.args.writer c.collect-ended.result.draft c.collect-ended.result.ended mid.body.items c.collect-ended.ensures.gathers c.collect-ended.ensures.others m.same_ends c.requires.begun c.requires.unfaulted (record { messages = m.same_run.messages; clock = m.same_run.clock; batch = m.same_run.batch }) m.same_flags.0 (omega arith) c.if-not-self-writer.true (omega (arith, c.args.self.now.few_ends)) c.if-not-ended.false _ _ refl (err_of c.write_mark.result c.if-is_err-2.ensures.value m.sent.err)
 
 pub returns-then-not-ended-clause-wrote : goal.returns-then-not-ended-clause-wrote
 returns-then-not-ended-clause-wrote g c =
     let mid = c.collect-ended.new.self in
-    wrote_nothing g.S.StageOut.got g.S.StageOut.ended g.S.StageOut.loads g.S.StageOut.pair g.S.StageOut.plan c.args.self.now mid c.args.writer c.collect-ended.result.draft c.collect-ended.result.ended mid.body.items _ c.requires.begun c.requires.unfaulted c.collect-ended.ensures.gathers c.collect-ended.ensures.others (omega arith)
+    nothing_appended g.S.StageOut.got g.S.StageOut.ended g.S.StageOut.loads g.S.StageOut.pair g.S.StageOut.plan c.args.self.now mid mid c.args.writer c.collect-ended.result.draft c.collect-ended.result.ended mid.body.items c.collect-ended.ensures.gathers c.collect-ended.ensures.others refl c.requires.begun c.requires.unfaulted (record { messages = refl; clock = refl; batch = refl }) refl (omega arith) _ refl
 
 pub returns-clause-wrote : goal.returns-clause-wrote
 returns-clause-wrote g c =
@@ -35,10 +47,9 @@ returns-clause-wrote g c =
     elim c.else-not-self-writer.branch [
       | else-not-self-writer-via-then-not-self-writer+else-is_err-2 w ↦
           let m = w.write_mark.ensures in
-          let unclosed = w.if-not-self-writer.true in
-          rw (w.self-is, w.sink-is) (wrote_mark g.S.StageOut.got g.S.StageOut.ended g.S.StageOut.loads g.S.StageOut.pair g.S.StageOut.plan c.args.self.now mid w.write_mark.new.self c.args.writer c.collect-ended.result.draft c.collect-ended.result.ended mid.body.items _ _ c.requires.begun c.requires.unfaulted c.collect-ended.ensures.gathers c.collect-ended.ensures.others m.same_run m.same_ends m.same_flags.0 (ok_of w.write_mark.result w.if-is_err-2.ensures.value m.ok) unclosed (omega (arith, c.args.self.now.few_ends)) (omega arith) over (sent_whole w.write_mark.result _ _ _ _ _ w.if-is_err-2.ensures.value m.sent))
+          rw (w.self-is, w.sink-is) (mark_appended g.S.StageOut.got g.S.StageOut.ended g.S.StageOut.loads g.S.StageOut.pair g.S.StageOut.plan c.args.self.now mid w.write_mark.new.self c.args.writer c.collect-ended.result.draft c.collect-ended.result.ended mid.body.items c.collect-ended.ensures.gathers c.collect-ended.ensures.others m.same_ends c.requires.begun c.requires.unfaulted m.same_run m.same_flags.0 (omega arith) w.if-not-self-writer.true (omega (arith, c.args.self.now.few_ends)) over _ _ (ok_of w.write_mark.result w.if-is_err-2.ensures.value m.ok) (sent_whole w.write_mark.result _ _ _ _ _ w.if-is_err-2.ensures.value m.sent))
       | else-not-self-writer-via-else-not-self-writer w ↦
-          rw (w.self-is, w.sink-is) (wrote_nothing g.S.StageOut.got g.S.StageOut.ended g.S.StageOut.loads g.S.StageOut.pair g.S.StageOut.plan c.args.self.now mid c.args.writer c.collect-ended.result.draft c.collect-ended.result.ended mid.body.items _ c.requires.begun c.requires.unfaulted c.collect-ended.ensures.gathers c.collect-ended.ensures.others (omega arith))
+          rw (w.self-is, w.sink-is) (nothing_appended g.S.StageOut.got g.S.StageOut.ended g.S.StageOut.loads g.S.StageOut.pair g.S.StageOut.plan c.args.self.now mid mid c.args.writer c.collect-ended.result.draft c.collect-ended.result.ended mid.body.items c.collect-ended.ensures.gathers c.collect-ended.ensures.others refl c.requires.begun c.requires.unfaulted (record { messages = refl; clock = refl; batch = refl }) refl (omega arith) _ refl)
     ]
 
 pub returns-then-draft-gt0-clause-marks : goal.returns-then-draft-gt0-clause-marks
@@ -73,5 +84,4 @@ returns-then-draft-gt0-clause-writes g c =
     let w = c.write_draft.ensures in
     let mid = c.collect-ended.new.self in
     rw c.from.ensures (
-    writes_extent g.S.StageOut.got g.S.StageOut.ended g.S.StageOut.loads g.S.StageOut.pair g.S.StageOut.plan c.args.self.now mid c.write_draft.new.self c.args.writer c.collect-ended.result.draft c.collect-ended.result.ended mid.body.items _ _ c.collect-ended.ensures.gathers c.collect-ended.ensures.others w.same_ends c.args.self.now.few_ends (omega (arith, mid.body_room, mid.body.ok.0)) (omega arith)
-    (extent_sent c.write_draft.result _ _ _ _ _ _ _ _ _ c.if-is_err.ensures.value w.sent))
+    writes_extent g.S.StageOut.got g.S.StageOut.ended g.S.StageOut.loads g.S.StageOut.pair g.S.StageOut.plan c.args.self.now mid c.write_draft.new.self c.args.writer c.collect-ended.result.draft c.collect-ended.result.ended mid.body.items c.collect-ended.ensures.gathers c.collect-ended.ensures.others w.same_ends c.args.self.now.few_ends (omega (arith, mid.body_room, mid.body.ok.0)) (omega arith) c.write_draft.result _ _ _ _ w.sent c.if-is_err.ensures.value)
