@@ -5,3 +5,4 @@ pub mod Rounds
 pub mod Seats
 pub mod Leaving
 pub mod NewWorkers
+pub mod Cuts

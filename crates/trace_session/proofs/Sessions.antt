@@ -1,7 +1,7 @@
 -- From what a session's parts say at its end to what the session came to.
 use Rattle.std.proofs.Common.{◌≡◌, ℕ, suc, ◌+◌, ◌-◌, ◌<◌, ◌≤◌, Bool, true, false, List, [], ◌∷◌, ◌++◌, map, length, take, drop, refl, sym, ap, ◌∙◌, subst, append_assoc, arith}
 use Rattle.std.specs.Prelude.{All, Some, filter, slice_get, sum_by}
-use Rattle.std.specs.List.{AllZip, enumerate_from}
+use Rattle.std.specs.List.{AllZip, each_same, enumerate_from}
 use Rattle.std.proofs.lemmas.List.{append-nil, map-append, length-map, take_all, take_at}
 use Rattle.std.proofs.lemmas.List.Sums.{sum_by-cons}
 use Rattle.std.proofs.lemmas.Option.{slice_get_within}
@@ -90,22 +90,27 @@ module _ {S O D : Type 0} (plan : Plan) (sent : S → List (List ℕ)) (closed :
       let others = got_frames writers ends left taken joined.1 has.1 (tail_ended e ends over) in
       λ i. here i ∷ others i
 
-  -- the calls whose frames were taken are those that were logged
-  pub taken_are : (writers : List (WriterView S)) (ends : List O) (left : List D) (taken others : List (List Call)) → AllZip3 Rejoined writers ends left → AllZip (HasSent plan sent closed) writers taken → AllEnded ended ends → FramesAreTaken plan got ends others → others ≡ taken
-  taken_are [] [] [] [] [] joined has over are = refl
-  taken_are [] [] [] [] (other ∷ others) joined has over are = absurd are
-  taken_are [] [] [] (calls ∷ taken) others joined has over are = absurd has
-  taken_are [] [] (d ∷ left) taken others joined has over are = absurd joined
-  taken_are [] (e ∷ ends) left taken others joined has over are = absurd joined
-  taken_are (w ∷ writers) [] left taken others joined has over are = absurd joined
-  taken_are (w ∷ writers) (e ∷ ends) [] taken others joined has over are = absurd joined
-  taken_are (w ∷ writers) (e ∷ ends) (d ∷ left) [] others joined has over are = absurd has
-  taken_are (w ∷ writers) (e ∷ ends) (d ∷ left) (calls ∷ taken) [] joined has over are = absurd are
-  taken_are (w ∷ writers) (e ∷ ends) (d ∷ left) (calls ∷ taken) (other ∷ others) joined has over are =
+  -- the frames that were taken are those of the calls that were logged
+  pub got_all : (writers : List (WriterView S)) (ends : List O) (left : List D) (taken : List (List Call)) → AllZip3 Rejoined writers ends left → AllZip (HasSent plan sent closed) writers taken → AllEnded ended ends → FramesAreTaken plan got ends taken
+  got_all [] [] [] [] joined has over = tt
+  got_all [] [] [] (calls ∷ taken) joined has over = absurd has
+  got_all [] [] (d ∷ left) taken joined has over = absurd joined
+  got_all [] (e ∷ ends) left taken joined has over = absurd joined
+  got_all (w ∷ writers) [] left taken joined has over = absurd joined
+  got_all (w ∷ writers) (e ∷ ends) [] taken joined has over = absurd joined
+  got_all (w ∷ writers) (e ∷ ends) (d ∷ left) [] joined has over = absurd has
+  got_all (w ∷ writers) (e ∷ ends) (d ∷ left) (calls ∷ taken) joined has over =
       let whole = whole_of w e d calls joined.0 has.0 (over 0 e refl) in
-      let here : other ≡ calls = AreFramesOf-unique plan (got e) other calls are.0 (subst (λ (frames : List (List ℕ)). AreFramesOf plan frames calls) (sym whole) has.0.frames) in
-      let more = taken_are writers ends left taken others joined.1 has.1 (tail_ended e ends over) are.1 in
-      λ i. here i ∷ more i
+      (subst (λ (frames : List (List ℕ)). AreFramesOf plan frames calls) (sym whole) has.0.frames, got_all writers ends left taken joined.1 has.1 (tail_ended e ends over))
+
+-- two lists beside the same list
+pub zip_meet : {A B C : Type 0} (R : A → B → Type 0) (Q : A → C → Type 0) (P : B → C → Type 0) (items : List A) (ours : List B) (theirs : List C) → AllZip R items ours → AllZip Q items theirs → ((item : A) (our : B) (their : C) → R item our → Q item their → P our their) → AllZip P ours theirs
+zip_meet R Q P [] [] [] left right meet = tt
+zip_meet R Q P [] [] (z ∷ theirs) left right meet = absurd right
+zip_meet R Q P [] (y ∷ ours) theirs left right meet = absurd left
+zip_meet R Q P (x ∷ items) [] theirs left right meet = absurd left
+zip_meet R Q P (x ∷ items) (y ∷ ours) [] left right meet = absurd right
+zip_meet R Q P (x ∷ items) (y ∷ ours) (z ∷ theirs) left right meet = (meet x y z left.0 right.0, zip_meet R Q P items ours theirs left.1 right.1 meet)
 
 -- how many frames were taken is how many calls were
 pub frames_counted : {D : Type 0} (got : D → List (List ℕ)) (left : List D) (taken : List (List Call)) → map got left ≡ map frames_of taken → sum_by (λ done. length (got done)) left ≡ call_count taken
@@ -137,7 +142,10 @@ whole_log {S} {O} {D} sent closed got ended pair plan sent_left got_left closed_
     let plan_is : plan_of_roamer new ≡ plan_of run.dictionary run.clock.tick = λ i. plan_of (messages i) (clock i).tick in
     let frames = subst (λ (p : Plan). FramesAreTaken p got (ends_of new) log.taken) plan_is log.frames in
     let all : AllEnded ended (ends_of new) = λ writer end is. over.ends writer end (slice_get_within (ends_of new) writer end is) is in
-    let same : log.taken ≡ taken = taken_are (plan_of run.dictionary run.clock.tick) sent closed got ended sent_left got_left closed_left ended_left writers (ends_of new) left taken log.taken joined has all frames in
+    let is_frame = λ (end : O) (calls : List Call). AreFramesOf (plan_of run.dictionary run.clock.tick) (got end) calls in
+    let got_taken = got_all (plan_of run.dictionary run.clock.tick) sent closed got ended sent_left got_left closed_left ended_left writers (ends_of new) left taken joined has all in
+    let same : log.taken ≡ taken =
+    each_same taken log.taken (zip_meet is_frame is_frame (λ calls other. other ≡ calls) (ends_of new) taken log.taken got_taken frames (λ end calls other is other_is. AreFramesOf-unique (plan_of run.dictionary run.clock.tick) (got end) other calls other_is is)) in
     let is : LogWith bytes (log.taken, roamer_messages new, roamer_clock new, roamer_batch new) = (log.log, log.closed) in
     let whole : LogWith bytes (taken, run.dictionary, run.clock, options.batch) = subst (LogWith bytes) (λ i. (same i, messages i, clock i, batch i)) is in
     record { lawful = whole.0; closed = whole.1 }

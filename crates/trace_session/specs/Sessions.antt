@@ -1,5 +1,6 @@
 -- What a session came to.
-use Rattle.std.specs.Prelude.{◌≡◌, ℕ, ◌+◌, ◌<◌, List, [], length, map}
+use Rattle.std.specs.Prelude.{◌≡◌, ℕ, ◌+◌, ◌<◌, List, [], ◌++◌, length, map}
+use Rattle.std.specs.List.{AllZip}
 use Rattle.session_options.specs.declared.options.Options.{Options}
 use Rattle.session_options.specs.declared.options.Policy.TheVariants as policies
 use Rattle.checkpoint_io.specs.Validity.{IsClosed}
@@ -37,3 +38,18 @@ pub record IsSession {D : Type 0} (sent got : D → List (List ℕ)) (run : Reco
   pub log : IsWholeLog run options.batch (Taken run options.level outcome.drops) bytes
   pub counts : AreCounted run options outcome.drops outcome.accepted outcome.filtered
   pub settled : AreSettled sent got outcome.settled.items (Taken run options.level outcome.drops)
+
+-- of each writer the calls are the first ones of another list
+abbrev pub AreFirstCalls : List (List Call) → List (List Call) → Type 0
+AreFirstCalls taken all = AllZip (λ calls whole. (rest : List Call) × (whole ≡ calls ++ rest)) taken all
+
+-- The bytes are the front of a log that a session of the run might give. It is that of the first calls of each writer
+-- that the level keeps and that aren't dropped. The drops are lawful, and where writers wait there are none.
+pub record IsCutSession (run : Recording) (options : Options) (bytes : List ℕ) : Type 0 where
+  pub drops : List Dropped
+  pub dropped : LawfulDrops run options.level options.ring drops
+  pub waits : options.policy ≡ policies.Wait → drops ≡ []
+  pub taken : List (List Call)
+  pub first : AreFirstCalls taken (Taken run options.level drops)
+  pub rest : List ℕ
+  pub log : LogOf (bytes ++ rest) taken run.dictionary run.clock options.batch

@@ -7,7 +7,7 @@ ghost use Rattle.nl_io.specs.Count.{Rose};
 ghost use Rattle.nl_io.specs.Content.{with_end};
 ghost use Rattle.session_options.specs.declared.limits.TheConstants.{MIN_RING, MAX_RING, MAX_BATCH};
 ghost use Rattle.roaming_consumer.specs.Roamers.{is_begun, RoamerStandsFor};
-ghost use Rattle.trace_session.specs.Sessions.{IsSession};
+ghost use Rattle.trace_session.specs.Sessions.{IsSession, IsCutSession};
 ghost use Rattle.trace_session.specs.Running.{AreReady};
 ghost use Rattle.trace_session.specs.Rooms.{IsFree};
 ghost use Rattle.trace_session.specs.Workers.{work_of};
@@ -69,6 +69,9 @@ where
     ensures ok { IfOk result (λ outcome. (bytes : List ℕ) × (K.put sink.new ≡ with_end bytes (K.put sink.old))
         × ((wrote : List ℕ) → RoamerStandsFor S.Out.got S.Out.ended roamer.entry wrote
         → IsSession S.Done.sent S.Done.got trace.now options.now outcome (wrote ++ bytes))) }
+    ensures cut { OnErr result ((bytes : List ℕ) × (K.put sink.new ≡ with_end bytes (K.put sink.old))
+        × ((wrote : List ℕ) → RoamerStandsFor S.Out.got S.Out.ended roamer.entry wrote
+        → IsCutSession trace.now options.now (wrote ++ bytes))) }
     ensures counted { OnOk result (K.faults sink.new ≡ K.faults sink.old) }
     ensures cause { OnErr result (Rose (K.faults sink.old) (K.faults sink.new)) }
     ensures count { K.faults sink.old ≤ K.faults sink.new }
@@ -85,11 +88,12 @@ where
     start_all(rt, workers, &mut seats);
     consume(rt, &mut roamer, &mut seats, sink, gate);
     finished.add_all(rt, seats);
-    if roamer.faulted() {
-        return Err(SinkFault);
-    }
+    let faulted = roamer.faulted();
     let (drops, writers) = finished.into_parts();
     let accepted = settle::<S>(writers, roamer, &mut settled);
+    if faulted {
+        return Err(SinkFault);
+    }
     let others = calls - accepted;
     Ok(Outcome {
         filtered: others - drops.len() as u64,
@@ -126,6 +130,9 @@ where
     ensures unbegun { (result ≡ Err RunFault.BadSize) ⊎ (result ≡ Err RunFault.NoMemory) → sink.new ≡ sink.old }
     ensures counted { OnOk result (K.faults sink.new ≡ K.faults sink.old) }
     ensures sink_fault { result ≡ Err RunFault.SinkFault → Rose (K.faults sink.old) (K.faults sink.new) }
+    ensures cut { IsErrOf result RunFault.SinkFault
+        → (bytes : List ℕ) × (K.put sink.new ≡ with_end bytes (K.put sink.old))
+        × IsCutSession (arc_value trace.now) options.now bytes }
     ensures count { K.faults sink.old ≤ K.faults sink.new }
     ensures grew { (bytes : List ℕ) × (K.put sink.new ≡ with_end bytes (K.put sink.old)) }
     ensures others { K.rest sink.old sink.new }

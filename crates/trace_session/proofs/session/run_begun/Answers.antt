@@ -1,11 +1,13 @@
-use Rattle.std.proofs.Common.{◌≡◌, false, true, List, ◌++◌, map, length, refl, sym, ap, ◌∙◌, ⊎_elim, arith}
+use Rattle.std.proofs.Common.{◌≡◌, false, true, List, ◌++◌, map, length, refl, sym, ap, ◌∙◌, subst, ⊎_elim, arith}
 use Rattle.std.proofs.lemmas.List.{length-map}
 use Rattle.trace_text.specs.Recordings.{Recording}
+use Rattle.trace_text.specs.Canonical.{HasText}
 use Rattle.trace_session.specs.Drops.{call_count}
 use Rattle.trace_session.specs.Finishing.{FinishedView, works_of}
 use Rattle.trace_session.specs.Workers.{Work}
 use Rattle.log_session.specs.Writers.{WriterView}
 use Rattle.trace_session.proofs.Sessions.{pairs_are, rebuilt, ends_count, zip_from_maps, works_kept, all_done, few_accepted, taken_few, session_is}
+use Rattle.trace_session.proofs.Cuts.{cut_session}
 use Rattle.trace_session.proofs.session.run_begun.Goals as goal
 
 pub consume-requires-clause-known : goal.consume-requires-clause-known
@@ -36,8 +38,21 @@ add_all-requires-clause-count g c κs within =
 
 pub returns-then-faulted-clause-cause : goal.returns-then-faulted-clause-cause
 returns-then-faulted-clause-cause g c =
-    let faulted = sym c.faulted.ensures ∙ c.if-faulted.true in
+    let faulted = sym c.faulted-faulted.ensures ∙ c.if-faulted.true in
     ⊎_elim (λ before. let never : true ≡ false = sym before ∙ c.requires.ready.unfaulted in absurd cc) (λ rose. rose) (c.consume.ensures.roams.faulted faulted)
+
+pub returns-then-faulted-clause-cut : goal.returns-then-faulted-clause-cut
+returns-then-faulted-clause-cut g c =
+    let parts = c.into_parts-drops.ensures in
+    let (done, all) = all_done _ _ _ _ c.args.trace.now c.args.options.now _ _ c.requires.free.finished c.add_all.ensures.same parts.drops parts.writers parts.done c.add_all.ensures.all in
+    let (left, into, joined, counted) = c.settle-accepted.ensures in
+    let roams = c.consume.ensures.roams in
+    let faulted = sym c.faulted-faulted.ensures ∙ c.if-faulted.true in (
+      roams.adds.bytes,
+      roams.adds.put_is,
+      λ wrote stands. cut_session _ _ _ _ _ _ _ _ c.args.trace.now c.args.options.now c.consume.new.roamer _ _ left c.consume.ensures.over done all joined
+          g.S.Out.StageOut.pair g.S.Out.StageOut.plan _ c.args.roamer (wrote ++ roams.adds.bytes) c.requires.ready roams.same_run roams.begun (subst HasText c.trace.view_is c.trace.invariant) faulted (roams.adds.stands wrote stands),
+    )
 
 pub settle-accepted-requires-clause-rings : goal.settle-accepted-requires-clause-rings
 settle-accepted-requires-clause-rings g c κs within =
@@ -59,7 +74,7 @@ settle-accepted-requires-clause-few g c κs within =
     omega (arith, few, ap (λ (r : Recording). call_count r.writers) c.trace.view_is, c.trace.invariant.recorded.few_calls)
 
 pub returns-clause-counted : goal.returns-clause-counted
-returns-clause-counted g c = (c.consume.ensures.roams.unfaulted (sym c.faulted.ensures ∙ c.if-faulted.false)).1
+returns-clause-counted g c = (c.consume.ensures.roams.unfaulted (sym c.faulted-faulted.ensures ∙ c.if-faulted.false)).1
 
 pub overflow_sub-others : goal.overflow_sub-others
 overflow_sub-others g c =
@@ -83,7 +98,7 @@ returns-clause-ok g c =
     let (done, all) = all_done _ _ _ _ c.args.trace.now c.args.options.now _ _ c.requires.free.finished c.add_all.ensures.same parts.drops parts.writers parts.done c.add_all.ensures.all in
     let (left, into, joined, counted) = c.settle-accepted.ensures in
     let roams = c.consume.ensures.roams in
-    let right = sym c.faulted.ensures ∙ c.if-faulted.false in
+    let right = sym c.faulted-faulted.ensures ∙ c.if-faulted.false in
     let calls = c.count_calls-calls.ensures ∙ ap (λ (r : Recording). call_count r.writers) c.trace.view_is in (
       roams.adds.bytes,
       roams.adds.put_is,
