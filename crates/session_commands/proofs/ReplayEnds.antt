@@ -1,10 +1,13 @@
 -- How `replay` ends, by what was read, written and told.
 use Rattle.std.proofs.Common.{◌≡◌, ◌≢◌, ℕ, ◌+◌, ◌-◌, ◌≤◌, List, [], Some, Result, Ok, Err, refl, sym, ap, subst, ◌∙◌, inl, inr, arith}
-use Rattle.std.specs.Prelude.{◌^◌, min, OnErr, IsErrOf}
+use Rattle.std.specs.Prelude.{◌^◌, ◌∷◌, min, IfOk, OnErr, IsErrOf}
+use Rattle.std.proofs.lemmas.List.{append-nil}
 use Rattle.nl_io.specs.Count.{Rose}
 use Rattle.nl_io.specs.Content.{Told, with_end}
 use Rattle.nl_io.specs.Desk.{Desk, OnlyName, OnlyWriteFaults, Creates, Finishes, SameButHeld, put_by, found_in}
 use Rattle.nl_io.specs.DeskLaws.{written, written-holds}
+use Rattle.arg_records.specs.declared.call.Call.{Call}
+use Rattle.checkpoint_io.specs.Logs.{LogOf}
 use Rattle.trace_text.specs.Recordings.{Recording}
 use Rattle.trace_text.specs.Traces.{TraceText}
 use Rattle.trace_session.specs.declared.drops.Dropped.{Dropped}
@@ -13,7 +16,7 @@ use Rattle.trace_session.specs.declared.outcome.Outcome.{Outcome}
 use Rattle.trace_session.specs.declared.outcome.RunFault.{RunFault}
 use Rattle.trace_session.specs.declared.outcome.RunFault.TheVariants as run_faults
 use Rattle.trace_session.specs.Drops.{Taken}
-use Rattle.trace_session.specs.Sessions.{AreCounted, IsSession}
+use Rattle.trace_session.specs.Sessions.{AreCounted, IsSession, AreFirstCalls, IsCutSession}
 use Rattle.decompressor.proofs.lemmas.TextLaws.{log_is_text}
 use Rattle.command_base.specs.Endings.{Ending, WriteFault, NoMemory}
 use Rattle.command_base.specs.Effects.{CommandEffect}
@@ -25,7 +28,7 @@ use Rattle.command_base.specs.Scenes.{Scene, scene}
 use Rattle.command_base.specs.Tasks.{Product}
 use Rattle.trace_commands.specs.Traces.{TraceRead, IsRefusedAt, GivesNoTrace}
 use Rattle.session_commands.specs.Headline.{outcome_text, accepted_count, filtered_count, told_text}
-use Rattle.session_commands.specs.Replays.{ReplayGives, GivesNoLog, run_fault_ending, replay_task}
+use Rattle.session_commands.specs.Replays.{ReplayGives, IsLogFront, GivesNoLog, run_fault_ending, replay_task}
 use Rattle.session_commands.proofs.lemmas.Soundness.{replay_sound}
 
 -- ---- the log
@@ -48,41 +51,85 @@ rose_from : (most before between after : ℕ) → before ≤ between → min (be
 rose_from most before between after count rose = omega arith
 
 -- a name that couldn't be created
-pub not_created : (log : List ℕ) (old new : Desk) → OnlyWriteFaults old new → Rose old.write_faults new.write_faults
-    → GivesNoLog log old new (WriteFault log)
-not_created log old new only rose = (refl, inl (ap (λ (d : Desk). found_in d log) only.same), rose)
+pub not_created : (run : Recording) (options : Options) (log : List ℕ) (old new : Desk) → OnlyWriteFaults old new
+    → Rose old.write_faults new.write_faults → GivesNoLog run options log old new (WriteFault log)
+not_created run options log old new only rose = (refl, inl (ap (λ (d : Desk). found_in d log) only.same), rose)
+
+-- all calls are the first ones
+first_of_all : (taken : List (List Call)) → AreFirstCalls taken taken
+first_of_all [] = tt
+first_of_all (calls ∷ taken) = (([], sym (append-nil calls)), first_of_all taken)
+
+-- a whole log is a front of one
+whole_front : {D : Type 0} (sent got : D → List (List ℕ)) (run : Recording) (options : Options) (outcome : Outcome D)
+    (bytes : List ℕ) → IsSession sent got run options outcome bytes → IsCutSession run options bytes
+whole_front sent got run options outcome bytes session =
+    let taken = Taken run options.level outcome.drops in
+    record {
+      drops = outcome.drops;
+      dropped = session.dropped;
+      waits = session.waits;
+      taken = taken;
+      first = first_of_all taken;
+      rest = [];
+      log = subst (λ (b : List ℕ). LogOf b taken run.dictionary run.clock options.batch) (sym (append-nil bytes)) session.log.lawful;
+    }
+
+-- what a session has written, whatever it answers
+pub record HasWritten (run : Recording) (options : Options) (created put : Desk) (id : ℕ) : Type 0 where
+  pub bytes : List ℕ
+  pub grew : put_by put id ≡ with_end bytes (put_by created id)
+  pub front : IsLogFront run options bytes
+
+pub has_written : {D : Type 0} (sent got : D → List (List ℕ)) (run : Recording) (options : Options) (created put : Desk)
+    (id : ℕ) (result : Result (Outcome D) RunFault)
+    → IfOk result (λ outcome. (bytes : List ℕ) × (put_by put id ≡ with_end bytes (put_by created id)) × IsSession sent got run options outcome bytes)
+    → ¬ (IsErrOf result run_faults.BadSize) → (IsErrOf result run_faults.NoMemory → put ≡ created)
+    → (IsErrOf result run_faults.SinkFault → (bytes : List ℕ) × (put_by put id ≡ with_end bytes (put_by created id)) × IsCutSession run options bytes)
+    → HasWritten run options created put id
+has_written sent got run options created put id (Ok outcome) (bytes, grew, session) sized unbegun cut =
+    record { bytes = bytes; grew = grew; front = inr (whole_front sent got run options outcome bytes session) }
+has_written sent got run options created put id (Err run_faults.BadSize) ok sized unbegun cut = absurd (sized refl)
+has_written sent got run options created put id (Err run_faults.NoMemory) ok sized unbegun cut = record {
+  bytes = [];
+  grew = ap (λ (d : Desk). put_by d id) (unbegun refl) ∙ put_nothing (put_by created id);
+  front = inl refl;
+}
+has_written sent got run options created put id (Err run_faults.SinkFault) ok sized unbegun cut =
+    let (bytes, grew, front) = cut refl in record { bytes = bytes; grew = grew; front = inr front }
 
 -- what was written to a name that couldn't be finished
-pub not_finished : (log : List ℕ) (old : Desk) (id : ℕ) (created put new : Desk) → Creates old log id created
-    → SameButHeld id created put → created.write_faults ≤ put.write_faults
-    → (bytes : List ℕ) × (put_by put id ≡ with_end bytes (put_by created id)) → Finishes put id new
-    → Rose put.write_faults new.write_faults → GivesNoLog log old new (WriteFault log)
-not_finished log old id created put new creates same count (bytes, grew) finishes rose = (
+pub not_finished : (run : Recording) (options : Options) (log : List ℕ) (old : Desk) (id : ℕ) (created put new : Desk)
+    → Creates old log id created → SameButHeld id created put → created.write_faults ≤ put.write_faults
+    → HasWritten run options created put id → Finishes put id new
+    → Rose put.write_faults new.write_faults → GivesNoLog run options log old new (WriteFault log)
+not_finished run options log old id created put new creates same count wrote finishes rose = (
   refl,
-  inr (bytes, created_holds old log bytes id created put new creates same count grew finishes),
+  inr (wrote.bytes, created_holds old log wrote.bytes id created put new creates same count wrote.grew finishes, wrote.front),
   subst (λ (n : ℕ). Rose n new.write_faults) (ap (λ (d : Desk). d.write_faults) creates.created)
       (rose_from (2 ^ 64 - 1) created.write_faults put.write_faults new.write_faults count rose),
 )
 
 -- a session that wasn't run to its end, whose file was finished
-pub not_run : {T : Type 0} (log : List ℕ) (old : Desk) (id : ℕ) (created put new : Desk) (fault : RunFault)
+pub not_run : {T : Type 0} (run : Recording) (options : Options) (log : List ℕ) (old : Desk) (id : ℕ)
+    (created put new : Desk) (fault : RunFault)
     → Creates old log id created → SameButHeld id created put → created.write_faults ≤ put.write_faults
-    → (bytes : List ℕ) × (put_by put id ≡ with_end bytes (put_by created id)) → Finishes put id new
+    → HasWritten run options created put id → Finishes put id new
     → new.write_faults ≡ put.write_faults → ¬ (IsErrOf {T = T} (Err fault) run_faults.BadSize)
     → (IsErrOf {T = T} (Err fault) run_faults.NoMemory → put ≡ created)
     → (IsErrOf {T = T} (Err fault) run_faults.SinkFault → Rose created.write_faults put.write_faults)
-    → GivesNoLog log old new (run_fault_ending log fault)
-not_run log old id created put new run_faults.BadSize creates same count grew finishes counted sized unbegun cause =
+    → GivesNoLog run options log old new (run_fault_ending log fault)
+not_run run options log old id created put new run_faults.BadSize creates same count wrote finishes counted sized unbegun cause =
     absurd (sized refl)
-not_run log old id created put new run_faults.NoMemory creates same count grew finishes counted sized unbegun cause =
+not_run run options log old id created put new run_faults.NoMemory creates same count wrote finishes counted sized unbegun cause =
     let none : put ≡ created = unbegun refl in (
       created_holds old log [] id created put new creates same count
           (ap (λ (d : Desk). put_by d id) none ∙ put_nothing (put_by created id)) finishes,
       counted ∙ ap (λ (d : Desk). d.write_faults) none ∙ ap (λ (d : Desk). d.write_faults) creates.created,
     )
-not_run log old id created put new run_faults.SinkFault creates same count (bytes, grew) finishes counted sized unbegun cause = (
+not_run run options log old id created put new run_faults.SinkFault creates same count wrote finishes counted sized unbegun cause = (
   refl,
-  inr (bytes, created_holds old log bytes id created put new creates same count grew finishes),
+  inr (wrote.bytes, created_holds old log wrote.bytes id created put new creates same count wrote.grew finishes, wrote.front),
   subst (λ (n : ℕ). Rose n new.write_faults) (ap (λ (d : Desk). d.write_faults) creates.created)
       (subst (Rose created.write_faults) (sym counted) (cause refl)),
 )
@@ -107,20 +154,20 @@ replay_lacked trace log options old desk run read same =
 
 -- the trace was read, and no log was given
 pub replay_lost : (trace log : List ℕ) (options : Options) (old : Scene) (desk : Desk) (run : Recording)
-    (ending : Ending) → TraceRead old.desk trace run → GivesNoLog log old.desk desk ending → OnlyName log old.desk desk
+    (ending : Ending) → TraceRead old.desk trace run → GivesNoLog run options log old.desk desk ending → OnlyName log old.desk desk
     → CommandEffect (replay_task trace log options) old (scene desk old.put old.faults) ending
 replay_lost trace log options old desk run (WriteFault name) read (named, holds, rose) only =
     subst (λ (n : List ℕ). CommandEffect (replay_task trace log options) old (scene desk old.put old.faults) (WriteFault n))
     (sym named)
     (elim holds [
-      | inl same ↦ lost (replay_task trace log options) old desk log [] refl (run, read) (inl same) only rose
-      | inr (bytes, held) ↦
-          lost (replay_task trace log options) old desk log bytes refl (run, read) (inr held) only rose
+      | inl same ↦ lost (replay_task trace log options) old desk log [] refl (run, read, inl refl) (inl same) only rose
+      | inr (bytes, held, front) ↦
+          lost (replay_task trace log options) old desk log bytes refl (run, read, front) (inr held) only rose
     ])
 replay_lost trace log options old desk run NoMemory read (held, counted) only = inr (record {
   name = log;
   output = refl;
-  leaves = (run, read);
+  leaves = (run, read, inl refl);
   emptied = (held, only, counted);
   unprinted = refl;
   counted = refl;

@@ -9,7 +9,7 @@ use Rattle.session_options.specs.declared.options.Policy.TheVariants as policies
 use Rattle.trace_session.specs.declared.outcome.RunFault.{RunFault}
 use Rattle.trace_session.specs.declared.outcome.RunFault.TheVariants as faults
 use Rattle.trace_session.specs.Drops.{Taken}
-use Rattle.trace_session.specs.Sessions.{IsWholeLog}
+use Rattle.trace_session.specs.Sessions.{IsWholeLog, IsCutSession}
 use Rattle.command_base.specs.Endings.{Ending, Done, WriteFault, NoMemory}
 use Rattle.command_base.specs.HeldFiles.{IsHeld}
 use Rattle.command_base.specs.Tasks.{Product, UntilBegun, Task}
@@ -41,18 +41,24 @@ abbrev pub ReplayGives : List ℕ → Options → Form
 ReplayGives trace options old product Done = GivesSession trace options old product
 ReplayGives trace options old product ending = IsRefusedTrace trace old product ending
 
--- the trace was read to its last byte, so that the log is made, whatever it holds where a write failed
-abbrev pub LeavesLog : List ℕ → Desk → List ℕ → Type 0
-LeavesLog trace old bytes = (run : Recording) × TraceRead old trace run
+-- the bytes are none, or the front of a log that a session of the run might give
+abbrev pub IsLogFront : Recording → Options → List ℕ → Type 0
+IsLogFront run options bytes = (bytes ≡ []) ⊎ IsCutSession run options bytes
 
--- Why the log's name was given no log: it couldn't be created, and is as it was, or what was written of the log failed; or
--- memory was wanting, and it holds no bytes.
-abbrev pub GivesNoLog : List ℕ → Desk → Desk → Ending → Type 0
-GivesNoLog log old new (WriteFault name) =
-    (name ≡ log) × ((found_in new log ≡ found_in old log) ⊎ ((bytes : List ℕ) × IsHeld new log bytes))
+-- the trace was read to its last byte, and where the log isn't whole its name holds the front of one, or no bytes
+abbrev pub LeavesLog : List ℕ → Options → Desk → List ℕ → Type 0
+LeavesLog trace options old bytes = (run : Recording) × TraceRead old trace run × IsLogFront run options bytes
+
+-- Why the log's name was given no whole log: it couldn't be created, and is as it was, or a write failed, and it holds
+-- what was written before; or memory was wanting, and it holds no bytes.
+abbrev pub GivesNoLog : Recording → Options → List ℕ → Desk → Desk → Ending → Type 0
+GivesNoLog run options log old new (WriteFault name) =
+    (name ≡ log)
+    × ((found_in new log ≡ found_in old log)
+    ⊎ ((bytes : List ℕ) × IsHeld new log bytes × IsLogFront run options bytes))
     × Rose old.write_faults new.write_faults
-GivesNoLog log old new NoMemory = IsHeld new log [] × (new.write_faults ≡ old.write_faults)
-GivesNoLog log old new ending = ⊥
+GivesNoLog run options log old new NoMemory = IsHeld new log [] × (new.write_faults ≡ old.write_faults)
+GivesNoLog run options log old new ending = ⊥
 
 -- why a session wasn't run to its end, as an end; its sizes are right
 abbrev pub run_fault_ending : List ℕ → RunFault → Ending
@@ -62,4 +68,5 @@ run_fault_ending log fault = NoMemory
 -- `replay`: the calls of a trace are logged in a session, and what it came to is printed
 abbrev pub replay_task : List ℕ → List ℕ → Options → Task
 replay_task trace log options =
-    file_task trace UntilBegun (ReplayGives trace options) never IsTrace (Some log) (LeavesLog trace)
+    file_task trace UntilBegun (ReplayGives trace options) never IsTrace (Some log)
+    (LeavesLog trace options)

@@ -7,7 +7,7 @@ ghost use Rattle.nl_io.specs.Count.{Rose};
 ghost use Rattle.nl_io.specs.Content.{with_end};
 ghost use Rattle.nl_io.specs.Desk.{OnlyName, SameButHeld, put_by};
 ghost use Rattle.session_options.specs.Bounds.{AreInBounds};
-ghost use Rattle.trace_session.specs.Sessions.{IsSession};
+ghost use Rattle.trace_session.specs.Sessions.{IsSession, IsCutSession};
 ghost use Rattle.command_base.specs.Effects.{CommandEffect};
 ghost use Rattle.command_base.specs.Endings.{ending_of, refusal_ending};
 ghost use Rattle.command_base.specs.HeldFiles.{IsHeld};
@@ -52,8 +52,9 @@ where
     ensures cause { IsErrOf result RunFault.SinkFault
         → Rose (F.desk files.old).write_faults (F.desk files.new).write_faults }
     ensures count { (F.desk files.old).write_faults ≤ (F.desk files.new).write_faults }
-    ensures grew { (bytes : List ℕ)
-        × (put_by (F.desk files.new) id ≡ with_end bytes (put_by (F.desk files.old) id)) }
+    ensures cut { IsErrOf result RunFault.SinkFault → (bytes : List ℕ)
+        × (put_by (F.desk files.new) id ≡ with_end bytes (put_by (F.desk files.old) id))
+        × IsCutSession (arc_value trace.now) options.now bytes }
     ensures same { SameButHeld id (F.desk files.old) (F.desk files.new) }
     ensures others { F.rest files.old files.new }
 {
@@ -98,8 +99,8 @@ where
     ensures ok { IfOk result (λ outcome. (bytes : List ℕ) × IsHeld (F.desk files.new) log.now bytes
         × IsSession S.Done.sent S.Done.got (arc_value run.now) options.now outcome bytes) }
     ensures counted { OnOk result ((F.desk files.new).write_faults ≡ (F.desk files.old).write_faults) }
-    ensures nothing { IfErr result (λ refusal. GivesNoLog log.now (F.desk files.old) (F.desk files.new)
-        (refusal_ending refusal)) }
+    ensures nothing { IfErr result (λ refusal. GivesNoLog (arc_value run.now) options.now log.now (F.desk files.old)
+        (F.desk files.new) (refusal_ending refusal)) }
     ensures only { OnlyName log.now (F.desk files.old) (F.desk files.new) }
     ensures others { F.rest files.old files.new }
 {

@@ -25,7 +25,7 @@ session_done trace options desk product ending holds gives = absurd gives
 
 pub replay_sound : (trace log : List ℕ) (options : Options) → IsSound (replay_task trace log options)
 replay_sound trace log options =
-    file_sound trace UntilBegun (ReplayGives trace options) never IsTrace (Some log) (LeavesLog trace)
+    file_sound trace UntilBegun (ReplayGives trace options) never IsTrace (Some log) (LeavesLog trace options)
     (record {
       done = session_done trace options;
       streams = λ desk text begun. absurd begun;

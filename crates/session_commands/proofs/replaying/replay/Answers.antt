@@ -26,7 +26,7 @@ returns-in_err-outcome-clause-ends g c =
     let ends : Ending → Type 0 = λ ending. CommandEffect (replay_task c.args.trace.now c.args.log.now c.args.options.now) old (scene (g.F.Files.desk c.write_log.new.files) old.put old.faults) ending in
     subst ends (sym (ended_as _ c.in_err-outcome.field-0.0 c.from_residual-in_err-outcome.ensures.1))
     (replay_lost c.args.trace.now c.args.log.now c.args.options.now old _ c.in_ok-run.run' _ c.in_ok-run.ensures.found
-    (rw c.in_ok-run.ensures.same at c.in_err-outcome.ensures.nothing)
+    (rw (c.in_ok-run.ensures.same, c.in-Ok.ensures.ok) at c.in_err-outcome.ensures.nothing)
     (rw c.in_ok-run.ensures.same at c.write_log.ensures.only))
 
 pub returns-clause-ends : goal.returns-clause-ends
