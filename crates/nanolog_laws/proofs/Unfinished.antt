@@ -2,9 +2,10 @@
 use Rattle.std.proofs.Common.{◌≡◌, ◌≢◌, ℕ, List, [], ◌∷◌, map, Option, Some, None, Result, Ok, Err, refl, sym, ap, subst, ◌∙◌, inl, inr}
 use Rattle.std.specs.Prelude.{◌⊎◌, Contains}
 use Rattle.std.proofs.lemmas.List.Elements.{Contains-append_right}
+use Rattle.std.proofs.lemmas.Option.{same_Some}
 use Rattle.nl_io.specs.Count.{Rose}
 use Rattle.nl_io.specs.Content.{with_end, PutsFront}
-use Rattle.nl_io.specs.Desk.{Desk, IsAbsent}
+use Rattle.nl_io.specs.Desk.{Desk, IsAbsent, found_in}
 use Rattle.session_options.specs.declared.options.Options.{Options}
 use Rattle.aggregation.specs.declared.totals.Totals.{Totals}
 use Rattle.aggregation.specs.declared.fault.AggregateFault.{AggregateFault}
@@ -22,6 +23,7 @@ use Rattle.cli_words.specs.Usage.{usage_text}
 use Rattle.command_base.specs.Endings.{Ending, Done, StillOpen, Usage, Absent, ReadFault, Refused, RefusedSources, Damaged, WriteFault, NoMemory}
 use Rattle.command_base.specs.Effects.{IsMade, Completes, StopsPrinting, WantsMemory, CommandEffect}
 use Rattle.command_base.specs.EffectLaws.{put_nothing}
+use Rattle.command_base.specs.HeldFiles.{IsHeld}
 use Rattle.command_base.specs.Readings.{Form, Begun, never, GivesNoBytes, ReadsFile, file_task, pair_task, ReadsNone, free_task}
 use Rattle.command_base.specs.Scenes.{Scene}
 use Rattle.command_base.specs.Soundness.{IsSound}
@@ -40,7 +42,7 @@ use Rattle.schedule_commands.specs.Tasks.{verdict_of, GivesSteps}
 use Rattle.session_commands.specs.Headline.{HeadlineCut}
 use Rattle.session_commands.specs.Replays.{ReplayGives, replay_task}
 use Rattle.nanolog_cli.specs.Outcomes.{task_of, Answers}
-use Rattle.nanolog_laws.specs.Unfinished.{IsRefusedEnding, IsCutShort, ComesWithText, PrintsFront}
+use Rattle.nanolog_laws.specs.Unfinished.{IsRefusedEnding, IsCutShort, ComesWithText, PrintsFront, HoldsCutLog}
 use Rattle.nanolog_laws.proofs.Commands.{task_sound}
 
 -- ---- what is asked of a task
@@ -514,4 +516,30 @@ headline_cut trace log name options old new effect w = elim effect [
       replay_cut trace log options old new cut.1.read cut.1.product cut.1.verdict cut.1.reading cut.1.made cut.1.some
       cut.1.printed
   | inr lost ↦ absurd (w lost.failed)
+]
+
+-- ---- logs
+
+pub log_lacks_memory : (trace log : List ℕ) (options : Options) (old new : Scene)
+    → CommandEffect (replay_task trace log options) old new NoMemory
+    → (found_in new.desk log ≡ found_in old.desk log) ⊎ IsHeld new.desk log []
+log_lacks_memory trace log options old new effect = elim effect [
+  | inl stops ↦ inl (ap (λ (d : Desk). found_in d log) stops.reading.0.0)
+  | inr stops ↦ inr stops.emptied.0
+]
+
+pub log_cut : (trace log name : List ℕ) (options : Options) (old new : Scene)
+    → CommandEffect (replay_task trace log options) old new (WriteFault name)
+    → ((name ≡ standard_output) × Rose old.faults new.faults)
+    ⊎ ((name ≡ log) × (new.put ≡ old.put) × HoldsCutLog trace log options old.desk new.desk)
+log_cut trace log name options old new effect = elim effect [
+  | inl printing ↦ inl (printing.0, printing.1.rose)
+  | inr lost ↦
+      let named : log ≡ name = same_Some log name lost.output in
+      let (run, read, front) = lost.leaves in
+      let holds : HoldsCutLog trace log options old.desk new.desk = elim lost.holds [
+        | inl same ↦ inl (subst (λ (n : List ℕ). found_in new.desk n ≡ found_in old.desk n) (sym named) same)
+        | inr held ↦ inr (run, lost.bytes, read, subst (λ (n : List ℕ). IsHeld new.desk n lost.bytes) (sym named) held, front)
+      ] in
+      inr (sym named, lost.unprinted, holds)
 ]

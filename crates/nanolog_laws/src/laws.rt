@@ -1,6 +1,6 @@
 //! Laws over the definitions. The functions do nothing: what they ensure is proved of the definitions.
 
-ghost use Rattle.std.specs.Prelude.{◌≡◌, ◌≢◌, ◌≤◌, ◌⊎◌, ◌∷◌, ℕ, List, length, Option, Some, None, Contains};
+ghost use Rattle.std.specs.Prelude.{◌≡◌, ◌≢◌, ◌≤◌, ◌⊎◌, ◌∷◌, [], ℕ, List, length, Option, Some, None, Contains};
 ghost use Rattle.std.specs.FinMap as map;
 ghost use Rattle.nl_io.specs.Count.{Rose};
 ghost use Rattle.nl_io.specs.Desk.{Desk, Held, IsAbsent, found_in};
@@ -15,11 +15,12 @@ ghost use Rattle.cli_words.specs.Commands.{Command, Direct, Replay, Decompress};
 ghost use Rattle.cli_words.specs.Usage.{usage_text};
 ghost use Rattle.command_base.specs.Endings.{Ending, Done, Usage, Absent, ReadFault, WriteFault, NoMemory, status_of};
 ghost use Rattle.command_base.specs.declared.status.Status.TheVariants.{Done as IsDone};
+ghost use Rattle.command_base.specs.HeldFiles.{IsHeld};
 ghost use Rattle.command_base.specs.Scenes.{Scene};
 ghost use Rattle.command_base.specs.Words.{standard_output};
 ghost use Rattle.session_commands.specs.Headline.{taken_text, LogLawful, TextSame, HeadlineCut};
 ghost use Rattle.nanolog_cli.specs.Outcomes.{input_names, output_name, IsRight, HidesReadFault, Ends, Answers};
-ghost use Rattle.nanolog_laws.specs.Unfinished.{IsRefusedEnding, IsCutShort, ComesWithText, PrintsFront};
+ghost use Rattle.nanolog_laws.specs.Unfinished.{IsRefusedEnding, IsCutShort, ComesWithText, PrintsFront, HoldsCutLog};
 
 /// A command whose files are held and right is done, where no call fails and memory suffices, and none is done whose
 /// files are told and aren't right. Where it is told that the first of them isn't there, that is the answer, unless a
@@ -120,6 +121,18 @@ pub fn texts_are_cut_short()
         → ¬ (Rose old.desk.write_faults new.desk.write_faults)
         → (run : Recording) × (drops : List Dropped) × (bytes : List ℕ)
         × HeadlineCut trace log options old new run drops bytes }
+{}
+
+/// Where memory was wanting the log of `replay` holds what it held, or no bytes. Where a call that creates, writes or
+/// finishes it failed, nothing was printed, and it holds what it held, or no bytes, or the front of a log.
+pub fn logs_are_cut_short()
+    ensures memory { (trace log : List ℕ) (options : Options) (old new : Scene)
+        → Ends (Replay trace log options) old new NoMemory
+        → (found_in new.desk log ≡ found_in old.desk log) ⊎ IsHeld new.desk log [] }
+    ensures fault { (trace log name : List ℕ) (options : Options) (old new : Scene)
+        → Ends (Replay trace log options) old new (WriteFault name)
+        → ((name ≡ standard_output) × Rose old.faults new.faults)
+        ⊎ ((name ≡ log) × (new.put ≡ old.put) × HoldsCutLog trace log options old.desk new.desk) }
 {}
 
 /// Whatever the answer, all names but that of the output hold what they held, and no file is left open.
