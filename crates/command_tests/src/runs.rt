@@ -28,6 +28,9 @@ pub(crate) const LINE: &str = "1514764800.000000001 srv.cc:12 NOTICE[0]: x=7\n";
 /// How many bytes one call of the files and the outputs moves at most.
 pub(crate) const PIECE: usize = 1 << 20;
 
+/// The same, where a test counts the calls.
+const SMALL_PIECE: usize = 16;
+
 /// How a run ended, what it printed and said, and what the file `l` holds afterwards, if it is there.
 #[derive(Drop)]
 pub(crate) struct Ran {
@@ -56,17 +59,15 @@ fn text_of(alloc: Global, bytes: &[u8]) -> Result<String, Fail> {
     Ok(String::from_utf8(bytes.to_vec(alloc)?)?)
 }
 
-/// Runs the words of a line where one file holds these bytes, with this gate. These calls of the output fail.
-pub(crate) fn run_gated<G: Gate + 'static>(
+/// Runs the words of a line over these files, with this gate. These calls of the output fail.
+fn run_in<G: Gate + 'static>(
     rt: &impl Machine,
     alloc: Global,
     line: &str,
-    file: (&str, &[u8]),
+    mut files: MemFiles,
     failing: &[u64],
     gate: &Arc<G, Global>,
 ) -> Result<Ran, Fail> {
-    let mut files = MemFiles::make(alloc, PIECE, &[])?;
-    files.put_file(file.0, file.1)?;
     let mut out = MemSink::make(alloc, PIECE, failing)?;
     let mut err = MemSink::make(alloc, PIECE, &[])?;
     let words = words_of(alloc, line)?;
@@ -82,6 +83,35 @@ pub(crate) fn run_gated<G: Gate + 'static>(
         err: text_of(alloc, err.bytes())?,
         log,
     })
+}
+
+/// Runs the words of a line where one file holds these bytes, with this gate. These calls of the output fail.
+pub(crate) fn run_gated<G: Gate + 'static>(
+    rt: &impl Machine,
+    alloc: Global,
+    line: &str,
+    file: (&str, &[u8]),
+    failing: &[u64],
+    gate: &Arc<G, Global>,
+) -> Result<Ran, Fail> {
+    let mut files = MemFiles::make(alloc, PIECE, &[])?;
+    files.put_file(file.0, file.1)?;
+    run_in(rt, alloc, line, files, failing, gate)
+}
+
+/// Runs the words of a line where one file holds these bytes. One call of the files moves few bytes, and the one with
+/// this number, counted from 0, fails.
+pub(crate) fn run_failing(
+    rt: &impl Machine,
+    alloc: Global,
+    line: &str,
+    file: (&str, &[u8]),
+    number: u64,
+) -> Result<Ran, Fail> {
+    let gate = Arc::new(alloc, FreeGate)?;
+    let mut files = MemFiles::make(alloc, SMALL_PIECE, &[number])?;
+    files.put_file(file.0, file.1)?;
+    run_in(rt, alloc, line, files, &[], &gate)
 }
 
 /// Runs the words of a line where one file holds these bytes.
