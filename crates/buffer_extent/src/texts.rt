@@ -11,6 +11,7 @@ use printf_grammar::{Arg, ArgType, Bytes, Value, Values};
 use std::alloc::Global;
 
 /// A text of so many bytes. Each of these calls gives the bytes behind what it read.
+#[inline(always)]
 fn take_text(alloc: Global, len: usize, bytes: &[u8]) -> Result<(Bytes, &[u8]), BodyFault>
     requires { len ≤ MAX_TEXT }
     ensures { MatchResult result
@@ -31,6 +32,7 @@ fn take_text(alloc: Global, len: usize, bytes: &[u8]) -> Result<(Bytes, &[u8]), 
 }
 
 /// The argument of the type that the number stands for.
+#[inline(always)]
 fn take_value(
     alloc: Global,
     kind: ArgType,
@@ -54,8 +56,9 @@ fn take_value(
     }
 }
 
-/// The arguments of the types that the numbers stand for.
-pub(crate) fn take_texts<'a>(
+/// The arguments of any number of types that the numbers stand for.
+#[inline(never)]
+fn take_many<'a>(
     alloc: Global,
     types: &[ArgType],
     numbers: &[Number],
@@ -77,4 +80,31 @@ pub(crate) fn take_texts<'a>(
         rest = back;
     }
     Ok((args, rest))
+}
+
+/// The arguments of the types that the numbers stand for. One or two are put together at once.
+pub(crate) fn take_texts<'a>(
+    alloc: Global,
+    types: &[ArgType],
+    numbers: &[Number],
+    bytes: &'a [u8],
+) -> Result<(Values, &'a [u8]), BodyFault>
+    requires few { length types.now ≤ MAX_ARGUMENTS }
+    requires fit { MayStand types.now numbers.now }
+    ensures { MatchResult result
+        (λ pair. values_at types.now numbers.now bytes.now ≡ Ok (pair.0, pair.1.now))
+        (IsDamage (λ cause. values_at types.now numbers.now bytes.now ≡ Err cause)) }
+{
+    match (types, numbers) {
+        ([kind], [number]) => {
+            let (value, rest) = take_value(alloc, *kind, *number, bytes)?;
+            Ok((Values::one(alloc, value), rest))
+        }
+        ([kind, next_kind], [number, next_number]) => {
+            let (value, rest) = take_value(alloc, *kind, *number, bytes)?;
+            let (next, rest) = take_value(alloc, *next_kind, *next_number, rest)?;
+            Ok((Values::two(alloc, value, next), rest))
+        }
+        _ => take_many(alloc, types, numbers, bytes),
+    }
 }

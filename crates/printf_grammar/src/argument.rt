@@ -112,6 +112,26 @@ impl Values {
         }
     }
 
+    /// One argument. It takes no memory, nor do two.
+    #[inline(always)]
+    pub fn one(alloc: Global, item: Value) -> Values
+        ensures { result ≡ item ∷ [] }
+    {
+        Values {
+            items: SmallVec::from_buf_and_len(alloc, [item, Value::Signed(0)], 1),
+        }
+    }
+
+    /// Two arguments.
+    #[inline(always)]
+    pub fn two(alloc: Global, first: Value, second: Value) -> Values
+        ensures { result ≡ first ∷ second ∷ [] }
+    {
+        Values {
+            items: SmallVec::from_buf(alloc, [first, second]),
+        }
+    }
+
     /// No arguments, where `n` of them are to come.
     pub fn with_capacity(alloc: Global, n: usize) -> Result<Values, AllocError>
         ensures { IfOk result (λ values. values ≡ []) }

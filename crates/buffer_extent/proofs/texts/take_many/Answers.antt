@@ -8,7 +8,7 @@ use Rattle.buffer_extent.specs.Reading.{value_at}
 use Rattle.nibble_pack.proofs.lemmas.Parsing.{stands_at, one_read, all_read, handed_on}
 use Rattle.buffer_extent.proofs.Arguments.{MayStand-length, stands_there}
 use Rattle.buffer_extent.proofs.Bodies.{next_damaged}
-use Rattle.buffer_extent.proofs.texts.take_texts.Goals as goal
+use Rattle.buffer_extent.proofs.texts.take_many.Goals as goal
 
 pub bounds-numbers-place : goal.bounds-numbers-place
 bounds-numbers-place c = omega (arith, MayStand-length c.args.types.now c.args.numbers.now c.requires.fit, c.loop-place-test.true)
