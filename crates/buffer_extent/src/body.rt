@@ -12,7 +12,7 @@ use crate::take::{RecordHeader, take_coded_numbers, take_head};
 use crate::texts::take_texts;
 use arg_records::{Call, Calls};
 use log_dictionary::Dictionary;
-use printf_grammar::MAX_ARGUMENTS;
+use printf_grammar::{MAX_ARGUMENTS, Values};
 use std::alloc::Global;
 
 /// What a record has in front of its texts. Its step counts from `before`, and its stamp isn't below
@@ -60,7 +60,8 @@ fn take_record<'a>(
         Err(cause) => return Err(BodyFault::Damaged(cause)),
     };
     let types = dictionary.message(head.id).format.types();
-    let (args, rest) = take_texts(alloc, types, &numbers[..types.len()], rest)?;
+    let mut args = Values::make(alloc);
+    let rest = take_texts(alloc, types, &numbers[..types.len()], rest, &mut args)?;
     let entry = Call {
         stamp: head.stamp,
         id: head.id,

@@ -82,29 +82,37 @@ fn take_many<'a>(
     Ok((args, rest))
 }
 
-/// The arguments of the types that the numbers stand for. One or two are put together at once.
+/// Sets `args` to the arguments of the types that the numbers stand for, and gives the bytes behind them. One or two are
+/// put together at once.
 pub(crate) fn take_texts<'a>(
     alloc: Global,
     types: &[ArgType],
     numbers: &[Number],
     bytes: &'a [u8],
-) -> Result<(Values, &'a [u8]), BodyFault>
+    args: &mut Values,
+) -> Result<&'a [u8], BodyFault>
     requires few { length types.now ≤ MAX_ARGUMENTS }
     requires fit { MayStand types.now numbers.now }
     ensures { MatchResult result
-        (λ pair. values_at types.now numbers.now bytes.now ≡ Ok (pair.0, pair.1.now))
+        (λ rest. values_at types.now numbers.now bytes.now ≡ Ok (args.new, rest.now))
         (IsDamage (λ cause. values_at types.now numbers.now bytes.now ≡ Err cause)) }
 {
     match (types, numbers) {
         ([kind], [number]) => {
             let (value, rest) = take_value(alloc, *kind, *number, bytes)?;
-            Ok((Values::one(alloc, value), rest))
+            *args = Values::one(alloc, value);
+            Ok(rest)
         }
         ([kind, next_kind], [number, next_number]) => {
             let (value, rest) = take_value(alloc, *kind, *number, bytes)?;
             let (next, rest) = take_value(alloc, *next_kind, *next_number, rest)?;
-            Ok((Values::two(alloc, value, next), rest))
+            *args = Values::two(alloc, value, next);
+            Ok(rest)
         }
-        _ => take_many(alloc, types, numbers, bytes),
+        _ => {
+            let (values, rest) = take_many(alloc, types, numbers, bytes)?;
+            *args = values;
+            Ok(rest)
+        }
     }
 }
