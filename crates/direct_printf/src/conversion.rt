@@ -12,6 +12,7 @@ use std::alloc::AllocError;
 
 /// Appends a converted argument, padded. The precision is that of an argument where a `*` stands
 /// for it.
+#[inline(always)]
 pub fn append_converted(
     spec: &Spec,
     padding: Padding,
