@@ -2,3 +2,4 @@ pub mod Counts
 pub mod Fronts
 pub mod SignedForms
 pub mod Parsing
+pub mod Steady
