@@ -1,13 +1,15 @@
 -- The body of an extent: records that stand one behind the other.
-use Rattle.std.specs.Prelude.{◌≡◌, ◌≢◌, ℕ, List, [], ◌∷◌, ◌++◌, Some, Err, slice_get, ⊤}
+use Rattle.std.specs.Prelude.{◌≡◌, ◌≢◌, ℕ, zero, suc, List, [], ◌∷◌, ◌++◌, length, Some, Result, Ok, Err, slice_get, ⊤}
 use Rattle.std.specs.List.{AllByRecursion}
 use Rattle.printf_grammar.specs.Types.{Types}
 use Rattle.log_dictionary.specs.declared.message.Message.{Message}
 use Rattle.arg_records.specs.Calls.{IsCall, NeverFalls, last_stamp}
 use Rattle.arg_records.specs.declared.call.Call.{Call}
 use Rattle.buffer_extent.specs.declared.fault.Cause.{Cause}
+use Rattle.buffer_extent.specs.declared.fault.Cause.TheVariants as causes
 use Rattle.buffer_extent.specs.declared.fault.BodyFault.{BodyFault}
 use Rattle.buffer_extent.specs.declared.fault.BodyFault.TheVariants.{Damaged, NoMemory}
+use Rattle.nibble_pack.specs.Parsing.{◌>>=◌}
 use Rattle.buffer_extent.specs.Records.{RecordBytes}
 use Rattle.buffer_extent.specs.Reading.{record_at}
 
@@ -41,6 +43,23 @@ pub record BodyBreak (messages : List Message) (tick last : ℕ) (body : List �
   pub whole : IsBody messages tick last entries front
   pub more : rest ≢ []
   pub breaks : record_at messages (last_stamp tick entries) (last_stamp last entries) rest ≡ Err cause
+
+-- ---- bodies as they are read
+
+-- records to the end of the bytes, no more than so many; each counts from the one in front
+abbrev pub records_to_end : ℕ → List Message → ℕ → ℕ → List ℕ → Result (List Call) Cause
+records_to_end most messages before least [] = Ok []
+records_to_end zero messages before least (byte ∷ bytes) = Err causes.RecordCut
+records_to_end (suc most) messages before least (byte ∷ bytes) = do
+  entry ← record_at messages before least (byte ∷ bytes)
+  others ← records_to_end most messages entry.0.stamp entry.0.stamp entry.1
+  Ok (entry.0 ∷ others)
+
+-- the records of a body, or the first cause by which it breaks; there are no more records than bytes
+abbrev pub body_at : List Message → ℕ → ℕ → List ℕ → Result (List Call) Cause
+body_at messages tick last body = records_to_end (length body) messages tick last body
+
+-- ---- what is told of them
 
 -- the bytes are damaged so; want of memory says nothing of them
 abbrev pub IsDamage : (Cause → Type 0) → BodyFault → Type 0

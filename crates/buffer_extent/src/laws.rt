@@ -1,7 +1,7 @@
 //! Laws over the definitions of records and bodies. The functions do nothing: what they ensure is proved of the
 //! definitions.
 
-ghost use Rattle.std.specs.Prelude.{◌≡◌, ◌⊎◌, ℕ, ◌<◌, List, [], ◌∷◌, ◌++◌, map, replicate, All, Contains, codes, pos, negsuc};
+ghost use Rattle.std.specs.Prelude.{◌≡◌, ◌⊎◌, ℕ, ◌<◌, List, [], ◌∷◌, ◌++◌, map, replicate, All, Contains, codes, pos, negsuc, Ok, Err};
 ghost use Rattle.printf_grammar.specs.declared.arg_type.ArgType.TheVariants.{Int, Text as TextType};
 ghost use Rattle.printf_grammar.specs.declared.argument.Value.TheVariants.{Signed, Text};
 ghost use Rattle.log_dictionary.specs.declared.message.Message.{Message};
@@ -11,7 +11,7 @@ ghost use Rattle.buffer_extent.specs.declared.fault.Cause.{Cause as BodyCause};
 ghost use Rattle.buffer_extent.specs.declared.put.TheConstants.{RECORD_ROOM};
 ghost use Rattle.buffer_extent.specs.Rows.{BreaksSo, all_causes};
 ghost use Rattle.buffer_extent.specs.Causes.{cause_number, cause_name};
-ghost use Rattle.buffer_extent.specs.Bodies.{SpellsRecord, IsBody, BodyBreak};
+ghost use Rattle.buffer_extent.specs.Bodies.{body_at, SpellsRecord, IsBody, BodyBreak};
 ghost use Rattle.arg_records.specs.Calls.{IsCall};
 
 /// A call of id 0 at the stamp 1003, where the step counts from 1000, with the number 7.
@@ -83,6 +83,21 @@ pub fn bodies_are_told_apart()
     ensures not_both { (messages : List Message) (tick last : ℕ) (entries : List Call) (cause : BodyCause)
         (body : List ℕ) → IsBody messages tick last entries body
         → ¬ (BodyBreak messages tick last body cause) }
+{}
+
+/// A body that is whole records is read as these, and one that breaks by the cause from which it does. What is read of
+/// bytes is whole records.
+pub fn bodies_are_read()
+    ensures read { (messages : List Message) (tick last : ℕ) (entries : List Call) (body : List ℕ)
+        → IsBody messages tick last entries body
+        → body_at messages tick last body ≡ Ok entries }
+    ensures broken { (messages : List Message) (tick last : ℕ) (cause : BodyCause) (body : List ℕ)
+        → BodyBreak messages tick last body cause
+        → body_at messages tick last body ≡ Err cause }
+    ensures spelled { (messages : List Message) (tick last : ℕ) (entries : List Call) (body : List ℕ)
+        → All (λ byte. byte < 256) body
+        → body_at messages tick last body ≡ Ok entries
+        → IsBody messages tick last entries body }
 {}
 
 /// A body of bytes is records that keep the rules, from its first byte to its last, or it breaks,

@@ -15,8 +15,8 @@ pub use arg_records::{Call as LogRecord, Calls as Records};
 pub use body::read_body;
 pub use fault::{BodyFault, Cause};
 pub use laws::{
-    a_record_with_a_number, a_record_with_a_text, bodies_are_told_apart, body_or_break,
-    causes_of_bodies, no_record_begins_another, records_break_by_these_causes, records_have_room,
-    three_codes_in_two_bytes,
+    a_record_with_a_number, a_record_with_a_text, bodies_are_read, bodies_are_told_apart,
+    body_or_break, causes_of_bodies, no_record_begins_another, records_break_by_these_causes,
+    records_have_room, three_codes_in_two_bytes,
 };
 pub use put::{RECORD_ROOM, put_record};

@@ -10,7 +10,7 @@ use Rattle.buffer_extent.specs.declared.fault.Cause.{Cause}
 use Rattle.buffer_extent.specs.declared.fault.Cause.TheVariants as causes
 use Rattle.nibble_pack.specs.Parsing.{Parse}
 use Rattle.buffer_extent.specs.Reading.{record_at}
-use Rattle.buffer_extent.specs.Bodies.{SpellsRecord, IsBody, BodyBreak}
+use Rattle.buffer_extent.specs.Bodies.{SpellsRecord, IsBody, BodyBreak, records_to_end, body_at}
 use Rattle.nibble_pack.proofs.lemmas.Parsing.{given}
 use Rattle.buffer_extent.proofs.RecordForms.{TakenRecord, record_again, record_taken}
 
@@ -70,86 +70,66 @@ no_record messages before least entry more is =
 
 -- ---- one list, one cause
 
--- a body that begins with whole records has the others behind them
-others_left : (messages : List Message) (before least : ℕ) (all entries : List Call) (body front rest : List ℕ) → IsBody messages before least all body → IsBody messages before least entries front → body ≡ front ++ rest
-    → (more : List Call) × (all ≡ entries ++ more) × IsBody messages (last_stamp before entries) (last_stamp least entries) more rest
-others_left messages before least all [] body front rest is part joined =
-    (all, refl, subst (λ (b : List ℕ). IsBody messages before least all b) (joined ∙ ap (λ (f : List ℕ). f ++ rest) part.spelled) is)
-others_left messages before least [] (entry ∷ entries) body front rest is part joined =
-    let first = first_record messages before least entry entries front part in
-    let read = first_read messages before least entry entries front rest first in
-    let none : [] ≡ front ++ rest = sym is.spelled ∙ joined in
-    absurd (read_or_broken (record_at messages before least []) entry (first.back ++ rest) causes.RecordCut (ap (record_at messages before least) none ∙ read) refl)
-others_left messages before least (x ∷ xs) (entry ∷ entries) body front rest is part joined =
-    let here = first_record messages before least x xs body is in
-    let first = first_record messages before least entry entries front part in
-    let parts : here.front ++ here.back ≡ first.front ++ (first.back ++ rest) = sym here.parts ∙ joined ∙ ap (λ (f : List ℕ). f ++ rest) first.parts ∙ append_assoc first.front first.back rest in
-    let one = SpellsRecord-unique messages before x entry here.front first.front here.back (first.back ++ rest) here.right first.right here.spelled first.spelled parts in
-    let behind = subst (λ (e : Call). IsBody messages e.stamp e.stamp xs here.back) one.0 here.rest in
-    let more = others_left messages entry.stamp entry.stamp xs entries here.back first.back rest behind first.rest one.2 in
-    (more.0, (λ t. one.0 t ∷ more.1 t), more.2)
+-- a record has a byte
+less_behind : (messages : List Message) (before least : ℕ) (entry : Call) (more : List Call) (bytes : List ℕ) → (first : FirstRecord messages before least entry more bytes) → length first.back < length bytes
+less_behind messages before least entry more bytes first = omega (arith, ap length first.parts, length-append first.front first.back, ap length first.spelled.spelled.joined)
+
+-- whole records that keep the rules are read
+records_again : (most : ℕ) (messages : List Message) (before least : ℕ) (entries : List Call) (body : List ℕ) → IsBody messages before least entries body → length body ≤ most → records_to_end most messages before least body ≡ Ok entries
+records_again most messages before least [] body is short = rw is.spelled refl
+records_again most messages before least (entry ∷ more) [] is short = absurd (no_record messages before least entry more is)
+records_again zero messages before least (entry ∷ more) (byte ∷ bytes) is short = absurd (omega (arith, short))
+records_again (suc most) messages before least (entry ∷ more) (byte ∷ bytes) is short =
+    let first = first_record messages before least entry more (byte ∷ bytes) is in
+    let read : record_at messages before least (byte ∷ bytes) ≡ Ok (entry, first.back) =
+    ap (record_at messages before least) (sym (append-nil (byte ∷ bytes))) ∙ first_read messages before least entry more (byte ∷ bytes) [] first ∙ ap (λ (b : List ℕ). Ok (entry, b)) (append-nil first.back) in
+    let others = records_again most messages entry.stamp entry.stamp more first.back first.rest (omega (arith, short, less_behind messages before least entry more (byte ∷ bytes) first)) in
+    rw (read, others) refl
+
+-- what breaks behind them is told
+records_broken : (most : ℕ) (messages : List Message) (before least : ℕ) (entries : List Call) (cause : Cause) (body front rest : List ℕ) → IsBody messages before least entries front → body ≡ front ++ rest → rest ≢ []
+    → record_at messages (last_stamp before entries) (last_stamp least entries) rest ≡ Err cause → length body ≤ most → records_to_end most messages before least body ≡ Err cause
+records_broken most messages before least [] cause [] front rest is joined some breaks short =
+    absurd (some (sym (joined ∙ ap (λ (f : List ℕ). f ++ rest) is.spelled)))
+records_broken zero messages before least [] cause (byte ∷ bytes) front rest is joined some breaks short = absurd (omega (arith, short))
+records_broken (suc most) messages before least [] cause (byte ∷ bytes) front rest is joined some breaks short =
+    let here : record_at messages before least (byte ∷ bytes) ≡ Err cause = ap (record_at messages before least) (joined ∙ ap (λ (f : List ℕ). f ++ rest) is.spelled) ∙ breaks in
+    rw here refl
+records_broken most messages before least (entry ∷ more) cause [] front rest is joined some breaks short =
+    let first = first_record messages before least entry more front is in
+    absurd (omega (arith, ap length joined, length-append front rest, less_behind messages before least entry more front first))
+records_broken zero messages before least (entry ∷ more) cause (byte ∷ bytes) front rest is joined some breaks short = absurd (omega (arith, short))
+records_broken (suc most) messages before least (entry ∷ more) cause (byte ∷ bytes) front rest is joined some breaks short =
+    let first = first_record messages before least entry more front is in
+    let read : record_at messages before least (byte ∷ bytes) ≡ Ok (entry, first.back ++ rest) = ap (record_at messages before least) joined ∙ first_read messages before least entry more front rest first in
+    let less : length (first.back ++ rest) ≤ most = omega (arith, short, ap length joined, length-append front rest, length-append first.back rest, less_behind messages before least entry more front first) in
+    let others = records_broken most messages entry.stamp entry.stamp more cause (first.back ++ rest) first.back rest first.rest refl some breaks less in
+    rw (read, others) refl
+
+pub body_again : (messages : List Message) (tick last : ℕ) (entries : List Call) (body : List ℕ) → IsBody messages tick last entries body → body_at messages tick last body ≡ Ok entries
+body_again messages tick last entries body is = records_again (length body) messages tick last entries body is (omega arith)
+
+pub body_broken : (messages : List Message) (tick last : ℕ) (cause : Cause) (body : List ℕ) → BodyBreak messages tick last body cause → body_at messages tick last body ≡ Err cause
+body_broken messages tick last cause body broken =
+    records_broken (length body) messages tick last broken.entries cause body broken.front broken.rest broken.whole broken.joined broken.more broken.breaks (omega arith)
 
 -- a body spells one list of records
 pub IsBody-unique : (messages : List Message) (tick last : ℕ) (xs ys : List Call) (body : List ℕ)
     → IsBody messages tick last xs body → IsBody messages tick last ys body → xs ≡ ys
 IsBody-unique messages tick last xs ys body p q =
-    let left = others_left messages tick last xs ys body body [] p q (sym (append-nil body)) in
-    left.1 ∙ none left.0 left.2 ∙ append-nil ys
-  where
-    none : (more : List Call) → IsBody messages (last_stamp tick ys) (last_stamp last ys) more [] → ys ++ more ≡ ys ++ []
-    none [] is = refl
-    none (entry ∷ more) is = absurd (no_record messages (last_stamp tick ys) (last_stamp last ys) entry more is)
+    (given true causes.RecordCut xs ys (sym (body_again messages tick last xs body p) ∙ body_again messages tick last ys body q)).1
 
 -- whole records that keep the rules break none
 pub IsBody-not_broken : (messages : List Message) (tick last : ℕ) (entries : List Call) (cause : Cause) (body : List ℕ)
     → IsBody messages tick last entries body → BodyBreak messages tick last body cause → ⊥
 IsBody-not_broken messages tick last entries cause body is broken =
-    let left = others_left messages tick last entries broken.entries body broken.front broken.rest is broken.whole broken.joined in
-    none left.0 left.2
-  where
-    before : ℕ
-    before = last_stamp tick broken.entries
-
-    least : ℕ
-    least = last_stamp last broken.entries
-
-    none : (more : List Call) → IsBody messages before least more broken.rest → ⊥
-    none [] is = broken.more is.spelled
-    none (entry ∷ more) is =
-        let first = first_record messages before least entry more broken.rest is in
-        let read = first_read messages before least entry more broken.rest [] first in
-        read_or_broken (record_at messages before least broken.rest) entry (first.back ++ []) cause (ap (record_at messages before least) (sym (append-nil broken.rest)) ∙ read) broken.breaks
-
-same_cause : (messages : List Message) (before least : ℕ) (xs ys : List Call) (a b : Cause) (front front_too rest rest_too : List ℕ) → IsBody messages before least xs front → IsBody messages before least ys front_too
-    → front ++ rest ≡ front_too ++ rest_too → record_at messages (last_stamp before xs) (last_stamp least xs) rest ≡ Err a → record_at messages (last_stamp before ys) (last_stamp least ys) rest_too ≡ Err b → a ≡ b
-same_cause messages before least [] [] a b front front_too rest rest_too p q same breaks breaks_too =
-    let rests : rest ≡ rest_too = sym (ap (λ (f : List ℕ). f ++ rest) p.spelled) ∙ same ∙ ap (λ (f : List ℕ). f ++ rest_too) q.spelled in
-    let clash : Err a ≡ Err b = sym breaks ∙ ap (record_at messages before least) rests ∙ breaks_too in cc
-same_cause messages before least [] (y ∷ ys) a b front front_too rest rest_too p q same breaks breaks_too =
-    let first = first_record messages before least y ys front_too q in
-    let read = first_read messages before least y ys front_too rest_too first in
-    let rests : rest ≡ front_too ++ rest_too = sym (ap (λ (f : List ℕ). f ++ rest) p.spelled) ∙ same in
-    absurd (read_or_broken (record_at messages before least rest) y (first.back ++ rest_too) a (ap (record_at messages before least) rests ∙ read) breaks)
-same_cause messages before least (x ∷ xs) [] a b front front_too rest rest_too p q same breaks breaks_too =
-    let first = first_record messages before least x xs front p in
-    let read = first_read messages before least x xs front rest first in
-    let rests : rest_too ≡ front ++ rest = sym (ap (λ (f : List ℕ). f ++ rest_too) q.spelled) ∙ sym same in
-    absurd (read_or_broken (record_at messages before least rest_too) x (first.back ++ rest) b (ap (record_at messages before least) rests ∙ read) breaks_too)
-same_cause messages before least (x ∷ xs) (y ∷ ys) a b front front_too rest rest_too p q same breaks breaks_too =
-    let here = first_record messages before least x xs front p in
-    let first = first_record messages before least y ys front_too q in
-    let parts : here.front ++ (here.back ++ rest) ≡ first.front ++ (first.back ++ rest_too) =
-    sym (ap (λ (f : List ℕ). f ++ rest) here.parts ∙ append_assoc here.front here.back rest) ∙ same ∙ ap (λ (f : List ℕ). f ++ rest_too) first.parts ∙ append_assoc first.front first.back rest_too in
-    let one = SpellsRecord-unique messages before x y here.front first.front (here.back ++ rest) (first.back ++ rest_too) here.right first.right here.spelled first.spelled parts in
-    let behind = subst (λ (e : Call). IsBody messages e.stamp e.stamp xs here.back) one.0 here.rest in
-    let broken = subst (λ (e : Call). record_at messages (last_stamp e.stamp xs) (last_stamp e.stamp xs) rest ≡ Err a) one.0 breaks in
-    same_cause messages y.stamp y.stamp xs ys a b here.back first.back rest rest_too behind first.rest one.2 broken breaks_too
+    let clash = sym (body_again messages tick last entries body is) ∙ body_broken messages tick last cause body broken in cc
 
 -- a body breaks by one cause
 pub BodyBreak-unique : (messages : List Message) (tick last : ℕ) (a b : Cause) (body : List ℕ)
     → BodyBreak messages tick last body a → BodyBreak messages tick last body b → a ≡ b
 BodyBreak-unique messages tick last a b body p q =
-    same_cause messages tick last p.entries q.entries a b p.front q.front p.rest q.rest p.whole q.whole (sym p.joined ∙ q.joined) p.breaks q.breaks
+    let clash = sym (body_broken messages tick last a body p) ∙ body_broken messages tick last b body q in cc
 
 -- ---- one of the two
 
@@ -200,3 +180,12 @@ some_reading (suc fuel) messages tick last (byte ∷ body) within are_bytes =
 
 pub body_or_break : (messages : List Message) (tick last : ℕ) (body : List ℕ) → AreBytes body → OneOfTwo messages tick last body
 body_or_break messages tick last body are_bytes = some_reading (length body) messages tick last body (omega arith) are_bytes
+
+-- what is read of bytes is whole records that keep the rules
+pub body_taken : (messages : List Message) (tick last : ℕ) (entries : List Call) (body : List ℕ) → AreBytes body → body_at messages tick last body ≡ Ok entries → IsBody messages tick last entries body
+body_taken messages tick last entries body are_bytes read = elim (body_or_break messages tick last body are_bytes) [
+  | inl (others, is) ↦
+      let same : others ≡ entries = (given true causes.RecordCut others entries (sym (body_again messages tick last others body is) ∙ read)).1 in
+      subst (λ (l : List Call). IsBody messages tick last l body) same is
+  | inr (cause, broken) ↦ absurd (let clash = sym read ∙ body_broken messages tick last cause body broken in cc)
+]
