@@ -1,118 +1,255 @@
 -- Blocks that are read from a source.
-use Rattle.std.proofs.Common.{◌≡◌, ℕ, ◌<◌, ◌≤◌, ◌^◌, List, [], ◌∷◌, ◌++◌, length, take, drop, Some, None, refl, sym, ap, subst, ◌∙◌, inl, inr, ◌⊎◌, append_assoc, arith}
-use Rattle.std.specs.Prelude.{IfSome, IfOk, IfErr, Result, Ok, Err}
-use Rattle.std.specs.Hash.{le_bytes}
-use Rattle.std.proofs.lemmas.List.{length-take, take-append-drop, append-nil}
-use Rattle.nl_io.specs.Content.{Told}
+use Rattle.std.proofs.Common.{◌≡◌, ℕ, zero, suc, ◌-◌, ◌<◌, ◌≤◌, ◌^◌, Bool, List, [], ◌∷◌, ◌++◌, length, take, drop, Some, None, Result, Ok, Err, true, refl, sym, ap, subst, ◌∙◌, append_assoc, eq-eqb, arith}
+use Rattle.std.specs.Prelude.{IfSome, MatchResult, not}
+use Rattle.std.proofs.lemmas.Bool.{le-leb}
+use Rattle.std.proofs.lemmas.List.{length-append, length-take-le, take-append-drop, append-nil, append_cancel_right}
+use Rattle.std.proofs.lemmas.List.Elements.{All-nil, All-take}
+use Rattle.nibble_pack.specs.Bytes.{AreBytes}
+use Rattle.nibble_pack.specs.Parsing.{◌>>=◌, provided, caused_by, first_byte, low_first}
+use Rattle.nibble_pack.proofs.lemmas.Parsing.{so_many_again}
+use Rattle.nl_io.specs.Content.{Told, IsAtEnd}
 use Rattle.log_dictionary.specs.declared.message.Message.{Message}
+use Rattle.log_dictionary.specs.declared.binary_entry.EntryCause.TheVariants as entries
+use Rattle.log_dictionary.specs.Messages.{HasMessage}
+use Rattle.log_dictionary.specs.EntryReading.{entry_at}
+use Rattle.log_dictionary.specs.BinaryEntries.{SpellsEntry}
+use Rattle.log_dictionary.proofs.lemmas.Distinct.{test_from_there}
+use Rattle.log_dictionary.proofs.lemmas.BinaryLaws.{entry_again, entry_taken, stays_bad}
 use Rattle.arg_records.specs.declared.call.Call.{Call}
 use Rattle.buffer_extent.specs.declared.fault.Cause.{Cause as BodyCause}
 use Rattle.buffer_extent.specs.Bodies.{IsBody, BodyBreak}
+use Rattle.buffer_extent.proofs.lemmas.BodyLaws.{body_again, body_broken}
 use Rattle.checkpoint_io.specs.declared.cause.Cause.TheVariants as causes
 use Rattle.checkpoint_io.specs.declared.fault.BlockFault.{BlockFault}
+use Rattle.checkpoint_io.specs.declared.fault.BlockFault.TheVariants.{Damaged, ReadFault, NoMemory}
 use Rattle.checkpoint_io.specs.declared.header.Header.{Header}
-use Rattle.checkpoint_io.specs.declared.heads.TheConstants.{MAX_BODY}
 use Rattle.checkpoint_io.specs.declared.block.Block.{Block as ReadBlock}
 use Rattle.checkpoint_io.specs.declared.block.Block.TheVariants as read
 use Rattle.checkpoint_io.specs.Blocks.{Block, Fragment, Extent, Close, messages_of}
-use Rattle.checkpoint_io.specs.Validity.{records_of, last_stamp, MayStillWrite}
-use Rattle.checkpoint_io.specs.Reading.{broken, Reads, ReadsBody, ReadsRecords, ReadsFragment, ReadsExtent, ReadsClose, ReadsBlock}
-use Rattle.checkpoint_io.specs.Places.{UnreadBytes, LogPlace, with_front, log_place, further, BytesBetween, StandsBetween, Refuses}
-use Rattle.checkpoint_io.specs.Entries.{TakesFragment}
+use Rattle.checkpoint_io.specs.Validity.{records_of, last_stamp}
+use Rattle.checkpoint_io.specs.Reading.{entry_cause, message_at, new_message_at, new_messages_at, is_count, counted_at, open_writer_at, sized_body_at, long_body_at, writer_records_at, fragment_at, extent_at, tagged_at, block_at}
+use Rattle.checkpoint_io.specs.Places.{UnreadBytes, LogPlace, with_front, log_place, further, StandsBetween, IsNoDamage, Refuses, ReadsAs}
+use Rattle.checkpoint_io.specs.Entries.{TakesMessage, TakesMessages, TakesFragment}
 use Rattle.checkpoint_io.specs.Writers.{WriterStates, AreStatesOf}
 use Rattle.checkpoint_io.specs.NextBlocks.{TakesClose, TakesExtent, TakesBlock}
 use Rattle.checkpoint_io.proofs.lemmas.ValidityLaws.{messages-push}
-use Rattle.checkpoint_io.proofs.StepLaws.{front_taken, GoesOnBehind, taken_behind, refused_behind, err_behind}
+use Rattle.checkpoint_io.proofs.ReadingForms.{new_by_test}
+use Rattle.checkpoint_io.proofs.StepLaws.{front_taken, of_all, of_behind, stands_then, stands_last, refused_then, refused_first, answers_then}
 use Rattle.checkpoint_io.proofs.WriterLaws.{states_kept}
+
+-- ---- messages
+
+-- the entry that waits was read
+pub message_stands : (message : Message) (len : ℕ) (from mid to : UnreadBytes) (left behind : Told) → AreBytes mid.bytes → with_front mid.bytes behind ≡ with_front from.bytes left → mid.offset ≡ from.offset → len ≤ length mid.bytes → entry_at mid.bytes ≡ Ok (message, drop len mid.bytes) → to.bytes ≡ drop len mid.bytes → to.offset ≡ further mid.offset len
+    → StandsBetween message_at message (log_place from left) (log_place to behind)
+message_stands message len from mid to left behind small same start within entry moved offset =
+    let spelled = entry_taken message mid.bytes (drop len mid.bytes) small entry in
+    let front : spelled.0 ≡ take len mid.bytes = append_cancel_right spelled.0 (take len mid.bytes) (drop len mid.bytes) (sym spelled.1 ∙ sym (take-append-drop len mid.bytes)) in
+    let front_small : AreBytes (take len mid.bytes) = All-take (λ (b : ℕ). b < 256) len mid.bytes small in
+    record {
+      front = take len mid.bytes;
+      passes = front_taken (take len mid.bytes) len from mid to left behind same start refl (length-take-le len mid.bytes within) front_small moved offset;
+      found = λ rest. ap (caused_by entry_cause) (entry_again message (take len mid.bytes) rest (subst (λ (f : List ℕ). SpellsEntry f message) front spelled.2));
+    }
+
+-- bytes that begin with a bad entry, whatever follows
+pub bad_message : (from mid : UnreadBytes) (left behind : Told) → with_front mid.bytes behind ≡ with_front from.bytes left → entry_at mid.bytes ≡ Err entries.BadEntry → Refuses message_at (log_place from left) behind (Damaged causes.BadEntry)
+bad_message from mid left behind same bad =
+    of_behind mid.bytes (with_front from.bytes left) behind (λ rest. Unit {0}) _ (sym same) (λ rest _. ap (caused_by entry_cause) (stays_bad mid.bytes rest bad)) (of_all behind _ (λ rest. tt))
+
+-- bytes that end inside an entry, at the end of the source
+pub cut_message : (from mid to : UnreadBytes) (left now behind : Told) → with_front mid.bytes now ≡ with_front from.bytes left → with_front to.bytes behind ≡ with_front mid.bytes now → length to.bytes ≡ length mid.bytes → IsAtEnd behind → entry_at mid.bytes ≡ Err entries.Cut → Refuses message_at (log_place from left) behind (Damaged causes.Cut)
+cut_message from mid to left now behind same step len at_end cut =
+    subst (λ (told : Told). IfSome told (λ bytes. message_at bytes ≡ Err causes.Cut)) (step ∙ same) (by_told now behind step at_end)
+  where
+    nothing : (xs : List ℕ) → length xs ≡ 0 → xs ≡ []
+    nothing [] e = refl
+    nothing (x ∷ xs) e = absurd (omega (arith, e))
+
+    apart : (told : Told) (rest : List ℕ) → told ≡ None → told ≡ Some rest → ⊥
+    apart told rest none some = cc
+
+    by_told : (now behind : Told) → with_front to.bytes behind ≡ with_front mid.bytes now → IsAtEnd behind → IfSome (with_front to.bytes behind) (λ bytes. message_at bytes ≡ Err causes.Cut)
+    by_told now None step at_end = tt
+    by_told None (Some others) step at_end = absurd (apart None (to.bytes ++ others) refl (sym step))
+    by_told (Some rest) (Some others) step at_end =
+        let all : to.bytes ++ others ≡ mid.bytes ++ rest = cc in
+        let none : rest ≡ [] = nothing rest (omega (arith, ap length all, length-append to.bytes others, length-append mid.bytes rest, len, ap length at_end)) in
+        ap message_at (all ∙ ap (λ (r : List ℕ). mid.bytes ++ r) none ∙ append-nil mid.bytes) ∙ ap (caused_by entry_cause) cut
+
+-- where no more bytes came
+pub message_failed : (fault : BlockFault) (from mid : UnreadBytes) (left now behind : Told) → with_front mid.bytes now ≡ with_front from.bytes left → entry_at mid.bytes ≡ Err entries.Cut → IsNoDamage fault → (fault ≡ ReadFault → behind ≡ now) → Refuses message_at (log_place from left) behind fault
+message_failed (Damaged cause) from mid left now behind same cut sound failed = absurd sound
+message_failed ReadFault from mid left now behind same cut sound failed = (mid.bytes, sym same ∙ ap (with_front mid.bytes) (sym (failed refl)), ap (caused_by entry_cause) cut)
+message_failed NoMemory from mid left now behind same cut sound failed = tt
+
+pub new_message : (before after : List Message) (message : Message) (from to : LogPlace) → StandsBetween message_at message from to → ¬ (HasMessage before message) → after ≡ before ++ message ∷ [] → TakesMessage before after from to
+new_message before after message from to stands new added = record {
+  message = message;
+  added = added;
+  takes = stands_last message_at _ message message from to stands (λ rest. ap (λ (t : Bool). provided (not t) causes.BadEntry (message, rest)) (new_by_test before message new));
+}
+
+-- the message is there already
+pub old_message : (before : List Message) (message : Message) (from to : LogPlace) (left : Told) → StandsBetween message_at message from to → HasMessage before message → Refuses (new_message_at before) from left (Damaged causes.BadEntry)
+old_message before message from to left stands there =
+    refused_then message_at _ message from to left (Damaged causes.BadEntry) stands (of_all to.ahead _ (λ rest. ap (λ (t : Bool). provided (not t) causes.BadEntry (message, rest)) (test_from_there before message there)))
+
+-- no more messages
+pub no_messages : (before : List Message) (at : LogPlace) → at.offset < 2 ^ 64 → TakesMessages before 0 before at at
+no_messages before at fits = record {
+  messages = [];
+  many = refl;
+  added = sym (append-nil before);
+  takes = record { front = []; passes = record { ahead = no_front at.ahead; offset = omega (arith, fits); small = All-nil (λ (b : ℕ). b < 256) }; found = λ rest. refl };
+}
+  where
+    no_front : (told : Told) → told ≡ with_front [] told
+    no_front None = refl
+    no_front (Some content) = refl
+
+-- one message, and the others
+pub messages_answer : (r : Result (Unit {0}) BlockFault) (before now after : List Message) (count : ℕ) (from mid to : LogPlace) (left : Told) → ¬ (count ≡ 0) → TakesMessage before now from mid → MatchResult r (λ _. TakesMessages now (count - 1) after mid to) (Refuses (new_messages_at now (count - 1)) mid left)
+    → MatchResult r (λ _. TakesMessages before count after from to) (Refuses (new_messages_at before count) from left)
+messages_answer (Ok _) before now after zero from mid to left some one others = absurd (some refl)
+messages_answer (Err fault) before now after zero from mid to left some one others = absurd (some refl)
+messages_answer (Ok _) before now after (suc count) from mid to left some one others =
+    let rest : StandsBetween (new_messages_at (before ++ one.message ∷ []) count) others.messages mid to = subst (λ (n : ℕ). StandsBetween (new_messages_at (before ++ one.message ∷ []) n) others.messages mid to) (omega arith) (subst (λ (l : List Message). StandsBetween (new_messages_at l (suc count - 1)) others.messages mid to) one.added others.takes) in
+    record {
+      messages = one.message ∷ others.messages;
+      many = omega (arith, others.many);
+      added = others.added ∙ ap (λ (l : List Message). l ++ others.messages) one.added ∙ append_assoc before (one.message ∷ []) others.messages;
+      takes = stands_then (new_message_at before) _ one.message (one.message ∷ others.messages) from mid to one.takes
+          (stands_last (new_messages_at (before ++ one.message ∷ []) count) _ others.messages (one.message ∷ others.messages) mid to rest (λ rest. refl));
+    }
+messages_answer (Err fault) before now after (suc count) from mid to left some one others =
+    let rest : Refuses (new_messages_at (before ++ one.message ∷ []) count) mid left fault = subst (λ (n : ℕ). Refuses (new_messages_at (before ++ one.message ∷ []) n) mid left fault) (omega arith) (subst (λ (l : List Message). Refuses (new_messages_at l (suc count - 1)) mid left fault) one.added others) in
+    refused_then (new_message_at before) _ one.message from mid left fault one.takes (refused_first (new_messages_at (before ++ one.message ∷ []) count) _ mid left fault rest)
+
+-- where the first one is refused
+pub messages_refused : (before : List Message) (count : ℕ) (from : LogPlace) (left : Told) (fault : BlockFault) → ¬ (count ≡ 0) → Refuses (new_message_at before) from left fault → Refuses (new_messages_at before count) from left fault
+messages_refused before zero from left fault some refused = absurd (some refl)
+messages_refused before (suc count) from left fault some refused = refused_first (new_message_at before) _ from left fault refused
 
 -- ---- bodies
 
-pub body_refused : (messages : List Message) (tick last writer len : ℕ) (cause : BodyCause) (from mid : UnreadBytes) (left behind : Told) → with_front mid.bytes behind ≡ with_front from.bytes left → len ≤ length mid.bytes → BodyBreak messages tick last (take len mid.bytes) cause → IfSome (with_front from.bytes left) (λ bytes. ReadsBody messages tick last writer len bytes (broken (causes.Body cause)))
-body_refused messages tick last writer len cause from mid left behind same long breaks =
-    subst (λ (told : Told). IfSome told (λ bytes. ReadsBody messages tick last writer len bytes (broken (causes.Body cause)))) same (there behind)
-  where
-    there : (told : Told) → IfSome (with_front mid.bytes told) (λ bytes. ReadsBody messages tick last writer len bytes (broken (causes.Body cause)))
-    there None = tt
-    there (Some content) =
-        let body = take len mid.bytes in
-        let parts : mid.bytes ++ content ≡ body ++ (drop len mid.bytes ++ content) = ap (λ (b : List ℕ). b ++ content) (sym (take-append-drop len mid.bytes)) ∙ append_assoc body (drop len mid.bytes) content in
-        inr (body, drop len mid.bytes ++ content, omega (arith, length-take len mid.bytes, long), parts, inl (cause, breaks, refl))
-
-pub body_taken : (messages : List Message) (tick last writer len : ℕ) (entries : List Call) (from mid to : UnreadBytes) (left behind : Told) → with_front mid.bytes behind ≡ with_front from.bytes left → mid.offset ≡ from.offset → len ≤ length mid.bytes → IsBody messages tick last entries (take len mid.bytes) → to.bytes ≡ drop len mid.bytes → to.offset ≡ further mid.offset len
-    → StandsBetween (ReadsBody messages tick last writer len) (Extent writer entries) (log_place from left) (log_place to behind)
-body_taken messages tick last writer len entries from mid to left behind same start long is moved offset =
+pub body_stands : (messages : List Message) (tick last len : ℕ) (entries : List Call) (from mid to : UnreadBytes) (left behind : Told) → AreBytes (take len mid.bytes) → with_front mid.bytes behind ≡ with_front from.bytes left → mid.offset ≡ from.offset → len ≤ length mid.bytes → IsBody messages tick last entries (take len mid.bytes) → to.bytes ≡ drop len mid.bytes → to.offset ≡ further mid.offset len
+    → StandsBetween (sized_body_at messages tick last len) entries (log_place from left) (log_place to behind)
+body_stands messages tick last len entries from mid to left behind small same start long is moved offset =
     let body = take len mid.bytes in
-    let whole : length body ≡ len = omega (arith, length-take len mid.bytes, long) in
+    let whole : length body ≡ len = length-take-le len mid.bytes long in
     record {
       front = body;
-      passes = front_taken body len from mid to left behind same start refl whole moved offset;
-      found = λ rest. inr (body, rest, whole, refl, inr (entries, is, refl));
+      passes = front_taken body len from mid to left behind same start refl whole small moved offset;
+      found = λ rest. rw (so_many_again len causes.Cut body rest whole, body_again messages tick last entries body is) refl;
     }
 
--- ---- steps whose answers are other things than what is read
-
--- one step in front of what an answer tells
-pub told_behind : {A T : Type 0} (r : Result T BlockFault) (thing : T → A) (reads tail : Reads A) (front : List ℕ) (from mid to : LogPlace) → GoesOnBehind reads front tail → BytesBetween front from mid → IfOk r (λ x. StandsBetween tail (thing x) mid to) → IfOk r (λ x. StandsBetween reads (thing x) from to)
-told_behind (Ok x) thing reads tail front from mid to on passes takes = taken_behind reads tail (thing x) front from mid to on passes takes
-told_behind (Err fault) thing reads tail front from mid to on passes takes = tt
-
-pub records_on : (messages : List Message) (tick last writer len : ℕ) → len < 2 ^ 32 → ¬ (len ≡ 0) → len ≤ 65536 → GoesOnBehind (ReadsRecords messages tick last writer) (le_bytes 4 len) (ReadsBody messages tick last writer len)
-records_on messages tick last writer len fits some short rest outcome goes = inr (len, rest, fits, refl, inr (good, goes))
+pub body_refused : (messages : List Message) (tick last len : ℕ) (cause : BodyCause) (from mid : UnreadBytes) (left behind : Told) → with_front mid.bytes behind ≡ with_front from.bytes left → len ≤ length mid.bytes → BodyBreak messages tick last (take len mid.bytes) cause → Refuses (sized_body_at messages tick last len) (log_place from left) behind (Damaged (causes.Body cause))
+body_refused messages tick last len cause from mid left behind same long breaks =
+    of_behind mid.bytes (with_front from.bytes left) behind (λ rest. Unit {0}) _ (sym same) (λ rest _. there rest) (of_all behind _ (λ rest. tt))
   where
-    good : ¬ ((len ≡ 0) ⊎ (MAX_BODY < len))
-    good (inl none) = some none
-    good (inr many) = omega (arith, many, short)
-
-pub extent_on : (header : Header) (before : List Block) (messages : List Message) (last writer : ℕ) → MayStillWrite header before writer → messages ≡ messages_of before → last ≡ last_stamp header.clock.tick (records_of writer before) → GoesOnBehind (ReadsExtent header before) (writer ∷ []) (ReadsRecords messages header.clock.tick last writer)
-extent_on header before messages last writer right defined stamp rest outcome goes =
-    let here = subst (λ (m : List Message). ReadsRecords m header.clock.tick last writer rest outcome) defined goes in
-    let there = subst (λ (n : ℕ). ReadsRecords (messages_of before) header.clock.tick n writer rest outcome) stamp here in
-    let known = right.known in
-    inr (writer, rest, refl, inr ((λ wrong. omega (arith, known, wrong)), inr (right.unclosed, there)))
+    there : (rest : List ℕ) → sized_body_at messages tick last len (mid.bytes ++ rest) ≡ Err (causes.Body cause)
+    there rest =
+        let body = take len mid.bytes in
+        let parts : mid.bytes ++ rest ≡ body ++ (drop len mid.bytes ++ rest) = ap (λ (b : List ℕ). b ++ rest) (sym (take-append-drop len mid.bytes)) ∙ append_assoc body (drop len mid.bytes) rest in
+        ap (sized_body_at messages tick last len) parts ∙ rw (so_many_again len causes.Cut body (drop len mid.bytes ++ rest) (length-take-le len mid.bytes long), body_broken messages tick last cause body breaks) refl
 
 -- ---- blocks
 
-pub fragment_block : (r : Result ReadBlock BlockFault) (header : Header) (before : List Block) (defined after : List Message) (states : WriterStates) (tag : ℕ) (from mid to : LogPlace) → tag ≡ 1 → defined ≡ messages_of before → AreStatesOf states header.clock.tick before → BytesBetween (tag ∷ []) from mid → IfOk r (λ block. TakesFragment defined block after mid to) → IfOk r (λ block. TakesBlock header before block after states from to)
-fragment_block (Err fault) header before defined after states tag from mid to is known are passes takes = tt
-fragment_block (Ok told) header before defined after states tag from mid to is known are passes takes =
+pub fragment_block : (r : Result ReadBlock BlockFault) (header : Header) (before : List Block) (defined after : List Message) (states : WriterStates) (tag : ℕ) (from mid to : LogPlace) (left : Told) → tag ≡ 1 → defined ≡ messages_of before → AreStatesOf states header.clock.tick before → StandsBetween (first_byte causes.Cut) tag from mid
+    → MatchResult r (λ block. TakesFragment defined block after mid to) (Refuses (fragment_at defined) mid left) → MatchResult r (λ block. TakesBlock header before block after states from to) (Refuses (block_at header before) from left)
+fragment_block (Ok told) header before defined after states tag from mid to left is known are stands takes =
     let block = Fragment takes.first takes.messages in
-    let behind : StandsBetween (ReadsFragment (messages_of before)) block mid to = subst (λ (m : List Message). StandsBetween (ReadsFragment m) block mid to) known takes.takes in
+    let behind : StandsBetween (fragment_at (messages_of before)) block mid to = subst (λ (m : List Message). StandsBetween (fragment_at m) block mid to) known takes.takes in
     record {
       block = block;
       tells = takes.is;
-      takes = taken_behind (ReadsBlock header before) (ReadsFragment (messages_of before)) block (tag ∷ []) from mid to (λ rest outcome goes. inr (tag, rest, refl, inl (is, goes))) passes behind;
+      takes = stands_then (first_byte causes.Cut) _ tag block from mid to stands (subst (λ (t : ℕ). StandsBetween (tagged_at header before t) block mid to) (sym is) behind);
       defined = takes.added ∙ ap (λ (m : List Message). m ++ takes.messages) known ∙ sym (messages-push before block);
       states = states_kept states header.clock.tick before block (λ writer. refl) (λ writer. refl) are;
     }
+fragment_block (Err fault) header before defined after states tag from mid to left is known are stands refused =
+    let behind : Refuses (fragment_at (messages_of before)) mid left fault = subst (λ (m : List Message). Refuses (fragment_at m) mid left fault) known refused in
+    refused_then (first_byte causes.Cut) _ tag from mid left fault stands (subst (λ (t : ℕ). Refuses (tagged_at header before t) mid left fault) (sym is) behind)
 
-pub fragment_broken : (r : Result ReadBlock BlockFault) (header : Header) (before : List Block) (defined : List Message) (tag : ℕ) (from mid : LogPlace) (left : Told) → tag ≡ 1 → defined ≡ messages_of before → BytesBetween (tag ∷ []) from mid → IfErr r (Refuses (ReadsFragment defined) mid left) → IfErr r (Refuses (ReadsBlock header before) from left)
-fragment_broken (Ok told) header before defined tag from mid left is known passes refused = tt
-fragment_broken (Err fault) header before defined tag from mid left is known passes refused =
-    let behind : Refuses (ReadsFragment (messages_of before)) mid left fault = subst (λ (m : List Message). Refuses (ReadsFragment m) mid left fault) known refused in
-    refused_behind (ReadsBlock header before) (ReadsFragment (messages_of before)) (tag ∷ []) from mid left fault (λ rest outcome goes. inr (tag, rest, refl, inl (is, goes))) passes behind
-
-pub extent_block : (header : Header) (before : List Block) (defined : List Message) (writer same : ℕ) (entries : List Call) (after : WriterStates) (tag : ℕ) (from mid to : LogPlace) → tag ≡ 2 → same ≡ writer → defined ≡ messages_of before → BytesBetween (tag ∷ []) from mid → TakesExtent header before writer entries after mid to → TakesBlock header before (read.Extent same entries) defined after from to
-extent_block header before defined writer same entries after tag from mid to is named known passes takes =
+pub extent_block : (header : Header) (before : List Block) (defined : List Message) (writer same : ℕ) (entries : List Call) (after : WriterStates) (tag : ℕ) (from mid to : LogPlace) → tag ≡ 2 → same ≡ writer → defined ≡ messages_of before → StandsBetween (first_byte causes.Cut) tag from mid → TakesExtent header before writer entries after mid to → TakesBlock header before (read.Extent same entries) defined after from to
+extent_block header before defined writer same entries after tag from mid to is named known stands takes =
     let block = Extent writer entries in
     record {
       block = block;
       tells = ap (λ (n : ℕ). read.Extent n entries) named;
-      takes = taken_behind (ReadsBlock header before) (ReadsExtent header before) block (tag ∷ []) from mid to (λ rest outcome goes. inr (tag, rest, refl, inr (inl (is, goes)))) passes takes.takes;
+      takes = stands_then (first_byte causes.Cut) _ tag block from mid to stands (subst (λ (t : ℕ). StandsBetween (tagged_at header before t) block mid to) (sym is) takes.takes);
       defined = known ∙ sym (messages-push before block ∙ append-nil (messages_of before));
       states = takes.states;
     }
 
-pub extent_broken : {T : Type 0} (r : Result T BlockFault) (header : Header) (before : List Block) (tag : ℕ) (from mid : LogPlace) (left : Told) → tag ≡ 2 → BytesBetween (tag ∷ []) from mid → IfErr r (Refuses (ReadsExtent header before) mid left) → IfErr r (Refuses (ReadsBlock header before) from left)
-extent_broken r header before tag from mid left is passes refused =
-    err_behind r (ReadsBlock header before) (ReadsExtent header before) (tag ∷ []) from mid left (λ rest outcome goes. inr (tag, rest, refl, inr (inl (is, goes)))) passes refused
-
-pub close_block : (header : Header) (before : List Block) (defined : List Message) (writer same : ℕ) (after : WriterStates) (tag : ℕ) (from mid to : LogPlace) → tag ≡ 4 → same ≡ writer → defined ≡ messages_of before → BytesBetween (tag ∷ []) from mid → TakesClose header before writer after mid to → TakesBlock header before (read.Closed same) defined after from to
-close_block header before defined writer same after tag from mid to is named known passes takes =
+pub close_block : (header : Header) (before : List Block) (defined : List Message) (writer same : ℕ) (after : WriterStates) (tag : ℕ) (from mid to : LogPlace) → tag ≡ 4 → same ≡ writer → defined ≡ messages_of before → StandsBetween (first_byte causes.Cut) tag from mid → TakesClose header before writer after mid to → TakesBlock header before (read.Closed same) defined after from to
+close_block header before defined writer same after tag from mid to is named known stands takes =
     let block = Close writer in
     record {
       block = block;
       tells = ap read.Closed named;
-      takes = taken_behind (ReadsBlock header before) (ReadsClose header before) block (tag ∷ []) from mid to (λ rest outcome goes. inr (tag, rest, refl, inr (inr (inl (is, goes))))) passes takes.takes;
+      takes = stands_then (first_byte causes.Cut) _ tag block from mid to stands (subst (λ (t : ℕ). StandsBetween (tagged_at header before t) block mid to) (sym is) takes.takes);
       defined = known ∙ sym (messages-push before block ∙ append-nil (messages_of before));
       states = takes.states;
     }
+
+-- what is refused behind a tag
+pub refused_behind : (header : Header) (before : List Block) (tag same : ℕ) (from mid : LogPlace) (left : Told) (fault : BlockFault) → tag ≡ same → StandsBetween (first_byte causes.Cut) tag from mid → Refuses (tagged_at header before same) mid left fault → Refuses (block_at header before) from left fault
+refused_behind header before tag same from mid left fault is stands refused =
+    refused_then (first_byte causes.Cut) _ tag from mid left fault stands (subst (λ (t : ℕ). Refuses (tagged_at header before t) mid left fault) (sym is) refused)
+
+-- ---- extents
+
+-- a length, and the body
+pub long_body_answer : (r : Result (List Call) BlockFault) (messages : List Message) (tick last len : ℕ) (from mid to : LogPlace) (left : Told) → 1 ≤ len → len ≤ 65536 → StandsBetween (low_first 4 causes.Cut) len from mid → ReadsAs (sized_body_at messages tick last len) mid to left r → ReadsAs (long_body_at messages tick last) from to left r
+long_body_answer r messages tick last len from mid to left some short stands answers =
+    answers_then r (low_first 4 causes.Cut) _ (sized_body_at messages tick last len) len from mid to left stands (λ rest. rw (le-leb 1 len some, le-leb len 65536 short) refl) answers
+
+-- what the reader keeps is what the blocks give
+same_body : (header : Header) (before : List Block) (messages : List Message) (last writer : ℕ) → messages ≡ messages_of before → last ≡ last_stamp header.clock.tick (records_of writer before) → (rest : List ℕ) → writer_records_at header before writer rest ≡ long_body_at messages header.clock.tick last rest
+same_body header before messages last writer known stamp rest = λ t. long_body_at (sym known t) header.clock.tick (sym stamp t) rest
+
+pub extent_stands : (header : Header) (before : List Block) (messages : List Message) (last writer : ℕ) (entries : List Call) (from mid to : LogPlace) → messages ≡ messages_of before → last ≡ last_stamp header.clock.tick (records_of writer before) → StandsBetween (open_writer_at header before) writer from mid → StandsBetween (long_body_at messages header.clock.tick last) entries mid to → StandsBetween (extent_at header before) (Extent writer entries) from to
+extent_stands header before messages last writer entries from mid to known stamp writers records =
+    let own : StandsBetween (writer_records_at header before writer) entries mid to = record { front = records.front; passes = records.passes; found = λ rest. same_body header before messages last writer known stamp (records.front ++ rest) ∙ records.found rest } in
+    stands_then (open_writer_at header before) _ writer (Extent writer entries) from mid to writers (stands_last (writer_records_at header before writer) _ entries (Extent writer entries) mid to own (λ rest. refl))
+
+pub extent_refused : (header : Header) (before : List Block) (messages : List Message) (last writer : ℕ) (from mid : LogPlace) (left : Told) (fault : BlockFault) → messages ≡ messages_of before → last ≡ last_stamp header.clock.tick (records_of writer before) → StandsBetween (open_writer_at header before) writer from mid → Refuses (long_body_at messages header.clock.tick last) mid left fault → Refuses (extent_at header before) from left fault
+extent_refused header before messages last writer from mid left fault known stamp writers refused =
+    let own : Refuses (writer_records_at header before writer) mid left fault = subst (λ (l : List Message). Refuses (long_body_at l header.clock.tick (last_stamp header.clock.tick (records_of writer before))) mid left fault) known (subst (λ (n : ℕ). Refuses (long_body_at messages header.clock.tick n) mid left fault) stamp refused) in
+    refused_then (open_writer_at header before) (λ w. writer_records_at header before w.0 w.1 >>= (λ entries. Ok (Extent w.0 entries.0, entries.1))) writer from mid left fault writers
+    (refused_first (writer_records_at header before writer) (λ entries. Ok (Extent writer entries.0, entries.1)) mid left fault own)
+
+-- ---- fragments
+
+-- behind the first id
+pub fragment_answer : (r : Result (List Message) BlockFault) (before : List Message) (first count : ℕ) (from mid start to : LogPlace) (left : Told) → first ≡ length before → is_count before count ≡ true → StandsBetween (low_first 4 causes.Cut) first from mid → StandsBetween (low_first 2 causes.Cut) count mid start → ReadsAs (new_messages_at before count) start to left r
+    → MatchResult r (λ messages. StandsBetween (fragment_at before) (Fragment first messages) from to) (Refuses (fragment_at before) from left)
+fragment_answer (Ok messages) before first count from mid start to left is few firsts counts stands =
+    let counted : StandsBetween (counted_at before first) (Fragment first messages) mid to =
+    answers_then (Ok (Fragment first messages)) (low_first 2 causes.Cut) _ (λ bytes. new_messages_at before count bytes >>= (λ messages. Ok (Fragment first messages.0, messages.1))) count mid start to left counts (λ rest. rw few refl)
+    (stands_last (new_messages_at before count) _ messages (Fragment first messages) start to stands (λ rest. refl)) in
+    answers_then (Ok (Fragment first messages)) (low_first 4 causes.Cut) _ (counted_at before first) first from mid to left firsts (λ rest. rw (eq-eqb first (length before) is) refl) counted
+fragment_answer (Err fault) before first count from mid start to left is few firsts counts refused =
+    let none : Result Block BlockFault = Err fault in
+    let counted : Refuses (counted_at before first) mid left fault =
+    answers_then none (low_first 2 causes.Cut) _ (λ bytes. new_messages_at before count bytes >>= (λ messages. Ok (Fragment first messages.0, messages.1))) count mid start to left counts (λ rest. rw few refl)
+    (refused_first (new_messages_at before count) _ start left fault refused) in
+    answers_then none (low_first 4 causes.Cut) _ (counted_at before first) first from mid to left firsts (λ rest. rw (eq-eqb first (length before) is) refl) counted
+
+pub fragment_stands : (before after : List Message) (first count : ℕ) (from mid start to : LogPlace) → first ≡ length before → is_count before count ≡ true → StandsBetween (low_first 4 causes.Cut) first from mid → StandsBetween (low_first 2 causes.Cut) count mid start → TakesMessages before count after start to → TakesFragment before (read.Fragment first count) after from to
+fragment_stands before after first count from mid start to is few firsts counts takes = record {
+  first = first;
+  messages = takes.messages;
+  is = ap (read.Fragment first) (sym takes.many);
+  added = takes.added;
+  takes = fragment_answer (Ok takes.messages) before first count from mid start to None is few firsts counts takes.takes;
+}
+
+-- where it is cut off behind the first id
+pub count_refused : (before : List Message) (first : ℕ) (from mid : LogPlace) (left : Told) (fault : BlockFault) → first ≡ length before → StandsBetween (low_first 4 causes.Cut) first from mid → Refuses (low_first 2 causes.Cut) mid left fault → Refuses (fragment_at before) from left fault
+count_refused before first from mid left fault is firsts refused =
+    let none : Result Block BlockFault = Err fault in
+    answers_then none (low_first 4 causes.Cut) _ (counted_at before first) first from mid mid left firsts (λ rest. rw (eq-eqb first (length before) is) refl)
+    (refused_first (low_first 2 causes.Cut) _ mid left fault refused)

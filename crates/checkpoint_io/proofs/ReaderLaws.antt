@@ -14,7 +14,7 @@ use Rattle.checkpoint_io.specs.declared.header.Header.{Header}
 use Rattle.checkpoint_io.specs.declared.block.Block.{Block as ReadBlock}
 use Rattle.checkpoint_io.specs.Blocks.{Block, Fragment, Extent, Close, messages_of, SpellsBlock, FileOf}
 use Rattle.checkpoint_io.specs.Validity.{closes, IsRightAfter, AreRightAfter, Valid}
-use Rattle.checkpoint_io.specs.Reading.{broken, ReadsBlock}
+use Rattle.checkpoint_io.specs.Reading.{block_at}
 use Rattle.checkpoint_io.specs.Fronts.{Break, at_block, IsCutAt}
 use Rattle.checkpoint_io.specs.Places.{UnreadBytes, LogPlace, with_front, log_place, StandsBetween, TookSuch, Refuses, TookFewer}
 use Rattle.checkpoint_io.specs.Writers.{WriterStates, AreStatesOf}
@@ -23,7 +23,7 @@ use Rattle.checkpoint_io.specs.NextBlocks.{TakesBlock, TakesNext, EndsThere, Sto
 use Rattle.checkpoint_io.proofs.lemmas.FileLaws.{with_front-both}
 use Rattle.checkpoint_io.proofs.lemmas.FrontLaws.{file_goes_on}
 use Rattle.checkpoint_io.proofs.lemmas.ValidityLaws.{goes_on, messages_differ}
-use Rattle.checkpoint_io.proofs.ReadingForms.{read_block_right}
+use Rattle.checkpoint_io.proofs.ReadingForms.{block_taken}
 
 -- ---- the end
 
@@ -60,10 +60,11 @@ record IsRight (header : Header) (before : List Block) (block : Block) (front : 
   spelled : SpellsBlock (messages_of before) header.clock.tick block front
   right : IsRightAfter header before block
 
-is_right : (header : Header) (before : List Block) (block : Block) (from to : LogPlace) → Valid header before → (takes : StandsBetween (ReadsBlock header before) block from to) → IsRight header before block takes.front
+is_right : (header : Header) (before : List Block) (block : Block) (from to : LogPlace) → Valid header before → (takes : StandsBetween (block_at header before) block from to) → IsRight header before block takes.front
 is_right header before block from to valid takes =
-    let read = read_block_right header before (takes.front ++ []) block [] valid.header_right.few_writers (messages_differ header before valid).distinct (takes.found []) in
-    let same : read.front ≡ takes.front = sym (append-nil read.front) ∙ sym read.joined ∙ append-nil takes.front in
+    let whole = ap (block_at header before) (sym (append-nil takes.front)) ∙ takes.found [] in
+    let read = block_taken header before takes.front block [] valid.header_right.few_writers (messages_differ header before valid).distinct takes.passes.small whole in
+    let same : read.front ≡ takes.front = sym (append-nil read.front) ∙ sym read.joined in
     record { spelled = subst (SpellsBlock (messages_of before) header.clock.tick block) same read.spelled; right = read.right }
 
 pub takes_next : (old new : ReaderState) (taken : List ℕ) (before : StandsFor old taken) (told : ReadBlock) (mid : UnreadBytes) (left between behind : Told) → with_front mid.bytes between ≡ with_front old.waiting.bytes left → mid.offset ≡ old.waiting.offset → new.header ≡ old.header → new.offset ≡ new.waiting.offset → new.waiting.offset ≤ 134217728
@@ -110,32 +111,32 @@ in_file : (taken waiting : List ℕ) (left : Told) (P : List ℕ → Type 0) →
 in_file taken waiting None P there = tt
 in_file taken waiting (Some content) P there = subst P (sym (append_assoc taken waiting content)) there
 
-pub breaks_next : (old : ReaderState) (taken : List ℕ) (before : StandsFor old taken) (mid : UnreadBytes) (left between behind : Told) (cause : Cause) → with_front mid.bytes between ≡ with_front old.waiting.bytes left → 1 ≤ length mid.bytes → Refuses (ReadsBlock old.header before.blocks) (log_place mid between) behind (Damaged cause)
+pub breaks_next : (old : ReaderState) (taken : List ℕ) (before : StandsFor old taken) (mid : UnreadBytes) (left between behind : Told) (cause : Cause) → with_front mid.bytes between ≡ with_front old.waiting.bytes left → 1 ≤ length mid.bytes → Refuses (block_at old.header before.blocks) (log_place mid between) behind (Damaged cause)
     → IfSome (with_front (taken ++ old.waiting.bytes) left) (λ bytes. StopsAt bytes old.offset cause)
 breaks_next old taken before mid left between behind cause same some refused =
     in_file taken old.waiting.bytes left (λ bytes. StopsAt bytes old.offset cause) (subst (λ (told : Told). IfSome told (λ bytes. StopsAt (taken ++ bytes) old.offset cause)) same (there between refused))
   where
-    there : (told : Told) → IfSome (with_front mid.bytes told) (λ bytes. ReadsBlock old.header before.blocks bytes (broken cause)) → IfSome (with_front mid.bytes told) (λ bytes. StopsAt (taken ++ bytes) old.offset cause)
+    there : (told : Told) → IfSome (with_front mid.bytes told) (λ bytes. block_at old.header before.blocks bytes ≡ Err cause) → IfSome (with_front mid.bytes told) (λ bytes. StopsAt (taken ++ bytes) old.offset cause)
     there None reads = tt
     there (Some content) reads =
         inl (subst (λ (n : ℕ). Break (taken ++ (mid.bytes ++ content)) n cause) (sym before.offset)
         (at_block old.header before.blocks taken (mid.bytes ++ content) cause refl before.file before.valid (omega (arith, some, length-append mid.bytes content)) reads))
 
 -- where no bytes stand behind what the reader stood for, or those that do end inside a block
-cut_behind : (old : ReaderState) (taken : List ℕ) (before : StandsFor old taken) (bytes : List ℕ) → ReadsBlock old.header before.blocks bytes (broken causes.Cut) → IsCutAt (taken ++ bytes) old.offset
+cut_behind : (old : ReaderState) (taken : List ℕ) (before : StandsFor old taken) (bytes : List ℕ) → block_at old.header before.blocks bytes ≡ Err causes.Cut → IsCutAt (taken ++ bytes) old.offset
 cut_behind old taken before [] reads =
     subst (λ (b : List ℕ). IsCutAt b old.offset) (sym (append-nil taken)) (inr (old.header, before.blocks, before.file, before.valid, before.offset))
 cut_behind old taken before (byte ∷ rest) reads =
     inl (subst (λ (n : ℕ). Break (taken ++ byte ∷ rest) n causes.Cut) (sym before.offset) (at_block old.header before.blocks taken (byte ∷ rest) causes.Cut refl before.file before.valid (omega arith) reads))
 
 -- a read failed behind what the reader stood for
-pub cut_next : (old : ReaderState) (taken : List ℕ) (before : StandsFor old taken) (mid : UnreadBytes) (left between behind : Told) → with_front mid.bytes between ≡ with_front old.waiting.bytes left → Refuses (ReadsBlock old.header before.blocks) (log_place mid between) behind ReadFault
+pub cut_next : (old : ReaderState) (taken : List ℕ) (before : StandsFor old taken) (mid : UnreadBytes) (left between behind : Told) → with_front mid.bytes between ≡ with_front old.waiting.bytes left → Refuses (block_at old.header before.blocks) (log_place mid between) behind ReadFault
     → TookSuch (λ bytes. IsCutAt (taken ++ bytes) old.offset) (with_front old.waiting.bytes left) behind
 cut_next old taken before mid left between behind same (bytes, split, reads) = (bytes, sym same ∙ split, cut_behind old taken before bytes reads)
 
 -- a read failed before any byte of a block came
-pub none_next : (header : Header) (blocks : List Block) (from : LogPlace) (left : Told) → TookFewer 1 from left → Refuses (ReadsBlock header blocks) from left ReadFault
-none_next header blocks from left (bytes, split, none) = (bytes, split, inl (no_bytes bytes none, refl))
+pub none_next : (header : Header) (blocks : List Block) (from : LogPlace) (left : Told) → TookFewer 1 from left → Refuses (block_at header blocks) from left ReadFault
+none_next header blocks from left (bytes, split, none) = (bytes, split, ap (block_at header blocks) (no_bytes bytes none))
 
 pub too_large : (old : ReaderState) (taken : List ℕ) (before : StandsFor old taken) (told : ReadBlock) (mid : UnreadBytes) (left between : Told) (to : LogPlace) (messages : List Message) (writers : WriterStates) → with_front mid.bytes between ≡ with_front old.waiting.bytes left → mid.offset ≡ old.waiting.offset → 134217728 < to.offset → TakesBlock old.header before.blocks told messages writers (log_place mid between) to
     → IfSome (with_front (taken ++ old.waiting.bytes) left) (λ bytes. StopsAt bytes old.offset causes.TooLarge)

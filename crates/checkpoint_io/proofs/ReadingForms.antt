@@ -1,119 +1,260 @@
 -- Right headers and blocks are read as what they are, and what is read is right.
-use Rattle.std.proofs.lemmas.Bool.{cases_lt}
-use Rattle.std.proofs.Common.{⊎_elim, ◌≡◌, ◌≢◌, ℕ, zero, suc, ◌+◌, ◌<◌, ◌≤◌, ◌^◌, List, [], ◌∷◌, ◌++◌, length, refl, sym, ap, subst, ◌∙◌, inl, inr, ◌⊎◌, append_assoc, arith}
-use Rattle.std.specs.Prelude.{codes}
+use Rattle.std.proofs.Common.{◌≡◌, ℕ, zero, suc, ◌+◌, ◌<◌, ◌≤◌, ◌^◌, Bool, true, false, List, [], ◌∷◌, ◌++◌, length, Result, Ok, Err, refl, sym, ap, subst, ◌∙◌, append_assoc, eqb, eq-eqb, arith}
+use Rattle.std.specs.Prelude.{codes, not, nat_eq, nat_lt, nat_le, ◌&&◌, if◌then◌else◌}
+use Rattle.std.specs.List.{list_any}
 use Rattle.std.specs.Hash.{le_bytes}
-use Rattle.std.proofs.lemmas.List.{length-append, append-nil}
+use Rattle.std.proofs.lemmas.Bool.{le-leb, leb-true, lt-ltb, ltb-true, eqb-true, and_parts, and_from, true≢false}
+use Rattle.std.proofs.lemmas.List.{length-append, take_at, append-nil, append_cancel_right}
+use Rattle.std.proofs.lemmas.List.Elements.{All-take}
+use Rattle.nibble_pack.specs.Bytes.{AreBytes, back_bytes}
+use Rattle.nibble_pack.specs.Parsing.{◌>>=◌, provided, caused_by, first_byte, so_many, low_first, these_bytes, IsSteady}
+use Rattle.nibble_pack.proofs.lemmas.Parsing.{found, given, so_many_again, so_many_taken}
+use Rattle.nibble_pack.proofs.lemmas.Steady.{steady_done, steady_broken, steady_provided, steady_then, steady_caused, steady_byte, steady_many, steady_number, steady_these, steady_times, number_again, number_taken}
 use Rattle.log_dictionary.specs.declared.message.Message.{Message}
 use Rattle.log_dictionary.specs.declared.dictionary.TheConstants.{MAX_MESSAGES}
-use Rattle.log_dictionary.specs.Messages.{HasMessage, AreDistinct}
-use Rattle.log_dictionary.proofs.lemmas.Distinct.{is_new}
-use Rattle.log_dictionary.proofs.lemmas.Distinct.{still_distinct}
+use Rattle.log_dictionary.specs.declared.binary_entry.EntryCause.TheVariants as entries
+use Rattle.log_dictionary.specs.Messages.{is_same, HasMessage, AreDistinct}
+use Rattle.log_dictionary.specs.BinaryEntries.{SpellsEntry}
+use Rattle.log_dictionary.specs.EntryReading.{entry_at}
+use Rattle.log_dictionary.proofs.lemmas.Distinct.{there_from_test, none_from_test, is_new, still_distinct}
+use Rattle.log_dictionary.proofs.lemmas.BinaryLaws.{entry_again, entry_taken, steady_entry}
+use Rattle.session_options.specs.declared.limits.TheConstants.{MAX_WRITERS}
 use Rattle.arg_records.specs.declared.call.Call.{Call}
-use Rattle.buffer_extent.specs.Bodies.{IsBody}
-use Rattle.checkpoint_io.specs.declared.cause.Cause.{Cause}
+use Rattle.buffer_extent.specs.declared.fault.Cause.{Cause as BodyCause}
+use Rattle.buffer_extent.specs.Bodies.{IsBody, body_at}
+use Rattle.buffer_extent.proofs.lemmas.BodyLaws.{body_again, body_taken}
 use Rattle.checkpoint_io.specs.declared.cause.Cause.TheVariants as causes
 use Rattle.checkpoint_io.specs.declared.header.Header.{Header}
-use Rattle.checkpoint_io.specs.declared.heads.TheConstants.{MAX_BODY}
-use Rattle.checkpoint_io.specs.Blocks.{Block, Fragment, Extent, Close, messages_of, header_bytes, fragment_head_bytes, extent_head_bytes, SpellsEntries, SpellsFragment, SpellsBlock}
-use Rattle.checkpoint_io.specs.Validity.{records_of, last_stamp, IsClosed, MayStillWrite, DefinesNext, ContinuesWriter, IsRightAfter, IsHeader}
-use Rattle.checkpoint_io.specs.Reading.{ReadOutcome, found, broken, Reads, ReadsNoMore, Unless, ByteThen, NumberThen, MagicThen, ReadsClock, ReadsVersion, ReadsHeader, ReadsEntries, IsBadCount, ReadsCount, ReadsFragment, WriterThen, ReadsBody, ReadsLength, ReadsExtent, ReadsClose, ReadsTagged, ReadsBlock}
-use Rattle.checkpoint_io.proofs.lemmas.BlockLaws.{fragment_nested, extent_nested}
-use Rattle.checkpoint_io.proofs.lemmas.FrontLaws.{header_nested}
+use Rattle.checkpoint_io.specs.declared.heads.TheConstants.{MAX_FRAGMENT_MESSAGES, MAX_BODY}
+use Rattle.checkpoint_io.specs.Blocks.{Block, Fragment, Extent, Close, messages_of, header_bytes, fragment_head_bytes, extent_head_bytes, SpellsEntries, SpellsBlock}
+use Rattle.checkpoint_io.specs.Validity.{records_of, last_stamp, closes, MayStillWrite, ContinuesWriter, IsRightAfter, IsHeader}
+use Rattle.checkpoint_io.specs.Reading.{header_of, header_clock_at, header_version_at, header_at, entry_cause, message_at, new_message_at, new_messages_at, is_count, fragment_at, open_writer_at, long_body_at, writer_records_at, extent_at, close_at, tagged_at, block_at}
+use Rattle.checkpoint_io.proofs.lemmas.BlockLaws.{header_nested, fragment_nested, extent_nested}
+
+-- ---- more bytes behind
+
+steady_clock : (writers : ℕ) → IsSteady causes.Cut (header_clock_at writers)
+steady_clock writers =
+    steady_then causes.Cut (low_first 8 causes.Cut) _ (steady_number causes.Cut 8) (λ tick.
+    steady_then causes.Cut (low_first 8 causes.Cut) _ (steady_number causes.Cut 8) (λ nanos.
+    steady_then causes.Cut (low_first 8 causes.Cut) _ (steady_number causes.Cut 8) (λ rate.
+    steady_then causes.Cut (λ bytes. provided (nat_le 1 rate) causes.BadHeader (rate, bytes)) _ (steady_provided causes.Cut (nat_le 1 rate) causes.BadHeader rate) (λ ticking.
+    steady_done causes.Cut (header_of writers tick nanos ticking)))))
+
+steady_version : IsSteady causes.Cut header_version_at
+steady_version =
+    steady_then causes.Cut (first_byte causes.Cut) _ (steady_byte causes.Cut) (λ version.
+    steady_then causes.Cut (λ bytes. provided (nat_eq version 1) causes.BadVersion (version, bytes)) _ (steady_provided causes.Cut (nat_eq version 1) causes.BadVersion version) (λ known.
+    steady_then causes.Cut (first_byte causes.Cut) _ (steady_byte causes.Cut) (λ writers.
+    steady_then causes.Cut (λ bytes. provided (nat_le 1 writers && nat_le writers MAX_WRITERS) causes.BadHeader (writers, bytes)) _ (steady_provided causes.Cut (nat_le 1 writers && nat_le writers MAX_WRITERS) causes.BadHeader writers) steady_clock)))
+
+pub steady_header : IsSteady causes.Cut header_at
+steady_header = steady_then causes.Cut (these_bytes causes.BadMagic causes.Cut (codes "NLOG")) (λ magic. header_version_at magic.1) (steady_these causes.Cut causes.BadMagic (codes "NLOG")) (λ magic. steady_version)
+
+steady_message : (defined : List Message) → IsSteady causes.Cut (new_message_at defined)
+steady_message defined =
+    steady_then causes.Cut message_at _ (steady_caused entries.Cut entry_cause entry_at steady_entry) (λ message.
+    steady_provided causes.Cut (not (list_any (is_same message) defined)) causes.BadEntry message)
+
+steady_fragment : (before : List Message) → IsSteady causes.Cut (fragment_at before)
+steady_fragment before =
+    steady_then causes.Cut (low_first 4 causes.Cut) _ (steady_number causes.Cut 4) (λ first.
+    steady_then causes.Cut (λ bytes. provided (nat_eq first (length before)) causes.FragmentOrder (first, bytes)) _ (steady_provided causes.Cut (nat_eq first (length before)) causes.FragmentOrder first) (λ next.
+    steady_then causes.Cut (low_first 2 causes.Cut) _ (steady_number causes.Cut 2) (λ count.
+    steady_then causes.Cut (λ bytes. provided (is_count before count) causes.BadLength (count, bytes)) _ (steady_provided causes.Cut (is_count before count) causes.BadLength count) (λ few.
+    steady_then causes.Cut (new_messages_at before few) _ (steady_times causes.Cut new_message_at steady_message before few) (λ messages.
+    steady_done causes.Cut (Fragment next messages))))))
+
+steady_writer : (header : Header) (before : List Block) → IsSteady causes.Cut (open_writer_at header before)
+steady_writer header before =
+    steady_then causes.Cut (first_byte causes.Cut) _ (steady_byte causes.Cut) (λ writer.
+    steady_then causes.Cut (λ bytes. provided (nat_lt writer header.writers) causes.UnknownWriter (writer, bytes)) _ (steady_provided causes.Cut (nat_lt writer header.writers) causes.UnknownWriter writer) (λ known.
+    steady_provided causes.Cut (not (list_any (closes known) before)) causes.AfterClose known))
+
+steady_body : (messages : List Message) (tick last : ℕ) → IsSteady causes.Cut (long_body_at messages tick last)
+steady_body messages tick last =
+    steady_then causes.Cut (low_first 4 causes.Cut) _ (steady_number causes.Cut 4) (λ len.
+    steady_then causes.Cut (λ bytes. provided (nat_le 1 len && nat_le len MAX_BODY) causes.BadLength (len, bytes)) _ (steady_provided causes.Cut (nat_le 1 len && nat_le len MAX_BODY) causes.BadLength len) (λ short.
+    steady_then causes.Cut (so_many short causes.Cut) _ (steady_many causes.Cut short) (λ body. by_entries (body_at messages tick last body))))
+  where
+    by_entries : (read : Result (List Call) BodyCause) → IsSteady causes.Cut (λ bytes. caused_by causes.Body read >>= (λ entries. Ok (entries, bytes)))
+    by_entries (Ok entries) = steady_done causes.Cut entries
+    by_entries (Err cause) = steady_broken causes.Cut (causes.Body cause)
+
+steady_tagged : (header : Header) (before : List Block) (tag : ℕ) → IsSteady causes.Cut (tagged_at header before tag)
+steady_tagged header before tag = by_tag (nat_eq tag 1) (nat_eq tag 2) (nat_eq tag 4)
+  where
+    by_tag : (one two four : Bool) → IsSteady causes.Cut (λ bytes. if one then fragment_at (messages_of before) bytes else if two then extent_at header before bytes else if four then close_at header before bytes else Err causes.BadBlock)
+    by_tag true two four = steady_fragment (messages_of before)
+    by_tag false true four =
+        steady_then causes.Cut (open_writer_at header before) _ (steady_writer header before) (λ writer.
+        steady_then causes.Cut (writer_records_at header before writer) _ (steady_body (messages_of before) header.clock.tick (last_stamp header.clock.tick (records_of writer before))) (λ entries.
+        steady_done causes.Cut (Extent writer entries)))
+    by_tag false false true = steady_then causes.Cut (open_writer_at header before) _ (steady_writer header before) (λ writer. steady_done causes.Cut (Close writer))
+    by_tag false false false = steady_broken causes.Cut causes.BadBlock
+
+pub steady_block : (header : Header) (before : List Block) → IsSteady causes.Cut (block_at header before)
+steady_block header before = steady_then causes.Cut (first_byte causes.Cut) _ (steady_byte causes.Cut) (steady_tagged header before)
 
 -- ---- right headers are read
 
-magic_read : {A : Type 0} (letters : List ℕ) (next : Reads A) (rest : List ℕ) (outcome : ReadOutcome A) → next rest outcome → MagicThen letters next (letters ++ rest) outcome
-magic_read [] next rest outcome goes_on = goes_on
-magic_read (letter ∷ letters) next rest outcome goes_on = inr (letter, letters ++ rest, refl, inr ((λ wrong. wrong refl), magic_read letters next rest outcome goes_on))
-
-clock_read : (header : Header) (rest : List ℕ) → IsHeader header → ReadsClock header.writers (le_bytes 8 header.clock.tick ++ (le_bytes 8 header.clock.nanos ++ (le_bytes 8 header.clock.rate ++ rest))) (found header rest)
-clock_read header rest right =
-    inr (
-      header.clock.tick,
-      _,
-      right.tick_fits,
-      refl,
-      inr (
-        header.clock.nanos,
-        _,
-        right.nanos_fits,
-        refl,
-        inr (
-          header.clock.rate,
-          _,
-          right.rate_fits,
-          refl,
-          inr ((λ none. omega (arith, none, right.rate)), refl),
-        ),
-      ),
-    )
-
-few_writers : (header : Header) → IsHeader header → ¬ ((header.writers ≡ 0) ⊎ (64 < header.writers))
-few_writers header right (inl none) = omega (arith, none, right.some_writer)
-few_writers header right (inr many) = omega (arith, many, right.few_writers)
-
-pub header_read : (header : Header) (rest : List ℕ) → IsHeader header → ReadsHeader (header_bytes header ++ rest) (found header rest)
-header_read header rest right =
-    subst (λ (bytes : List ℕ). ReadsHeader bytes (found header rest)) (sym (header_nested header rest))
-    (magic_read (codes "NLOG") ReadsVersion _ (found header rest) (inr (1, _, refl, inr ((λ wrong. wrong refl), inr (header.writers, _, refl, inr (few_writers header right, clock_read header rest right))))))
+pub header_again : (header : Header) (rest : List ℕ) → IsHeader header → header_at (header_bytes header ++ rest) ≡ Ok (header, rest)
+header_again header rest right =
+    let behind : List ℕ = le_bytes 8 header.clock.nanos ++ (le_bytes 8 header.clock.rate ++ rest) in
+    ap header_at (header_nested header rest) ∙ rw (
+      le-leb 1 header.writers right.some_writer,
+      le-leb header.writers 64 right.few_writers,
+      number_again 8 causes.Cut header.clock.tick behind right.tick_fits,
+      number_again 8 causes.Cut header.clock.nanos (le_bytes 8 header.clock.rate ++ rest) right.nanos_fits,
+      number_again 8 causes.Cut header.clock.rate rest right.rate_fits,
+      le-leb 1 header.clock.rate right.rate,
+    ) refl
 
 -- ---- right fragments are read
 
-entries_read : (before : List Message) (first : ℕ) (read messages : List Message) (bytes rest : List ℕ) → AreDistinct ((before ++ read) ++ messages) → SpellsEntries messages bytes → ReadsEntries before first read (length messages) (bytes ++ rest) (found (Fragment first (read ++ messages)) rest)
-entries_read before first read [] bytes rest distinct none =
-    let no_more : read ≡ read ++ [] = sym (append-nil read) in
-    let no_bytes : rest ≡ bytes ++ rest = ap (λ (b : List ℕ). b ++ rest) (sym none) in
-    ap (λ (r : List Message). found (Fragment first r) rest) (sym no_more) ∙ ap (found (Fragment first read)) no_bytes
-entries_read before first read (message ∷ messages) bytes rest distinct (front, back, joined, spelled, behind) =
-    let whole : bytes ++ rest ≡ front ++ (back ++ rest) = ap (λ (b : List ℕ). b ++ rest) joined ∙ append_assoc front back rest in
-    let apart : (before ++ read) ++ message ∷ messages ≡ (before ++ (read ++ message ∷ [])) ++ messages = sym (append_assoc (before ++ read) (message ∷ []) messages) ∙ ap (λ (l : List Message). l ++ messages) (append_assoc before read (message ∷ [])) in
-    let others = entries_read before first (read ++ message ∷ []) messages back rest (subst AreDistinct apart distinct) behind in
-    let all : (read ++ message ∷ []) ++ messages ≡ read ++ message ∷ messages = append_assoc read (message ∷ []) messages in
-    inr (inr (message, front, back ++ rest, spelled, whole, inr (is_new (before ++ read) messages message distinct, subst (λ (l : List Message). ReadsEntries before first (read ++ message ∷ []) (length messages) (back ++ rest) (found (Fragment first l) rest)) all others)))
+false_of : (b : Bool) → ¬ (b ≡ true) → b ≡ false
+false_of true none = absurd (none refl)
+false_of false none = refl
 
-good_count : (before messages : List Message) → 1 ≤ length messages → length messages ≤ 16 → length (before ++ messages) ≤ MAX_MESSAGES → ¬ (IsBadCount before (length messages))
-good_count before messages some few all (inl none) = omega (arith, none, some)
-good_count before messages some few all (inr (inl many)) = omega (arith, many, few)
-good_count before messages some few all (inr (inr many)) = omega (arith, many, all, length-append before messages)
+true_of : (b : Bool) → not b ≡ true → b ≡ false
+true_of true e = absurd (true≢false (sym e))
+true_of false e = refl
 
-fragment_read : (before : List Block) (first : ℕ) (messages : List Message) (entries rest : List ℕ) → DefinesNext before first messages → 1 ≤ length messages → length messages ≤ 16 → first < 2 ^ 32 → SpellsEntries messages entries
-    → ReadsFragment (messages_of before) (le_bytes 4 first ++ (le_bytes 2 (length messages) ++ (entries ++ rest))) (found (Fragment first messages) rest)
-fragment_read before first messages entries rest right some few fits spelled =
-    let distinct : AreDistinct ((messages_of before ++ []) ++ messages) = subst (λ (l : List Message). AreDistinct (l ++ messages)) (sym (append-nil (messages_of before))) right.distinct in
-    inr (first, _, fits, refl, inr ((λ wrong. wrong right.next), inr (length messages, _, omega (arith, few), refl, inr (good_count (messages_of before) messages some few right.few, entries_read (messages_of before) first [] messages entries rest distinct spelled))))
+pub new_by_test : (defined : List Message) (message : Message) → ¬ (HasMessage defined message) → list_any (is_same message) defined ≡ false
+new_by_test defined message new = false_of (list_any (is_same message) defined) (λ e. new (there_from_test defined message e))
+
+pub message_again : (defined : List Message) (message : Message) (front rest : List ℕ) → SpellsEntry front message → ¬ (HasMessage defined message) → new_message_at defined (front ++ rest) ≡ Ok (message, rest)
+message_again defined message front rest spelled new = rw (entry_again message front rest spelled, new_by_test defined message new) refl
+
+messages_again : (before messages : List Message) (bytes rest : List ℕ) → AreDistinct (before ++ messages) → SpellsEntries messages bytes → new_messages_at before (length messages) (bytes ++ rest) ≡ Ok (messages, rest)
+messages_again before [] bytes rest distinct none = ap (λ (b : List ℕ). Ok ([], b ++ rest)) none
+messages_again before (message ∷ messages) bytes rest distinct (front, back, joined, spelled, behind) =
+    let here = message_again before message front (back ++ rest) spelled (is_new before messages message distinct) in
+    let others = messages_again (before ++ message ∷ []) messages back rest (subst AreDistinct (sym (append_assoc before (message ∷ []) messages)) distinct) behind in
+    ap (new_messages_at before (suc (length messages))) (ap (λ (b : List ℕ). b ++ rest) joined ∙ append_assoc front back rest) ∙ rw (here, others) refl
+
+fragment_again : (before messages : List Message) (first : ℕ) (entries rest : List ℕ) → first ≡ length before → AreDistinct (before ++ messages) → length (before ++ messages) ≤ 65536 → 1 ≤ length messages → length messages ≤ 16 → first < 2 ^ 32 → SpellsEntries messages entries
+    → fragment_at before (le_bytes 4 first ++ (le_bytes 2 (length messages) ++ (entries ++ rest))) ≡ Ok (Fragment first messages, rest)
+fragment_again before messages first entries rest next distinct all some few fits spelled =
+    let count : ℕ = length messages in
+    let counted : is_count before count ≡ true = and_from _ _ (le-leb 1 count some) (and_from _ _ (le-leb count 16 few) (le-leb (length before + count) 65536 (omega (arith, all, length-append before messages)))) in
+    rw (
+      number_again 4 causes.Cut first (le_bytes 2 count ++ (entries ++ rest)) fits,
+      eq-eqb first (length before) next,
+      number_again 2 causes.Cut count (entries ++ rest) (omega (arith, few)),
+      counted,
+      messages_again before messages entries rest distinct spelled,
+    ) refl
 
 -- ---- right extents and close marks are read
 
-known_writer : (header : Header) (writer : ℕ) → writer < header.writers → ¬ (header.writers ≤ writer)
-known_writer header writer known wrong = omega (arith, known, wrong)
+writer_again : (header : Header) (before : List Block) (writer : ℕ) (rest : List ℕ) → MayStillWrite header before writer → open_writer_at header before (writer ∷ rest) ≡ Ok (writer, rest)
+writer_again header before writer rest right =
+    rw (lt-ltb writer header.writers right.known, false_of (list_any (closes writer) before) right.unclosed) refl
 
-writer_read : (header : Header) (before : List Block) (writer : ℕ) (next : ℕ → Reads Block) (rest : List ℕ) (outcome : ReadOutcome Block) → MayStillWrite header before writer → next writer rest outcome → WriterThen header before next (writer ∷ rest) outcome
-writer_read header before writer next rest outcome right goes_on = inr (writer, rest, refl, inr (known_writer header writer right.known, inr (right.unclosed, goes_on)))
+extent_again : (header : Header) (before : List Block) (writer : ℕ) (entries : List Call) (body rest : List ℕ) → ContinuesWriter header before writer entries → 1 ≤ length body → length body ≤ 65536 → IsBody (messages_of before) header.clock.tick (last_stamp header.clock.tick (records_of writer before)) entries body
+    → extent_at header before (writer ∷ (le_bytes 4 (length body) ++ (body ++ rest))) ≡ Ok (Extent writer entries, rest)
+extent_again header before writer entries body rest right some short is =
+    rw (
+      writer_again header before writer (le_bytes 4 (length body) ++ (body ++ rest)) right.writer_open,
+      number_again 4 causes.Cut (length body) (body ++ rest) (omega (arith, short)),
+      le-leb 1 (length body) some,
+      le-leb (length body) 65536 short,
+      so_many_again (length body) causes.Cut body rest refl,
+      body_again (messages_of before) header.clock.tick (last_stamp header.clock.tick (records_of writer before)) entries body is,
+    ) refl
 
-good_length : (len : ℕ) → 1 ≤ len → len ≤ 65536 → ¬ ((len ≡ 0) ⊎ (MAX_BODY < len))
-good_length len some short (inl none) = omega (arith, none, some)
-good_length len some short (inr many) = omega (arith, many, short)
+-- a right block is read as what it is, whatever stands behind it
+pub block_again : (header : Header) (before : List Block) (block : Block) (front rest : List ℕ) → IsRightAfter header before block → SpellsBlock (messages_of before) header.clock.tick block front → block_at header before (front ++ rest) ≡ Ok (block, rest)
+block_again header before (Fragment first messages) front rest right spelled =
+    ap (block_at header before) (ap (λ (f : List ℕ). f ++ rest) spelled.joined ∙ fragment_nested first (length messages) spelled.entries rest)
+    ∙ fragment_again (messages_of before) messages first spelled.entries rest right.next right.distinct right.few spelled.some spelled.few spelled.first_fits spelled.entries_spelled
+block_again header before (Extent writer entries) front rest right spelled =
+    ap (block_at header before) (ap (λ (f : List ℕ). f ++ rest) spelled.joined ∙ extent_nested writer (length spelled.body) spelled.body rest)
+    ∙ extent_again header before writer entries spelled.body rest right spelled.some spelled.short (record { spelled = spelled.body_spelled; right = right.right; rising = right.rising })
+block_again header before (Close writer) front rest right spelled =
+    ap (block_at header before) (ap (λ (f : List ℕ). f ++ rest) spelled.joined) ∙ rw (writer_again header before writer rest right) refl
 
-extent_read : (header : Header) (before : List Block) (writer : ℕ) (entries : List Call) (body rest : List ℕ) → ContinuesWriter header before writer entries → 1 ≤ length body → length body ≤ 65536 → IsBody (messages_of before) header.clock.tick (last_stamp header.clock.tick (records_of writer before)) entries body
-    → ReadsExtent header before (writer ∷ (le_bytes 4 (length body) ++ (body ++ rest))) (found (Extent writer entries) rest)
-extent_read header before writer entries body rest right some short is =
-    writer_read header before writer (ReadsLength header before) _ _ right.writer_open (inr (length body, _, omega (arith, short), refl, inr (good_length (length body) some short, inr (body, rest, refl, refl, inr (entries, is, refl)))))
+-- ---- one reading
 
--- a right block is read as what it is
-pub block_read : (header : Header) (before : List Block) (block : Block) (front rest : List ℕ) → IsRightAfter header before block → SpellsBlock (messages_of before) header.clock.tick block front → ReadsBlock header before (front ++ rest) (found block rest)
-block_read header before (Fragment first messages) front rest right spelled =
-    subst (λ (bytes : List ℕ). ReadsBlock header before bytes (found (Fragment first messages) rest)) (sym (ap (λ (f : List ℕ). f ++ rest) spelled.joined ∙ fragment_nested first (length messages) spelled.entries rest))
-    (inr (1, _, refl, inl (refl, fragment_read before first messages spelled.entries rest right spelled.some spelled.few spelled.first_fits spelled.entries_spelled)))
-block_read header before (Extent writer entries) front rest right spelled =
-    let is : IsBody (messages_of before) header.clock.tick (last_stamp header.clock.tick (records_of writer before)) entries spelled.body = record { spelled = spelled.body_spelled; right = right.right; rising = right.rising } in
-    subst (λ (bytes : List ℕ). ReadsBlock header before bytes (found (Extent writer entries) rest)) (sym (ap (λ (f : List ℕ). f ++ rest) spelled.joined ∙ extent_nested writer (length spelled.body) spelled.body rest))
-    (inr (2, _, refl, inr (inl (refl, extent_read header before writer entries spelled.body rest right spelled.some spelled.short is))))
-block_read header before (Close writer) front rest right spelled =
-    subst (λ (bytes : List ℕ). ReadsBlock header before bytes (found (Close writer) rest)) (sym (ap (λ (f : List ℕ). f ++ rest) spelled.joined))
-    (inr (4, _, refl, inr (inr (inl (refl, writer_read header before writer (λ w. ReadsNoMore (Close w)) rest (found (Close writer) rest) right refl)))))
+-- a header's spelling determines it
+pub one_header : (a b : Header) (rest more : List ℕ) → IsHeader a → IsHeader b → header_bytes a ++ rest ≡ header_bytes b ++ more → (a ≡ b) × (rest ≡ more)
+one_header a b rest more p q e =
+    let read : (a, rest) ≡ (b, more) = (given true causes.Cut (a, rest) (b, more) (sym (header_again a rest p) ∙ ap header_at e ∙ header_again b more q)).1 in
+    (ap (λ (p : Header × List ℕ). p.0) read, ap (λ (p : Header × List ℕ). p.1) read)
 
--- ---- what is read is right
+-- two right blocks with which the same bytes begin are one
+pub one_block : (header : Header) (before : List Block) (a b : Block) (front other rest more : List ℕ) → IsRightAfter header before a → IsRightAfter header before b → SpellsBlock (messages_of before) header.clock.tick a front → SpellsBlock (messages_of before) header.clock.tick b other → front ++ rest ≡ other ++ more → (a ≡ b) × (front ≡ other)
+one_block header before a b front other rest more a_right b_right p q e =
+    let read : (a, rest) ≡ (b, more) = (given true causes.Cut (a, rest) (b, more) (sym (block_again header before a front rest a_right p) ∙ ap (block_at header before) e ∙ block_again header before b other more b_right q)).1 in
+    let behind : rest ≡ more = ap (λ (p : Block × List ℕ). p.1) read in
+    (ap (λ (p : Block × List ℕ). p.0) read, append_cancel_right front other rest (e ∙ ap (λ (r : List ℕ). other ++ r) (sym behind)))
+
+-- ---- a header that is read is right
+
+-- the header, and the bytes behind it
+pub record IsHeaderRead (bytes : List ℕ) (header : Header) (rest : List ℕ) : Type 0 where
+  pub right : IsHeader header
+  pub joined : bytes ≡ header_bytes header ++ rest
+
+pub byte_taken : (bytes rest : List ℕ) (byte : ℕ) → first_byte causes.Cut bytes ≡ Ok (byte, rest) → bytes ≡ byte ∷ rest
+byte_taken [] rest byte e = absurd cc
+byte_taken (b ∷ bytes) rest byte e =
+    let same : (b, bytes) ≡ (byte, rest) = (given true causes.Cut (b, bytes) (byte, rest) e).1 in
+    λ t. (ap (λ (p : ℕ × List ℕ). p.0) same) t ∷ (ap (λ (p : ℕ × List ℕ). p.1) same) t
+
+letters_taken : (letters bytes front rest : List ℕ) → these_bytes causes.BadMagic causes.Cut letters bytes ≡ Ok (front, rest) → bytes ≡ letters ++ rest
+letters_taken [] bytes front rest e = ap (λ (p : List ℕ × List ℕ). p.1) (given true causes.Cut ([], bytes) (front, rest) e).1
+letters_taken (letter ∷ letters) bytes front rest e =
+    let one = found (first_byte causes.Cut bytes) _ (front, rest) e in
+    let two = found (provided (nat_eq one.x.0 letter) causes.BadMagic one.x) _ (front, rest) one.second in
+    let test = given (nat_eq one.x.0 letter) causes.BadMagic one.x two.x two.first in
+    let three = found (these_bytes causes.BadMagic causes.Cut letters two.x.1) _ (front, rest) two.second in
+    let same : (letter ∷ three.x.0, three.x.1) ≡ (front, rest) = (given true causes.Cut (letter ∷ three.x.0, three.x.1) (front, rest) three.second).1 in
+    byte_taken bytes one.x.1 one.x.0 one.first
+    ∙ ap (λ (b : ℕ). b ∷ one.x.1) (eqb-true one.x.0 letter test.0)
+    ∙ ap (λ (p : ℕ × List ℕ). letter ∷ p.1) test.1
+    ∙ ap (λ (b : List ℕ). letter ∷ b) (letters_taken letters two.x.1 three.x.0 three.x.1 three.first)
+    ∙ ap (λ (p : List ℕ × List ℕ). letter ∷ letters ++ p.1) same
+
+clock_taken : (writers : ℕ) (bytes rest : List ℕ) (header : Header) → AreBytes bytes → 1 ≤ writers → writers ≤ 64 → header_clock_at writers bytes ≡ Ok (header, rest) → IsHeaderRead (codes "NLOG" ++ (1 ∷ writers ∷ bytes)) header rest
+clock_taken writers bytes rest header small some few e =
+    let tick = found (low_first 8 causes.Cut bytes) _ (header, rest) e in
+    let nanos = found (low_first 8 causes.Cut tick.x.1) _ (header, rest) tick.second in
+    let rate = found (low_first 8 causes.Cut nanos.x.1) _ (header, rest) nanos.second in
+    let ticking = found (provided (nat_le 1 rate.x.0) causes.BadHeader rate.x) _ (header, rest) rate.second in
+    let test = given (nat_le 1 rate.x.0) causes.BadHeader rate.x ticking.x ticking.first in
+    let first = number_taken 8 causes.Cut bytes tick.x.0 tick.x.1 small tick.first in
+    let first_small = back_bytes bytes (le_bytes 8 tick.x.0) tick.x.1 first.parts small in
+    let second = number_taken 8 causes.Cut tick.x.1 nanos.x.0 nanos.x.1 first_small nanos.first in
+    let third = number_taken 8 causes.Cut nanos.x.1 rate.x.0 rate.x.1 (back_bytes tick.x.1 (le_bytes 8 nanos.x.0) nanos.x.1 second.parts first_small) rate.first in
+    let read : Header = header_of writers tick.x.0 nanos.x.0 rate.x.0 in
+    let same : (read, rate.x.1) ≡ (header, rest) = ap (λ (p : ℕ × List ℕ). (header_of writers tick.x.0 nanos.x.0 p.0, p.1)) test.1 ∙ (given true causes.Cut (header_of writers tick.x.0 nanos.x.0 ticking.x.0, ticking.x.1) (header, rest) ticking.second).1 in
+    let parts : bytes ≡ le_bytes 8 tick.x.0 ++ (le_bytes 8 nanos.x.0 ++ (le_bytes 8 rate.x.0 ++ rate.x.1)) =
+    first.parts ∙ ap (λ (b : List ℕ). le_bytes 8 tick.x.0 ++ b) (second.parts ∙ ap (λ (b : List ℕ). le_bytes 8 nanos.x.0 ++ b) third.parts) in
+    subst (λ (p : Header × List ℕ). IsHeaderRead (codes "NLOG" ++ (1 ∷ writers ∷ bytes)) p.0 p.1) same (record {
+      right = record { some_writer = some; few_writers = few; tick_fits = first.fits; nanos_fits = second.fits; rate_fits = third.fits; rate = leb-true 1 rate.x.0 test.0 };
+      joined = ap (λ (b : List ℕ). codes "NLOG" ++ (1 ∷ writers ∷ b)) parts ∙ sym (header_nested read rate.x.1);
+    })
+
+pub header_taken : (bytes : List ℕ) (header : Header) (rest : List ℕ) → AreBytes bytes → header_at bytes ≡ Ok (header, rest) → IsHeaderRead bytes header rest
+header_taken bytes header rest small e =
+    let magic = found (these_bytes causes.BadMagic causes.Cut (codes "NLOG") bytes) (λ magic. header_version_at magic.1) (header, rest) e in
+    let version = found (first_byte causes.Cut magic.x.1) _ (header, rest) magic.second in
+    let known = found (provided (nat_eq version.x.0 1) causes.BadVersion version.x) _ (header, rest) version.second in
+    let known_test = given (nat_eq version.x.0 1) causes.BadVersion version.x known.x known.first in
+    let writers = found (first_byte causes.Cut known.x.1) _ (header, rest) known.second in
+    let some = found (provided (nat_le 1 writers.x.0 && nat_le writers.x.0 MAX_WRITERS) causes.BadHeader writers.x) _ (header, rest) writers.second in
+    let some_test = given (nat_le 1 writers.x.0 && nat_le writers.x.0 MAX_WRITERS) causes.BadHeader writers.x some.x some.first in
+    let within = and_parts (nat_le 1 writers.x.0) (nat_le writers.x.0 MAX_WRITERS) some_test.0 in
+    let clock : header_clock_at writers.x.0 writers.x.1 ≡ Ok (header, rest) = ap (λ (p : ℕ × List ℕ). header_clock_at p.0 p.1) some_test.1 ∙ some.second in
+    let parts : bytes ≡ codes "NLOG" ++ (1 ∷ writers.x.0 ∷ writers.x.1) =
+    letters_taken (codes "NLOG") bytes magic.x.0 magic.x.1 magic.first ∙ ap (λ (b : List ℕ). codes "NLOG" ++ b)
+    (byte_taken magic.x.1 version.x.1 version.x.0 version.first ∙ ap (λ (b : ℕ). b ∷ version.x.1) (eqb-true version.x.0 1 known_test.0) ∙ ap (λ (p : ℕ × List ℕ). 1 ∷ p.1) known_test.1 ∙ ap (λ (b : List ℕ). 1 ∷ b) (byte_taken known.x.1 writers.x.1 writers.x.0 writers.first)) in
+    let behind = back_bytes bytes (codes "NLOG" ++ 1 ∷ writers.x.0 ∷ []) writers.x.1 parts small in
+    subst (λ (b : List ℕ). IsHeaderRead b header rest) (sym parts) (clock_taken writers.x.0 writers.x.1 rest header behind (leb-true 1 writers.x.0 within.0) (leb-true writers.x.0 64 within.1) clock)
+
+-- ---- fragments that are read are right
 
 -- the spelling of a block that was read, and that it keeps the rules
 pub record IsReadRight (header : Header) (before : List Block) (bytes : List ℕ) (block : Block) (rest : List ℕ) : Type 0 where
@@ -122,185 +263,157 @@ pub record IsReadRight (header : Header) (before : List Block) (bytes : List ℕ
   pub spelled : SpellsBlock (messages_of before) header.clock.tick block front
   pub right : IsRightAfter header before block
 
-pub not_broken : {A : Type 0} (thing : A) (rest : List ℕ) (cause : Cause) → found thing rest ≡ broken cause → ⊥
-not_broken thing rest cause e = cc
+uncaused : {A E F : Type 0} (as_cause : E → F) (read : Result A E) (x : A) → caused_by as_cause read ≡ Ok x → read ≡ Ok x
+uncaused as_cause (Ok y) x e = let same : y ≡ x = cc in ap Ok same
+uncaused as_cause (Err cause) x e = absurd cc
 
-found_block : (a b : Block) (x y : List ℕ) → found a x ≡ found b y → a ≡ b
-found_block a b x y e = cc
-
-found_rest : (a b : Block) (x y : List ℕ) → found a x ≡ found b y → x ≡ y
-found_rest a b x y e = cc
-
--- how a step went on where something was found
-pub passed : {A : Type 0} (wrong : Type 0) (cause : Cause) (next : ReadOutcome A → Type 0) (thing : A) (rest : List ℕ) → Unless wrong cause next (found thing rest) → (¬ wrong) × next (found thing rest)
-passed wrong cause next thing rest (inl p) = absurd (not_broken thing rest cause p.1)
-passed wrong cause next thing rest (inr p) = p
-
-pub byte_passed : {A : Type 0} (next : ℕ → Reads A) (bytes : List ℕ) (thing : A) (rest : List ℕ) → ByteThen next bytes (found thing rest) → (byte : ℕ) × (behind : List ℕ) × (bytes ≡ byte ∷ behind) × next byte behind (found thing rest)
-byte_passed next bytes thing rest (inl p) = absurd (not_broken thing rest causes.Cut p.1)
-byte_passed next bytes thing rest (inr p) = p
-
-pub number_passed : {A : Type 0} (size : ℕ) (next : ℕ → Reads A) (bytes : List ℕ) (thing : A) (rest : List ℕ) → NumberThen size next bytes (found thing rest) → (n : ℕ) × (behind : List ℕ) × (n < 256 ^ size) × (bytes ≡ le_bytes size n ++ behind) × next n behind (found thing rest)
-number_passed size next bytes thing rest (inl p) = absurd (not_broken thing rest causes.Cut p.1)
-number_passed size next bytes thing rest (inr p) = p
-
--- what new entries were read
-record AreEntriesRead (defined : List Message) (first : ℕ) (read : List Message) (count : ℕ) (bytes : List ℕ) (block : Block) (rest : List ℕ) : Type 0 where
-  messages : List Message
+-- new messages that were read
+record AreMessagesRead (before : List Message) (count : ℕ) (bytes : List ℕ) (messages : List Message) (rest : List ℕ) : Type 0 where
   entries : List ℕ
-  is : block ≡ Fragment first (read ++ messages)
   many : length messages ≡ count
   joined : bytes ≡ entries ++ rest
   spelled : SpellsEntries messages entries
-  distinct : AreDistinct ((defined ++ read) ++ messages)
+  distinct : AreDistinct (before ++ messages)
 
-entries_right : (before : List Message) (first : ℕ) (read : List Message) (count : ℕ) (bytes : List ℕ) (block : Block) (rest : List ℕ) → AreDistinct (before ++ read) → ReadsEntries before first read count bytes (found block rest) → AreEntriesRead before first read count bytes block rest
-entries_right before first read zero bytes block rest distinct is = record {
-  messages = [];
-  entries = [];
-  is = found_block block (Fragment first (read ++ [])) rest bytes (is ∙ ap (λ (r : List Message). found (Fragment first r) bytes) (sym (append-nil read)));
-  many = refl;
-  joined = sym (found_rest block (Fragment first read) rest bytes is);
-  spelled = refl;
-  distinct = subst AreDistinct (sym (append-nil (before ++ read))) distinct;
-}
-entries_right before first read (suc count) bytes block rest distinct (inl p) = absurd (not_broken block rest causes.Cut p.1)
-entries_right before first read (suc count) bytes block rest distinct (inr (inl p)) = absurd (not_broken block rest causes.BadEntry p.1)
-entries_right before first read (suc count) bytes block rest distinct (inr (inr (message, front, behind, spelled, joined, then))) =
-    let next = passed (HasMessage (before ++ read) message) causes.BadEntry (λ outcome. ReadsEntries before first (read ++ message ∷ []) count behind outcome) block rest then in
-    let more : AreDistinct (before ++ (read ++ message ∷ [])) = subst AreDistinct (append_assoc before read (message ∷ [])) (still_distinct (before ++ read) message distinct next.0) in
-    let others = entries_right before first (read ++ message ∷ []) count behind block rest more next.1 in
-    let apart : (before ++ (read ++ message ∷ [])) ++ others.messages ≡ (before ++ read) ++ message ∷ others.messages = ap (λ (l : List Message). l ++ others.messages) (sym (append_assoc before read (message ∷ []))) ∙ append_assoc (before ++ read) (message ∷ []) others.messages in
-    record {
-      messages = message ∷ others.messages;
-      entries = front ++ others.entries;
-      is = others.is ∙ ap (Fragment first) (append_assoc read (message ∷ []) others.messages);
+messages_taken : (before : List Message) (count : ℕ) (bytes : List ℕ) (messages : List Message) (rest : List ℕ) → AreBytes bytes → AreDistinct before → new_messages_at before count bytes ≡ Ok (messages, rest) → AreMessagesRead before count bytes messages rest
+messages_taken before zero bytes messages rest small distinct e =
+    subst (λ (p : List Message × List ℕ). AreMessagesRead before 0 bytes p.0 p.1) (given true causes.Cut ([], bytes) (messages, rest) e).1
+    (record { entries = []; many = refl; joined = refl; spelled = refl; distinct = subst AreDistinct (sym (append-nil before)) distinct })
+messages_taken before (suc count) bytes messages rest small distinct e =
+    let one = found (new_message_at before bytes) _ (messages, rest) e in
+    let message = one.x.0 in
+    let two = found (new_messages_at (before ++ message ∷ []) count one.x.1) _ (messages, rest) one.second in
+    let same : (message ∷ two.x.0, two.x.1) ≡ (messages, rest) = (given true causes.Cut (message ∷ two.x.0, two.x.1) (messages, rest) two.second).1 in
+    let entry = found (message_at bytes) _ one.x one.first in
+    let test = given (not (list_any (is_same entry.x.0) before)) causes.BadEntry entry.x one.x entry.second in
+    let read : entry_at bytes ≡ Ok one.x = uncaused entry_cause (entry_at bytes) entry.x entry.first ∙ ap Ok test.1 in
+    let none : list_any (is_same message) before ≡ false = ap (λ (p : Message × List ℕ). list_any (is_same p.0) before) (sym test.1) ∙ true_of (list_any (is_same entry.x.0) before) test.0 in
+    let spelled = entry_taken message bytes one.x.1 small read in
+    let more = still_distinct before message distinct (none_from_test before message none) in
+    let others = messages_taken (before ++ message ∷ []) count one.x.1 two.x.0 two.x.1 (back_bytes bytes spelled.0 one.x.1 spelled.1 small) more two.first in
+    subst (λ (p : List Message × List ℕ). AreMessagesRead before (suc count) bytes p.0 p.1) same (record {
+      entries = spelled.0 ++ others.entries;
       many = omega (arith, others.many);
-      joined = joined ∙ ap (λ (b : List ℕ). front ++ b) others.joined ∙ sym (append_assoc front others.entries rest);
-      spelled = (front, others.entries, refl, spelled, others.spelled);
-      distinct = subst AreDistinct apart others.distinct;
-    }
+      joined = spelled.1 ∙ ap (λ (b : List ℕ). spelled.0 ++ b) others.joined ∙ sym (append_assoc spelled.0 others.entries two.x.1);
+      spelled = (spelled.0, others.entries, refl, spelled.2, others.spelled);
+      distinct = subst AreDistinct (append_assoc before (message ∷ []) two.x.0) others.distinct;
+    })
 
-some_of : (defined : List Message) (count : ℕ) → ¬ (IsBadCount defined count) → 1 ≤ count
-some_of defined zero good = absurd (good (inl refl))
-some_of defined (suc count) good = omega arith
-
-pub at_most : (m n : ℕ) → ¬ (m < n) → n ≤ m
-at_most m n none = ⊎_elim (λ less. absurd (none less)) (λ rest. rest) (cases_lt m n)
-
-pub settled : (m n : ℕ) → ¬ (m ≢ n) → m ≡ n
-settled m n same =
-    let above = at_most m n (λ less. same (λ e. omega (arith, less, e))) in
-    let below = at_most n m (λ less. same (λ e. omega (arith, less, e))) in
-    omega (arith, above, below)
-
-fragment_is : (header : Header) (before : List Block) (first count : ℕ) (bytes behind behind_count : List ℕ) (block : Block) (rest : List ℕ) → first < 2 ^ 32 → bytes ≡ le_bytes 4 first ++ behind → ¬ (first ≢ length (messages_of before)) → behind ≡ le_bytes 2 count ++ behind_count → ¬ (IsBadCount (messages_of before) count) → AreEntriesRead (messages_of before) first [] count behind_count block rest → IsReadRight header before (1 ∷ bytes) block rest
-fragment_is header before first count bytes behind behind_count block rest fits is_first next is_count good read =
-    let messages = read.messages in
-    let some : 1 ≤ length messages = omega (arith, read.many, some_of (messages_of before) count good) in
-    let few : length messages ≤ 16 = omega (arith, read.many, at_most 16 count (λ many. good (inr (inl many)))) in
-    let all : length (messages_of before) + count ≤ 65536 = at_most 65536 (length (messages_of before) + count) (λ many. good (inr (inr many))) in
-    let spelled : SpellsFragment first messages (fragment_head_bytes first (length messages) ++ read.entries) = record { entries = read.entries; some = some; few = few; first_fits = fits; entries_spelled = read.spelled; joined = refl } in
-    let right : DefinesNext before first messages = record {
-      next = settled first (length (messages_of before)) next;
-      distinct = subst (λ (l : List Message). AreDistinct (l ++ messages)) (append-nil (messages_of before)) read.distinct;
-      few = omega (arith, read.many, all, length-append (messages_of before) messages);
-    } in
-    let joined : 1 ∷ bytes ≡ (fragment_head_bytes first (length messages) ++ read.entries) ++ rest =
-    ap (λ (b : List ℕ). 1 ∷ b) (is_first ∙ ap (λ (b : List ℕ). le_bytes 4 first ++ b) (is_count ∙ ap (λ (n : ℕ). le_bytes 2 n ++ behind_count) (sym read.many) ∙ ap (λ (b : List ℕ). le_bytes 2 (length messages) ++ b) read.joined)) ∙ sym (fragment_nested first (length messages) read.entries rest) in
-    subst (λ (b : Block). IsReadRight header before (1 ∷ bytes) b rest) (sym read.is) (record { front = fragment_head_bytes first (length messages) ++ read.entries; joined = joined; spelled = spelled; right = right })
-
-fragment_right : (header : Header) (before : List Block) (bytes : List ℕ) (block : Block) (rest : List ℕ) → AreDistinct (messages_of before) → ReadsFragment (messages_of before) bytes (found block rest) → IsReadRight header before (1 ∷ bytes) block rest
-fragment_right header before bytes block rest distinct reads =
+fragment_taken : (header : Header) (before : List Block) (bytes : List ℕ) (block : Block) (rest : List ℕ) → AreBytes bytes → AreDistinct (messages_of before) → fragment_at (messages_of before) bytes ≡ Ok (block, rest) → IsReadRight header before (1 ∷ bytes) block rest
+fragment_taken header before bytes block rest small distinct e =
     let defined = messages_of before in
-    let firsts = number_passed 4 (λ first rest outcome. Unless (first ≢ length defined) causes.FragmentOrder (ReadsCount defined first rest) outcome) bytes block rest reads in
-    let ordered = passed (firsts.0 ≢ length defined) causes.FragmentOrder (λ outcome. ReadsCount defined firsts.0 firsts.1 outcome) block rest firsts.4 in
-    let counts = number_passed 2 (λ count rest outcome. Unless (IsBadCount defined count) causes.BadLength (ReadsEntries defined firsts.0 [] count rest) outcome) firsts.1 block rest ordered.1 in
-    let counted = passed (IsBadCount defined counts.0) causes.BadLength (λ outcome. ReadsEntries defined firsts.0 [] counts.0 counts.1 outcome) block rest counts.4 in
-    let read = entries_right defined firsts.0 [] counts.0 counts.1 block rest (subst AreDistinct (sym (append-nil defined)) distinct) counted.1 in
-    fragment_is header before firsts.0 counts.0 bytes firsts.1 counts.1 block rest firsts.2 firsts.3 ordered.0 counts.3 counted.0 read
+    let first = found (low_first 4 causes.Cut bytes) _ (block, rest) e in
+    let next = found (provided (nat_eq first.x.0 (length defined)) causes.FragmentOrder first.x) _ (block, rest) first.second in
+    let next_test = given (nat_eq first.x.0 (length defined)) causes.FragmentOrder first.x next.x next.first in
+    let count = found (low_first 2 causes.Cut next.x.1) _ (block, rest) next.second in
+    let few = found (provided (is_count defined count.x.0) causes.BadLength count.x) _ (block, rest) count.second in
+    let few_test = given (is_count defined count.x.0) causes.BadLength count.x few.x few.first in
+    let read = found (new_messages_at defined few.x.0 few.x.1) _ (block, rest) few.second in
+    let messages = read.x.0 in
+    let same : (Fragment next.x.0 messages, read.x.1) ≡ (block, rest) = (given true causes.Cut (Fragment next.x.0 messages, read.x.1) (block, rest) read.second).1 in
+    let number = number_taken 4 causes.Cut bytes first.x.0 first.x.1 small first.first in
+    let id : first.x.0 ≡ next.x.0 = ap (λ (p : ℕ × List ℕ). p.0) next_test.1 in
+    let behind : first.x.1 ≡ next.x.1 = ap (λ (p : ℕ × List ℕ). p.1) next_test.1 in
+    let behind_small = subst AreBytes behind (back_bytes bytes (le_bytes 4 first.x.0) first.x.1 number.parts small) in
+    let many = number_taken 2 causes.Cut next.x.1 count.x.0 count.x.1 behind_small count.first in
+    let counts : count.x.0 ≡ few.x.0 = ap (λ (p : ℕ × List ℕ). p.0) few_test.1 in
+    let entries : count.x.1 ≡ few.x.1 = ap (λ (p : ℕ × List ℕ). p.1) few_test.1 in
+    let taken = messages_taken defined few.x.0 few.x.1 messages read.x.1 (subst AreBytes entries (back_bytes next.x.1 (le_bytes 2 count.x.0) count.x.1 many.parts behind_small)) distinct read.first in
+    let within = and_parts (nat_le 1 count.x.0) (nat_le count.x.0 MAX_FRAGMENT_MESSAGES && nat_le (length defined + count.x.0) MAX_MESSAGES) few_test.0 in
+    let limits = and_parts (nat_le count.x.0 MAX_FRAGMENT_MESSAGES) (nat_le (length defined + count.x.0) MAX_MESSAGES) within.1 in
+    let is : length messages ≡ count.x.0 = taken.many ∙ sym counts in
+    let joined : 1 ∷ bytes ≡ (fragment_head_bytes next.x.0 (length messages) ++ taken.entries) ++ read.x.1 =
+    ap (λ (b : List ℕ). 1 ∷ b) (number.parts ∙ (λ t. le_bytes 4 (id t) ++ (behind ∙ many.parts ∙ (λ u. le_bytes 2 (sym is u) ++ (entries ∙ taken.joined) u)) t)) ∙ sym (fragment_nested next.x.0 (length messages) taken.entries read.x.1) in
+    let fits = number.fits in
+    subst (λ (p : Block × List ℕ). IsReadRight header before (1 ∷ bytes) p.0 p.1) same (record {
+      front = fragment_head_bytes next.x.0 (length messages) ++ taken.entries;
+      joined = joined;
+      spelled = record { entries = taken.entries; some = omega (arith, is, leb-true 1 count.x.0 within.0); few = omega (arith, is, leb-true count.x.0 16 limits.0); first_fits = omega (arith, id, fits); entries_spelled = taken.spelled; joined = refl };
+      right = record { next = sym id ∙ eqb-true first.x.0 (length defined) next_test.0; distinct = taken.distinct; few = omega (arith, is, length-append defined messages, leb-true (length defined + count.x.0) 65536 limits.1) };
+    })
 
 -- ---- extents and close marks that are read are right
 
--- behind a writer that may still write
-record IsWriterRead (header : Header) (before : List Block) (next : ℕ → Reads Block) (bytes : List ℕ) (block : Block) (rest : List ℕ) : Type 0 where
-  writer : ℕ
-  behind : List ℕ
-  joined : bytes ≡ writer ∷ behind
+front_bytes : (front back : List ℕ) → AreBytes (front ++ back) → AreBytes front
+front_bytes front back small = subst AreBytes (take_at front back (length front) refl) (All-take (λ (b : ℕ). b < 256) (length front) (front ++ back) small)
+
+record IsWriterRead (header : Header) (before : List Block) (bytes : List ℕ) (writer : ℕ) (rest : List ℕ) : Type 0 where
+  joined : bytes ≡ writer ∷ rest
   right : MayStillWrite header before writer
-  then : next writer behind (found block rest)
 
-writer_passed : (header : Header) (before : List Block) (next : ℕ → Reads Block) (bytes : List ℕ) (block : Block) (rest : List ℕ) → WriterThen header before next bytes (found block rest) → IsWriterRead header before next bytes block rest
-writer_passed header before next bytes block rest reads =
-    let writers = byte_passed (λ writer rest outcome. Unless (header.writers ≤ writer) causes.UnknownWriter (Unless (IsClosed writer before) causes.AfterClose (next writer rest)) outcome) bytes block rest reads in
-    let known = passed (header.writers ≤ writers.0) causes.UnknownWriter (Unless (IsClosed writers.0 before) causes.AfterClose (next writers.0 writers.1)) block rest writers.3 in
-    let unclosed = passed (IsClosed writers.0 before) causes.AfterClose (next writers.0 writers.1) block rest known.1 in
-    record {
-      writer = writers.0;
-      behind = writers.1;
-      joined = writers.2;
-      right = record { known = below header.writers writers.0 known.0; unclosed = unclosed.0 };
-      then = unclosed.1;
-    }
-  where
-    below : (m n : ℕ) → ¬ (m ≤ n) → n < m
-    below m n none = ⊎_elim (λ less. less) (λ rest. absurd (none rest)) (cases_lt n m)
+writer_taken : (header : Header) (before : List Block) (bytes : List ℕ) (writer : ℕ) (rest : List ℕ) → open_writer_at header before bytes ≡ Ok (writer, rest) → IsWriterRead header before bytes writer rest
+writer_taken header before bytes writer rest e =
+    let one = found (first_byte causes.Cut bytes) _ (writer, rest) e in
+    let two = found (provided (nat_lt one.x.0 header.writers) causes.UnknownWriter one.x) _ (writer, rest) one.second in
+    let known = given (nat_lt one.x.0 header.writers) causes.UnknownWriter one.x two.x two.first in
+    let unclosed = given (not (list_any (closes two.x.0) before)) causes.AfterClose two.x (writer, rest) two.second in
+    let none = true_of (list_any (closes two.x.0) before) unclosed.0 in
+    subst (λ (p : ℕ × List ℕ). IsWriterRead header before bytes p.0 p.1) unclosed.1 (record {
+      joined = byte_taken bytes one.x.1 one.x.0 one.first ∙ ap (λ (p : ℕ × List ℕ). p.0 ∷ p.1) known.1;
+      right = record {
+        known = subst (λ (p : ℕ × List ℕ). p.0 < header.writers) known.1 (ltb-true one.x.0 header.writers known.0);
+        unclosed = λ closed. true≢false (sym closed ∙ none);
+      };
+    })
 
-close_right : (header : Header) (before : List Block) (bytes : List ℕ) (block : Block) (rest : List ℕ) → header.writers ≤ 64 → ReadsClose header before bytes (found block rest) → IsReadRight header before (4 ∷ bytes) block rest
-close_right header before bytes block rest few reads =
-    let read = writer_passed header before (λ writer. ReadsNoMore (Close writer)) bytes block rest reads in
+extent_taken : (header : Header) (before : List Block) (bytes : List ℕ) (block : Block) (rest : List ℕ) → header.writers ≤ 64 → AreBytes bytes → extent_at header before bytes ≡ Ok (block, rest) → IsReadRight header before (2 ∷ bytes) block rest
+extent_taken header before bytes block rest few small e =
+    let one = found (open_writer_at header before bytes) _ (block, rest) e in
+    let writer = one.x.0 in
+    let read = writer_taken header before bytes writer one.x.1 one.first in
+    let last = last_stamp header.clock.tick (records_of writer before) in
+    let records = found (writer_records_at header before writer one.x.1) _ (block, rest) one.second in
+    let same : (Extent writer records.x.0, records.x.1) ≡ (block, rest) = (given true causes.Cut (Extent writer records.x.0, records.x.1) (block, rest) records.second).1 in
+    let len = found (low_first 4 causes.Cut one.x.1) _ records.x records.first in
+    let short = found (provided (nat_le 1 len.x.0 && nat_le len.x.0 MAX_BODY) causes.BadLength len.x) _ records.x len.second in
+    let test = given (nat_le 1 len.x.0 && nat_le len.x.0 MAX_BODY) causes.BadLength len.x short.x short.first in
+    let sized = found (so_many short.x.0 causes.Cut short.x.1) _ records.x short.second in
+    let judged = found (caused_by causes.Body (body_at (messages_of before) header.clock.tick last sized.x.0)) _ records.x sized.second in
+    let both : (judged.x, sized.x.1) ≡ records.x = (given true causes.Cut (judged.x, sized.x.1) records.x judged.second).1 in
+    let behind_small = back_bytes bytes (writer ∷ []) one.x.1 read.joined small in
+    let number = number_taken 4 causes.Cut one.x.1 len.x.0 len.x.1 behind_small len.first in
+    let body = so_many_taken short.x.0 causes.Cut short.x.1 sized.x.0 sized.x.1 sized.first in
+    let parts : len.x.1 ≡ sized.x.0 ++ sized.x.1 = ap (λ (p : ℕ × List ℕ). p.1) test.1 ∙ body.parts in
+    let size : length sized.x.0 ≡ len.x.0 = body.len ∙ sym (ap (λ (p : ℕ × List ℕ). p.0) test.1) in
+    let body_small : AreBytes sized.x.0 = front_bytes sized.x.0 sized.x.1 (subst AreBytes parts (back_bytes one.x.1 (le_bytes 4 len.x.0) len.x.1 number.parts behind_small)) in
+    let is = body_taken (messages_of before) header.clock.tick last judged.x sized.x.0 body_small (uncaused causes.Body (body_at (messages_of before) header.clock.tick last sized.x.0) judged.x judged.first) in
+    let within = and_parts (nat_le 1 len.x.0) (nat_le len.x.0 MAX_BODY) test.0 in
     let known = read.right.known in
-    let joined : 4 ∷ bytes ≡ 4 ∷ read.writer ∷ rest = ap (λ (b : List ℕ). 4 ∷ b) (read.joined ∙ ap (λ (b : List ℕ). read.writer ∷ b) (sym (found_rest block (Close read.writer) rest read.behind read.then))) in
-    let close : IsReadRight header before (4 ∷ bytes) (Close read.writer) rest = record {
-      front = 4 ∷ read.writer ∷ [];
+    let joined : 2 ∷ bytes ≡ (extent_head_bytes writer (length sized.x.0) ++ sized.x.0) ++ sized.x.1 =
+    ap (λ (b : List ℕ). 2 ∷ b) (read.joined ∙ ap (λ (b : List ℕ). writer ∷ b) (number.parts ∙ (λ t. le_bytes 4 (sym size t) ++ parts t))) ∙ sym (extent_nested writer (length sized.x.0) sized.x.0 sized.x.1) in
+    subst (λ (p : Block × List ℕ). IsReadRight header before (2 ∷ bytes) p.0 p.1) (ap (λ (p : List Call × List ℕ). (Extent writer p.0, p.1)) both ∙ same) (record {
+      front = extent_head_bytes writer (length sized.x.0) ++ sized.x.0;
       joined = joined;
+      spelled = record { body = sized.x.0; some = omega (arith, size, leb-true 1 len.x.0 within.0); short = omega (arith, size, leb-true len.x.0 65536 within.1); writer_fits = omega (arith, known, few); body_spelled = is.spelled; joined = refl };
+      right = record { writer_open = read.right; right = is.right; rising = is.rising };
+    })
+
+close_taken : (header : Header) (before : List Block) (bytes : List ℕ) (block : Block) (rest : List ℕ) → header.writers ≤ 64 → close_at header before bytes ≡ Ok (block, rest) → IsReadRight header before (4 ∷ bytes) block rest
+close_taken header before bytes block rest few e =
+    let one = found (open_writer_at header before bytes) _ (block, rest) e in
+    let read = writer_taken header before bytes one.x.0 one.x.1 one.first in
+    let known = read.right.known in
+    subst (λ (p : Block × List ℕ). IsReadRight header before (4 ∷ bytes) p.0 p.1) (given true causes.Cut (Close one.x.0, one.x.1) (block, rest) one.second).1 (record {
+      front = 4 ∷ one.x.0 ∷ [];
+      joined = ap (λ (b : List ℕ). 4 ∷ b) read.joined;
       spelled = record { writer_fits = omega (arith, known, few); joined = refl };
       right = read.right;
-    } in
-    subst (λ (b : Block). IsReadRight header before (4 ∷ bytes) b rest) (sym (found_block block (Close read.writer) rest read.behind read.then)) close
-
-extent_is : (header : Header) (before : List Block) (writer len : ℕ) (bytes behind behind_len body rest : List ℕ) (entries : List Call) → header.writers ≤ 64 → MayStillWrite header before writer → bytes ≡ writer ∷ behind → behind ≡ le_bytes 4 len ++ behind_len → ¬ ((len ≡ 0) ⊎ (MAX_BODY < len)) → length body ≡ len → behind_len ≡ body ++ rest → IsBody (messages_of before) header.clock.tick (last_stamp header.clock.tick (records_of writer before)) entries body
-    → IsReadRight header before (2 ∷ bytes) (Extent writer entries) rest
-extent_is header before writer len bytes behind behind_len body rest entries few right is_writer is_len good whole is_body is =
-    let known = right.known in
-    let some : 1 ≤ length body = omega (arith, whole, not_none len (λ none. good (inl none))) in
-    let short : length body ≤ 65536 = omega (arith, whole, at_most 65536 len (λ many. good (inr many))) in
-    let joined : 2 ∷ bytes ≡ (extent_head_bytes writer (length body) ++ body) ++ rest =
-    ap (λ (b : List ℕ). 2 ∷ b) (is_writer ∙ ap (λ (b : List ℕ). writer ∷ b) (is_len ∙ ap (λ (n : ℕ). le_bytes 4 n ++ behind_len) (sym whole) ∙ ap (λ (b : List ℕ). le_bytes 4 (length body) ++ b) is_body)) ∙ sym (extent_nested writer (length body) body rest) in
-    record {
-      front = extent_head_bytes writer (length body) ++ body;
-      joined = joined;
-      spelled = record { body = body; some = some; short = short; writer_fits = omega (arith, known, few); body_spelled = is.spelled; joined = refl };
-      right = record { writer_open = right; right = is.right; rising = is.rising };
-    }
-  where
-    not_none : (n : ℕ) → ¬ (n ≡ 0) → 1 ≤ n
-    not_none zero some = absurd (some refl)
-    not_none (suc n) some = omega arith
-
-extent_right : (header : Header) (before : List Block) (bytes : List ℕ) (block : Block) (rest : List ℕ) → header.writers ≤ 64 → ReadsExtent header before bytes (found block rest) → IsReadRight header before (2 ∷ bytes) block rest
-extent_right header before bytes block rest few reads =
-    let read = writer_passed header before (ReadsLength header before) bytes block rest reads in
-    let last = last_stamp header.clock.tick (records_of read.writer before) in
-    let lens = number_passed 4 (λ len rest outcome. Unless ((len ≡ 0) ⊎ (MAX_BODY < len)) causes.BadLength (ReadsBody (messages_of before) header.clock.tick last read.writer len rest) outcome) read.behind block rest read.then in
-    let within = passed ((lens.0 ≡ 0) ⊎ (MAX_BODY < lens.0)) causes.BadLength (ReadsBody (messages_of before) header.clock.tick last read.writer lens.0 lens.1) block rest lens.4 in
-    judged read.writer lens.0 read.behind lens.1 read.right read.joined lens.3 within.0 within.1
-  where
-    judged : (writer len : ℕ) (behind behind_len : List ℕ) → MayStillWrite header before writer → bytes ≡ writer ∷ behind → behind ≡ le_bytes 4 len ++ behind_len → ¬ ((len ≡ 0) ⊎ (MAX_BODY < len)) → ReadsBody (messages_of before) header.clock.tick (last_stamp header.clock.tick (records_of writer before)) writer len behind_len (found block rest) → IsReadRight header before (2 ∷ bytes) block rest
-    judged writer len behind behind_len right is_writer is_len good (inl p) = absurd (not_broken block rest causes.Cut p.1)
-    judged writer len behind behind_len right is_writer is_len good (inr (body, more, whole, is_body, inl (cause, breaks, e))) = absurd (not_broken block rest (causes.Body cause) e)
-    judged writer len behind behind_len right is_writer is_len good (inr (body, more, whole, is_body, inr (entries, is, e))) =
-        let is_rest : behind_len ≡ body ++ rest = is_body ∙ ap (λ (r : List ℕ). body ++ r) (sym (found_rest block (Extent writer entries) rest more e)) in
-        subst (λ (b : Block). IsReadRight header before (2 ∷ bytes) b rest) (sym (found_block block (Extent writer entries) rest more e)) (extent_is header before writer len bytes behind behind_len body rest entries few right is_writer is_len good whole is_rest is)
+    })
 
 -- a block that is read is right
-pub read_block_right : (header : Header) (before : List Block) (bytes : List ℕ) (block : Block) (rest : List ℕ) → header.writers ≤ 64 → AreDistinct (messages_of before) → ReadsBlock header before bytes (found block rest) → IsReadRight header before bytes block rest
-read_block_right header before bytes block rest few distinct reads =
-    let tags = byte_passed (ReadsTagged header before) bytes block rest reads in
-    subst (λ (b : List ℕ). IsReadRight header before b block rest) (sym tags.2) (by_tag tags.0 tags.1 tags.3)
+pub block_taken : (header : Header) (before : List Block) (bytes : List ℕ) (block : Block) (rest : List ℕ) → header.writers ≤ 64 → AreDistinct (messages_of before) → AreBytes bytes → block_at header before bytes ≡ Ok (block, rest) → IsReadRight header before bytes block rest
+block_taken header before [] block rest few distinct small e = absurd cc
+block_taken header before (tag ∷ bytes) block rest few distinct small e = by_tag (eqb tag 1) (eqb tag 2) (eqb tag 4) refl refl refl e
   where
-    by_tag : (tag : ℕ) (behind : List ℕ) → ReadsTagged header before tag behind (found block rest) → IsReadRight header before (tag ∷ behind) block rest
-    by_tag tag behind (inl p) = subst (λ (t : ℕ). IsReadRight header before (t ∷ behind) block rest) (sym p.0) (fragment_right header before behind block rest distinct p.1)
-    by_tag tag behind (inr (inl p)) = subst (λ (t : ℕ). IsReadRight header before (t ∷ behind) block rest) (sym p.0) (extent_right header before behind block rest few p.1)
-    by_tag tag behind (inr (inr (inl p))) = subst (λ (t : ℕ). IsReadRight header before (t ∷ behind) block rest) (sym p.0) (close_right header before behind block rest few p.1)
-    by_tag tag behind (inr (inr (inr p))) = absurd (not_broken block rest causes.BadBlock p.3)
+    behind : AreBytes bytes
+    behind = back_bytes (tag ∷ bytes) (tag ∷ []) bytes refl small
+
+    at : (n : ℕ) → eqb tag n ≡ true → IsReadRight header before (n ∷ bytes) block rest → IsReadRight header before (tag ∷ bytes) block rest
+    at n is read = subst (λ (t : ℕ). IsReadRight header before (t ∷ bytes) block rest) (sym (eqb-true tag n is)) read
+
+    by_tag : (one two four : Bool) → eqb tag 1 ≡ one → eqb tag 2 ≡ two → eqb tag 4 ≡ four
+        → (if one then fragment_at (messages_of before) bytes else if two then extent_at header before bytes else if four then close_at header before bytes else Err causes.BadBlock) ≡ Ok (block, rest) → IsReadRight header before (tag ∷ bytes) block rest
+    by_tag true two four p q r e = at 1 p (fragment_taken header before bytes block rest behind distinct e)
+    by_tag false true four p q r e = at 2 q (extent_taken header before bytes block rest few behind e)
+    by_tag false false true p q r e = at 4 r (close_taken header before bytes block rest few e)
+    by_tag false false false p q r e = absurd cc

@@ -1,11 +1,11 @@
 -- The front of a file: as much of it as is a log; and where and why a file goes on as no log.
-use Rattle.std.specs.Prelude.{◌≡◌, ◌⊎◌, ℕ, ◌≤◌, List, ◌++◌, length}
+use Rattle.std.specs.Prelude.{◌≡◌, ◌⊎◌, ℕ, ◌≤◌, List, ◌++◌, length, Err}
 use Rattle.checkpoint_io.specs.declared.cause.Cause.{Cause}
 use Rattle.checkpoint_io.specs.declared.cause.Cause.TheVariants as causes
 use Rattle.checkpoint_io.specs.declared.header.Header.{Header}
 use Rattle.checkpoint_io.specs.Blocks.{Block, FileOf}
 use Rattle.checkpoint_io.specs.Validity.{Valid}
-use Rattle.checkpoint_io.specs.Reading.{broken, ReadsHeader, ReadsBlock}
+use Rattle.checkpoint_io.specs.Reading.{header_at, block_at}
 
 -- the bytes begin with a log of this header and these blocks, which takes so many bytes
 pub record BeginsWithLog (bytes : List ℕ) (header : Header) (blocks : List Block) (count : ℕ) : Type 0 where
@@ -29,13 +29,13 @@ HasNoHeader bytes = (header : Header) (blocks : List Block) (count : ℕ) → ¬
 -- The file is broken at this offset, from this cause: it has no right header, or bytes stand behind its header and its
 -- blocks, which are right, and are no right block.
 pub data Break (bytes : List ℕ) : ℕ → Cause → Type 0 where
-  at_header : (cause : Cause) → ReadsHeader bytes (broken cause) → Break bytes 0 cause
+  at_header : (cause : Cause) → header_at bytes ≡ Err cause → Break bytes 0 cause
   at_block : (header : Header) (blocks : List Block) (front rest : List ℕ) (cause : Cause)
       → bytes ≡ front ++ rest
       → FileOf header blocks front
       → Valid header blocks
       → 1 ≤ length rest
-      → ReadsBlock header blocks rest (broken cause)
+      → block_at header blocks rest ≡ Err cause
       → Break bytes (length front) cause
 
 -- the bytes break nowhere, or by Cut alone

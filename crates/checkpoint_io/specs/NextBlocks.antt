@@ -10,28 +10,22 @@ use Rattle.checkpoint_io.specs.Blocks.{Block, Fragment, Extent, Close, messages_
 use Rattle.checkpoint_io.specs.declared.cause.Cause.{Cause}
 use Rattle.checkpoint_io.specs.declared.cause.Cause.TheVariants as causes
 use Rattle.checkpoint_io.specs.declared.heads.TheConstants.{MAX_LOG}
-use Rattle.checkpoint_io.specs.Validity.{MayStillWrite}
-use Rattle.checkpoint_io.specs.Reading.{ReadsExtent, ReadsClose, ReadsBlock}
+use Rattle.checkpoint_io.specs.Reading.{extent_at, close_at, block_at}
 use Rattle.checkpoint_io.specs.Fronts.{BeginsWithLog, Break}
-use Rattle.checkpoint_io.specs.Places.{LogPlace, with_front, BytesBetween, StandsBetween}
+use Rattle.checkpoint_io.specs.Places.{LogPlace, with_front, StandsBetween}
 use Rattle.checkpoint_io.specs.Writers.{WriterStates, AreStatesOf}
 use Rattle.checkpoint_io.specs.Readers.{ReaderState, StandsFor}
-
--- a writer that may still write stands between the two places
-pub record TakesWriter (header : Header) (before : List Block) (writer : ℕ) (from to : LogPlace) : Type 0 where
-  pub passes : BytesBetween (writer ∷ []) from to
-  pub right : MayStillWrite header before writer
 
 -- the rest of the writer's close mark stands between the two places, and what is kept is that behind it
 pub record TakesClose (header : Header) (before : List Block) (writer : ℕ) (after : WriterStates)
     (from to : LogPlace) : Type 0 where
-  pub takes : StandsBetween (ReadsClose header before) (Close writer) from to
+  pub takes : StandsBetween (close_at header before) (Close writer) from to
   pub states : AreStatesOf after header.clock.tick (before ++ Close writer ∷ [])
 
 -- the rest of the writer's extent stands between the two places, and what is kept is that behind it
 pub record TakesExtent (header : Header) (before : List Block) (writer : ℕ) (entries : List Call)
     (after : WriterStates) (from to : LogPlace) : Type 0 where
-  pub takes : StandsBetween (ReadsExtent header before) (Extent writer entries) from to
+  pub takes : StandsBetween (extent_at header before) (Extent writer entries) from to
   pub states : AreStatesOf after header.clock.tick (before ++ Extent writer entries ∷ [])
 
 -- what is told of a block that was read
@@ -45,7 +39,7 @@ pub record TakesBlock (header : Header) (before : List Block) (told : ReadBlock)
     (after : WriterStates) (from to : LogPlace) : Type 0 where
   pub block : Block
   pub tells : Describes told block
-  pub takes : StandsBetween (ReadsBlock header before) block from to
+  pub takes : StandsBetween (block_at header before) block from to
   pub defined : messages ≡ messages_of (before ++ block ∷ [])
   pub states : AreStatesOf after header.clock.tick (before ++ block ∷ [])
 

@@ -1,11 +1,12 @@
 -- Where a reader stands in a file, and what its calls say of the bytes ahead.
-use Rattle.std.specs.Prelude.{◌≡◌, ℕ, ◌+◌, ◌-◌, ◌^◌, ◌<◌, min, List, ◌++◌, length, option_map, IfSome, ⊤}
+use Rattle.std.specs.Prelude.{◌≡◌, ℕ, ◌+◌, ◌-◌, ◌^◌, ◌<◌, min, List, ◌++◌, length, option_map, IfSome, Result, Ok, Err, MatchResult, ⊤}
+use Rattle.nibble_pack.specs.Bytes.{AreBytes}
+use Rattle.nibble_pack.specs.Parsing.{Parse}
 use Rattle.nl_io.specs.Content.{Told}
 use Rattle.checkpoint_io.specs.declared.cause.Cause.{Cause}
 use Rattle.checkpoint_io.specs.declared.cause.Cause.TheVariants as causes
 use Rattle.checkpoint_io.specs.declared.fault.BlockFault.{BlockFault}
 use Rattle.checkpoint_io.specs.declared.fault.BlockFault.TheVariants.{Damaged, ReadFault, NoMemory}
-use Rattle.checkpoint_io.specs.Reading.{found, broken, Reads}
 
 -- bytes that came from a source and weren't read yet, and the offset of the first of them
 pub record UnreadBytes : Type 0 where
@@ -33,12 +34,13 @@ further offset count = min (offset + count) (2 ^ 64 - 1)
 pub record BytesBetween (front : List ℕ) (from to : LogPlace) : Type 0 where
   pub ahead : from.ahead ≡ with_front front to.ahead
   pub offset : to.offset ≡ further from.offset (length front)
+  pub small : AreBytes front
 
 -- what stands between the two places is read as this, whatever follows
-pub record StandsBetween {A : Type 0} (reads : Reads A) (thing : A) (from to : LogPlace) : Type 0 where
+pub record StandsBetween {A : Type 0} (read : List ℕ → Parse Cause A) (thing : A) (from to : LogPlace) : Type 0 where
   pub front : List ℕ
   pub passes : BytesBetween front from to
-  pub found : (rest : List ℕ) → reads (front ++ rest) (found thing rest)
+  pub found : (rest : List ℕ) → read (front ++ rest) ≡ Ok (thing, rest)
 
 -- ---- faults
 
@@ -52,11 +54,16 @@ OfFault damaged failed (Damaged cause) = damaged cause
 OfFault damaged failed ReadFault = failed
 OfFault damaged failed NoMemory = ⊤
 
--- the bytes ahead are broken so; where a read failed those of them that were taken end inside what is read there
-abbrev pub Refuses : {A : Type 0} → Reads A → LogPlace → Told → BlockFault → Type 0
-Refuses reads from left fault =
-    OfFault (λ cause. IfSome from.ahead (λ bytes. reads bytes (broken cause)))
-    (TookSuch (λ bytes. reads bytes (broken causes.Cut)) from.ahead left) fault
+-- the bytes ahead break so; where a read failed those of them that were taken end inside what is read there
+abbrev pub Refuses : {A : Type 0} → (List ℕ → Parse Cause A) → LogPlace → Told → BlockFault → Type 0
+Refuses read from left fault =
+    OfFault (λ cause. IfSome from.ahead (λ bytes. read bytes ≡ Err cause))
+    (TookSuch (λ bytes. read bytes ≡ Err causes.Cut) from.ahead left) fault
+
+-- what a call that reads from one place to another answers is what the bytes give
+abbrev pub ReadsAs : {A : Type 0} → (List ℕ → Parse Cause A) → LogPlace → LogPlace → Told → Result A BlockFault
+    → Type 0
+ReadsAs read from to left result = MatchResult result (λ thing. StandsBetween read thing from to) (Refuses read from left)
 
 -- the fault is no damage
 abbrev pub IsNoDamage : BlockFault → Type 0
@@ -65,9 +72,3 @@ IsNoDamage fault = OfFault (λ cause. ⊥) ⊤ fault
 -- fewer bytes than this were taken of those ahead, and then a read failed
 abbrev pub TookFewer : ℕ → LogPlace → Told → Type 0
 TookFewer count from left = TookSuch (λ bytes. length bytes < count) from.ahead left
-
--- fewer bytes than this are ahead, and that is told as cut off; or fewer were taken where a read failed
-abbrev pub EndsBefore : ℕ → LogPlace → Told → BlockFault → Type 0
-EndsBefore count from left fault =
-    OfFault (λ cause. (cause ≡ causes.Cut) × IfSome from.ahead (λ bytes. length bytes < count))
-    (TookFewer count from left) fault

@@ -1,177 +1,151 @@
--- Reading a header or a block from left to right: what stands there, or the first cause that breaks it.
-use Rattle.std.specs.Prelude.{◌≡◌, ◌≢◌, ◌⊎◌, ℕ, zero, suc, ◌+◌, ◌<◌, ◌≤◌, ◌^◌, List, [], ◌∷◌, ◌++◌, length, codes}
-use Rattle.std.specs.Hash.{le_bytes}
+-- A header or a block as it is read, from left to right: what the bytes give, or the first cause by which they break.
+use Rattle.std.specs.Prelude.{ℕ, ◌+◌, Bool, ◌&&◌, not, nat_eq, nat_lt, nat_le, if◌then◌else◌, List, length, codes, Ok, Err}
+use Rattle.std.specs.List.{list_any}
+use Rattle.nibble_pack.specs.Parsing.{Parse, ◌>>=◌, provided, caused_by, first_byte, so_many, low_first, these_bytes, so_many_times}
 use Rattle.log_dictionary.specs.declared.message.Message.{Message}
 use Rattle.log_dictionary.specs.declared.dictionary.TheConstants.{MAX_MESSAGES}
-use Rattle.log_dictionary.specs.Messages.{HasMessage}
-use Rattle.log_dictionary.specs.BinaryEntries.{SpellsEntry, IsCutEntry, IsBadEntry}
+use Rattle.log_dictionary.specs.declared.binary_entry.EntryCause.{EntryCause}
+use Rattle.log_dictionary.specs.declared.binary_entry.EntryCause.TheVariants as entries
+use Rattle.log_dictionary.specs.Messages.{is_same}
+use Rattle.log_dictionary.specs.EntryReading.{entry_at}
 use Rattle.session_options.specs.declared.limits.TheConstants.{MAX_WRITERS}
 use Rattle.arg_records.specs.declared.call.Call.{Call}
-use Rattle.buffer_extent.specs.declared.fault.Cause.{Cause as BodyCause}
-use Rattle.buffer_extent.specs.Bodies.{IsBody, BodyBreak}
+use Rattle.buffer_extent.specs.Bodies.{body_at}
 use Rattle.checkpoint_io.specs.declared.cause.Cause.{Cause}
 use Rattle.checkpoint_io.specs.declared.cause.Cause.TheVariants as causes
 use Rattle.checkpoint_io.specs.declared.header.Header.{Header}
 use Rattle.checkpoint_io.specs.declared.heads.TheConstants.{MAX_FRAGMENT_MESSAGES, MAX_BODY}
 use Rattle.checkpoint_io.specs.Blocks.{Block, Fragment, Extent, Close, messages_of}
-use Rattle.checkpoint_io.specs.Validity.{records_of, last_stamp, IsClosed}
-
--- what reading gives: what stands at the front and the bytes behind it, or the cause that breaks it
-pub data ReadOutcome (A : Type 0) : Type 0 where
-  found : (thing : A) (rest : List ℕ) → ReadOutcome A
-  broken : (cause : Cause) → ReadOutcome A
-
--- what bytes give, read in some way
-abbrev pub Reads : Type 0 → Type 1
-Reads A = List ℕ → ReadOutcome A → Type 0
-
--- ---- steps: what is read next, and how it goes on from there
-
--- where this is wrong it is broken for the cause, and else it goes on
-abbrev pub Unless : {A : Type 0} → Type 0 → Cause → (ReadOutcome A → Type 0) → ReadOutcome A → Type 0
-Unless wrong cause next outcome = (wrong × (outcome ≡ broken cause)) ⊎ ((¬ wrong) × next outcome)
-
--- a byte, and what it gives with the bytes behind it; the bytes may end first
-abbrev pub ByteThen : {A : Type 0} → (ℕ → Reads A) → Reads A
-ByteThen next bytes outcome =
-    ((bytes ≡ []) × (outcome ≡ broken causes.Cut))
-    ⊎ ((byte : ℕ) × (rest : List ℕ) × (bytes ≡ byte ∷ rest) × next byte rest outcome)
-
--- a number of so many bytes, the low one first, and what it gives with the bytes behind it; the bytes may end first
-abbrev pub NumberThen : {A : Type 0} → ℕ → (ℕ → Reads A) → Reads A
-NumberThen size next bytes outcome =
-    ((length bytes < size) × (outcome ≡ broken causes.Cut))
-    ⊎ ((n : ℕ) × (rest : List ℕ) × (n < 256 ^ size) × (bytes ≡ le_bytes size n ++ rest) × next n rest outcome)
-
--- this, and nothing more is read
-abbrev pub ReadsNoMore : {A : Type 0} → A → Reads A
-ReadsNoMore thing bytes outcome = outcome ≡ found thing bytes
+use Rattle.checkpoint_io.specs.Validity.{records_of, last_stamp, closes}
 
 -- ---- the header
-
--- these bytes
-abbrev pub MagicThen : {A : Type 0} → List ℕ → Reads A → Reads A
-MagicThen [] next bytes outcome = next bytes outcome
-MagicThen (letter ∷ letters) next bytes outcome =
-    ByteThen (λ byte rest outcome.
-    Unless (byte ≢ letter) causes.BadMagic (MagicThen letters next rest) outcome)
-    bytes outcome
 
 abbrev pub header_of : ℕ → ℕ → ℕ → ℕ → Header
 header_of writers tick nanos rate =
     record { writers = writers; clock = record { tick = tick; nanos = nanos; rate = rate } }
 
-abbrev pub ReadsRate : ℕ → ℕ → ℕ → Reads Header
-ReadsRate writers tick nanos bytes outcome =
-    NumberThen 8 (λ rate rest outcome.
-    Unless (rate ≡ 0) causes.BadHeader (ReadsNoMore (header_of writers tick nanos rate) rest) outcome)
-    bytes outcome
+-- the clock of a header with so many writers: its tick, its nanoseconds and its rate
+abbrev pub header_rate_at : ℕ → ℕ → ℕ → List ℕ → Parse Cause Header
+header_rate_at writers tick nanos bytes = do
+  rate ← low_first 8 causes.Cut bytes
+  ticking ← provided (nat_le 1 rate.0) causes.BadHeader rate
+  Ok (header_of writers tick nanos ticking.0, ticking.1)
 
-abbrev pub ReadsNanos : ℕ → ℕ → Reads Header
-ReadsNanos writers tick bytes outcome = NumberThen 8 (ReadsRate writers tick) bytes outcome
+abbrev pub header_nanos_at : ℕ → ℕ → List ℕ → Parse Cause Header
+header_nanos_at writers tick bytes =
+    low_first 8 causes.Cut bytes >>= (λ nanos. header_rate_at writers tick nanos.0 nanos.1)
 
-abbrev pub ReadsClock : ℕ → Reads Header
-ReadsClock writers bytes outcome = NumberThen 8 (ReadsNanos writers) bytes outcome
+abbrev pub header_clock_at : ℕ → List ℕ → Parse Cause Header
+header_clock_at writers bytes = low_first 8 causes.Cut bytes >>= (λ tick. header_nanos_at writers tick.0 tick.1)
 
-abbrev pub ReadsWriters : Reads Header
-ReadsWriters bytes outcome =
-    ByteThen (λ writers rest outcome.
-    Unless ((writers ≡ 0) ⊎ (MAX_WRITERS < writers)) causes.BadHeader (ReadsClock writers rest) outcome)
-    bytes outcome
+abbrev pub header_writers_at : List ℕ → Parse Cause Header
+header_writers_at bytes = do
+  writers ← first_byte causes.Cut bytes
+  few ← provided (nat_le 1 writers.0 && nat_le writers.0 MAX_WRITERS) causes.BadHeader writers
+  header_clock_at few.0 few.1
 
-abbrev pub ReadsVersion : Reads Header
-ReadsVersion bytes outcome =
-    ByteThen (λ version rest outcome. Unless (version ≢ 1) causes.BadVersion (ReadsWriters rest) outcome) bytes outcome
+abbrev pub header_version_at : List ℕ → Parse Cause Header
+header_version_at bytes = do
+  version ← first_byte causes.Cut bytes
+  known ← provided (nat_eq version.0 1) causes.BadVersion version
+  header_writers_at known.1
 
--- what the front of a file gives: the header
-abbrev pub ReadsHeader : Reads Header
-ReadsHeader bytes outcome = MagicThen (codes "NLOG") ReadsVersion bytes outcome
+-- a header, of which these letters are still to come
+abbrev pub header_letters_at : List ℕ → List ℕ → Parse Cause Header
+header_letters_at letters bytes =
+    these_bytes causes.BadMagic causes.Cut letters bytes >>= (λ magic. header_version_at magic.1)
+
+-- the header of a file
+abbrev pub header_at : List ℕ → Parse Cause Header
+header_at bytes = header_letters_at (codes "NLOG") bytes
 
 -- ---- a fragment
 
--- a new message, whose entry stands there
-abbrev pub EntryThen : List Message → (Message → Reads Block) → Reads Block
-EntryThen defined next bytes outcome =
-    (IsCutEntry bytes × (outcome ≡ broken causes.Cut))
-    ⊎ (IsBadEntry bytes × (outcome ≡ broken causes.BadEntry))
-    ⊎ ((message : Message) × (front : List ℕ) × (rest : List ℕ) × SpellsEntry front message × (bytes ≡ front ++ rest)
-    × Unless (HasMessage defined message) causes.BadEntry (next message rest) outcome)
+abbrev pub entry_cause : EntryCause → Cause
+entry_cause entries.Cut = causes.Cut
+entry_cause entries.BadEntry = causes.BadEntry
 
--- so many new messages behind those that were read
-abbrev pub ReadsEntries : List Message → ℕ → List Message → ℕ → Reads Block
-ReadsEntries before first read zero bytes outcome = ReadsNoMore (Fragment first read) bytes outcome
-ReadsEntries before first read (suc count) bytes outcome =
-    EntryThen (before ++ read) (λ message rest outcome.
-    ReadsEntries before first (read ++ message ∷ []) count rest outcome)
-    bytes outcome
+-- a message, and why there is none
+abbrev pub message_at : List ℕ → Parse Cause Message
+message_at bytes = caused_by entry_cause (entry_at bytes)
+
+-- a message that isn't one of these
+abbrev pub new_message_at : List Message → List ℕ → Parse Cause Message
+new_message_at defined bytes = do
+  message ← message_at bytes
+  provided (not (list_any (is_same message.0) defined)) causes.BadEntry message
+
+-- so many new messages behind these
+abbrev pub new_messages_at : List Message → ℕ → List ℕ → Parse Cause (List Message)
+new_messages_at defined count bytes = so_many_times new_message_at defined count bytes
 
 -- a fragment has 1 to 16 messages, and there are 65,536 ids
-abbrev pub IsBadCount : List Message → ℕ → Type 0
-IsBadCount before count = (count ≡ 0) ⊎ (MAX_FRAGMENT_MESSAGES < count) ⊎ (MAX_MESSAGES < length before + count)
+abbrev pub is_count : List Message → ℕ → Bool
+is_count before count =
+    nat_le 1 count && (nat_le count MAX_FRAGMENT_MESSAGES && nat_le (length before + count) MAX_MESSAGES)
 
-abbrev pub ReadsCount : List Message → ℕ → Reads Block
-ReadsCount before first bytes outcome =
-    NumberThen 2 (λ count rest outcome.
-    Unless (IsBadCount before count) causes.BadLength (ReadsEntries before first [] count rest) outcome)
-    bytes outcome
+-- the messages behind a first id
+abbrev pub counted_at : List Message → ℕ → List ℕ → Parse Cause Block
+counted_at before first bytes = do
+  count ← low_first 2 causes.Cut bytes
+  few ← provided (is_count before count.0) causes.BadLength count
+  messages ← new_messages_at before few.0 few.1
+  Ok (Fragment first messages.0, messages.1)
 
-abbrev pub ReadsFragment : List Message → Reads Block
-ReadsFragment before bytes outcome =
-    NumberThen 4 (λ first rest outcome.
-    Unless (first ≢ length before) causes.FragmentOrder (ReadsCount before first rest) outcome)
-    bytes outcome
+abbrev pub fragment_at : List Message → List ℕ → Parse Cause Block
+fragment_at before bytes = do
+  first ← low_first 4 causes.Cut bytes
+  next ← provided (nat_eq first.0 (length before)) causes.FragmentOrder first
+  counted_at before next.0 next.1
 
 -- ---- extents and close marks
 
 -- a writer that may still write
-abbrev pub WriterThen : {A : Type 0} → Header → List Block → (ℕ → Reads A) → Reads A
-WriterThen header before next bytes outcome =
-    ByteThen (λ writer rest outcome.
-    Unless (header.writers ≤ writer) causes.UnknownWriter
-    (Unless (IsClosed writer before) causes.AfterClose (next writer rest)) outcome)
-    bytes outcome
-
--- a writer that may still write, and nothing more
-abbrev pub ReadsWriter : Header → List Block → Reads ℕ
-ReadsWriter header before bytes outcome = WriterThen header before ReadsNoMore bytes outcome
+abbrev pub open_writer_at : Header → List Block → List ℕ → Parse Cause ℕ
+open_writer_at header before bytes = do
+  writer ← first_byte causes.Cut bytes
+  known ← provided (nat_lt writer.0 header.writers) causes.UnknownWriter writer
+  provided (not (list_any (closes known.0) before)) causes.AfterClose known
 
 -- a body of so many bytes, which is judged once all of it is there
-abbrev pub ReadsBody : List Message → ℕ → ℕ → ℕ → ℕ → Reads Block
-ReadsBody messages tick last writer len bytes outcome =
-    ((length bytes < len) × (outcome ≡ broken causes.Cut))
-    ⊎ ((body : List ℕ) × (rest : List ℕ) × (length body ≡ len) × (bytes ≡ body ++ rest)
-    × (((cause : BodyCause) × BodyBreak messages tick last body cause × (outcome ≡ broken (causes.Body cause)))
-    ⊎ ((entries : List Call) × IsBody messages tick last entries body
-    × (outcome ≡ found (Extent writer entries) rest))))
+abbrev pub sized_body_at : List Message → ℕ → ℕ → ℕ → List ℕ → Parse Cause (List Call)
+sized_body_at messages tick last len bytes = do
+  body ← so_many len causes.Cut bytes
+  entries ← caused_by causes.Body (body_at messages tick last body.0)
+  Ok (entries, body.1)
 
--- a length and a body of so many bytes
-abbrev pub ReadsRecords : List Message → ℕ → ℕ → ℕ → Reads Block
-ReadsRecords messages tick last writer bytes outcome =
-    NumberThen 4 (λ len rest outcome.
-    Unless ((len ≡ 0) ⊎ (MAX_BODY < len)) causes.BadLength (ReadsBody messages tick last writer len rest) outcome)
-    bytes outcome
+-- a body with its length in front
+abbrev pub long_body_at : List Message → ℕ → ℕ → List ℕ → Parse Cause (List Call)
+long_body_at messages tick last bytes = do
+  len ← low_first 4 causes.Cut bytes
+  short ← provided (nat_le 1 len.0 && nat_le len.0 MAX_BODY) causes.BadLength len
+  sized_body_at messages tick last short.0 short.1
 
-abbrev pub ReadsLength : Header → List Block → ℕ → Reads Block
-ReadsLength header before writer bytes outcome =
-    ReadsRecords (messages_of before) header.clock.tick
-    (last_stamp header.clock.tick (records_of writer before)) writer bytes outcome
+-- the records of a writer
+abbrev pub writer_records_at : Header → List Block → ℕ → List ℕ → Parse Cause (List Call)
+writer_records_at header before writer bytes =
+    long_body_at (messages_of before) header.clock.tick
+    (last_stamp header.clock.tick (records_of writer before)) bytes
 
-abbrev pub ReadsExtent : Header → List Block → Reads Block
-ReadsExtent header before bytes outcome = WriterThen header before (ReadsLength header before) bytes outcome
+abbrev pub extent_at : Header → List Block → List ℕ → Parse Cause Block
+extent_at header before bytes = do
+  writer ← open_writer_at header before bytes
+  entries ← writer_records_at header before writer.0 writer.1
+  Ok (Extent writer.0 entries.0, entries.1)
 
-abbrev pub ReadsClose : Header → List Block → Reads Block
-ReadsClose header before bytes outcome = WriterThen header before (λ writer. ReadsNoMore (Close writer)) bytes outcome
+abbrev pub close_at : Header → List Block → List ℕ → Parse Cause Block
+close_at header before bytes = open_writer_at header before bytes >>= (λ writer. Ok (Close writer.0, writer.1))
 
 -- ---- blocks
 
 -- what stands behind a tag
-abbrev pub ReadsTagged : Header → List Block → ℕ → Reads Block
-ReadsTagged header before tag bytes outcome =
-    ((tag ≡ 1) × ReadsFragment (messages_of before) bytes outcome)
-    ⊎ ((tag ≡ 2) × ReadsExtent header before bytes outcome)
-    ⊎ ((tag ≡ 4) × ReadsClose header before bytes outcome)
-    ⊎ ((tag ≢ 1) × (tag ≢ 2) × (tag ≢ 4) × (outcome ≡ broken causes.BadBlock))
+abbrev pub tagged_at : Header → List Block → ℕ → List ℕ → Parse Cause Block
+tagged_at header before tag bytes =
+    if nat_eq tag 1 then fragment_at (messages_of before) bytes
+    else if nat_eq tag 2 then extent_at header before bytes
+    else if nat_eq tag 4 then close_at header before bytes
+    else Err causes.BadBlock
 
--- what the bytes behind these blocks give: the next block
-abbrev pub ReadsBlock : Header → List Block → Reads Block
-ReadsBlock header before bytes outcome = ByteThen (ReadsTagged header before) bytes outcome
+-- the block behind these blocks
+abbrev pub block_at : Header → List Block → List ℕ → Parse Cause Block
+block_at header before bytes = first_byte causes.Cut bytes >>= (λ tag. tagged_at header before tag.0 tag.1)

@@ -1,12 +1,12 @@
 //! Reading a block of a log.
 
-ghost use Rattle.std.specs.Prelude.{◌≡◌, ◌≤◌, ℕ, List, length, take, IfOk, IfErr, IsErrOf};
+ghost use Rattle.std.specs.Prelude.{◌≡◌, ◌≤◌, List, length, take, IsErrOf, MatchResult};
 ghost use Rattle.nl_io.specs.Count.{Rose};
-ghost use Rattle.checkpoint_io.specs.Blocks.{Block as LogBlock, Extent, messages_of};
-ghost use Rattle.checkpoint_io.specs.Places.{log_place, StandsBetween, Refuses};
-ghost use Rattle.checkpoint_io.specs.Reading.{ReadsWriter, ReadsClose, ReadsBody, ReadsRecords, ReadsExtent, ReadsBlock};
+ghost use Rattle.checkpoint_io.specs.Blocks.{Block as LogBlock, messages_of};
+ghost use Rattle.checkpoint_io.specs.Places.{log_place, Refuses, ReadsAs};
+ghost use Rattle.checkpoint_io.specs.Reading.{open_writer_at, close_at, sized_body_at, long_body_at, extent_at, block_at};
 ghost use Rattle.checkpoint_io.specs.Writers.{AreStatesOf};
-ghost use Rattle.checkpoint_io.specs.NextBlocks.{TakesWriter, TakesClose, TakesExtent, TakesBlock};
+ghost use Rattle.checkpoint_io.specs.NextBlocks.{TakesClose, TakesExtent, TakesBlock};
 
 use crate::block::Block;
 use crate::cause::Cause;
@@ -29,12 +29,10 @@ fn take_writer<S: Source>(
     header: &Header,
     writers: &Writers,
 ) -> Result<u8, BlockFault>
-    ensures ok { (before : List LogBlock) → AreStatesOf writers.now header.now.clock.tick before
-        → IfOk result (λ writer. TakesWriter header.now before writer
-        (log_place pending.old (S.left source.old)) (log_place pending.new (S.left source.new))) }
-    ensures err { (before : List LogBlock) → AreStatesOf writers.now header.now.clock.tick before
-        → IfErr result (Refuses (ReadsWriter header.now before)
-        (log_place pending.old (S.left source.old)) (S.left source.new)) }
+    ensures read { (before : List LogBlock) → AreStatesOf writers.now header.now.clock.tick before
+        → ReadsAs (open_writer_at header.now before)
+        (log_place pending.old (S.left source.old)) (log_place pending.new (S.left source.new)) (S.left source.new)
+        result }
     ensures read_fault { IsErrOf result BlockFault.ReadFault
         → Rose (S.faults source.old) (S.faults source.new) }
     ensures counted { ¬ (IsErrOf result BlockFault.ReadFault)
@@ -59,12 +57,11 @@ fn read_close<S: Source>(
     header: &Header,
     writers: &mut Writers,
 ) -> Result<u8, BlockFault>
-    ensures ok { (before : List LogBlock) → AreStatesOf writers.old header.now.clock.tick before
-        → IfOk result (λ writer. TakesClose header.now before writer writers.new
-        (log_place pending.old (S.left source.old)) (log_place pending.new (S.left source.new))) }
-    ensures err { (before : List LogBlock) → AreStatesOf writers.old header.now.clock.tick before
-        → IfErr result (Refuses (ReadsClose header.now before)
-        (log_place pending.old (S.left source.old)) (S.left source.new)) }
+    ensures read { (before : List LogBlock) → AreStatesOf writers.old header.now.clock.tick before
+        → MatchResult result
+        (λ writer. TakesClose header.now before writer writers.new
+        (log_place pending.old (S.left source.old)) (log_place pending.new (S.left source.new)))
+        (Refuses (close_at header.now before) (log_place pending.old (S.left source.old)) (S.left source.new)) }
     ensures read_fault { IsErrOf result BlockFault.ReadFault
         → Rose (S.faults source.old) (S.faults source.new) }
     ensures counted { ¬ (IsErrOf result BlockFault.ReadFault)
@@ -87,11 +84,9 @@ fn take_body<S: Source>(
     last: u64,
     len: usize,
 ) -> Result<Records, BlockFault>
-    ensures ok { (writer : ℕ) → IfOk result (λ records.
-        StandsBetween (ReadsBody dictionary.now tick last writer len) (Extent writer records)
-        (log_place pending.old (S.left source.old)) (log_place pending.new (S.left source.new))) }
-    ensures err { (writer : ℕ) → IfErr result (Refuses (ReadsBody dictionary.now tick last writer len)
-        (log_place pending.old (S.left source.old)) (S.left source.new)) }
+    ensures read { ReadsAs (sized_body_at dictionary.now tick last len)
+        (log_place pending.old (S.left source.old)) (log_place pending.new (S.left source.new)) (S.left source.new)
+        result }
     ensures read_fault { IsErrOf result BlockFault.ReadFault
         → Rose (S.faults source.old) (S.faults source.new) }
     ensures counted { ¬ (IsErrOf result BlockFault.ReadFault)
@@ -120,11 +115,9 @@ fn read_records<S: Source>(
     tick: u64,
     last: u64,
 ) -> Result<Records, BlockFault>
-    ensures ok { (writer : ℕ) → IfOk result (λ records.
-        StandsBetween (ReadsRecords dictionary.now tick last writer) (Extent writer records)
-        (log_place pending.old (S.left source.old)) (log_place pending.new (S.left source.new))) }
-    ensures err { (writer : ℕ) → IfErr result (Refuses (ReadsRecords dictionary.now tick last writer)
-        (log_place pending.old (S.left source.old)) (S.left source.new)) }
+    ensures read { ReadsAs (long_body_at dictionary.now tick last)
+        (log_place pending.old (S.left source.old)) (log_place pending.new (S.left source.new)) (S.left source.new)
+        result }
     ensures read_fault { IsErrOf result BlockFault.ReadFault
         → Rose (S.faults source.old) (S.faults source.new) }
     ensures counted { ¬ (IsErrOf result BlockFault.ReadFault)
@@ -148,14 +141,12 @@ fn read_extent<S: Source>(
     dictionary: &Dictionary,
     writers: &mut Writers,
 ) -> Result<(u8, Records), BlockFault>
-    ensures ok { (before : List LogBlock) → dictionary.now ≡ messages_of before
+    ensures read { (before : List LogBlock) → dictionary.now ≡ messages_of before
         → AreStatesOf writers.old header.now.clock.tick before
-        → IfOk result (λ extent. TakesExtent header.now before extent.0 extent.1 writers.new
-        (log_place pending.old (S.left source.old)) (log_place pending.new (S.left source.new))) }
-    ensures err { (before : List LogBlock) → dictionary.now ≡ messages_of before
-        → AreStatesOf writers.old header.now.clock.tick before
-        → IfErr result (Refuses (ReadsExtent header.now before)
-        (log_place pending.old (S.left source.old)) (S.left source.new)) }
+        → MatchResult result
+        (λ extent. TakesExtent header.now before extent.0 extent.1 writers.new
+        (log_place pending.old (S.left source.old)) (log_place pending.new (S.left source.new)))
+        (Refuses (extent_at header.now before) (log_place pending.old (S.left source.old)) (S.left source.new)) }
     ensures read_fault { IsErrOf result BlockFault.ReadFault
         → Rose (S.faults source.old) (S.faults source.new) }
     ensures counted { ¬ (IsErrOf result BlockFault.ReadFault)
@@ -180,14 +171,12 @@ pub fn read_block<S: Source>(
     dictionary: &mut Dictionary,
     writers: &mut Writers,
 ) -> Result<Block, BlockFault>
-    ensures ok { (before : List LogBlock) → dictionary.old ≡ messages_of before
+    ensures read { (before : List LogBlock) → dictionary.old ≡ messages_of before
         → AreStatesOf writers.old header.now.clock.tick before
-        → IfOk result (λ block. TakesBlock header.now before block dictionary.new writers.new
-        (log_place pending.old (S.left source.old)) (log_place pending.new (S.left source.new))) }
-    ensures err { (before : List LogBlock) → dictionary.old ≡ messages_of before
-        → AreStatesOf writers.old header.now.clock.tick before
-        → IfErr result (Refuses (ReadsBlock header.now before)
-        (log_place pending.old (S.left source.old)) (S.left source.new)) }
+        → MatchResult result
+        (λ block. TakesBlock header.now before block dictionary.new writers.new
+        (log_place pending.old (S.left source.old)) (log_place pending.new (S.left source.new)))
+        (Refuses (block_at header.now before) (log_place pending.old (S.left source.old)) (S.left source.new)) }
     ensures defined { take (length dictionary.old) dictionary.new ≡ dictionary.old }
     ensures read_fault { IsErrOf result BlockFault.ReadFault
         → Rose (S.faults source.old) (S.faults source.new) }

@@ -1,9 +1,9 @@
 //! Reading the header of a log.
 
-ghost use Rattle.std.specs.Prelude.{IfOk, IfErr, IsErrOf, ◌≡◌, ◌≤◌};
+ghost use Rattle.std.specs.Prelude.{IsErrOf, ◌≡◌, ◌≤◌};
 ghost use Rattle.nl_io.specs.Count.{Rose};
-ghost use Rattle.checkpoint_io.specs.Places.{log_place, StandsBetween, Refuses};
-ghost use Rattle.checkpoint_io.specs.Reading.{MagicThen, ReadsClock, ReadsWriters, ReadsVersion, ReadsHeader};
+ghost use Rattle.checkpoint_io.specs.Places.{log_place, ReadsAs};
+ghost use Rattle.checkpoint_io.specs.Reading.{header_clock_at, header_writers_at, header_version_at, header_letters_at, header_at};
 
 use crate::cause::Cause;
 use crate::fault::BlockFault;
@@ -20,10 +20,9 @@ fn read_clock<S: Source>(
     source: &mut S,
     writers: u32,
 ) -> Result<Header, BlockFault>
-    ensures ok { IfOk result (λ header. StandsBetween (ReadsClock writers) header
-        (log_place pending.old (S.left source.old)) (log_place pending.new (S.left source.new))) }
-    ensures err { IfErr result (Refuses (ReadsClock writers)
-        (log_place pending.old (S.left source.old)) (S.left source.new)) }
+    ensures read { ReadsAs (header_clock_at writers)
+        (log_place pending.old (S.left source.old)) (log_place pending.new (S.left source.new)) (S.left source.new)
+        result }
     ensures read_fault { IsErrOf result BlockFault.ReadFault
         → Rose (S.faults source.old) (S.faults source.new) }
     ensures counted { ¬ (IsErrOf result BlockFault.ReadFault)
@@ -42,9 +41,9 @@ fn read_clock<S: Source>(
 }
 
 fn read_writers<S: Source>(pending: &mut Pending, source: &mut S) -> Result<Header, BlockFault>
-    ensures ok { IfOk result (λ header. StandsBetween ReadsWriters header
-        (log_place pending.old (S.left source.old)) (log_place pending.new (S.left source.new))) }
-    ensures err { IfErr result (Refuses ReadsWriters (log_place pending.old (S.left source.old)) (S.left source.new)) }
+    ensures read { ReadsAs header_writers_at
+        (log_place pending.old (S.left source.old)) (log_place pending.new (S.left source.new)) (S.left source.new)
+        result }
     ensures read_fault { IsErrOf result BlockFault.ReadFault
         → Rose (S.faults source.old) (S.faults source.new) }
     ensures counted { ¬ (IsErrOf result BlockFault.ReadFault)
@@ -60,9 +59,9 @@ fn read_writers<S: Source>(pending: &mut Pending, source: &mut S) -> Result<Head
 }
 
 fn read_version<S: Source>(pending: &mut Pending, source: &mut S) -> Result<Header, BlockFault>
-    ensures ok { IfOk result (λ header. StandsBetween ReadsVersion header
-        (log_place pending.old (S.left source.old)) (log_place pending.new (S.left source.new))) }
-    ensures err { IfErr result (Refuses ReadsVersion (log_place pending.old (S.left source.old)) (S.left source.new)) }
+    ensures read { ReadsAs header_version_at
+        (log_place pending.old (S.left source.old)) (log_place pending.new (S.left source.new)) (S.left source.new)
+        result }
     ensures read_fault { IsErrOf result BlockFault.ReadFault
         → Rose (S.faults source.old) (S.faults source.new) }
     ensures counted { ¬ (IsErrOf result BlockFault.ReadFault)
@@ -82,10 +81,9 @@ fn read_letters<S: Source>(
     source: &mut S,
     letters: &[u8],
 ) -> Result<Header, BlockFault>
-    ensures ok { IfOk result (λ header. StandsBetween (MagicThen letters.now ReadsVersion) header
-        (log_place pending.old (S.left source.old)) (log_place pending.new (S.left source.new))) }
-    ensures err { IfErr result (Refuses (MagicThen letters.now ReadsVersion)
-        (log_place pending.old (S.left source.old)) (S.left source.new)) }
+    ensures read { ReadsAs (header_letters_at letters.now)
+        (log_place pending.old (S.left source.old)) (log_place pending.new (S.left source.new)) (S.left source.new)
+        result }
     ensures read_fault { IsErrOf result BlockFault.ReadFault
         → Rose (S.faults source.old) (S.faults source.new) }
     ensures counted { ¬ (IsErrOf result BlockFault.ReadFault)
@@ -104,9 +102,9 @@ fn read_letters<S: Source>(
 
 /// The header that the front of a file has.
 pub fn read_header<S: Source>(pending: &mut Pending, source: &mut S) -> Result<Header, BlockFault>
-    ensures ok { IfOk result (λ header. StandsBetween ReadsHeader header
-        (log_place pending.old (S.left source.old)) (log_place pending.new (S.left source.new))) }
-    ensures err { IfErr result (Refuses ReadsHeader (log_place pending.old (S.left source.old)) (S.left source.new)) }
+    ensures read { ReadsAs header_at
+        (log_place pending.old (S.left source.old)) (log_place pending.new (S.left source.new)) (S.left source.new)
+        result }
     ensures read_fault { IsErrOf result BlockFault.ReadFault
         → Rose (S.faults source.old) (S.faults source.new) }
     ensures counted { ¬ (IsErrOf result BlockFault.ReadFault)

@@ -1,6 +1,8 @@
 //! Laws over the definitions of logs. The functions do nothing: what they ensure is proved of the definitions.
 
-ghost use Rattle.std.specs.Prelude.{◌≡◌, ◌≢◌, ◌⊎◌, ℕ, ◌+◌, ◌<◌, ◌≤◌, ◌^◌, List, [], ◌∷◌, ◌++◌, length, map, take, slice_set, All, Contains, codes};
+ghost use Rattle.std.specs.Prelude.{◌≡◌, ◌≢◌, ◌⊎◌, ℕ, ◌+◌, ◌<◌, ◌≤◌, ◌^◌, List, [], ◌∷◌, ◌++◌, length, map, take, slice_set, All, Contains, codes, Ok, Err};
+ghost use Rattle.nibble_pack.specs.Bytes.{AreBytes};
+ghost use Rattle.nibble_pack.specs.Parsing.{IsSteady};
 ghost use Rattle.std.specs.List.{AllByRecursion, range_with_len};
 ghost use Rattle.log_dictionary.specs.declared.clock.Clock.{Clock};
 ghost use Rattle.log_dictionary.specs.declared.message.Message.{Message};
@@ -17,7 +19,7 @@ ghost use Rattle.checkpoint_io.specs.Blocks.{Block, Fragment, Extent, Close, IsF
 ghost use Rattle.checkpoint_io.specs.Causes.{cause_number, cause_name};
 ghost use Rattle.checkpoint_io.specs.Fronts.{BeginsWithLog, Front, HasNoHeader, Break, BreaksByCutAlone, IsCutAt};
 ghost use Rattle.checkpoint_io.specs.Logs.{ids_used, new_messages, AreFragments, HasAtMost, IsLaidOut, LogOf};
-ghost use Rattle.checkpoint_io.specs.Reading.{ReadOutcome, found, ReadsHeader, ReadsBlock};
+ghost use Rattle.checkpoint_io.specs.Reading.{header_at, block_at};
 ghost use Rattle.checkpoint_io.specs.Rows.{all_causes, row_header, row_blocks, row_bytes, row_record, full_record, late_fragments};
 ghost use Rattle.arg_records.specs.Rows.{full_message};
 ghost use Rattle.log_dictionary.specs.Rows.{row_message};
@@ -354,31 +356,37 @@ pub fn logs_tell_of_their_run()
         → IsLaidOut dictionary batch [] blocks }
 {}
 
-/// Read from left to right, bytes give one header or one cause, and behind the same blocks they give
-/// one block or one cause.
-pub fn reading_gives_one_outcome()
-    ensures header { (bytes : List ℕ) (a b : ReadOutcome Header) → ReadsHeader bytes a → ReadsHeader bytes b
-        → a ≡ b }
-    ensures block { (header : Header) (before : List Block) (bytes : List ℕ) (a b : ReadOutcome Block)
-        → ReadsBlock header before bytes a → ReadsBlock header before bytes b
-        → a ≡ b }
+/// More bytes behind change nothing of a header or a block that is there, nor of the cause by which it breaks, unless
+/// it is cut off. Each proper front of one is cut off.
+pub fn more_bytes_change_nothing()
+    ensures header { IsSteady Cut header_at }
+    ensures block { (header : Header) (before : List Block) → IsSteady Cut (block_at header before) }
+    ensures front_of_header { (front rest behind : List ℕ) (header : Header)
+        → header_at (front ++ rest) ≡ Ok (header, behind)
+        → length behind < length rest
+        → header_at front ≡ Err Cut }
+    ensures front_of_block { (header : Header) (before : List Block) (front rest behind : List ℕ) (block : Block)
+        → block_at header before (front ++ rest) ≡ Ok (block, behind)
+        → length behind < length rest
+        → block_at header before front ≡ Err Cut }
 {}
 
 /// A right header is read as what it is, and so is a right block.
 pub fn right_blocks_are_read()
     ensures header { (header : Header) (rest : List ℕ) → IsHeader header
-        → ReadsHeader (header_bytes header ++ rest) (found header rest) }
+        → header_at (header_bytes header ++ rest) ≡ Ok (header, rest) }
     ensures block { (header : Header) (before : List Block) (block : Block) (front rest : List ℕ)
         → IsRightAfter header before block
         → SpellsBlock (messages_of before) header.clock.tick block front
-        → ReadsBlock header before (front ++ rest) (found block rest) }
+        → block_at header before (front ++ rest) ≡ Ok (block, rest) }
 {}
 
-/// What is read of a file is right: its bytes are the block's, and it keeps the rules.
+/// What is read of a file's bytes is right: they are the block's, and it keeps the rules.
 pub fn what_is_read_is_right()
     ensures { (header : Header) (before : List Block) (bytes : List ℕ) (block : Block) (rest : List ℕ)
         → Valid header before
-        → ReadsBlock header before bytes (found block rest)
+        → AreBytes bytes
+        → block_at header before bytes ≡ Ok (block, rest)
         → (front : List ℕ) × (bytes ≡ front ++ rest)
         × SpellsBlock (messages_of before) header.clock.tick block front
         × IsRightAfter header before block }

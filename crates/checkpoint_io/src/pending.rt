@@ -3,6 +3,7 @@
 ghost use Rattle.std.specs.Prelude.{◌≡◌, ◌≤◌, [], length, drop, true, false, ◌+◌, ◌<◌, IfOk, IfErr, OnOk, IsErrOf};
 ghost use Rattle.nl_io.specs.Count.{Rose};
 ghost use Rattle.nl_io.specs.Content.{IsAtEnd};
+ghost use Rattle.nibble_pack.specs.Bytes.{AreBytes};
 ghost use Rattle.checkpoint_io.specs.Places.{further, with_front, log_place, IsNoDamage, TookFewer};
 
 use crate::fault::BlockFault;
@@ -57,9 +58,11 @@ impl Pending {
 
     /// The bytes.
     pub fn bytes(&self) -> &[u8]
-        ensures { result.now ≡ self.now.bytes }
+        ensures same { result.now ≡ self.now.bytes }
+        ensures small { AreBytes result.now }
     {
-        &self.bytes[self.start..]
+        let all = self.bytes.as_slice();
+        &all[self.start..]
     }
 
     /// The offset of the first of them.

@@ -1,9 +1,10 @@
 //! The steps in which a file is read: a byte, a number, a run of bytes.
 
-ghost use Rattle.std.specs.Prelude.{◌≡◌, ◌<◌, ◌≤◌, ◌^◌, [], ◌∷◌, length, take, IfOk, IfErr, IsErrOf};
+ghost use Rattle.std.specs.Prelude.{◌≡◌, ◌<◌, ◌≤◌, ◌^◌, length, take, IfOk, IsErrOf};
 ghost use Rattle.std.specs.Hash.{le_bytes};
 ghost use Rattle.nl_io.specs.Count.{Rose};
-ghost use Rattle.checkpoint_io.specs.Places.{log_place, BytesBetween, EndsBefore};
+ghost use Rattle.nibble_pack.specs.Parsing.{first_byte, low_first};
+ghost use Rattle.checkpoint_io.specs.Places.{log_place, ReadsAs};
 
 use crate::cause::Cause;
 use crate::fault::BlockFault;
@@ -13,9 +14,9 @@ use nl_io::Source;
 
 /// A byte.
 pub fn take_byte<S: Source>(pending: &mut Pending, source: &mut S) -> Result<u8, BlockFault>
-    ensures ok { IfOk result (λ byte. BytesBetween (byte ∷ [])
-        (log_place pending.old (S.left source.old)) (log_place pending.new (S.left source.new))) }
-    ensures err { IfErr result (EndsBefore 1 (log_place pending.old (S.left source.old)) (S.left source.new)) }
+    ensures read { ReadsAs (first_byte Cause.Cut)
+        (log_place pending.old (S.left source.old)) (log_place pending.new (S.left source.new)) (S.left source.new)
+        result }
     ensures read_fault { IsErrOf result BlockFault.ReadFault
         → Rose (S.faults source.old) (S.faults source.new) }
     ensures counted { ¬ (IsErrOf result BlockFault.ReadFault)
@@ -51,9 +52,9 @@ pub fn take_number<S: Source>(
     requires some { 1 ≤ size }
     requires few { size ≤ 8 }
     ensures fits { IfOk result (λ n. n < 256 ^ size) }
-    ensures ok { IfOk result (λ n. BytesBetween (le_bytes size n)
-        (log_place pending.old (S.left source.old)) (log_place pending.new (S.left source.new))) }
-    ensures err { IfErr result (EndsBefore size (log_place pending.old (S.left source.old)) (S.left source.new)) }
+    ensures read { ReadsAs (low_first size Cause.Cut)
+        (log_place pending.old (S.left source.old)) (log_place pending.new (S.left source.new)) (S.left source.new)
+        result }
     ensures read_fault { IsErrOf result BlockFault.ReadFault
         → Rose (S.faults source.old) (S.faults source.new) }
     ensures counted { ¬ (IsErrOf result BlockFault.ReadFault)

@@ -4,6 +4,5 @@ mod NumberLemmas
 mod TextLemmas
 mod TextRuns
 mod BinaryNumbers
-mod BinaryReading
 mod LineParts
 mod Places

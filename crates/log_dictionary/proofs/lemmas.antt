@@ -1,5 +1,4 @@
 pub mod Appending
-pub mod BinaryCases
 pub mod BinaryLaws
 pub mod BinaryWorked
 pub mod Distinct

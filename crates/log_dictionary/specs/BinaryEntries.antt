@@ -1,5 +1,5 @@
--- Messages as entries of a log: which bytes spell them, and where bytes end inside an entry or are none.
-use Rattle.std.specs.Prelude.{◌≡◌, ◌≢◌, ◌⊎◌, ℕ, ◌<◌, ◌≤◌, ◌^◌, List, [], ◌∷◌, ◌++◌, length}
+-- Messages as entries of a log: which bytes spell them.
+use Rattle.std.specs.Prelude.{◌≡◌, ℕ, ◌<◌, ◌≤◌, ◌^◌, List, ◌∷◌, ◌++◌, length}
 use Rattle.std.specs.Hash.{le_bytes}
 use Rattle.printf_grammar.specs.declared.limits.TheConstants.{MAX_FORMAT}
 use Rattle.printf_grammar.specs.Spelling.{Spells}
@@ -57,54 +57,3 @@ pub record BeginsWithEntry (bytes : List ℕ) : Type 0 where
   pub rest : List ℕ
   pub joined : bytes ≡ front ++ rest
   pub entry : SpellsEntry front message
-
--- ---- where bytes end inside an entry
-
--- the bytes end inside a text with its length, or inside that length; a length that is there as a whole is in range
-pub data IsCutText (least most : ℕ) (bytes : List ℕ) : Type 0 where
-  in_length : length bytes < 2 → IsCutText least most bytes
-  in_text : (n : ℕ) (part : List ℕ) → least ≤ n → n ≤ most → length part < n → bytes ≡ le_bytes 2 n ++ part
-      → IsCutText least most bytes
-
--- the bytes end inside an entry that is right so far: a field that is there as a whole is in range, and one of which a
--- part is there isn't judged
-pub data IsCutEntry (bytes : List ℕ) : Type 0 where
-  in_severity : bytes ≡ [] → IsCutEntry bytes
-  in_line : (severity : Severity) (part : List ℕ) → length part < 4 → bytes ≡ severity_number severity ∷ part
-      → IsCutEntry bytes
-  in_file : (severity : Severity) (line : ℕ) (part : List ℕ) → line < 2 ^ 32 → IsCutText 1 MAX_FILE_NAME part
-      → bytes ≡ entry_head_bytes severity line ++ part → IsCutEntry bytes
-  in_format : (severity : Severity) (line : ℕ) (file part : List ℕ) → line < 2 ^ 32 → 1 ≤ length file
-      → length file ≤ MAX_FILE_NAME
-      → IsCutText 0 MAX_FORMAT part → bytes ≡ entry_head_bytes severity line ++ text_bytes file ++ part
-      → IsCutEntry bytes
-
--- ---- where bytes begin with no entry
-
--- the bytes begin with a length out of range
-pub record IsBadLength (least most : ℕ) (bytes : List ℕ) : Type 0 where
-  pub n : ℕ
-  pub rest : List ℕ
-  pub fits : n < 2 ^ 16
-  pub outside : (n < least) ⊎ (most < n)
-  pub joined : bytes ≡ le_bytes 2 n ++ rest
-
--- the first field that isn't right is there as a whole and out of range: the severity, or the length of the file or of
--- the format
-pub data IsOutOfRange (bytes : List ℕ) : Type 0 where
-  at_severity : (number : ℕ) (rest : List ℕ) → ((severity : Severity) → number ≢ severity_number severity)
-      → bytes ≡ number ∷ rest
-      → IsOutOfRange bytes
-  at_file : (severity : Severity) (line : ℕ) (rest : List ℕ) → line < 2 ^ 32 → IsBadLength 1 MAX_FILE_NAME rest
-      → bytes ≡ entry_head_bytes severity line ++ rest → IsOutOfRange bytes
-  at_format : (severity : Severity) (line : ℕ) (file rest : List ℕ) → line < 2 ^ 32 → 1 ≤ length file
-      → length file ≤ MAX_FILE_NAME
-      → IsBadLength 0 MAX_FORMAT rest → bytes ≡ entry_head_bytes severity line ++ text_bytes file ++ rest
-      → IsOutOfRange bytes
-
--- a field is out of range, or all fields are in range and the format is refused
-pub data IsBadEntry (bytes : List ℕ) : Type 0 where
-  out_of_range : IsOutOfRange bytes → IsBadEntry bytes
-  refused : (raw : RawEntry) (rest : List ℕ) → IsInRange raw
-      → ((message : Message) → ¬ (SpellsEntry (raw_entry_bytes raw) message))
-      → bytes ≡ raw_entry_bytes raw ++ rest → IsBadEntry bytes

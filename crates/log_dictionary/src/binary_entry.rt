@@ -1,12 +1,10 @@
 //! Messages as entries of a log, in bytes.
 
-ghost use Rattle.std.specs.Prelude.{◌≡◌, ◌≢◌, ◌⊎◌, ◌↔◌, ℕ, ◌+◌, ◌<◌, ◌≤◌, ◌^◌, List, [], ◌∷◌, ◌++◌, length, take, drop, IfOk, IfErr, MatchResult, Err};
-ghost use Rattle.std.specs.Hash.{le_bytes};
-ghost use Rattle.log_dictionary.specs.declared.message.Message.{Message};
-ghost use Rattle.log_dictionary.specs.declared.severity.Severity.{Severity};
-ghost use Rattle.log_dictionary.specs.Severities.{severity_number};
-ghost use Rattle.log_dictionary.specs.BinaryEntries.{entry_bytes, SpellsEntry, IsCutText, IsCutEntry, IsBadLength, IsOutOfRange, IsBadEntry, text_bytes};
-ghost use Rattle.log_dictionary.specs.EntryReading.{EntryStops, raw_fields, BeginsWithRawEntry};
+ghost use Rattle.std.specs.Prelude.{◌≡◌, ◌+◌, ◌≤◌, ◌<◌, ◌^◌, ◌++◌, length, take, drop, IfOk, MatchResult, Ok, Err};
+ghost use Rattle.nibble_pack.specs.Parsing.{low_first};
+ghost use Rattle.log_dictionary.specs.declared.binary_entry.EntryCause.{EntryCause as NoEntry};
+ghost use Rattle.log_dictionary.specs.BinaryEntries.{entry_bytes, SpellsEntry, text_bytes};
+ghost use Rattle.log_dictionary.specs.EntryReading.{severity_at, sized_text_at, fields_at, entry_at, raw_fields, IsNoEntry};
 
 use crate::formats::{FormatFault, format_of};
 use crate::message::{MAX_FILE_NAME, Message};
@@ -22,11 +20,17 @@ pub(crate) const MAX_ENTRY: usize = FIXED_LEN + MAX_FILE_NAME + MAX_FORMAT;
 
 /// Why bytes begin with no entry.
 #[derive(Clone, Copy, Debug, PartialEq, Eq)]
-pub enum EntryFault {
+pub enum EntryCause {
     /// The bytes end inside an entry that is right so far.
     Cut,
     /// A field is out of range, or the format is refused.
     BadEntry,
+}
+
+/// Why no entry was read.
+#[derive(Clone, Copy, Debug, PartialEq, Eq)]
+pub enum EntryFault {
+    Damaged(EntryCause),
     NoMemory,
 }
 
@@ -84,106 +88,96 @@ pub fn put_entry(message: &Message, into: &mut [u8]) -> usize
     put_text(into, at, message.format.bytes())
 }
 
-fn read_severity(bytes: &[u8]) -> Result<(Severity, &[u8]), EntryFault>
-    ensures ok { IfOk result (λ read. bytes.now ≡ severity_number read.0 ∷ read.1.now) }
-    ensures err { IfErr result (λ fault. EntryStops fault
-        (bytes.now ≡ [])
-        ((number : ℕ) × (rest : List ℕ)
-        × ((severity : Severity) → number ≢ severity_number severity)
-        × (bytes.now ≡ number ∷ rest))) }
+// Each of these calls gives the bytes behind what it read.
+fn read_severity(bytes: &[u8]) -> Result<(Severity, &[u8]), EntryCause>
+    ensures { MatchResult result
+        (λ read. severity_at bytes.now ≡ Ok (read.0, read.1.now))
+        (λ cause. severity_at bytes.now ≡ Err cause) }
 {
     match bytes {
-        [] => Err(EntryFault::Cut),
+        [] => Err(EntryCause::Cut),
         [1, rest @ ..] => Ok((Severity::Error, rest)),
         [2, rest @ ..] => Ok((Severity::Warning, rest)),
         [3, rest @ ..] => Ok((Severity::Notice, rest)),
         [4, rest @ ..] => Ok((Severity::Debug, rest)),
-        _ => Err(EntryFault::BadEntry),
+        _ => Err(EntryCause::BadEntry),
     }
 }
 
-fn read_u32(bytes: &[u8]) -> Result<(u32, &[u8]), EntryFault>
-    ensures ok { IfOk result (λ read. bytes.now ≡ le_bytes 4 read.0 ++ read.1.now) }
-    ensures fits { IfOk result (λ read. read.0 < 2 ^ 32) }
-    ensures err { IfErr result (λ fault. EntryStops fault (length bytes.now < 4) ⊥) }
+fn read_u32(bytes: &[u8]) -> Result<(u32, &[u8]), EntryCause>
+    ensures { MatchResult result
+        (λ read. low_first 4 EntryCause.Cut bytes.now ≡ Ok (read.0, read.1.now))
+        (λ cause. low_first 4 EntryCause.Cut bytes.now ≡ Err cause) }
 {
     match bytes {
         [a, b, c, d, rest @ ..] => Ok((u32::from_le_bytes([*a, *b, *c, *d]), rest)),
-        _ => Err(EntryFault::Cut),
+        _ => Err(EntryCause::Cut),
     }
 }
 
-fn read_u16(bytes: &[u8]) -> Result<(u16, &[u8]), EntryFault>
-    ensures ok { IfOk result (λ read. bytes.now ≡ le_bytes 2 read.0 ++ read.1.now) }
-    ensures err { IfErr result (λ fault. EntryStops fault (length bytes.now < 2) ⊥) }
+fn read_u16(bytes: &[u8]) -> Result<(u16, &[u8]), EntryCause>
+    ensures { MatchResult result
+        (λ read. low_first 2 EntryCause.Cut bytes.now ≡ Ok (read.0, read.1.now))
+        (λ cause. low_first 2 EntryCause.Cut bytes.now ≡ Err cause) }
 {
     match bytes {
         [low, high, rest @ ..] => Ok((u16::from_le_bytes([*low, *high]), rest)),
-        _ => Err(EntryFault::Cut),
+        _ => Err(EntryCause::Cut),
     }
 }
 
-// A text with its length in front, which is from `least` to `most`, and the bytes after it.
-fn read_text(bytes: &[u8], least: usize, most: usize) -> Result<(&[u8], &[u8]), EntryFault>
-    ensures ok { IfOk result (λ read. (bytes.now ≡ text_bytes read.0.now ++ read.1.now)
-        × (least ≤ length read.0.now) × (length read.0.now ≤ most)) }
-    ensures err { IfErr result (λ fault. EntryStops fault
-        (IsCutText least most bytes.now) (IsBadLength least most bytes.now)) }
+// A text with its length in front, which is from `least` to `most`.
+fn read_text(bytes: &[u8], least: usize, most: usize) -> Result<(&[u8], &[u8]), EntryCause>
+    ensures { MatchResult result
+        (λ read. sized_text_at least most bytes.now ≡ Ok (read.0.now, read.1.now))
+        (λ cause. sized_text_at least most bytes.now ≡ Err cause) }
 {
     let (len, rest) = read_u16(bytes)?;
     let len = usize::from(len);
     if len < least || len > most {
-        return Err(EntryFault::BadEntry);
+        return Err(EntryCause::BadEntry);
     }
     if rest.len() < len {
-        return Err(EntryFault::Cut);
+        return Err(EntryCause::Cut);
     }
     Ok(rest.split_at(len))
 }
 
-// The fields of the entry that the bytes begin with.
-fn read_fields(bytes: &[u8]) -> Result<EntryFields<'_>, EntryFault>
-    ensures ok { IfOk result (λ fields. BeginsWithRawEntry bytes.now (raw_fields fields)) }
-    ensures err { IfErr result (λ fault. EntryStops fault (IsCutEntry bytes.now) (IsOutOfRange bytes.now)) }
+fn read_fields(bytes: &[u8]) -> Result<(EntryFields<'_>, &[u8]), EntryCause>
+    ensures { MatchResult result
+        (λ read. fields_at bytes.now ≡ Ok (raw_fields read.0, read.1.now))
+        (λ cause. fields_at bytes.now ≡ Err cause) }
 {
     let (severity, rest) = read_severity(bytes)?;
     let (line, rest) = read_u32(rest)?;
     let (file, rest) = read_text(rest, 1, MAX_FILE_NAME)?;
-    let (format, _) = read_text(rest, 0, MAX_FORMAT)?;
-    Ok(EntryFields {
+    let (format, rest) = read_text(rest, 0, MAX_FORMAT)?;
+    let fields = EntryFields {
         severity,
         line,
         file,
         format,
-    })
+    };
+    Ok((fields, rest))
 }
 
 /// The message whose entry the bytes begin with, and the length of the entry.
 pub fn read_entry(alloc: Global, bytes: &[u8]) -> Result<(Message, usize), EntryFault>
+    ensures read { MatchResult result
+        (λ read. entry_at bytes.now ≡ Ok (read.0, drop read.1 bytes.now))
+        (IsNoEntry (λ cause. entry_at bytes.now ≡ Err cause)) }
     ensures within { IfOk result (λ read. read.1 ≤ length bytes.now) }
-    ensures ok { IfOk result (λ read. SpellsEntry (take read.1 bytes.now) read.0) }
-
-    // What the bytes begin with is read, unless memory runs out.
-    ensures only { (message : Message) (front rest : List ℕ) → SpellsEntry front message
-        → bytes.now ≡ front ++ rest
-        → MatchResult result
-        (λ read. (read.0 ≡ message) × (read.1 ≡ length front))
-        (λ fault. fault ≡ EntryFault.NoMemory) }
 
     // Where bytes end, and where a field is out of range, is found also where there is no memory.
-    ensures cut { (result ≡ Err EntryFault.Cut) ↔ IsCutEntry bytes.now }
-    ensures out_of_range { IsOutOfRange bytes.now → result ≡ Err EntryFault.BadEntry }
-
-    // A format is refused once it is parsed, for which there may be no memory.
-    ensures bad_entry { result ≡ Err EntryFault.BadEntry → IsBadEntry bytes.now }
-    ensures refused { IsBadEntry bytes.now → MatchResult result
-        (λ _. ⊥)
-        (λ fault. (fault ≡ EntryFault.BadEntry) ⊎ (fault ≡ EntryFault.NoMemory)) }
+    ensures no_fields { (cause : NoEntry) → fields_at bytes.now ≡ Err cause → result ≡ Err (EntryFault.Damaged cause) }
 {
-    let fields = read_fields(bytes)?;
+    let fields = match read_fields(bytes) {
+        Ok((fields, _)) => fields,
+        Err(cause) => return Err(EntryFault::Damaged(cause)),
+    };
     let format = match format_of(alloc, fields.format) {
         Ok(format) => format,
-        Err(FormatFault::Bad) => return Err(EntryFault::BadEntry),
+        Err(FormatFault::Bad) => return Err(EntryFault::Damaged(EntryCause::BadEntry)),
         Err(FormatFault::NoMemory) => return Err(EntryFault::NoMemory),
     };
     let Ok(file) = Bytes::from_slice(alloc, fields.file) else {

@@ -5,16 +5,19 @@ ghost use Rattle.std.specs.Int.{w64};
 ghost use Rattle.std.specs.Option.{option_map};
 ghost use Rattle.std.specs.Fmt.{decimal, signed_decimal};
 ghost use Rattle.nibble_pack.specs.Bytes.{AreBytes};
+ghost use Rattle.log_dictionary.specs.declared.binary_entry.EntryCause.{EntryCause as NoEntry};
 ghost use Rattle.log_dictionary.specs.declared.message.Message.{Message};
 ghost use Rattle.log_dictionary.specs.Additions.{ReadsLine};
 ghost use Rattle.log_dictionary.specs.Severities.{severity_name, severity_number};
-ghost use Rattle.log_dictionary.specs.BinaryEntries.{SpellsEntry, BeginsWithEntry, IsCutEntry, IsOutOfRange, IsBadEntry};
+ghost use Rattle.log_dictionary.specs.BinaryEntries.{SpellsEntry, BeginsWithEntry};
+ghost use Rattle.log_dictionary.specs.EntryReading.{fields_at, entry_at};
 ghost use Rattle.log_dictionary.specs.Texts.{OpensText, SpellsText, text_at};
 ghost use Rattle.log_dictionary.specs.Messages.{SameMessage, is_same, SpellsMessage};
 ghost use Rattle.log_dictionary.specs.Canonical.{canonical_text, message_line, dictionary_text, HasLine};
 ghost use Rattle.log_dictionary.specs.Rows.{row_message, row_head, row_entry, row_message_line, great_line, all_severities};
 ghost use Rattle.log_dictionary.specs.Numbers.{natural_of, integer_of, integer_read};
 
+use crate::binary_entry::EntryCause;
 use crate::clock::Clock;
 use crate::dictionary::{Dictionary, LineFault};
 use crate::message::Message;
@@ -25,23 +28,35 @@ use crate::severity::Severity;
 /// entry. Half of a length isn't judged, even where no other half makes it right.
 pub fn worked_entries()
     ensures whole { SpellsEntry row_entry row_message }
-    ensures bad_severity { IsOutOfRange (5 ∷ []) }
-    ensures half_length { IsCutEntry (row_head ++ 0 ∷ []) }
-    ensures empty_file { IsOutOfRange (row_head ++ 0 ∷ 0 ∷ []) }
-    ensures long_file { IsOutOfRange (row_head ++ 0 ∷ 1 ∷ []) }
-    ensures unfinished_file { IsCutEntry (row_head ++ 255 ∷ 0 ∷ []) }
-    ensures long_format { IsOutOfRange (row_head ++ 1 ∷ 0 ∷ 97 ∷ 0 ∷ 16 ∷ []) }
-    ensures unfinished_format { IsCutEntry (row_head ++ 1 ∷ 0 ∷ 97 ∷ 255 ∷ 15 ∷ []) }
+    ensures bad_severity { fields_at (5 ∷ []) ≡ Err EntryCause.BadEntry }
+    ensures half_length { fields_at (row_head ++ 0 ∷ []) ≡ Err EntryCause.Cut }
+    ensures empty_file { fields_at (row_head ++ 0 ∷ 0 ∷ []) ≡ Err EntryCause.BadEntry }
+    ensures long_file { fields_at (row_head ++ 0 ∷ 1 ∷ []) ≡ Err EntryCause.BadEntry }
+    ensures unfinished_file { fields_at (row_head ++ 255 ∷ 0 ∷ []) ≡ Err EntryCause.Cut }
+    ensures long_format { fields_at (row_head ++ 1 ∷ 0 ∷ 97 ∷ 0 ∷ 16 ∷ []) ≡ Err EntryCause.BadEntry }
+    ensures unfinished_format { fields_at (row_head ++ 1 ∷ 0 ∷ 97 ∷ 255 ∷ 15 ∷ []) ≡ Err EntryCause.Cut }
+{}
+
+/// An entry is read as the message that it spells, whatever stands behind it, and what is read is spelled so. Where no
+/// fields are read there is no entry, from the same cause.
+pub fn entries_are_read()
+    ensures read { (message : Message) (front rest : List ℕ) → SpellsEntry front message
+        → entry_at (front ++ rest) ≡ Ok (message, rest) }
+    ensures spelled { (message : Message) (bytes rest : List ℕ) → AreBytes bytes
+        → entry_at bytes ≡ Ok (message, rest)
+        → (front : List ℕ) × (bytes ≡ front ++ rest) × SpellsEntry front message }
+    ensures no_fields { (bytes : List ℕ) (cause : NoEntry) → fields_at bytes ≡ Err cause
+        → entry_at bytes ≡ Err cause }
 {}
 
 /// Bytes end inside an entry, are wrong, or begin with an entry: one of the three holds, and only
 /// one.
 pub fn entries_are_told_apart()
     ensures one_holds { (bytes : List ℕ) → AreBytes bytes
-        → IsCutEntry bytes ⊎ IsBadEntry bytes ⊎ BeginsWithEntry bytes }
-    ensures not_cut { (bytes : List ℕ) → BeginsWithEntry bytes → ¬ (IsCutEntry bytes) }
-    ensures not_bad { (bytes : List ℕ) → BeginsWithEntry bytes → ¬ (IsBadEntry bytes) }
-    ensures cut_or_bad { (bytes : List ℕ) → IsCutEntry bytes → ¬ (IsBadEntry bytes) }
+        → (entry_at bytes ≡ Err EntryCause.Cut) ⊎ (entry_at bytes ≡ Err EntryCause.BadEntry)
+        ⊎ BeginsWithEntry bytes }
+    ensures no_cause { (bytes : List ℕ) (cause : NoEntry) → BeginsWithEntry bytes
+        → ¬ (entry_at bytes ≡ Err cause) }
 {}
 
 /// Bytes begin with one entry, of one message. Each proper front of an entry is cut off, and bytes that are wrong stay
@@ -53,9 +68,10 @@ pub fn entries_are_one()
     ensures one_message { (front other rest other_rest : List ℕ) (a b : Message)
         → SpellsEntry front a → SpellsEntry other b → front ++ rest ≡ other ++ other_rest
         → (a ≡ b) × (front ≡ other) }
-    ensures cut { (front rest : List ℕ) (message : Message) → AreBytes front
-        → SpellsEntry (front ++ rest) message → 1 ≤ length rest → IsCutEntry front }
-    ensures stays_bad { (bytes rest : List ℕ) → IsBadEntry bytes → IsBadEntry (bytes ++ rest) }
+    ensures cut { (front rest : List ℕ) (message : Message) → SpellsEntry (front ++ rest) message
+        → 1 ≤ length rest → entry_at front ≡ Err EntryCause.Cut }
+    ensures stays_bad { (bytes rest : List ℕ) → entry_at bytes ≡ Err EntryCause.BadEntry
+        → entry_at (bytes ++ rest) ≡ Err EntryCause.BadEntry }
 {}
 
 /// Worked texts: each escape, digits of either case, and what opens no text.

@@ -1,6 +1,5 @@
 -- The bytes of a log have one front, and a whole file is its own.
 use Rattle.std.proofs.Common.{◌≡◌, ◌≢◌, ℕ, ◌<◌, ◌≤◌, List, [], ◌∷◌, ◌++◌, length, refl, sym, ap, subst, ◌∙◌, append_assoc, arith}
-use Rattle.std.specs.Prelude.{codes}
 use Rattle.std.proofs.lemmas.List.{append-nil, length-append}
 use Rattle.std.specs.Hash.{le_bytes}
 use Rattle.log_dictionary.specs.declared.message.Message.{Message}
@@ -8,28 +7,9 @@ use Rattle.checkpoint_io.specs.declared.header.Header.{Header}
 use Rattle.checkpoint_io.specs.Blocks.{Block, Fragment, Extent, Close, messages_of, header_bytes, SpellsBlock, SpellsBlocks, FileOf}
 use Rattle.checkpoint_io.specs.Validity.{IsRightAfter, AreRightAfter, IsHeader, Valid}
 use Rattle.checkpoint_io.specs.Fronts.{BeginsWithLog, Front, HasNoHeader}
-use Rattle.log_dictionary.proofs.lemmas.BinaryLaws.{same_fronts, first_is, others_are}
-use Rattle.checkpoint_io.proofs.lemmas.BlockLaws.{le_length, same_numbers, one_block}
-
--- ---- headers
-
-pub header_nested : (header : Header) (back : List ℕ) → header_bytes header ++ back ≡ codes "NLOG" ++ (1 ∷ header.writers ∷ (le_bytes 8 header.clock.tick ++ (le_bytes 8 header.clock.nanos ++ (le_bytes 8 header.clock.rate ++ back))))
-header_nested header back =
-    let magic : List ℕ = codes "NLOG" ++ 1 ∷ header.writers ∷ [] in
-    append_assoc (magic ++ le_bytes 8 header.clock.tick ++ le_bytes 8 header.clock.nanos) (le_bytes 8 header.clock.rate) back
-    ∙ append_assoc (magic ++ le_bytes 8 header.clock.tick) (le_bytes 8 header.clock.nanos) (le_bytes 8 header.clock.rate ++ back)
-    ∙ append_assoc magic (le_bytes 8 header.clock.tick) (le_bytes 8 header.clock.nanos ++ (le_bytes 8 header.clock.rate ++ back))
-
--- a header's spelling determines it
-pub one_header : (a b : Header) (rest more : List ℕ) → IsHeader a → IsHeader b → header_bytes a ++ rest ≡ header_bytes b ++ more → (a ≡ b) × (rest ≡ more)
-one_header a b rest more p q e =
-    let whole = sym (header_nested a rest) ∙ e ∙ header_nested b more in
-    let behind = others_are 1 1 _ _ (same_fronts (codes "NLOG") (codes "NLOG") _ _ refl whole).1 in
-    let writers = first_is a.writers b.writers _ _ behind in
-    let ticks = same_numbers 8 a.clock.tick b.clock.tick _ _ p.tick_fits q.tick_fits (others_are a.writers b.writers _ _ behind) in
-    let nanos = same_numbers 8 a.clock.nanos b.clock.nanos _ _ p.nanos_fits q.nanos_fits ticks.1 in
-    let rates = same_numbers 8 a.clock.rate b.clock.rate rest more p.rate_fits q.rate_fits nanos.1 in
-    ((λ i. record { writers = writers i; clock = record { tick = ticks.0 i; nanos = nanos.0 i; rate = rates.0 i } }), rates.1)
+use Rattle.log_dictionary.proofs.lemmas.BinaryLaws.{same_fronts, first_is}
+use Rattle.checkpoint_io.proofs.lemmas.BlockLaws.{le_length, header_nested}
+use Rattle.checkpoint_io.proofs.ReadingForms.{one_header, one_block}
 
 -- ---- runs of blocks
 

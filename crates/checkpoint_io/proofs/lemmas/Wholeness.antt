@@ -1,20 +1,19 @@
 -- Each file is a log from its first byte to its last, or it breaks.
-use Rattle.std.proofs.Common.{◌≡◌, ◌⊎◌, inl, inr, ℕ, zero, suc, ◌≤◌, List, [], ◌∷◌, ◌++◌, length, sym, ap, subst, ◌∙◌, append_assoc, arith}
+use Rattle.std.proofs.Common.{◌≡◌, ◌⊎◌, inl, inr, ℕ, zero, suc, ◌≤◌, List, [], ◌∷◌, ◌++◌, length, Ok, Err, refl, sym, ap, subst, ◌∙◌, append_assoc, arith}
 use Rattle.std.proofs.lemmas.List.{length-append, append-nil}
 use Rattle.log_dictionary.specs.declared.message.Message.{Message}
 use Rattle.nibble_pack.specs.Bytes.{AreBytes, back_bytes}
+use Rattle.nibble_pack.specs.Parsing.{Parse}
 use Rattle.checkpoint_io.specs.declared.cause.Cause.{Cause}
 use Rattle.checkpoint_io.specs.declared.header.Header.{Header}
 use Rattle.checkpoint_io.specs.Blocks.{Block, Fragment, Extent, Close, header_bytes, SpellsBlock, FileOf}
 use Rattle.checkpoint_io.specs.Validity.{Valid}
-use Rattle.checkpoint_io.specs.Reading.{ReadOutcome, found, broken, ReadsHeader, ReadsBlock}
+use Rattle.checkpoint_io.specs.Reading.{header_at, block_at}
 use Rattle.checkpoint_io.specs.Fronts.{Front, HasNoHeader, Break, at_header, at_block}
 use Rattle.checkpoint_io.proofs.lemmas.FrontLaws.{empty_file, file_goes_on, whole_is_front}
 use Rattle.checkpoint_io.proofs.lemmas.ValidityLaws.{goes_on, messages_differ}
-use Rattle.checkpoint_io.proofs.ReadingForms.{read_block_right}
-use Rattle.checkpoint_io.proofs.StartLaws.{header_right}
+use Rattle.checkpoint_io.proofs.ReadingForms.{header_taken, block_taken}
 use Rattle.checkpoint_io.proofs.lemmas.BreakLaws.{front_of_break}
-use Rattle.checkpoint_io.proofs.SomeOutcome.{HasOutcome, some_header_read, some_block_read}
 
 -- the bytes are a log, or they break
 abbrev IsWholeOrBreaks : List ℕ → Type 0
@@ -22,10 +21,10 @@ IsWholeOrBreaks bytes =
     ((header : Header) × (blocks : List Block) × FileOf header blocks bytes × Valid header blocks)
     ⊎ ((offset : ℕ) × (cause : Cause) × Break bytes offset cause)
 
--- what is read is a thing, or broken
-found_or_broken : {A : Type 0} (gives : ReadOutcome A → Type 0) → HasOutcome gives → ((thing : A) × (rest : List ℕ) × gives (found thing rest)) ⊎ ((cause : Cause) × gives (broken cause))
-found_or_broken gives (found thing rest, reads) = inl (thing, rest, reads)
-found_or_broken gives (broken cause, reads) = inr (cause, reads)
+-- a thing and what is left, or a cause
+found_or_broken : {A : Type 0} (read : Parse Cause A) → ((thing : A) × (rest : List ℕ) × (read ≡ Ok (thing, rest))) ⊎ ((cause : Cause) × (read ≡ Err cause))
+found_or_broken (Ok found) = inl (found.0, found.1, refl)
+found_or_broken (Err cause) = inr (cause, refl)
 
 -- a block has a byte
 some_byte : (messages : List Message) (tick : ℕ) (block : Block) (bytes : List ℕ) → SpellsBlock messages tick block bytes → 1 ≤ length bytes
@@ -40,20 +39,20 @@ shorter front back bytes most joined some short = omega (arith, ap length joined
 behind_front : (bytes : List ℕ) (header : Header) (blocks : List Block) (most : ℕ) (front rest : List ℕ) → length rest ≤ most → AreBytes rest → bytes ≡ front ++ rest → FileOf header blocks front → Valid header blocks → IsWholeOrBreaks bytes
 behind_front bytes header blocks most front [] short small joined file valid = inl (header, blocks, subst (FileOf header blocks) (sym (append-nil front) ∙ sym joined) file, valid)
 behind_front bytes header blocks zero front (byte ∷ rest) short small joined file valid = absurd (omega arith)
-behind_front bytes header blocks (suc most) front (byte ∷ rest) short small joined file valid = elim (found_or_broken (ReadsBlock header blocks (byte ∷ rest)) (some_block_read header blocks (byte ∷ rest) small)) [
+behind_front bytes header blocks (suc most) front (byte ∷ rest) short small joined file valid = elim (found_or_broken (block_at header blocks (byte ∷ rest))) [
   | inr (cause, reads) ↦ inr (length front, cause, at_block header blocks front (byte ∷ rest) cause joined file valid (omega arith) reads)
   | inl (block, back, reads) ↦
-      let read = read_block_right header blocks (byte ∷ rest) block back valid.header_right.few_writers (messages_differ header blocks valid).distinct reads in
+      let read = block_taken header blocks (byte ∷ rest) block back valid.header_right.few_writers (messages_differ header blocks valid).distinct small reads in
       behind_front bytes header (blocks ++ block ∷ []) most (front ++ read.front) back (shorter read.front back (byte ∷ rest) most read.joined (some_byte _ header.clock.tick block read.front read.spelled) short) (back_bytes (byte ∷ rest) read.front back read.joined small)
       (joined ∙ ap (λ (b : List ℕ). front ++ b) read.joined ∙ sym (append_assoc front read.front back)) (file_goes_on header blocks block front read.front file read.spelled) (goes_on header blocks block valid read.right)
 ]
 
 -- each file is a log from its first byte to its last, or it breaks
 pub whole_or_breaks : (bytes : List ℕ) → AreBytes bytes → ((header : Header) × (blocks : List Block) × FileOf header blocks bytes × Valid header blocks) ⊎ ((offset : ℕ) × (cause : Cause) × Break bytes offset cause)
-whole_or_breaks bytes small = elim (found_or_broken (ReadsHeader bytes) (some_header_read bytes small)) [
+whole_or_breaks bytes small = elim (found_or_broken (header_at bytes)) [
   | inr (cause, reads) ↦ inr (0, cause, at_header cause reads)
   | inl (header, rest, reads) ↦
-      let read = header_right bytes header rest reads in
+      let read = header_taken bytes header rest small reads in
       behind_front bytes header [] (length rest) (header_bytes header) rest (omega arith) (back_bytes bytes (header_bytes header) rest read.joined small) read.joined (empty_file header) (record { header_right = read.right; blocks_right = tt })
 ]
 

@@ -77,10 +77,6 @@ steady_times cut one steady before (suc count) =
 
 -- ---- what follows for each reader whose laws these are
 
--- what is read takes the front alone
-pub stands_alone : {A Cause : Type 0} (cut : Cause) (read : List ℕ → Parse Cause A) (front more : List ℕ) (x : A) (rest : List ℕ) → IsSteady cut read → read front ≡ Ok (x, rest) → read (front ++ more) ≡ Ok (x, rest ++ more)
-stands_alone {A} {Cause} cut read front more x rest steady e = subst (λ (r : Parse Cause A). IsSameBefore cut more r (read (front ++ more))) e (steady front more)
-
 -- what breaks stays broken
 pub stays_broken : {A Cause : Type 0} (cut cause : Cause) (read : List ℕ → Parse Cause A) (front more : List ℕ) → IsSteady cut read → ¬ (cause ≡ cut) → read front ≡ Err cause → read (front ++ more) ≡ Err cause
 stays_broken {A} {Cause} cut cause read front more steady other e = elim (subst (λ (r : Parse Cause A). IsSameBefore cut more r (read (front ++ more))) e (steady front more)) [

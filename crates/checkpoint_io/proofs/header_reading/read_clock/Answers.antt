@@ -1,26 +1,25 @@
-use Rattle.std.proofs.Common.{rules, IfErr}
-use Rattle.checkpoint_io.specs.Places.{log_place, EndsBefore}
-use Rattle.checkpoint_io.proofs.StepLaws.{clock_taken, nanos_cut, rate_cut, clock_refused}
+use Rattle.std.proofs.Common.{refl, arith}
+use Rattle.std.proofs.lemmas.Bool.{le-leb}
+use Rattle.nibble_pack.specs.Parsing.{low_first}
+use Rattle.nibble_pack.proofs.lemmas.Parsing.{handed_on}
+use Rattle.checkpoint_io.specs.declared.cause.Cause.TheVariants as causes
+use Rattle.checkpoint_io.specs.Places.{log_place}
+use Rattle.checkpoint_io.proofs.StepLaws.{stands_then, stands_last, refused_first}
+use Rattle.checkpoint_io.proofs.HeaderLaws.{nanos_refused, rate_refused}
 use Rattle.checkpoint_io.proofs.header_reading.read_clock.Goals as goal
 
-pub returns-then-rate-eq0-clause-err : goal.returns-then-rate-eq0-clause-err
-returns-then-rate-eq0-clause-err g c =
-    clock_refused c.args.writers c.in_ok-tick.tick c.in_ok-nanos.nanos c.in_ok-rate.rate _ _ _ _ (g.S.Source.left c.take_number-3.new.source) c.in_ok-tick.ensures.fits c.in_ok-nanos.ensures.fits c.in_ok-rate.ensures.fits c.if-rate-eq0.true c.in_ok-tick.ensures.ok c.in_ok-nanos.ensures.ok c.in_ok-rate.ensures.ok
+pub returns-in_err-nanos-clause-read : goal.returns-in_err-nanos-clause-read
+returns-in_err-nanos-clause-read g c =
+    handed_on _ _ _ _ c.from_residual-in_err-nanos.ensures.1 (nanos_refused c.args.writers c.in_ok-tick.tick _ _ _ c.in_err-nanos.field-0.0 c.in_ok-tick.ensures.read c.in_err-nanos.ensures.read)
 
-pub returns-clause-ok : goal.returns-clause-ok
-returns-clause-ok g c =
-    clock_taken c.args.writers c.in_ok-tick.tick c.in_ok-nanos.nanos c.in_ok-rate.rate _ _ _ _ c.in_ok-tick.ensures.fits c.in_ok-nanos.ensures.fits c.in_ok-rate.ensures.fits c.if-rate-eq0.false c.in_ok-tick.ensures.ok c.in_ok-nanos.ensures.ok c.in_ok-rate.ensures.ok
+pub returns-in_err-rate-clause-read : goal.returns-in_err-rate-clause-read
+returns-in_err-rate-clause-read g c =
+    let mid = log_place c.take_number-2.new.pending (g.S.Source.left c.take_number-2.new.source) in
+    handed_on _ _ _ _ c.from_residual-in_err-rate.ensures.1 (rate_refused c.args.writers c.in_ok-tick.tick c.in_ok-nanos.nanos _ _ mid _ c.in_err-rate.field-0.0 c.in_ok-tick.ensures.read c.in_ok-nanos.ensures.read
+    (refused_first (low_first 8 causes.Cut) _ mid _ c.in_err-rate.field-0.0 c.in_err-rate.ensures.read))
 
-pub returns-in_err-nanos-clause-err : goal.returns-in_err-nanos-clause-err
-returns-in_err-nanos-clause-err g c =
-    let first = log_place c.take_number.new.pending (g.S.Source.left c.take_number.new.source) in
-    let left = g.S.Source.left c.take_number-2.new.source in
-    let cut : IfErr c.from_residual-in_err-nanos.result (EndsBefore 8 first left) = search rules in
-    nanos_cut c.from_residual-in_err-nanos.result c.args.writers c.in_ok-tick.tick _ first left c.in_ok-tick.ensures.fits c.in_ok-tick.ensures.ok cut
-
-pub returns-in_err-rate-clause-err : goal.returns-in_err-rate-clause-err
-returns-in_err-rate-clause-err g c =
-    let second = log_place c.take_number-2.new.pending (g.S.Source.left c.take_number-2.new.source) in
-    let left = g.S.Source.left c.take_number-3.new.source in
-    let cut : IfErr c.from_residual-in_err-rate.result (EndsBefore 8 second left) = search rules in
-    rate_cut c.from_residual-in_err-rate.result c.args.writers c.in_ok-tick.tick c.in_ok-nanos.nanos _ _ second left c.in_ok-tick.ensures.fits c.in_ok-nanos.ensures.fits c.in_ok-tick.ensures.ok c.in_ok-nanos.ensures.ok cut
+pub returns-clause-read : goal.returns-clause-read
+returns-clause-read g c =
+    stands_then (low_first 8 causes.Cut) _ c.in_ok-tick.tick _ _ _ _ c.in_ok-tick.ensures.read
+    (stands_then (low_first 8 causes.Cut) _ c.in_ok-nanos.nanos _ _ _ _ c.in_ok-nanos.ensures.read
+    (stands_last (low_first 8 causes.Cut) _ c.in_ok-rate.rate _ _ _ c.in_ok-rate.ensures.read (λ rest. rw (le-leb 1 c.in_ok-rate.rate (omega arith)) refl)))

@@ -1,4 +1,4 @@
-use Rattle.checkpoint_io.proofs.lemmas.BlockLaws.{one_block}
+use Rattle.checkpoint_io.proofs.ReadingForms.{one_block}
 use Rattle.checkpoint_io.proofs.laws.blocks_are_read_one_way.Goals as goal
 
 pub returns : goal.returns

@@ -1,8 +1,8 @@
 use Rattle.checkpoint_io.proofs.lemmas.ValidityLaws.{messages_differ}
-use Rattle.checkpoint_io.proofs.ReadingForms.{read_block_right}
+use Rattle.checkpoint_io.proofs.ReadingForms.{block_taken}
 use Rattle.checkpoint_io.proofs.laws.what_is_read_is_right.Goals as goal
 
 pub returns : goal.returns
-returns c header before bytes block rest valid reads =
-    let read = read_block_right header before bytes block rest valid.header_right.few_writers (messages_differ header before valid).distinct reads in
+returns c header before bytes block rest valid small reads =
+    let read = block_taken header before bytes block rest valid.header_right.few_writers (messages_differ header before valid).distinct small reads in
     (read.front, read.joined, read.spelled, read.right)

@@ -1,25 +1,25 @@
 use Rattle.std.proofs.Common.{rules, IfErr, false}
 use Rattle.checkpoint_io.specs.declared.fault.BlockFault.TheVariants.{Damaged, ReadFault}
 use Rattle.checkpoint_io.specs.Places.{log_place, Refuses}
-use Rattle.checkpoint_io.specs.Reading.{ReadsHeader}
+use Rattle.checkpoint_io.specs.Reading.{header_at}
 use Rattle.checkpoint_io.proofs.StartLaws.{started, not_started, not_read, told_fault}
 use Rattle.checkpoint_io.proofs.reader.Reader.start.Goals as goal
 
 pub returns-clause-ok : goal.returns-clause-ok
 returns-clause-ok g c =
     started (record { header = c.in_ok-header.header; messages = c.make.result; writers = c.make-2.result; waiting = c.read_header.new.pending; offset = c.offset-offset.result; failed = false })
-    c.none-pending.result _ _ c.none-pending.ensures.bytes c.none-pending.ensures.offset c.make.ensures (record { lasts = c.make-2.ensures.lasts; closed = c.make-2.ensures.closed }) c.offset-offset.ensures c.in_ok-header.ensures.ok
+    c.none-pending.result _ _ c.none-pending.ensures.bytes c.none-pending.ensures.offset c.make.ensures (record { lasts = c.make-2.ensures.lasts; closed = c.make-2.ensures.closed }) c.offset-offset.ensures c.in_ok-header.ensures.read
 
 pub returns-in_err-header-clause-damaged : goal.returns-in_err-header-clause-damaged
 returns-in_err-header-clause-damaged g c cause is =
     let from = log_place c.none-pending.result (g.S.Source.left c.args.source.now) in
     let left = g.S.Source.left c.read_header.new.source in
-    let refused : IfErr c.from_residual.result (Refuses ReadsHeader from left) = search rules in
-    not_started c.none-pending.result.bytes _ cause c.none-pending.ensures.bytes (told_fault c.from_residual.result (Refuses ReadsHeader from left) (Damaged cause) is refused)
+    let refused : IfErr c.from_residual.result (Refuses header_at from left) = search rules in
+    not_started c.none-pending.result.bytes _ cause c.none-pending.ensures.bytes (told_fault c.from_residual.result (Refuses header_at from left) (Damaged cause) is refused)
 
 pub returns-in_err-header-clause-cut : goal.returns-in_err-header-clause-cut
 returns-in_err-header-clause-cut g c is =
     let from = log_place c.none-pending.result (g.S.Source.left c.args.source.now) in
     let left = g.S.Source.left c.read_header.new.source in
-    let refused : IfErr c.from_residual.result (Refuses ReadsHeader from left) = search rules in
-    not_read c.none-pending.result _ left c.none-pending.ensures.bytes (told_fault c.from_residual.result (Refuses ReadsHeader from left) ReadFault is refused)
+    let refused : IfErr c.from_residual.result (Refuses header_at from left) = search rules in
+    not_read c.none-pending.result _ left c.none-pending.ensures.bytes (told_fault c.from_residual.result (Refuses header_at from left) ReadFault is refused)

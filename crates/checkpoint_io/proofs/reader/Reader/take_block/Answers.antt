@@ -4,7 +4,7 @@ use Rattle.checkpoint_io.specs.declared.cause.Cause.{Cause}
 use Rattle.checkpoint_io.specs.declared.cause.Cause.TheVariants as causes
 use Rattle.checkpoint_io.specs.declared.fault.BlockFault.TheVariants.{Damaged, ReadFault}
 use Rattle.checkpoint_io.specs.Places.{with_front, log_place, TookSuch, Refuses, TookFewer}
-use Rattle.checkpoint_io.specs.Reading.{ReadsBlock}
+use Rattle.checkpoint_io.specs.Reading.{block_at}
 use Rattle.checkpoint_io.specs.Fronts.{IsCutAt}
 use Rattle.checkpoint_io.specs.Readers.{ReaderState, StandsFor}
 use Rattle.checkpoint_io.specs.NextBlocks.{TakesNext, EndsThere, StopsAt}
@@ -34,9 +34,9 @@ returns-in_err-block-clause-damaged g c =
     let some : 1 ≤ length c.fill.new.self.bytes = search rules in
     subst (λ (s : ReaderState). (taken : List ℕ) (cause : Cause) → StandsFor s taken → c.from_residual-in_err-block.result ≡ Err (Damaged cause) → IfSome (with_front (taken ++ s.waiting.bytes) left) (λ bytes. StopsAt bytes s.offset cause)) c.self.view_is
     (λ taken cause before is.
-    let broken = c.in_err-block.ensures.err before.blocks before.messages before.states in
-    let refused : IfErr c.from_residual-in_err-block.result (Refuses (ReadsBlock inside.header before.blocks) from behind) = search rules in
-    breaks_next old taken before c.fill.new.self left between behind cause c.in_ok-fill.ensures.same some (told_fault c.from_residual-in_err-block.result (Refuses (ReadsBlock inside.header before.blocks) from behind) (Damaged cause) is refused))
+    let broken = c.in_err-block.ensures.read before.blocks before.messages before.states in
+    let refused : IfErr c.from_residual-in_err-block.result (Refuses (block_at inside.header before.blocks) from behind) = search rules in
+    breaks_next old taken before c.fill.new.self left between behind cause c.in_ok-fill.ensures.same some (told_fault c.from_residual-in_err-block.result (Refuses (block_at inside.header before.blocks) from behind) (Damaged cause) is refused))
 
 pub returns-in_err-block-clause-cut : goal.returns-in_err-block-clause-cut
 returns-in_err-block-clause-cut g c =
@@ -48,9 +48,9 @@ returns-in_err-block-clause-cut g c =
     let from = log_place c.fill.new.self between in
     subst (λ (s : ReaderState). (taken : List ℕ) → StandsFor s taken → IsErrOf c.from_residual-in_err-block.result ReadFault → TookSuch (λ bytes. IsCutAt (taken ++ bytes) s.offset) (with_front s.waiting.bytes left) behind) c.self.view_is
     (λ taken before is.
-    let broken = c.in_err-block.ensures.err before.blocks before.messages before.states in
-    let refused : IfErr c.from_residual-in_err-block.result (Refuses (ReadsBlock inside.header before.blocks) from behind) = search rules in
-    cut_next old taken before c.fill.new.self left between behind c.in_ok-fill.ensures.same (told_fault c.from_residual-in_err-block.result (Refuses (ReadsBlock inside.header before.blocks) from behind) ReadFault is refused))
+    let broken = c.in_err-block.ensures.read before.blocks before.messages before.states in
+    let refused : IfErr c.from_residual-in_err-block.result (Refuses (block_at inside.header before.blocks) from behind) = search rules in
+    cut_next old taken before c.fill.new.self left between behind c.in_ok-fill.ensures.same (told_fault c.from_residual-in_err-block.result (Refuses (block_at inside.header before.blocks) from behind) ReadFault is refused))
 
 pub returns-in_err-fill-clause-cut : goal.returns-in_err-fill-clause-cut
 returns-in_err-fill-clause-cut g c =
@@ -74,7 +74,7 @@ returns-then-end-gt-MAX_LOG-clause-damaged g c taken cause stands is =
     subst (λ (s : ReaderState). StandsFor s taken → IfSome (with_front (taken ++ s.waiting.bytes) left) (λ bytes. StopsAt bytes s.offset cause)) c.self.view_is
     (λ before.
     subst (λ (k : Cause). IfSome (with_front (taken ++ old.waiting.bytes) left) (λ bytes. StopsAt bytes old.offset k)) (same_damage causes.TooLarge cause is)
-    (too_large old taken before c.in_ok-block.block c.fill.new.self left between to c.read_block.new.dictionary c.read_block.new.writers c.in_ok-fill.ensures.same c.fill.ensures.offset large (c.in_ok-block.ensures.ok before.blocks before.messages before.states)))
+    (too_large old taken before c.in_ok-block.block c.fill.new.self left between to c.read_block.new.dictionary c.read_block.new.writers c.in_ok-fill.ensures.same c.fill.ensures.offset large (c.in_ok-block.ensures.read before.blocks before.messages before.states)))
     stands
 
 pub returns-clause-ok : goal.returns-clause-ok
@@ -87,4 +87,4 @@ returns-clause-ok g c =
     let behind = g.S.Source.left c.read_block.new.source in
     let within : c.read_block.new.pending.offset ≤ 134217728 = search rules in
     subst (λ (s : ReaderState). (taken : List ℕ) (before : StandsFor s taken) → TakesNext s new taken before c.in_ok-block.block left behind) c.self.view_is
-    (λ taken before. takes_next old new taken before c.in_ok-block.block c.fill.new.self left between behind c.in_ok-fill.ensures.same c.fill.ensures.offset refl c.offset-end.ensures within (c.in_ok-block.ensures.ok before.blocks before.messages before.states))
+    (λ taken before. takes_next old new taken before c.in_ok-block.block c.fill.new.self left between behind c.in_ok-fill.ensures.same c.fill.ensures.offset refl c.offset-end.ensures within (c.in_ok-block.ensures.read before.blocks before.messages before.states))
