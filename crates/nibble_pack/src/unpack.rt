@@ -5,7 +5,7 @@ ghost use Rattle.std.specs.Option.{SomeIff};
 ghost use Rattle.nibble_pack.specs.Bytes.{number_of_bytes};
 ghost use Rattle.nibble_pack.specs.Packing.{Packed, unsigned, signed, IsCode, byte_count, IsCut, IsNotShortest};
 
-use crate::pack::{is_wide, least_count};
+use crate::pack::is_wide;
 
 /// Why a code and bytes are no number.
 #[derive(Clone, Copy, Debug, PartialEq, Eq)]
@@ -60,6 +60,19 @@ const LOW_BYTES: [u64; 9] = [
     0xffff_ffff_ffff_ffff,
 ];
 
+/// The least number that takes so many bytes.
+const LEAST_NUMBERS: [u64; 9] = [
+    0,
+    1,
+    1 << 8,
+    1 << 16,
+    1 << 24,
+    1 << 32,
+    1 << 40,
+    1 << 48,
+    1 << 56,
+];
+
 /// The number of the first `count` bytes. Where eight are there they are read at once, since a copy of a varying length
 /// takes longer.
 fn front_number(bytes: &[u8], count: usize) -> u64
@@ -91,7 +104,7 @@ pub fn unpack_unsigned(code: u8, bytes: &[u8]) -> Result<u64, UnpackFault>
         return Err(UnpackFault::Cut);
     }
     let v = front_number(bytes, count);
-    if least_count(v) != code {
+    if v < LEAST_NUMBERS[count] {
         return Err(UnpackFault::NotShortest);
     }
     Ok(v)

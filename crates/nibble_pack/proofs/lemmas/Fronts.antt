@@ -1,5 +1,5 @@
 -- What the first bytes spell.
-use Rattle.std.proofs.Common.{◌≡◌, ◌≢◌, ℕ, ◌+◌, ◌-◌, ◌*◌, ◌/◌, ◌%◌, ◌^◌, ◌<◌, ◌≤◌, List, [], ◌∷◌, ◌++◌, length, take, drop, replicate, refl, sym, ap, subst, ◌∙◌, mul_assoc, mul_comm, arith}
+use Rattle.std.proofs.Common.{◌≡◌, ℕ, ◌+◌, ◌-◌, ◌*◌, ◌/◌, ◌%◌, ◌^◌, ◌<◌, ◌≤◌, List, [], ◌∷◌, ◌++◌, length, take, drop, replicate, refl, sym, ap, subst, ◌∙◌, mul_assoc, mul_comm, arith}
 use Rattle.std.proofs.Math.Nat.{pow-succ'}
 use Rattle.std.proofs.lemmas.List.{length-append, length-take-le, length-replicate, take-append-drop, take_at, drop_at}
 use Rattle.std.proofs.lemmas.List.Elements.{All-take}
@@ -7,7 +7,7 @@ use Rattle.std.proofs.lemmas.Nat.{mod-mul-add, shr_high}
 use Rattle.std.specs.Prelude.{All, ℤ, pos}
 use Rattle.std.specs.Int.{w64, to_le_bytes, from_le_bytes, bytes_low_first}
 use Rattle.nibble_pack.specs.Packing.{Kind, unsigned, byte_count, IsLeastCount, Packed}
-use Rattle.nibble_pack.specs.PackingLaws.{same_number, same_value, IsLeastCount-unique, Packed-length, Packed-take}
+use Rattle.nibble_pack.specs.PackingLaws.{same_number, same_value, Packed-length, Packed-take}
 use Rattle.nibble_pack.specs.Bytes.{AreBytes, number_of_bytes, length-bytes_low_first, number_of_bytes-lt, low_first-number_of_bytes, bytes_low_first-zeros, number_of_bytes-zeros, from_le_bytes-number}
 use Rattle.nibble_pack.proofs.lemmas.Counts.{pow256}
 
@@ -81,12 +81,12 @@ reads_unsigned bytes count n are_bytes most stand fits is least =
     (n, refl, record { fits = fits; count = least; spelled = (read_spells bytes count n are_bytes most stand is).1 })
 
 -- a number read from another count of bytes
-pub reads_no_unsigned : (bytes : List ℕ) (count n other : ℕ) → All (λ b. b < 256) bytes → count ≤ 8 → count ≤ length bytes → n ≡ number_of_bytes (take count bytes)
-    → IsLeastCount other n → other ≢ count → (z : ℤ) → ¬ Packed unsigned z count (take count bytes)
-reads_no_unsigned bytes count n other are_bytes most stand is least differ z (m, z_is, packs) =
+pub reads_no_unsigned : (bytes : List ℕ) (count n : ℕ) → All (λ b. b < 256) bytes → count ≤ 8 → count ≤ length bytes → n ≡ number_of_bytes (take count bytes)
+    → ¬ IsLeastCount count n → (z : ℤ) → ¬ Packed unsigned z count (take count bytes)
+reads_no_unsigned bytes count n are_bytes most stand is other z (m, z_is, packs) =
     let spells = read_spells bytes count n are_bytes most stand is in
     let same : n ≡ m = same_number count n m spells.0 packs.count.holds (sym spells.1 ∙ packs.spelled) in
-    differ (IsLeastCount-unique m other count (subst (IsLeastCount other) same least) packs.count)
+    other (subst (IsLeastCount count) (sym same) packs.count)
 
 -- ---- bytes in front of others
 
