@@ -13,7 +13,7 @@ pub struct Packed {
 }
 
 /// The least count of bytes that hold `n`.
-pub(crate) fn least_count(n: u64) -> u8
+fn least_count(n: u64) -> u8
     ensures least { IsLeastCount result n }
     ensures most { result ≤ 8 }
 {
