@@ -15,7 +15,7 @@ use Rattle.nl_io.specs.Content.{Told, with_end, PutsFront}
 use Rattle.nl_io.proofs.lemmas.Contents.{with_end-none, with_end-both}
 use Rattle.checkpoint_io.specs.Blocks.{Fragment, fragment_head_bytes, SpellsEntries, SpellsFragment}
 use Rattle.checkpoint_io.specs.Logs.{AreFragments}
-use Rattle.roaming_consumer.specs.Growth.{LinesFit, FragmentsFor}
+use Rattle.roaming_consumer.specs.Growth.{LineNumbersFit, FragmentsFor}
 use Rattle.roaming_consumer.specs.Sinks.{SendsFragments}
 use Rattle.roaming_consumer.proofs.lemmas.Sending.{sends_then, sends_err}
 use Rattle.checkpoint_io.proofs.lemmas.BlockLaws.{le_length, entries_push}
@@ -133,7 +133,7 @@ fragments_are_there dictionary (suc left) next end near known few each =
     ]
 
 -- a message has an entry where its line is in range
-have_entries : (messages : List Message) → AreFormed messages → LinesFit messages → HaveEntries messages
+have_entries : (messages : List Message) → AreFormed messages → LineNumbersFit messages → HaveEntries messages
 have_entries messages formed lines = λ k d within. record { spelled = refl; line_fits = lines k d within; formed = formed k d within }
 
 -- So far fragments were put of the messages from the first one on. Whatever fragments are put behind them, they are

@@ -21,7 +21,7 @@ use Rattle.ring_core.specs.Plans.{Plan, plan_of, frames_of, AreFramesOf}
 use Rattle.ring_core.proofs.lemmas.Frames.{AreFramesOf-nil}
 use Rattle.roaming_consumer.specs.declared.draft.Draft.{Draft}
 use Rattle.roaming_consumer.specs.declared.roamer.Roamer.{Roamer}
-use Rattle.roaming_consumer.specs.Growth.{LogProgress, LinesFit, IsLogSoFar, with_calls, FragmentsFor, IsNext, progress_behind, progress_closing}
+use Rattle.roaming_consumer.specs.Growth.{LogProgress, LineNumbersFit, IsLogSoFar, with_calls, FragmentsFor, IsNext, progress_behind, progress_closing}
 use Rattle.roaming_consumer.specs.Drafts.{IsDraft}
 use Rattle.roaming_consumer.specs.Gathering.{DraftsFrames}
 use Rattle.roaming_consumer.specs.Roamers.{ends_of, roamer_messages, roamer_clock, roamer_batch, roamer_progress, is_begun, is_faulted, plan_of_roamer, ArePlanned, IsSameRun, ChangesOne, FramesAreTaken, BeginWithFramesOf, FramesWereTaken, IsLogOfEnds, IsCutLogOfEnds, RoamerStandsFor, roamer_header, AppendsToLog}
@@ -287,7 +287,7 @@ stands_begun got ended roamer progress wrote now same log = record {
   cut = λ yes faulted lines. cut_of got ended roamer progress wrote [] (subst (IsLogOfEnds got ended roamer progress) (sym (append-nil wrote)) log);
 }
 
-pub stands_cut : {S : Type 0} (got : S → List (List ℕ)) (ended : S → Bool) (roamer : Roamer S) (wrote : List ℕ) → is_begun roamer ≡ true → is_faulted roamer ≡ true → (LinesFit (roamer_messages roamer) → IsCutLogOfEnds got ended roamer wrote) → RoamerStandsFor got ended roamer wrote
+pub stands_cut : {S : Type 0} (got : S → List (List ℕ)) (ended : S → Bool) (roamer : Roamer S) (wrote : List ℕ) → is_begun roamer ≡ true → is_faulted roamer ≡ true → (LineNumbersFit (roamer_messages roamer) → IsCutLogOfEnds got ended roamer wrote) → RoamerStandsFor got ended roamer wrote
 stands_cut got ended roamer wrote now faulted cut = record {
   nothing = λ unset. absurd (both_ways (is_begun roamer) unset now);
   untaken = λ unset. absurd (both_ways (is_begun roamer) unset now);
@@ -306,7 +306,7 @@ appended got ended old new progress bytes p q now same puts log =
 
 -- A write of them failed. More may be put behind them, so that it would stand for a log.
 pub cut_short : {S : Type 0} (got : S → List (List ℕ)) (ended : S → Bool) (old new : Roamer S) (progress : LogProgress) (bytes : List ℕ) (p q : Told) → is_begun new ≡ true → is_faulted new ≡ true → PutsFront bytes p q
-    → (LinesFit (roamer_messages new) → (rest : List ℕ) × ((wrote : List ℕ) → RoamerStandsFor got ended old wrote → IsLogOfEnds got ended new progress (wrote ++ (bytes ++ rest))))
+    → (LineNumbersFit (roamer_messages new) → (rest : List ℕ) × ((wrote : List ℕ) → RoamerStandsFor got ended old wrote → IsLogOfEnds got ended new progress (wrote ++ (bytes ++ rest))))
     → AppendsToLog got ended old new p q
 cut_short got ended old new progress bytes p q now faulted (n, within, puts) log = record {
   bytes = take n bytes;

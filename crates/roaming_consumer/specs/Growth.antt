@@ -29,8 +29,8 @@ abbrev pub with_calls : List (List Call) → ℕ → List Call → List (List Ca
 with_calls taken writer entries = slice_set taken writer (get_or taken writer [] ++ entries)
 
 -- The line of each message is in range. Each message that is made keeps to it, but contracts don't see it of a list.
-abbrev pub LinesFit : List Message → Type 0
-LinesFit messages = All (λ message. message.line < 2 ^ 32) messages
+abbrev pub LineNumbersFit : List Message → Type 0
+LineNumbersFit messages = All (λ message. message.line < 2 ^ 32) messages
 
 -- The bytes are fragments that define these messages, with ids that count from the first. All but the last have 16
 -- messages.

@@ -16,7 +16,7 @@ use Rattle.ring_core.specs.Plans.{Plan, plan_of, IsPlanned, frame_of, frames_of,
 use Rattle.ring_core.proofs.lemmas.Frames.{NeverFalls-take}
 use Rattle.ring_core.proofs.lemmas.OneReading.{AreFramesOf-unique}
 use Rattle.roaming_consumer.specs.declared.roamer.Roamer.{Roamer}
-use Rattle.roaming_consumer.specs.Growth.{LinesFit}
+use Rattle.roaming_consumer.specs.Growth.{LineNumbersFit}
 use Rattle.roaming_consumer.specs.Roamers.{ends_of, roamer_messages, roamer_clock, roamer_batch, is_begun, is_faulted, plan_of_roamer, BeginWithFramesOf, FramesWereTaken, IsSameRun, RoamerStandsFor}
 use Rattle.trace_text.specs.Recordings.{Recording}
 use Rattle.trace_text.specs.Canonical.{HasText}
@@ -33,7 +33,7 @@ use Rattle.trace_session.proofs.Leaving.{none_done}
 use Rattle.trace_session.proofs.Sessions.{all_sent, all_ended, got_all, zip_meet, ends_count}
 
 -- the lines of a run's messages are in range
-pub lines_fit : (run : Recording) → HasText run → LinesFit run.dictionary
+pub lines_fit : (run : Recording) → HasText run → LineNumbersFit run.dictionary
 lines_fit run text = All-weaker HasLine (λ (message : Message). message.line < 2 ^ 32) (λ message line. line.line_fits) run.dictionary (All-from_recursion HasLine run.dictionary text.messages.lines)
 
 -- calls whose frames come first are the first ones
@@ -68,7 +68,7 @@ module _ {S O D : Type 0} (sent : S → List (List ℕ)) (closed : S → Bool) (
       let clock : roamer_clock new ≡ run.clock = same_run.clock ∙ ready.clock in
       let batch : roamer_batch new ≡ options.batch = same_run.batch ∙ ready.batch in
       let plan_is : plan_of_roamer new ≡ plan_of run.dictionary run.clock.tick = λ i. plan_of (messages i) (clock i).tick in
-      let cut = stands.cut begun faulted (subst LinesFit (sym messages) (lines_fit run text)) in
+      let cut = stands.cut begun faulted (subst LineNumbersFit (sym messages) (lines_fit run text)) in
       let frames = subst (λ (p : Plan). FramesWereTaken p got (ends_of new) cut.taken) plan_is cut.frames in
       let taken = Taken run options.level drops in
       let p = plan_of run.dictionary run.clock.tick in
@@ -104,7 +104,7 @@ pub cut_header : {S O : Type 0} (sent : S → List (List ℕ)) (closed : S → B
     → AreReady pair plan run options works old → RoamerStandsFor got ended old wrote → is_begun old ≡ false → ends_of new ≡ ends_of old → IsSameRun old new → is_begun new ≡ true → HasText run → is_faulted new ≡ true → RoamerStandsFor got ended new bytes → IsCutSession run options bytes
 cut_header {S} {O} sent closed got ended pair plan run options works old new wrote bytes ready stood unbegun ends same_run begun text faulted stands =
     let messages : roamer_messages new ≡ run.dictionary = same_run.messages ∙ ready.messages in
-    let cut = stands.cut begun faulted (subst LinesFit (sym messages) (lines_fit run text)) in
+    let cut = stands.cut begun faulted (subst LineNumbersFit (sym messages) (lines_fit run text)) in
     let none : All (λ end. got end ≡ []) (ends_of new) = subst (All (λ end. got end ≡ [])) (sym ends) (stood.untaken unbegun) in
     let taken = Taken run options.level [] in
     let done = none_done sent closed run options in
