@@ -1,42 +1,24 @@
 -- A reader that has read the header of a log.
 use Rattle.std.proofs.Common.{◌≡◌, ℕ, List, [], ◌++◌, length, Some, None, refl, sym, ap, subst, ◌∙◌, arith}
 use Rattle.std.specs.Prelude.{IfSome, IfErr, Result, Err}
-use Rattle.std.specs.Hash.{le_bytes}
-use Rattle.std.proofs.lemmas.List.{append-nil, length-append}
+use Rattle.std.proofs.lemmas.List.{append-nil}
 use Rattle.nl_io.specs.Content.{Told}
 use Rattle.checkpoint_io.specs.declared.cause.Cause.{Cause}
 use Rattle.checkpoint_io.specs.declared.cause.Cause.TheVariants as causes
 use Rattle.checkpoint_io.specs.declared.fault.BlockFault.{BlockFault}
 use Rattle.checkpoint_io.specs.declared.fault.BlockFault.TheVariants.{ReadFault}
-use Rattle.checkpoint_io.specs.declared.header.Header.{Header}
 use Rattle.checkpoint_io.specs.Blocks.{header_bytes}
 use Rattle.checkpoint_io.specs.Reading.{header_at}
 use Rattle.checkpoint_io.specs.Fronts.{Break, at_header}
 use Rattle.checkpoint_io.specs.Places.{UnreadBytes, with_front, log_place, StandsBetween, TookSuch, Refuses}
 use Rattle.checkpoint_io.specs.Writers.{AreStatesOf}
 use Rattle.checkpoint_io.specs.Readers.{ReaderState, StandsFor}
-use Rattle.checkpoint_io.proofs.lemmas.BlockLaws.{le_length, header_nested}
+use Rattle.checkpoint_io.proofs.lemmas.BlockLaws.{length-header_bytes}
 use Rattle.checkpoint_io.proofs.lemmas.FileLaws.{with_front-both}
 use Rattle.checkpoint_io.proofs.lemmas.FrontLaws.{empty_file}
 use Rattle.checkpoint_io.proofs.ReadingForms.{header_taken}
 
 -- ---- the reader
-
-header_long : (header : Header) → length (header_bytes header) ≡ 30
-header_long header =
-    let tick = le_bytes 8 header.clock.tick in
-    let nanos = le_bytes 8 header.clock.nanos in
-    let rate = le_bytes 8 header.clock.rate in
-    omega (
-      arith,
-      ap length (sym (append-nil (header_bytes header)) ∙ header_nested header []),
-      length-append tick (nanos ++ (rate ++ [])),
-      length-append nanos (rate ++ []),
-      length-append rate [],
-      le_length 8 header.clock.tick,
-      le_length 8 header.clock.nanos,
-      le_length 8 header.clock.rate,
-    )
 
 no_front : (told : Told) → with_front [] told ≡ told
 no_front None = refl
@@ -47,7 +29,7 @@ started reader none from to no_bytes front messages states offset takes =
     let header = reader.header in
     let read = header_taken takes.front header [] takes.passes.small (ap header_at (sym (append-nil takes.front)) ∙ takes.found []) in
     let is : takes.front ≡ header_bytes header = read.joined ∙ append-nil (header_bytes header) in
-    let len : length takes.front ≡ 30 = ap length is ∙ header_long header in
+    let len : length takes.front ≡ 30 = ap length is ∙ length-header_bytes header in
     let passes = takes.passes.offset in
     let start : from ≡ with_front none.bytes from = sym (ap (λ (b : List ℕ). with_front b from) no_bytes ∙ no_front from) in (
       header_bytes header,
@@ -57,9 +39,9 @@ started reader none from to no_bytes front messages states offset takes =
         valid = record { header_right = read.right; blocks_right = tt };
         messages = messages;
         states = states;
-        offset = omega (arith, offset, passes, front, len, header_long header);
-        at = omega (arith, passes, front, len, header_long header);
-        within = omega (arith, header_long header);
+        offset = omega (arith, offset, passes, front, len, length-header_bytes header);
+        at = omega (arith, passes, front, len, length-header_bytes header);
+        within = omega (arith, length-header_bytes header);
       },
       refl,
       start ∙ takes.passes.ahead ∙ ap (λ (b : List ℕ). with_front b (with_front reader.waiting.bytes to)) is ∙ sym (with_front-both (header_bytes header) reader.waiting.bytes to),

@@ -9,7 +9,7 @@ use Rattle.nl_io.specs.Content.{PutsFront}
 use Rattle.word_ring.specs.Ends.{WordRoamerEnd}
 use Rattle.checkpoint_io.specs.declared.header.Header.{Header}
 use Rattle.checkpoint_io.specs.Blocks.{header_bytes, close_bytes}
-use Rattle.checkpoint_io.proofs.lemmas.BlockLaws.{le_length}
+use Rattle.checkpoint_io.proofs.lemmas.BlockLaws.{length-header_bytes}
 use Rattle.roaming_consumer.specs.declared.roamer.Roamer.{Roamer}
 use Rattle.roaming_consumer.specs.declared.visit.Visit.{Visit}
 use Rattle.roaming_consumer.specs.declared.visit.SinkFault.{SinkFault}
@@ -64,16 +64,13 @@ pub stays_unrefused : (held held_after : Held) (outcome : Result Visit SinkFault
 stays_unrefused held held_after (Ok visit) never same before = same ∙ before
 stays_unrefused held held_after (Err fault) never same before = absurd never
 
-header_long : (header : Header) → length (header_bytes header) ≡ HEADER_LEN
-header_long header = simp length-append (omega (arith, le_length 8 header.clock.tick, le_length 8 header.clock.nanos, le_length 8 header.clock.rate))
-
 -- nor does the header
 pub header_succeeds : (held held_after : Held) (header : Header) (outcome : Result (Unit {0}) SinkFault) → held_back held ≡ [] → held.refused ≡ 0 → HEADER_LEN < room_len held → IsSameRoom held held_after
     → Sends outcome (header_bytes header) (Some (held_back held)) (Some (held_back held_after)) held.refused held_after.refused
     → OnErr outcome ⊥
 header_succeeds held held_after header (Ok done) none unrefused roomy same sends = tt
 header_succeeds held held_after header (Err fault) none unrefused roomy same sends =
-    roomy_puts (header_bytes header) held held_after none unrefused same sends.err (omega (arith, header_long header, roomy)) sends.cause
+    roomy_puts (header_bytes header) held held_after none unrefused same sends.err (omega (arith, length-header_bytes header, roomy)) sends.cause
 
 pub no_error : (outcome : Result (Unit {0}) SinkFault) → OnErr outcome ⊥ → is_err outcome ≡ true → ⊥
 no_error (Ok done) never is = absurd cc

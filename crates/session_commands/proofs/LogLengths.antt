@@ -25,7 +25,7 @@ use Rattle.checkpoint_io.specs.declared.header.Header.{Header}
 use Rattle.checkpoint_io.specs.Blocks.{Block, Fragment, Extent, Close, block_messages, messages_of, header_bytes, fragment_head_bytes, extent_head_bytes, SpellsEntries, SpellsFragment, SpellsExtent, SpellsBlock, SpellsBlocks}
 use Rattle.checkpoint_io.specs.Validity.{block_records, records_of, closes, IsClosed, IsRightAfter, AreRightAfter}
 use Rattle.checkpoint_io.specs.Logs.{LogOf}
-use Rattle.checkpoint_io.proofs.lemmas.BlockLaws.{le_length}
+use Rattle.checkpoint_io.proofs.lemmas.BlockLaws.{le_length, length-header_bytes}
 use Rattle.checkpoint_io.proofs.lemmas.LimitLaws.{extent_has_records}
 use Rattle.trace_text.specs.Lines.{WriterCall}
 use Rattle.trace_text.specs.Traces.{calls_by}
@@ -283,19 +283,6 @@ blocks_short header tick before (block ∷ blocks) bytes (front, back, joined, h
 
 -- ---- logs
 
--- the four letters, two bytes, and three numbers of 8
-header_length : (header : Header) → length (header_bytes header) ≡ 30
-header_length header =
-    let clock = header.clock in
-    omega (
-      arith,
-      length-append (le_bytes 8 clock.tick ++ le_bytes 8 clock.nanos) (le_bytes 8 clock.rate),
-      length-append (le_bytes 8 clock.tick) (le_bytes 8 clock.nanos),
-      le_length 8 clock.tick,
-      le_length 8 clock.nanos,
-      le_length 8 clock.rate,
-    )
-
 -- a log has bytes for its header, the messages, the calls, and a close mark for each writer
 log_short : (bytes : List ℕ) (taken : List (List Call)) (dictionary : List Message) (clock : Clock) (batch : ℕ) → LogOf bytes taken dictionary clock batch → length bytes ≤ 30 + sum_by message_size dictionary + sum_by (sum_by call_size) taken + length taken * 2
 log_short bytes taken dictionary clock batch log =
@@ -312,7 +299,7 @@ log_short bytes taken dictionary clock batch log =
       arith,
       ap length log.file.joined,
       length-append (header_bytes header) log.file.block_bytes,
-      header_length header,
+      length-header_bytes header,
       blocks_short header header.clock.tick [] blocks log.file.block_bytes log.file.spelled log.valid.blocks_right,
       ap (sum_by message_size) log.messages_are,
       sum_by-append message_size (messages_of blocks) log.undefined,

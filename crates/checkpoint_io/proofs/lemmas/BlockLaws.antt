@@ -16,6 +16,11 @@ le_length k n = length-bytes_low_first 0 k n
 
 -- ---- heads
 
+-- a header has 30 bytes
+pub length-header_bytes : (header : Header) → length (header_bytes header) ≡ 30
+unfolding le_bytes
+length-header_bytes header = refl
+
 pub fragment_nested : (first count : ℕ) (entries back : List ℕ) → fragment_head_bytes first count ++ entries ++ back ≡ 1 ∷ (le_bytes 4 first ++ (le_bytes 2 count ++ (entries ++ back)))
 fragment_nested first count entries back =
     append_assoc (1 ∷ le_bytes 4 first ++ le_bytes 2 count) entries back ∙ append_assoc (1 ∷ le_bytes 4 first) (le_bytes 2 count) (entries ++ back)

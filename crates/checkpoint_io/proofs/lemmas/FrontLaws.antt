@@ -1,14 +1,13 @@
 -- The bytes of a log have one front, and a whole file is its own.
 use Rattle.std.proofs.Common.{◌≡◌, ◌≢◌, ℕ, ◌<◌, ◌≤◌, List, [], ◌∷◌, ◌++◌, length, refl, sym, ap, subst, ◌∙◌, append_assoc, arith}
 use Rattle.std.proofs.lemmas.List.{append-nil, length-append}
-use Rattle.std.specs.Hash.{le_bytes}
 use Rattle.log_dictionary.specs.declared.message.Message.{Message}
 use Rattle.checkpoint_io.specs.declared.header.Header.{Header}
 use Rattle.checkpoint_io.specs.Blocks.{Block, Fragment, Extent, Close, messages_of, header_bytes, SpellsBlock, SpellsBlocks, FileOf}
 use Rattle.checkpoint_io.specs.Validity.{IsRightAfter, AreRightAfter, IsHeader, Valid}
 use Rattle.checkpoint_io.specs.Fronts.{BeginsWithLog, Front, HasNoHeader}
 use Rattle.log_dictionary.proofs.lemmas.BinaryLaws.{same_fronts, first_is}
-use Rattle.checkpoint_io.proofs.lemmas.BlockLaws.{le_length, header_nested}
+use Rattle.checkpoint_io.proofs.lemmas.BlockLaws.{length-header_bytes}
 use Rattle.checkpoint_io.proofs.ReadingForms.{one_header, one_block}
 
 -- ---- runs of blocks
@@ -133,20 +132,7 @@ pub no_header : (bytes : List ℕ) → ((header : Header) (rest : List ℕ) → 
 no_header bytes never header blocks count b = never header (b.file.block_bytes ++ b.rest) b.valid.header_right (begins_apart bytes header blocks count b)
 
 long_enough : (header : Header) (rest : List ℕ) → 30 ≤ length (header_bytes header ++ rest)
-long_enough header rest =
-    let tick = le_bytes 8 header.clock.tick in
-    let nanos = le_bytes 8 header.clock.nanos in
-    let rate = le_bytes 8 header.clock.rate in
-    omega (
-      arith,
-      ap length (header_nested header rest),
-      length-append tick (nanos ++ (rate ++ rest)),
-      length-append nanos (rate ++ rest),
-      length-append rate rest,
-      le_length 8 header.clock.tick,
-      le_length 8 header.clock.nanos,
-      le_length 8 header.clock.rate,
-    )
+long_enough header rest = omega (arith, length-append (header_bytes header) rest, length-header_bytes header)
 
 pub short_bytes : (bytes : List ℕ) → length bytes < 30 → HasNoHeader bytes
 short_bytes bytes short = no_header bytes (λ header rest right e. omega (arith, short, long_enough header rest, ap length e))
