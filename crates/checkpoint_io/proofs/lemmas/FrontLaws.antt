@@ -6,7 +6,7 @@ use Rattle.checkpoint_io.specs.declared.header.Header.{Header}
 use Rattle.checkpoint_io.specs.Blocks.{Block, Fragment, Extent, Close, messages_of, header_bytes, SpellsBlock, SpellsBlocks, FileOf}
 use Rattle.checkpoint_io.specs.Validity.{IsRightAfter, AreRightAfter, IsHeader, Valid}
 use Rattle.checkpoint_io.specs.Fronts.{BeginsWithLog, Front, HasNoHeader}
-use Rattle.log_dictionary.proofs.lemmas.BinaryLaws.{same_fronts, first_is}
+use Rattle.log_dictionary.proofs.lemmas.BinaryLaws.{same_fronts}
 use Rattle.checkpoint_io.proofs.lemmas.BlockLaws.{length-header_bytes}
 use Rattle.checkpoint_io.proofs.ReadingForms.{one_header, one_block}
 

@@ -1,5 +1,5 @@
 -- What is read of an entry, and its spelling.
-use Rattle.std.proofs.Common.{◌≡◌, ◌⊎◌, ℕ, ◌+◌, ◌<◌, ◌≤◌, ◌^◌, Bool, true, false, eqb, List, [], ◌∷◌, ◌++◌, length, get_or, take, drop, Result, Ok, Err, refl, sym, ap, subst, ◌∙◌, inl, inr, arith, append_assoc}
+use Rattle.std.proofs.Common.{◌≡◌, ◌⊎◌, ℕ, ◌+◌, ◌<◌, ◌≤◌, ◌^◌, Bool, true, false, eqb, List, [], ◌∷◌, ◌++◌, length, take, drop, Result, Ok, Err, refl, sym, ap, subst, ◌∙◌, inl, inr, arith, append_assoc}
 use Rattle.std.specs.Prelude.{nat_le, ◌&&◌, if◌then◌else◌}
 use Rattle.std.specs.Hash.{le_bytes}
 use Rattle.std.proofs.lemmas.Bool.{cases_lt, le-leb, leb-true, eqb-true, and_parts}
@@ -33,9 +33,6 @@ same_fronts a b r q long e = (
   sym (take_at a r (length b) long) ∙ ap (take (length b)) e ∙ take_at b q (length b) refl,
   sym (drop_at a r (length b) long) ∙ ap (drop (length b)) e ∙ drop_at b q (length b) refl,
 )
-
-pub first_is : (x y : ℕ) (xs ys : List ℕ) → x ∷ xs ≡ y ∷ ys → x ≡ y
-first_is x y xs ys e = ap (λ (l : List ℕ). get_or l 0 0) e
 
 -- ---- parts of an entry
 
