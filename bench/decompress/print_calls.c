@@ -1,36 +1,6 @@
 /* Prints the lines of a made-up run whose calls lie in memory, by stamp, then writer, then ordinal:
    print_calls SEED CALLS WRITERS. */
-#include <stdio.h>
-#include <stdlib.h>
-
-#include "../calls.h"
-
-enum { FULL = 1 << 20, ROOM = 256 };
-
-static const char *const names[MESSAGES] = {
-    "gen.cc:10 ERROR", "gen.cc:20 WARNING", "gen.cc:30 NOTICE", "gen.cc:40 DEBUG",
-};
-static char lines[FULL + ROOM];
-
-static size_t print_line(const struct call *call, char *line) {
-    unsigned long long time = 1514764800000000000 + (call->stamp - 1000) / 2;
-    int head = snprintf(line, ROOM, "%llu.%09llu %s[%u]: ", time / 1000000000, time % 1000000000, names[call->id],
-                        call->writer);
-    char *text = line + head;
-    size_t room = ROOM - (size_t)head;
-    int length;
-    if (call->id == 0) {
-        length = snprintf(text, room, "disk %u failed at %#lx\n", call->first, (unsigned long)call->second);
-    } else if (call->id == 1) {
-        char queue[] = {'q', (char)('0' + call->first), 0};
-        length = snprintf(text, room, "queue %s is %d%% full\n", queue, (int)call->second);
-    } else if (call->id == 2) {
-        length = snprintf(text, room, "request %llu took %5d us\n", (unsigned long long)call->first, (int)call->second);
-    } else {
-        length = snprintf(text, room, "state %c\n", (int)call->first);
-    }
-    return (size_t)(head + length);
-}
+#include "lines.h"
 
 int main(int count, char **words) {
     if (count != 4) return 1;
@@ -48,13 +18,7 @@ int main(int count, char **words) {
         made[place] = call;
     }
 
-    size_t length = 0;
-    for (size_t at = 0; at < calls; at++) {
-        length += print_line(&made[at], lines + length);
-        if (length >= FULL) {
-            if (fwrite(lines, 1, length, stdout) != length) return 1;
-            length = 0;
-        }
-    }
-    return fwrite(lines, 1, length, stdout) != length || fflush(stdout) != 0;
+    for (size_t at = 0; at < calls; at++) print_line(&made[at]);
+    flush_lines();
+    return fflush(stdout) != 0;
 }
