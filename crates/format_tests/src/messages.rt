@@ -106,7 +106,10 @@ const BAD_ENTRIES: &str = "\
 fn entry_fault(alloc: Global, words: &str) -> Result<String, Fail> {
     let bytes = bytes_of(alloc, words)?;
     let fault = read_entry(alloc, &bytes).err().ok_or("it is read")?;
-    Ok(format!(in alloc; "{fault:?}")?)
+    match fault {
+        EntryFault::Damaged(cause) => Ok(format!(in alloc; "{cause:?}")?),
+        EntryFault::NoMemory => Err("no memory".into()),
+    }
 }
 
 #[test]
