@@ -12,7 +12,7 @@ use Rattle.log_dictionary.specs.declared.message.Message.{Message}
 use Rattle.log_dictionary.specs.declared.binary_entry.EntryCause.{EntryCause}
 use Rattle.log_dictionary.specs.declared.binary_entry.EntryCause.TheVariants.{Cut, BadEntry}
 use Rattle.log_dictionary.specs.declared.binary_entry.EntryFault.{EntryFault}
-use Rattle.log_dictionary.specs.declared.binary_entry.EntryFault.TheVariants.{Damaged, NoMemory}
+use Rattle.log_dictionary.specs.declared.binary_entry.EntryFault.TheVariants as faults
 use Rattle.log_dictionary.specs.declared.binary_entry.EntryFields.{EntryFields}
 use Rattle.log_dictionary.specs.BinaryEntries.{RawEntry}
 
@@ -84,7 +84,13 @@ abbrev pub raw_fields : EntryFields → RawEntry
 raw_fields fields =
     record { severity = fields.severity; line = fields.line; file = fields.file.now; format = fields.format.now }
 
+-- the fault that tells this cause
+abbrev pub fault_of : EntryCause → EntryFault
+fault_of Cut = faults.Cut
+fault_of BadEntry = faults.BadEntry
+
 -- there is none for a cause of which this holds; want of memory says nothing of the bytes
 abbrev pub IsNoEntry : (EntryCause → Type 0) → EntryFault → Type 0
-IsNoEntry such (Damaged cause) = such cause
-IsNoEntry such NoMemory = ⊤
+IsNoEntry such faults.Cut = such Cut
+IsNoEntry such faults.BadEntry = such BadEntry
+IsNoEntry such faults.NoMemory = ⊤

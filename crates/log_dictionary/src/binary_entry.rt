@@ -4,7 +4,7 @@ ghost use Rattle.std.specs.Prelude.{◌≡◌, ◌+◌, ◌≤◌, ◌<◌, ◌^
 ghost use Rattle.nibble_pack.specs.Parsing.{low_first};
 ghost use Rattle.log_dictionary.specs.declared.binary_entry.EntryCause.{EntryCause as NoEntry};
 ghost use Rattle.log_dictionary.specs.BinaryEntries.{entry_bytes, SpellsEntry, text_bytes};
-ghost use Rattle.log_dictionary.specs.EntryReading.{severity_at, sized_text_at, fields_at, entry_at, raw_fields, IsNoEntry};
+ghost use Rattle.log_dictionary.specs.EntryReading.{severity_at, sized_text_at, fields_at, entry_at, raw_fields, fault_of, IsNoEntry};
 
 use crate::formats::{FormatFault, format_of};
 use crate::message::{MAX_FILE_NAME, Message};
@@ -30,8 +30,22 @@ pub enum EntryCause {
 /// Why no entry was read.
 #[derive(Clone, Copy, Debug, PartialEq, Eq)]
 pub enum EntryFault {
-    Damaged(EntryCause),
+    /// The bytes end inside an entry that is right so far.
+    Cut,
+    /// A field is out of range, or the format is refused.
+    BadEntry,
     NoMemory,
+}
+
+impl From<EntryCause> for EntryFault {
+    ghost from_gives = { λ cause fault. fault ≡ fault_of cause };
+
+    fn from(cause: EntryCause) -> EntryFault {
+        match cause {
+            EntryCause::Cut => EntryFault::Cut,
+            EntryCause::BadEntry => EntryFault::BadEntry,
+        }
+    }
 }
 
 /// What an entry says, before its format is parsed.
@@ -169,15 +183,12 @@ pub fn read_entry(alloc: Global, bytes: &[u8]) -> Result<(Message, usize), Entry
     ensures within { IfOk result (λ read. read.1 ≤ length bytes.now) }
 
     // Where bytes end, and where a field is out of range, is found also where there is no memory.
-    ensures no_fields { (cause : NoEntry) → fields_at bytes.now ≡ Err cause → result ≡ Err (EntryFault.Damaged cause) }
+    ensures no_fields { (cause : NoEntry) → fields_at bytes.now ≡ Err cause → result ≡ Err (fault_of cause) }
 {
-    let fields = match read_fields(bytes) {
-        Ok((fields, _)) => fields,
-        Err(cause) => return Err(EntryFault::Damaged(cause)),
-    };
+    let (fields, _) = read_fields(bytes)?;
     let format = match format_of(alloc, fields.format) {
         Ok(format) => format,
-        Err(FormatFault::Bad) => return Err(EntryFault::Damaged(EntryCause::BadEntry)),
+        Err(FormatFault::Bad) => return Err(EntryFault::BadEntry),
         Err(FormatFault::NoMemory) => return Err(EntryFault::NoMemory),
     };
     let Ok(file) = Bytes::from_slice(alloc, fields.file) else {
