@@ -4,6 +4,7 @@ use Rattle.std.specs.Ordering.{on, eq_of_both}
 use Rattle.std.specs.Cmp.Lexicographic.{pointwise}
 use Rattle.printf_grammar.specs.Spelling.{Spells}
 use Rattle.log_dictionary.specs.declared.message.Message.{Message}
+use Rattle.log_dictionary.specs.BinaryEntries.{entry_bytes, SpellsEntry}
 use Rattle.log_dictionary.specs.Numbers.{natural_of}
 use Rattle.log_dictionary.specs.Severities.{severity_name, severity_number}
 use Rattle.log_dictionary.specs.Texts.{SpellsText}
@@ -34,9 +35,9 @@ HasId messages message id = (other : Message) × (slice_get messages id ≡ Some
 abbrev pub AreDistinct : List Message → Type 0
 AreDistinct messages = AllPairs (λ a b. ¬ (SameMessage a b)) messages
 
--- the bytes of each message's format spell its pieces
+-- each message has an entry: its line is in range, and the bytes of its format spell its pieces
 abbrev pub AreFormed : List Message → Type 0
-AreFormed messages = All (λ message. Spells message.format.bytes message.format.pieces) messages
+AreFormed messages = All (λ message. SpellsEntry (entry_bytes message) message) messages
 
 -- the line is `message`, a number, a severity, a number and two texts in quotation marks, and these are the id, of any
 -- size, and the parts of the message

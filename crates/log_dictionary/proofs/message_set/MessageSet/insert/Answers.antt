@@ -1,7 +1,7 @@
 use Rattle.std.proofs.Common.{List, [], ◌∷◌, ◌++◌, length, None, Some, refl, sym, ap, subst, ◌∙◌, arith}
 use Rattle.std.proofs.lemmas.List.Elements.{All-push}
 use Rattle.log_dictionary.specs.declared.message.Message.{Message}
-use Rattle.printf_grammar.specs.Spelling.{Spells}
+use Rattle.log_dictionary.specs.BinaryEntries.{entry_bytes, SpellsEntry}
 use Rattle.log_dictionary.specs.Messages.{AreDistinct, AreFormed}
 use Rattle.log_dictionary.specs.Places.{ArePlaces}
 use Rattle.log_dictionary.proofs.lemmas.Distinct.{still_distinct}
@@ -35,7 +35,7 @@ invariant_of-self-in-Ok-insert c =
     subst (λ (m : List Message). AreDistinct m × ArePlaces c.insert.new.self m × AreFormed m) (sym c.in-Ok-push.ensures.items) (
       still_distinct messages c.args.message c.self.invariant.0 new,
       one_more_place messages c.args.message c.in-Ok.key c.len-place.result c.self.inside.places c.insert.new.self c.self.invariant.1 c.in_default.ensures.spelled c.in-Ok.ensures.entry c.in-Ok-insert.ensures.updates (omega (arith, c.len-place.ensures, c.self.inside.messages.ok)),
-      All-push (λ (m : Message). Spells m.format.bytes m.format.pieces) messages c.args.message c.self.invariant.2 c.in_default.ensures.spelled.formed,
+      All-push (λ (m : Message). SpellsEntry (entry_bytes m) m) messages c.args.message c.self.invariant.2 c.in_default.ensures.spelled,
     )
 
 pub returns-clause-ok : goal.returns-clause-ok
