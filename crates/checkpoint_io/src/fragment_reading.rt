@@ -13,9 +13,7 @@ use crate::fault::BlockFault;
 use crate::heads::MAX_FRAGMENT_MESSAGES;
 use crate::pending::Pending;
 use crate::steps::take_number;
-use log_dictionary::{
-    Added, Dictionary, EntryCause, EntryFault, MAX_MESSAGES, Message, read_entry,
-};
+use log_dictionary::{Added, Dictionary, EntryFault, MAX_MESSAGES, Message, read_entry};
 use nl_io::Source;
 use std::alloc::Global;
 
@@ -41,11 +39,9 @@ fn next_message<S: Source>(
                 pending.skip(len);
                 return Ok(message);
             }
-            Err(EntryFault::Damaged(EntryCause::BadEntry)) => {
-                return Err(BlockFault::Damaged(Cause::BadEntry));
-            }
+            Err(EntryFault::BadEntry) => return Err(BlockFault::Damaged(Cause::BadEntry)),
             Err(EntryFault::NoMemory) => return Err(BlockFault::NoMemory),
-            Err(EntryFault::Damaged(EntryCause::Cut)) => {
+            Err(EntryFault::Cut) => {
                 if pending.more(source)? == 0 {
                     return Err(BlockFault::Damaged(Cause::Cut));
                 }

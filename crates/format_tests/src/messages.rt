@@ -2,9 +2,9 @@
 
 use crate::tables::{bytes_of, check_rows, cut, hexadecimal, text_of, truth_of, values_of};
 use log_dictionary::{
-    Added, Dictionary, EntryCause, EntryFault, LineFault, Message, SpelledText, ends_field,
-    entry_len, first_field, put_entry, read_entry, read_integer, read_number, read_signed,
-    split_at_byte, split_integer, split_number, split_text,
+    Added, Dictionary, EntryFault, LineFault, Message, SpelledText, ends_field, entry_len,
+    first_field, put_entry, read_entry, read_integer, read_number, read_signed, split_at_byte,
+    split_integer, split_number, split_text,
 };
 use std::alloc::Global;
 use std::test::Fail;
@@ -53,10 +53,7 @@ fn is_entry_of(alloc: Global, bytes: &[u8], message: &Message) -> Result<bool, F
 /// Whether each front of an entry is cut.
 fn are_fronts_cut(alloc: Global, bytes: &[u8]) -> bool {
     for end in 0..bytes.len() {
-        if !matches!(
-            read_entry(alloc, &bytes[..end]),
-            Err(EntryFault::Damaged(EntryCause::Cut))
-        ) {
+        if !matches!(read_entry(alloc, &bytes[..end]), Err(EntryFault::Cut)) {
             return false;
         }
     }
@@ -106,10 +103,7 @@ const BAD_ENTRIES: &str = "\
 fn entry_fault(alloc: Global, words: &str) -> Result<String, Fail> {
     let bytes = bytes_of(alloc, words)?;
     let fault = read_entry(alloc, &bytes).err().ok_or("it is read")?;
-    match fault {
-        EntryFault::Damaged(cause) => Ok(format!(in alloc; "{cause:?}")?),
-        EntryFault::NoMemory => Err("no memory".into()),
-    }
+    Ok(format!(in alloc; "{fault:?}")?)
 }
 
 #[test]
