@@ -8,10 +8,10 @@ use Rattle.std.proofs.lemmas.List.Elements.{All-get_or, All-map, All-weaker}
 use Rattle.printf_grammar.specs.declared.arg_type.ArgType.{ArgType}
 use Rattle.printf_grammar.specs.declared.argument.Value.{Value}
 use Rattle.printf_grammar.specs.declared.limits.TheConstants.{MAX_ARGUMENTS}
-use Rattle.printf_grammar.specs.Spelling.{Spells}
 use Rattle.printf_grammar.specs.Types.{Types, Fits}
 use Rattle.log_dictionary.specs.declared.dictionary.TheConstants.{MAX_MESSAGES}
 use Rattle.log_dictionary.specs.Calls.{Takes}
+use Rattle.log_dictionary.specs.BinaryEntries.{entry_bytes, SpellsEntry}
 use Rattle.log_dictionary.specs.Messages.{AreFormed}
 use Rattle.log_dictionary.specs.declared.message.Message.{Message}
 use Rattle.arg_records.specs.declared.call.Call.{Call}
@@ -124,7 +124,7 @@ dictionary_plan messages first few formed = record {
   few = omega (arith, few, length-map messages (λ (message : Message). Types message.format.pieces));
   short =
       All-map (λ (types : List ArgType). length types ≤ MAX_ARGUMENTS) (λ (message : Message). Types message.format.pieces) messages
-      (All-weaker (λ (message : Message). Spells message.format.bytes message.format.pieces) (λ (message : Message). length (Types message.format.pieces) ≤ MAX_ARGUMENTS) (λ message spelled. spelled.few) messages formed);
+      (All-weaker (λ (message : Message). SpellsEntry (entry_bytes message) message) (λ (message : Message). length (Types message.format.pieces) ≤ MAX_ARGUMENTS) (λ message spelled. spelled.formed.few) messages formed);
 }
 
 -- ---- what a dictionary takes

@@ -16,7 +16,7 @@ use Rattle.checkpoint_io.specs.Logs.{LogOf}
 use Rattle.ring_core.specs.Plans.{Plan}
 use Rattle.roaming_consumer.specs.declared.draft.Draft.{Draft}
 use Rattle.roaming_consumer.specs.declared.roamer.Roamer.{Roamer}
-use Rattle.roaming_consumer.specs.Growth.{LogProgress, LineNumbersFit, FragmentsFor, progress_closing}
+use Rattle.roaming_consumer.specs.Growth.{LogProgress, FragmentsFor, progress_closing}
 use Rattle.roaming_consumer.specs.Gathering.{FramesCame, DraftsFrames, StopsTaking}
 use Rattle.roaming_consumer.specs.Roamers.{ends_of, roamer_messages, roamer_clock, roamer_batch, roamer_progress, is_begun, is_faulted, plan_of_roamer, IsSameRun, KeepsLog, EndAfterTaking, ChangesOne, BeginWithFramesOf, FramesWereTaken, IsLogOfEnds, RoamerStandsFor, AppendsToLog}
 use Rattle.roaming_consumer.specs.Sinks.{SendsExtent}
@@ -95,9 +95,9 @@ module _ {S : Type 0} (got : S → List (List ℕ)) (ended : S → Bool) (loads 
       pub extent_cut : true ≡ is_err r → is_faulted new ≡ true → AppendsToLog got ended old new p q
       extent_cut failed faulted =
           let sent = sends_of_old old mid writer draft body r p q f g keeps sends in
-          cut_short got ended old new (behind_draft old draft) (sent.fragments ++ sent.extent) p q (same_begun ∙ keeps.begun ∙ now) faulted (err_of r failed sent.sent.err) (λ lines.
-          let (rest, fragments, spelled, joined) = sent.goes_on (subst LineNumbersFit (run.messages ∙ keeps.same_run.messages) lines) in
-          (rest, λ wrote stood. subst (λ (l : List ℕ). IsLogOfEnds got ended new (behind_draft old draft) (wrote ++ l)) joined (extent_log fragments _ spelled refl wrote stood)))
+          let (rest, fragments, spelled, joined) = sent.goes_on in
+          cut_short got ended old new (behind_draft old draft) (sent.fragments ++ sent.extent) p q (same_begun ∙ keeps.begun ∙ now) faulted (err_of r failed sent.sent.err)
+          (rest, λ wrote stood. subst (λ (l : List ℕ). IsLogOfEnds got ended new (behind_draft old draft) (wrote ++ l)) joined (extent_log fragments _ spelled refl wrote stood))
 
   module _ (now : is_begun old ≡ true) (unfaulted : is_faulted old ≡ false) (run : IsSameRun mid new) (same_begun : is_begun new ≡ is_begun mid) (none : draft.records ≡ 0) where
     moved_on : Moved got ended old new writer one.before one.after draft body
@@ -120,7 +120,7 @@ module _ {S : Type 0} (got : S → List (List ℕ)) (ended : S → Bool) (loads 
 
       pub mark_cut : (p q : Told) → is_faulted new ≡ true → PutsFront (close_bytes writer) p q → AppendsToLog got ended old new p q
       mark_cut p q faulted puts = cut_short got ended old new (progress_closing (roamer_progress old) writer) (close_bytes writer) p q (same_begun ∙ keeps.begun ∙ now) faulted puts
-          (λ lines. nothing_more got ended old new (progress_closing (roamer_progress old) writer) (close_bytes writer) mark_log)
+          (nothing_more got ended old new (progress_closing (roamer_progress old) writer) (close_bytes writer) mark_log)
 
 -- ---- after a fault
 
@@ -140,13 +140,12 @@ threw {S} got ended loads pair plan old new writer frames all p now faulted one 
       let came = one.step.0 in
       let more : (calls : List Call) → BeginWithFramesOf (plan_of_roamer old) (got one.before) calls → BeginWithFramesOf (plan_of_roamer old) (got one.after) calls =
       λ calls is. record { front = (is.front.0 ++ came.0, came.1 ∙ ap (λ (l : List (List ℕ)). l ++ came.0) is.front.1 ∙ append_assoc _ is.front.0 came.0); lawful = is.lawful } in
-      subst (RoamerStandsFor got ended new) (sym (append-nil wrote))
-      (stands_cut got ended new wrote (keeps.begun ∙ now) (keeps.faulted ∙ faulted) (λ lines.
-      let cut = stood.cut now faulted (subst LineNumbersFit same.messages lines) in
+      let cut = stood.cut now faulted in
       let ending : LogEnding ended (ends_of new) (wrote ++ cut.rest) cut.taken (roamer_messages new, roamer_clock new, roamer_batch new) =
       subst (LogEnding ended (ends_of new) (wrote ++ cut.rest) cut.taken) (λ i. (sym same.messages i, sym same.clock i, sym same.batch i))
       (cut.log, still_ended ended (λ w. IsClosed w cut.log.blocks) (ends_of old) (ends_of new) writer one.before one.after one.was one.now (λ own over. let stays = one.step.1.stays_ended over in one.step.1.none stays.0 ∙ stays.1) cut.closed) in
-      record {
+      subst (RoamerStandsFor got ended new) (sym (append-nil wrote))
+      (stands_cut got ended new wrote (keeps.begun ∙ now) (keeps.faulted ∙ faulted) (record {
         taken = cut.taken;
         frames =
             move_ends (λ p es. FramesWereTaken p got es cut.taken) old new writer one.after one.now same

@@ -3,7 +3,7 @@ use Rattle.std.proofs.Common.{◌≡◌, ℕ, zero, suc, ◌+◌, ◌-◌, ◌<�
 use Rattle.std.proofs.lemmas.List.{append-nil, take_at, take_more, take-append-drop, length-append, length-take, length-take-le, length-drop, drop-take, take-take, drop-drop, drop_all}
 use Rattle.std.specs.Hash.{le_bytes}
 use Rattle.std.specs.List.{flat_map}
-use Rattle.std.specs.Prelude.{All, Result, Ok, Err, IsErr}
+use Rattle.std.specs.Prelude.{Result, Ok, Err, IsErr}
 use Rattle.std.proofs.lemmas.List.Elements.{All-head, All-tail, All-take, All-drop}
 use Rattle.std.proofs.lemmas.Bool.{cases_lt}
 use borrow.Rule.Slice.PartMut.{put_mid}
@@ -15,7 +15,7 @@ use Rattle.nl_io.specs.Content.{Told, with_end, PutsFront}
 use Rattle.nl_io.proofs.lemmas.Contents.{with_end-none, with_end-both}
 use Rattle.checkpoint_io.specs.Blocks.{Fragment, fragment_head_bytes, SpellsEntries, SpellsFragment}
 use Rattle.checkpoint_io.specs.Logs.{AreFragments}
-use Rattle.roaming_consumer.specs.Growth.{LineNumbersFit, FragmentsFor}
+use Rattle.roaming_consumer.specs.Growth.{FragmentsFor}
 use Rattle.roaming_consumer.specs.Sinks.{SendsFragments}
 use Rattle.roaming_consumer.proofs.lemmas.Sending.{sends_then, sends_err}
 use Rattle.checkpoint_io.proofs.lemmas.BlockLaws.{le_length, entries_push}
@@ -104,18 +104,15 @@ fragment_count next end count left is =
       | inr many ↦ (omega (arith, left, is, many), omega (arith, is), omega (arith, left, is), inl (omega (arith, is, many)))
     ]
 
--- each of the messages has an entry
-abbrev HaveEntries : List Message → Type 0
-HaveEntries messages = All (λ message. SpellsEntry (entry_bytes message) message) messages
-
-entries_are_there : (messages : List Message) → HaveEntries messages → SpellsEntries messages (flat_map entry_bytes messages)
+-- messages that have entries, one behind the other
+entries_are_there : (messages : List Message) → AreFormed messages → SpellsEntries messages (flat_map entry_bytes messages)
 entries_are_there [] each = refl
 entries_are_there (message ∷ messages) each =
     let P : Message → Type 0 = λ m. SpellsEntry (entry_bytes m) m in
     entry_joined message messages (entry_bytes message) (flat_map entry_bytes messages) (All-head P message messages each) (entries_are_there messages (All-tail P message messages each))
 
 -- there are fragments of messages that have entries; so many messages are left at most
-fragments_are_there : (dictionary : List Message) (left next end : ℕ) → end ≤ next + left → end ≤ length dictionary → end < 2 ^ 32 → HaveEntries dictionary → (bytes : List ℕ) × FragmentsFor next (drop next (take end dictionary)) bytes
+fragments_are_there : (dictionary : List Message) (left next end : ℕ) → end ≤ next + left → end ≤ length dictionary → end < 2 ^ 32 → AreFormed dictionary → (bytes : List ℕ) × FragmentsFor next (drop next (take end dictionary)) bytes
 fragments_are_there dictionary zero next end near known few each = ([], none_for dictionary next end (omega (arith, near)))
 fragments_are_there dictionary (suc left) next end near known few each =
     elim (cases_lt next end) [
@@ -131,10 +128,6 @@ fragments_are_there dictionary (suc left) next end near known few each =
           (_, fragment_then dictionary next count end _ others.0 counts.2 known counts.3 front others.1)
       | inr none ↦ ([], none_for dictionary next end none)
     ]
-
--- a message has an entry where its line is in range
-have_entries : (messages : List Message) → AreFormed messages → LineNumbersFit messages → HaveEntries messages
-have_entries messages formed lines = λ k d within. record { spelled = refl; line_fits = lines k d within; formed = formed k d within }
 
 -- So far fragments were put of the messages from the first one on. Whatever fragments are put behind them, they are
 -- together those of the messages up to where those end.
@@ -173,7 +166,7 @@ goes_all dictionary first next end put put_after faults faults_after was done co
       whole = refl;
       bytes = was.bytes ++ [];
       spelled = all;
-      goes_on = λ lines. ([], subst (FragmentsFor first (drop first (take end dictionary))) (sym (append-nil (was.bytes ++ []))) all);
+      goes_on = ([], subst (FragmentsFor first (drop first (take end dictionary))) (sym (append-nil (was.bytes ++ []))) all);
       sent = record {
         ok = was.joined ∙ ap (λ (l : List ℕ). with_end l put) (sym (append-nil was.bytes));
         counted = counted;
@@ -198,8 +191,8 @@ goes_stop (Err e) dictionary first next end count front put mid put_after faults
       spelled =
           subst (λ (l : List ℕ). FragmentsFor first (drop first (take (next + count) dictionary)) (was.bytes ++ l)) (append-nil front)
           (was.goes (next + count) (front ++ []) (omega arith) within (fragment_then dictionary next count (next + count) front [] (omega arith) (omega (arith, within, known)) (inr refl) spelled (none_for dictionary (next + count) (next + count) (omega arith))));
-      goes_on = λ lines.
-          let others = fragments_are_there dictionary (end - (next + count)) (next + count) end (omega arith) known few (have_entries dictionary formed lines) in (
+      goes_on =
+          let others = fragments_are_there dictionary (end - (next + count)) (next + count) end (omega arith) known few formed in (
             others.0,
             subst (FragmentsFor first (drop first (take end dictionary))) (sym (append_assoc was.bytes front others.0))
                 (was.goes end (front ++ others.0) (omega (arith, left)) (omega arith) (fragment_then dictionary next count end front others.0 within known counts.3 spelled others.1)),

@@ -1,5 +1,5 @@
 -- The bytes for which a roamer stands, from call to call.
-use Rattle.std.proofs.Common.{◌≡◌, ℕ, zero, suc, ◌-◌, ◌<◌, ◌≤◌, Bool, true, false, List, [], ◌∷◌, ◌++◌, length, get_or, Some, refl, sym, ap, subst, ◌∙◌, append_assoc, inl, inr, arith}
+use Rattle.std.proofs.Common.{◌≡◌, ℕ, zero, suc, ◌<◌, ◌≤◌, Bool, true, false, List, [], ◌∷◌, ◌++◌, length, get_or, Some, refl, sym, ap, subst, ◌∙◌, append_assoc, inl, inr, arith}
 use Rattle.std.specs.Prelude.{All, slice_get, slice_set, replicate, max, take, drop}
 use Rattle.std.proofs.lemmas.Slice.Zip.{AllZip-long}
 use Rattle.std.proofs.lemmas.Bool.{cases_lt, both_ways, false_from_ne_true}
@@ -21,7 +21,7 @@ use Rattle.ring_core.specs.Plans.{Plan, plan_of, frames_of, AreFramesOf}
 use Rattle.ring_core.proofs.lemmas.Frames.{AreFramesOf-nil}
 use Rattle.roaming_consumer.specs.declared.draft.Draft.{Draft}
 use Rattle.roaming_consumer.specs.declared.roamer.Roamer.{Roamer}
-use Rattle.roaming_consumer.specs.Growth.{LogProgress, LineNumbersFit, IsLogSoFar, with_calls, FragmentsFor, IsNext, progress_behind, progress_closing}
+use Rattle.roaming_consumer.specs.Growth.{LogProgress, IsLogSoFar, with_calls, FragmentsFor, IsNext, progress_behind, progress_closing}
 use Rattle.roaming_consumer.specs.Drafts.{IsDraft}
 use Rattle.roaming_consumer.specs.Gathering.{DraftsFrames}
 use Rattle.roaming_consumer.specs.Roamers.{ends_of, roamer_messages, roamer_clock, roamer_batch, roamer_progress, is_begun, is_faulted, plan_of_roamer, ArePlanned, IsSameRun, ChangesOne, FramesAreTaken, BeginWithFramesOf, FramesWereTaken, IsLogOfEnds, IsCutLogOfEnds, RoamerStandsFor, roamer_header, AppendsToLog}
@@ -284,17 +284,17 @@ stands_begun got ended roamer progress wrote now same log = record {
   undefined = λ unset. absurd (both_ways (is_begun roamer) unset now);
   unclosed = λ unset. absurd (both_ways (is_begun roamer) unset now);
   lawful = λ yes unfaulted. subst (λ (p : LogProgress). IsLogOfEnds got ended roamer p wrote) (sym same) log;
-  cut = λ yes faulted lines. cut_of got ended roamer progress wrote [] (subst (IsLogOfEnds got ended roamer progress) (sym (append-nil wrote)) log);
+  cut = λ yes faulted. cut_of got ended roamer progress wrote [] (subst (IsLogOfEnds got ended roamer progress) (sym (append-nil wrote)) log);
 }
 
-pub stands_cut : {S : Type 0} (got : S → List (List ℕ)) (ended : S → Bool) (roamer : Roamer S) (wrote : List ℕ) → is_begun roamer ≡ true → is_faulted roamer ≡ true → (LineNumbersFit (roamer_messages roamer) → IsCutLogOfEnds got ended roamer wrote) → RoamerStandsFor got ended roamer wrote
+pub stands_cut : {S : Type 0} (got : S → List (List ℕ)) (ended : S → Bool) (roamer : Roamer S) (wrote : List ℕ) → is_begun roamer ≡ true → is_faulted roamer ≡ true → IsCutLogOfEnds got ended roamer wrote → RoamerStandsFor got ended roamer wrote
 stands_cut got ended roamer wrote now faulted cut = record {
   nothing = λ unset. absurd (both_ways (is_begun roamer) unset now);
   untaken = λ unset. absurd (both_ways (is_begun roamer) unset now);
   undefined = λ unset. absurd (both_ways (is_begun roamer) unset now);
   unclosed = λ unset. absurd (both_ways (is_begun roamer) unset now);
   lawful = λ yes unfaulted. absurd (both_ways (is_faulted roamer) unfaulted faulted);
-  cut = λ yes is lines. cut lines;
+  cut = λ yes is. cut;
 }
 
 -- Bytes were to be put, behind which it would stand for a log. They went out.
@@ -306,16 +306,16 @@ appended got ended old new progress bytes p q now same puts log =
 
 -- A write of them failed. More may be put behind them, so that it would stand for a log.
 pub cut_short : {S : Type 0} (got : S → List (List ℕ)) (ended : S → Bool) (old new : Roamer S) (progress : LogProgress) (bytes : List ℕ) (p q : Told) → is_begun new ≡ true → is_faulted new ≡ true → PutsFront bytes p q
-    → (LineNumbersFit (roamer_messages new) → (rest : List ℕ) × ((wrote : List ℕ) → RoamerStandsFor got ended old wrote → IsLogOfEnds got ended new progress (wrote ++ (bytes ++ rest))))
+    → (rest : List ℕ) × ((wrote : List ℕ) → RoamerStandsFor got ended old wrote → IsLogOfEnds got ended new progress (wrote ++ (bytes ++ rest)))
     → AppendsToLog got ended old new p q
 cut_short got ended old new progress bytes p q now faulted (n, within, puts) log = record {
   bytes = take n bytes;
   put_is = puts;
-  stands = λ wrote stood. stands_cut got ended new (wrote ++ take n bytes) now faulted (λ lines.
-      let (rest, whole) = log lines in
+  stands = λ wrote stood.
+      let (rest, whole) = log in
       let parts : bytes ++ rest ≡ take n bytes ++ (drop n bytes ++ rest) = ap (λ (l : List ℕ). l ++ rest) (sym (take-append-drop n bytes)) ∙ append_assoc (take n bytes) (drop n bytes) rest in
       let joined : wrote ++ (bytes ++ rest) ≡ wrote ++ take n bytes ++ (drop n bytes ++ rest) = ap (λ (l : List ℕ). wrote ++ l) parts ∙ sym (append_assoc wrote (take n bytes) (drop n bytes ++ rest)) in
-      cut_of got ended new progress (wrote ++ take n bytes) (drop n bytes ++ rest) (subst (IsLogOfEnds got ended new progress) joined (whole wrote stood)));
+      stands_cut got ended new (wrote ++ take n bytes) now faulted (cut_of got ended new progress (wrote ++ take n bytes) (drop n bytes ++ rest) (subst (IsLogOfEnds got ended new progress) joined (whole wrote stood)));
 }
 
 -- of a header, or a close mark, nothing more

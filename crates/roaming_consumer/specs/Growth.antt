@@ -1,5 +1,5 @@
 -- The log of a run while it grows: what is kept of it, and what is put behind it.
-use Rattle.std.specs.Prelude.{◌≡◌, ℕ, ◌<◌, ◌≤◌, ◌^◌, Bool, true, false, List, [], ◌++◌, length, get_or, slice_set, max, All}
+use Rattle.std.specs.Prelude.{◌≡◌, ℕ, ◌<◌, ◌≤◌, Bool, true, false, List, [], ◌++◌, length, get_or, slice_set, max}
 use Rattle.std.specs.List.{AllByRecursion, list_any}
 use Rattle.log_dictionary.specs.declared.clock.Clock.{Clock}
 use Rattle.log_dictionary.specs.declared.message.Message.{Message}
@@ -27,10 +27,6 @@ pub record IsLogSoFar (wrote : List ℕ) (taken : List (List Call)) (dictionary 
 -- the calls that were taken of each writer, with these behind those of one writer
 abbrev pub with_calls : List (List Call) → ℕ → List Call → List (List Call)
 with_calls taken writer entries = slice_set taken writer (get_or taken writer [] ++ entries)
-
--- The line of each message is in range. Each message that is made keeps to it, but contracts don't see it of a list.
-abbrev pub LineNumbersFit : List Message → Type 0
-LineNumbersFit messages = All (λ message. message.line < 2 ^ 32) messages
 
 -- The bytes are fragments that define these messages, with ids that count from the first. All but the last have 16
 -- messages.

@@ -11,7 +11,7 @@ use Rattle.log_dictionary.specs.declared.message.Message.{Message}
 use Rattle.arg_records.specs.declared.call.Call.{Call}
 use Rattle.ring_core.specs.Plans.{Plan, plan_of, frames_of, AreFramesOf, BeginsWith}
 use Rattle.roaming_consumer.specs.declared.roamer.Roamer.{Roamer}
-use Rattle.roaming_consumer.specs.Growth.{LogProgress, IsLogSoFar, LineNumbersFit}
+use Rattle.roaming_consumer.specs.Growth.{LogProgress, IsLogSoFar}
 
 -- the ends of the writers, by their numbers
 abbrev pub ends_of : {S : Type 0} → Roamer S → List S
@@ -130,8 +130,7 @@ pub record RoamerStandsFor {S : Type 0} (got : S → List (List ℕ)) (ended : S
   pub unclosed : is_begun roamer ≡ false → (writer : ℕ) → get_or (roamer_progress roamer).closed writer false ≡ false
   pub lawful : is_begun roamer ≡ true → is_faulted roamer ≡ false
       → IsLogOfEnds got ended roamer (roamer_progress roamer) wrote
-  pub cut : is_begun roamer ≡ true → is_faulted roamer ≡ true → LineNumbersFit (roamer_messages roamer)
-      → IsCutLogOfEnds got ended roamer wrote
+  pub cut : is_begun roamer ≡ true → is_faulted roamer ≡ true → IsCutLogOfEnds got ended roamer wrote
 
 -- what is told of an end from which so many frames were taken, and of which the last answer was that all had ended or not
 pub record EndAfterTaking {S : Type 0} (ended : S → Bool) (loads : S → ℕ) (pair : S → List ℕ) (plan : S → Plan)

@@ -4,7 +4,7 @@ use Rattle.nl_io.specs.Count.{Rose}
 use Rattle.nl_io.specs.Content.{Told, with_end, PutsFront}
 use Rattle.log_dictionary.specs.declared.message.Message.{Message}
 use Rattle.checkpoint_io.specs.Blocks.{extent_head_bytes}
-use Rattle.roaming_consumer.specs.Growth.{LineNumbersFit, FragmentsFor}
+use Rattle.roaming_consumer.specs.Growth.{FragmentsFor}
 
 -- The sink took all of the bytes. Where the call failed it took some of them, from their front, and its count of faults
 -- rose.
@@ -25,8 +25,7 @@ pub record SendsFragments {T E : Type 0} (outcome : Result T E) (dictionary : Li
   pub whole : OnOk outcome (up_to ≡ end)
   pub bytes : List ℕ
   pub spelled : FragmentsFor first (drop first (take up_to dictionary)) bytes
-  pub goes_on : LineNumbersFit dictionary
-      → (rest : List ℕ) × FragmentsFor first (drop first (take end dictionary)) (bytes ++ rest)
+  pub goes_on : (rest : List ℕ) × FragmentsFor first (drop first (take end dictionary)) (bytes ++ rest)
   pub sent : Sends outcome bytes put put_after faults faults_after
 
 -- The sink took the fragments of the messages up to the greatest id that is used, if they aren't defined yet, and behind
@@ -41,7 +40,6 @@ pub record SendsExtent {T E : Type 0} (outcome : Result T E) (dictionary : List 
   pub extent : List ℕ
   pub behind : (extent ≡ []) ⊎ ((up_to ≡ end) × (extent ≡ extent_head_bytes writer (length body) ++ body))
   pub whole : OnOk outcome ((up_to ≡ end) × (extent ≡ extent_head_bytes writer (length body) ++ body))
-  pub goes_on : LineNumbersFit dictionary
-      → (rest : List ℕ) × (all : List ℕ) × FragmentsFor first (drop first (take end dictionary)) all
+  pub goes_on : (rest : List ℕ) × (all : List ℕ) × FragmentsFor first (drop first (take end dictionary)) all
       × (all ++ (extent_head_bytes writer (length body) ++ body) ≡ (fragments ++ extent) ++ rest)
   pub sent : Sends outcome (fragments ++ extent) put put_after faults faults_after

@@ -1,14 +1,13 @@
 -- From what a session's parts say where a write failed to what was written.
-use Rattle.std.proofs.Common.{◌≡◌, ℕ, ◌<◌, ◌^◌, Bool, true, false, List, [], ◌∷◌, ◌++◌, length, take, drop, refl, sym, ap, ◌∙◌, subst, arith}
+use Rattle.std.proofs.Common.{◌≡◌, ℕ, Bool, true, false, List, [], ◌∷◌, ◌++◌, length, take, drop, refl, sym, ap, ◌∙◌, subst, arith}
 use Rattle.std.specs.Prelude.{All}
 use Rattle.std.specs.List.{enumerate_from}
 use Rattle.std.proofs.lemmas.List.{length-map, take-map, take-append-drop}
-use Rattle.std.proofs.lemmas.List.Elements.{All-head, All-tail, All-take, All-weaker, All-from_recursion}
+use Rattle.std.proofs.lemmas.List.Elements.{All-head, All-tail, All-take}
 use Rattle.std.proofs.lemmas.List.FromFn.{length-enumerate_from}
 use Rattle.std.proofs.Math.Seq.{take-append_seam}
 use Rattle.log_dictionary.specs.declared.clock.Clock.{Clock}
 use Rattle.log_dictionary.specs.declared.message.Message.{Message}
-use Rattle.log_dictionary.specs.Canonical.{HasLine}
 use Rattle.arg_records.specs.declared.call.Call.{Call}
 use Rattle.checkpoint_io.specs.Logs.{LogOf}
 use Rattle.session_options.specs.declared.options.Options.{Options}
@@ -16,10 +15,8 @@ use Rattle.ring_core.specs.Plans.{Plan, plan_of, IsPlanned, frame_of, frames_of,
 use Rattle.ring_core.proofs.lemmas.Frames.{NeverFalls-take}
 use Rattle.ring_core.proofs.lemmas.OneReading.{AreFramesOf-unique}
 use Rattle.roaming_consumer.specs.declared.roamer.Roamer.{Roamer}
-use Rattle.roaming_consumer.specs.Growth.{LineNumbersFit}
 use Rattle.roaming_consumer.specs.Roamers.{ends_of, roamer_messages, roamer_clock, roamer_batch, is_begun, is_faulted, plan_of_roamer, BeginWithFramesOf, FramesWereTaken, IsSameRun, RoamerStandsFor}
 use Rattle.trace_text.specs.Recordings.{Recording}
-use Rattle.trace_text.specs.Canonical.{HasText}
 use Rattle.log_session.specs.Settling.{IsRejoined, AllZip3}
 use Rattle.log_session.specs.Writers.{WriterView}
 use Rattle.trace_session.specs.declared.drops.Dropped.{Dropped}
@@ -31,10 +28,6 @@ use Rattle.trace_session.specs.Sessions.{AreFirstCalls, IsCutSession}
 use Rattle.trace_session.specs.Workers.{Work}
 use Rattle.trace_session.proofs.Leaving.{none_done}
 use Rattle.trace_session.proofs.Sessions.{all_sent, all_ended, got_all, zip_meet, ends_count}
-
--- the lines of a run's messages are in range
-pub lines_fit : (run : Recording) → HasText run → LineNumbersFit run.dictionary
-lines_fit run text = All-weaker HasLine (λ (message : Message). message.line < 2 ^ 32) (λ message line. line.line_fits) run.dictionary (All-from_recursion HasLine run.dictionary text.messages.lines)
 
 -- calls whose frames come first are the first ones
 first_calls : (plan : Plan) (frames : List (List ℕ)) (whole calls : List Call) → AreFramesOf plan frames whole → BeginWithFramesOf plan frames calls → (rest : List Call) × (whole ≡ calls ++ rest)
@@ -62,13 +55,13 @@ module _ {S O D : Type 0} (sent : S → List (List ℕ)) (closed : S → Bool) (
     (over : IsOverUpTo ended (length (ends_of new)) new) (done : AreDone sent closed (record { run = run; options = options; drops = drops; writers = writers })) (all : length writers ≡ length run.writers)
     (joined : AllZip3 (IsRejoined sent closed got ended sent_left got_left closed_left ended_left) writers (ends_of new) left) where
   pub cut_session : (pair : O → List ℕ) (plan : O → Plan) (works : List Work) (old : Roamer O) (bytes : List ℕ)
-      → AreReady pair plan run options works old → IsSameRun old new → is_begun new ≡ true → HasText run → is_faulted new ≡ true → RoamerStandsFor got ended new bytes → IsCutSession run options bytes
-  cut_session pair plan works old bytes ready same_run begun text faulted stands =
+      → AreReady pair plan run options works old → IsSameRun old new → is_begun new ≡ true → is_faulted new ≡ true → RoamerStandsFor got ended new bytes → IsCutSession run options bytes
+  cut_session pair plan works old bytes ready same_run begun faulted stands =
       let messages : roamer_messages new ≡ run.dictionary = same_run.messages ∙ ready.messages in
       let clock : roamer_clock new ≡ run.clock = same_run.clock ∙ ready.clock in
       let batch : roamer_batch new ≡ options.batch = same_run.batch ∙ ready.batch in
       let plan_is : plan_of_roamer new ≡ plan_of run.dictionary run.clock.tick = λ i. plan_of (messages i) (clock i).tick in
-      let cut = stands.cut begun faulted (subst LineNumbersFit (sym messages) (lines_fit run text)) in
+      let cut = stands.cut begun faulted in
       let frames = subst (λ (p : Plan). FramesWereTaken p got (ends_of new) cut.taken) plan_is cut.frames in
       let taken = Taken run options.level drops in
       let p = plan_of run.dictionary run.clock.tick in
@@ -101,10 +94,10 @@ none_first plan got (end ∷ ends) ((call ∷ calls) ∷ taken) (whole ∷ all) 
     absurd (cc nothing)
 
 pub cut_header : {S O : Type 0} (sent : S → List (List ℕ)) (closed : S → Bool) (got : O → List (List ℕ)) (ended : O → Bool) (pair : O → List ℕ) (plan : O → Plan) (run : Recording) (options : Options) (works : List Work) (old new : Roamer O) (wrote bytes : List ℕ)
-    → AreReady pair plan run options works old → RoamerStandsFor got ended old wrote → is_begun old ≡ false → ends_of new ≡ ends_of old → IsSameRun old new → is_begun new ≡ true → HasText run → is_faulted new ≡ true → RoamerStandsFor got ended new bytes → IsCutSession run options bytes
-cut_header {S} {O} sent closed got ended pair plan run options works old new wrote bytes ready stood unbegun ends same_run begun text faulted stands =
+    → AreReady pair plan run options works old → RoamerStandsFor got ended old wrote → is_begun old ≡ false → ends_of new ≡ ends_of old → IsSameRun old new → is_begun new ≡ true → is_faulted new ≡ true → RoamerStandsFor got ended new bytes → IsCutSession run options bytes
+cut_header {S} {O} sent closed got ended pair plan run options works old new wrote bytes ready stood unbegun ends same_run begun faulted stands =
     let messages : roamer_messages new ≡ run.dictionary = same_run.messages ∙ ready.messages in
-    let cut = stands.cut begun faulted (subst LineNumbersFit (sym messages) (lines_fit run text)) in
+    let cut = stands.cut begun faulted in
     let none : All (λ end. got end ≡ []) (ends_of new) = subst (All (λ end. got end ≡ [])) (sym ends) (stood.untaken unbegun) in
     let taken = Taken run options.level [] in
     let done = none_done sent closed run options in

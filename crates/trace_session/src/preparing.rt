@@ -5,7 +5,6 @@ ghost use Rattle.std.specs.Arc.{arc_value};
 ghost use Rattle.session_options.specs.declared.limits.TheConstants.{MAX_WRITERS, MIN_RING, MAX_RING, MAX_BATCH};
 ghost use Rattle.ring_core.specs.Plans.{plan_of};
 ghost use Rattle.roaming_consumer.specs.Roamers.{is_begun, RoamerStandsFor};
-ghost use Rattle.trace_text.specs.Canonical.{HasText};
 ghost use Rattle.trace_session.specs.Workers.{work_of};
 ghost use Rattle.trace_session.specs.Finishing.{work_at, works_of};
 ghost use Rattle.trace_session.specs.Running.{IsNewWriter, AreReady};
@@ -123,10 +122,7 @@ impl<'d, I: StageIn + Drop, D: Drop, G: Gate> Room<'d, I, D, G> {
         trace: &'d Trace,
         options: &Options,
     ) -> Result<Room<'d, I, D, G>, AllocError>
-        ensures free { IfOk result (λ room. IsFree trace.now options.now room) }
-
-        // What is known of every run.
-        ensures text { HasText trace.now }
+        ensures { IfOk result (λ room. IsFree trace.now options.now room) }
     {
         let writers = trace.writers.len();
         Ok(Room {

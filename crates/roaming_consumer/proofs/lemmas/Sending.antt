@@ -1,5 +1,5 @@
 -- What a sink took in several calls, one after another.
-use Rattle.std.proofs.Common.{◌≡◌, ℕ, ◌+◌, ◌≤◌, List, [], ◌++◌, length, take, drop, refl, sym, ap, subst, ◌∙◌, append_assoc, append-nil, inl, inr, arith}
+use Rattle.std.proofs.Common.{◌≡◌, ℕ, ◌≤◌, List, [], ◌++◌, length, take, drop, refl, sym, ap, subst, ◌∙◌, append_assoc, append-nil, inl, inr, arith}
 use Rattle.std.specs.Prelude.{Result, Ok, Err, IsErr, is_err, OnOk, OnErr, true, false}
 use Rattle.nl_io.specs.Count.{Rose}
 use Rattle.nl_io.specs.Content.{Told, with_end, PutsFront}
@@ -62,8 +62,8 @@ extent_stops_early (Err u) e dictionary first end writer body p q f g failed sen
   extent = [];
   behind = inl refl;
   whole = tt;
-  goes_on = λ lines.
-      let (rest, all) = sent.goes_on lines in
+  goes_on =
+      let (rest, all) = sent.goes_on in
       (rest ++ (extent_head_bytes writer (length body) ++ body), sent.bytes ++ rest, all, append_assoc sent.bytes rest _ ∙ ap (λ (l : List ℕ). l ++ (rest ++ (extent_head_bytes writer (length body) ++ body))) (sym (append-nil sent.bytes)));
   sent = sends_stop (Err u) sent.bytes [] p q f g refl sent.sent.err sent.sent.cause sent.sent.count;
 }
@@ -78,7 +78,7 @@ extent_behind (Ok y) x dictionary first end writer body p q s f g h sent extent 
   extent = extent_head_bytes writer (length body) ++ body;
   behind = inr (sent.whole, refl);
   whole = (sent.whole, refl);
-  goes_on = λ lines. ([], sent.bytes, whole_fragments dictionary first sent.up_to end sent.bytes sent.whole sent.spelled, sym (append-nil _));
+  goes_on = ([], sent.bytes, whole_fragments dictionary first sent.up_to end sent.bytes sent.whole sent.spelled, sym (append-nil _));
   sent = sends_then (Ok y) sent.bytes (extent_head_bytes writer (length body) ++ body) p q s f g h sent.sent.ok sent.sent.counted extent;
 }
 extent_behind (Err e) x dictionary first end writer body p q s f g h sent extent = record {
@@ -89,7 +89,7 @@ extent_behind (Err e) x dictionary first end writer body p q s f g h sent extent
   extent = extent_head_bytes writer (length body) ++ body;
   behind = inr (sent.whole, refl);
   whole = tt;
-  goes_on = λ lines. ([], sent.bytes, whole_fragments dictionary first sent.up_to end sent.bytes sent.whole sent.spelled, sym (append-nil _));
+  goes_on = ([], sent.bytes, whole_fragments dictionary first sent.up_to end sent.bytes sent.whole sent.spelled, sym (append-nil _));
   sent = sends_then (Err e) sent.bytes (extent_head_bytes writer (length body) ++ body) p q s f g h sent.sent.ok sent.sent.counted extent;
 }
 

@@ -3,7 +3,6 @@ use Rattle.std.proofs.lemmas.Result.{IfErr-at_err}
 use Rattle.nl_io.specs.Content.{with_end}
 use Rattle.nl_io.proofs.lemmas.Contents.{with_end-both}
 use Rattle.trace_text.specs.Recordings.{Recording}
-use Rattle.trace_text.specs.Canonical.{HasText}
 use Rattle.trace_session.specs.Sessions.{IsSession, IsCutSession}
 use Rattle.trace_session.proofs.Sessions.{ready_begun}
 use Rattle.trace_session.proofs.Cuts.{cut_header}
@@ -54,12 +53,11 @@ returns-in-Err-clause-bad_size g c = (λ is. let never = is in absurd cc, λ bad
 pub returns-in_default-begin-clause-cut : goal.returns-in_default-begin-clause-cut
 returns-in_default-begin-clause-cut g c = λ is.
     let begun = c.begin.ensures in
-    let (unbegun, stands) = c.in-Ok.ensures.stands in
-    let text = subst HasText c.deref.ensures c.make.ensures.text in (
+    let (unbegun, stands) = c.in-Ok.ensures.stands in (
       begun.wrote.bytes,
       begun.wrote.put_is,
       cut_header g.S.In.StageIn.sent g.S.In.StageIn.closed g.S.Out.StageOut.got g.S.Out.StageOut.ended g.S.Out.StageOut.pair g.S.Out.StageOut.plan _ c.args.options.now _ c.in-Ok.both.1 c.begin.new.self [] begun.wrote.bytes
-          c.in-Ok.ensures.ready stands unbegun begun.same_ends begun.same_run begun.begun text c.in_default-begin.ensures.err (begun.wrote.stands [] stands),
+          c.in-Ok.ensures.ready stands unbegun begun.same_ends begun.same_run begun.begun c.in_default-begin.ensures.err (begun.wrote.stands [] stands),
     )
 
 pub returns-in-Err-clause-cut : goal.returns-in-Err-clause-cut

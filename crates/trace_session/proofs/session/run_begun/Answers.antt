@@ -1,7 +1,6 @@
-use Rattle.std.proofs.Common.{◌≡◌, false, true, List, ◌++◌, map, length, refl, sym, ap, ◌∙◌, subst, ⊎_elim, arith}
+use Rattle.std.proofs.Common.{◌≡◌, false, true, List, ◌++◌, map, length, refl, sym, ap, ◌∙◌, ⊎_elim, arith}
 use Rattle.std.proofs.lemmas.List.{length-map}
 use Rattle.trace_text.specs.Recordings.{Recording}
-use Rattle.trace_text.specs.Canonical.{HasText}
 use Rattle.trace_session.specs.Drops.{call_count}
 use Rattle.trace_session.specs.Finishing.{FinishedView, works_of}
 use Rattle.trace_session.specs.Workers.{Work}
@@ -51,7 +50,7 @@ returns-then-faulted-clause-cut g c =
       roams.adds.bytes,
       roams.adds.put_is,
       λ wrote stands. cut_session _ _ _ _ _ _ _ _ c.args.trace.now c.args.options.now c.consume.new.roamer _ _ left c.consume.ensures.over done all joined
-          g.S.Out.StageOut.pair g.S.Out.StageOut.plan _ c.args.roamer (wrote ++ roams.adds.bytes) c.requires.ready roams.same_run roams.begun (subst HasText c.trace.view_is c.trace.invariant) faulted (roams.adds.stands wrote stands),
+          g.S.Out.StageOut.pair g.S.Out.StageOut.plan _ c.args.roamer (wrote ++ roams.adds.bytes) c.requires.ready roams.same_run roams.begun faulted (roams.adds.stands wrote stands),
     )
 
 pub settle-accepted-requires-clause-rings : goal.settle-accepted-requires-clause-rings

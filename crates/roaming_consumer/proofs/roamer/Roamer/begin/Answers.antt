@@ -19,5 +19,5 @@ returns-then-is_err-clause-wrote g c =
     let puts = err_of c.write_header.result c.if-is_err.ensures.value c.write_header.ensures.sent.err in
     cut_short g.S.StageOut.got g.S.StageOut.ended c.args.self.now _ _ (header_bytes (roamer_header c.args.self.now)) _ _ refl refl
     (subst (λ (h : Header). PutsFront (header_bytes h) (g.K.Sink.put c.args.sink.now) (g.K.Sink.put c.write_header.new.sink)) c.header-header.ensures.value puts)
-    (λ lines. nothing_more g.S.StageOut.got g.S.StageOut.ended c.args.self.now _ _ (header_bytes (roamer_header c.args.self.now))
+    (nothing_more g.S.StageOut.got g.S.StageOut.ended c.args.self.now _ _ (header_bytes (roamer_header c.args.self.now))
     (begun g.S.StageOut.got g.S.StageOut.ended c.args.self.now _ c.requires refl (record { messages = refl; clock = refl; batch = refl }) refl c.header-header.ensures.right))
