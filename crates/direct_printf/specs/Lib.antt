@@ -1,4 +1,5 @@
 pub mod Fields
 pub mod Lines
 pub mod Joined
+pub mod LineWriters
 pub mod Rows

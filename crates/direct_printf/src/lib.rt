@@ -9,5 +9,5 @@ mod log_line;
 mod padding;
 mod text;
 
-pub use log_line::line;
+pub use log_line::{LineWriter, line};
 pub use text::render;

@@ -4,7 +4,7 @@ use Rattle.std.specs.Fmt.{decimal}
 use Rattle.direct_printf.specs.Fields.{Digits}
 use Rattle.direct_printf.proofs.Joining.{joined_time}
 use Rattle.direct_printf.proofs.Plain.{Digits-nine}
-use Rattle.direct_printf.proofs.log_line.append_time.Goals as goal
+use Rattle.direct_printf.proofs.log_line.append_long_time.Goals as goal
 
 pub write_digits-requires : goal.write_digits-requires
 write_digits-requires c = search (rules, length-decimal-le 10)
