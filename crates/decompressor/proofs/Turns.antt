@@ -29,7 +29,7 @@ use Rattle.decompressor.specs.Waiting.{list_of, records_at, HasHeads}
 use Rattle.decompressor.specs.Decompressors.{AreWaiting, count_of, no_more_come, ready_calls}
 use Rattle.decompressor.proofs.RecordCalls.{IsCallOf, AreCallsOf, calls_of_writer}
 use Rattle.decompressor.proofs.WriterLists.{own, IsOf}
-use Rattle.decompressor.proofs.Printed.{HasCalls, IsPrinted, behind, one_more, rest_mine, rest_outside, are_settled, none_settled, are_all}
+use Rattle.decompressor.proofs.Printed.{HasCalls, IsPrinted, one_more, rest_mine, rest_outside, are_settled, none_settled, are_all}
 use Rattle.decompressor.proofs.Calls.{has_calls}
 use Rattle.decompressor.proofs.Heads.{heads_set}
 use Rattle.decompressor.proofs.Ready.{IsLeast, least_head, later_call, not_itself}

@@ -1,5 +1,4 @@
 use Rattle.std.proofs.Common.{ℕ, Ok, Err, ap, sym, subst, ◌∙◌}
-use Rattle.checkpoint_io.specs.declared.fault.BlockFault.{BlockFault}
 use Rattle.decompressor.specs.declared.fault.DecodeFault.{DecodeFault}
 use Rattle.decompressor.specs.declared.step.Step.{Step}
 use Rattle.decompressor.specs.Decompressing.{Decompresses}
