@@ -178,36 +178,35 @@ module _ (ended : Bool) (reader : ReaderState) (first all : List Block) (waiting
             (more_is (messages_of all) clock.tick ready.others call entry (subst (IsCallOf (messages_of all) clock.tick call) entry_is turn.first.is))
 
         -- the line of the record is that of the call
-        pub line_said : (empty line : List ℕ) → empty ≡ [] → ((message : Message) (ordinal : ℕ) → slice_get reader.messages entry.id ≡ Some message → line ≡ empty ++ Line clock (record { writer = writer; ordinal = ordinal; stamp = entry.stamp; message = message; args = entry.args }))
-            → line ≡ Line clock call
-        line_said empty line no_text pushed =
+        pub line_said : (before grown : List ℕ) → ((message : Message) (ordinal : ℕ) → slice_get reader.messages entry.id ≡ Some message → grown ≡ before ++ Line clock (record { writer = writer; ordinal = ordinal; stamp = entry.stamp; message = message; args = entry.args }))
+            → grown ≡ before ++ Line clock call
+        line_said before grown pushed =
             pushed call.message call.ordinal said.message
-            ∙ ap (λ (bytes : List ℕ). bytes ++ Line clock (record { writer = writer; ordinal = call.ordinal; stamp = entry.stamp; message = call.message; args = entry.args })) no_text
-            ∙ line_is clock reader.messages call entry writer said (subst (AllByRecursion (IsOf writer)) turn.first.there (rest_mine header all (calls_there header all ready.valid) (no_more_come ended all) so_far.printed so_far.at.is writer)).0
+            ∙ ap (λ (line : List ℕ). before ++ line) (line_is clock reader.messages call entry writer said (subst (AllByRecursion (IsOf writer)) turn.first.there (rest_mine header all (calls_there header all ready.valid) (no_more_come ended all) so_far.printed so_far.at.is writer)).0)
 
-        joined_next : (line : List ℕ) → line ≡ Line clock call → flat_map (Line clock) longer ≡ Direct clock (settled_calls header first) ++ (so_far.text ++ line)
-        joined_next line is_line =
+        joined_next : flat_map (Line clock) longer ≡ Direct clock (settled_calls header first) ++ (so_far.text ++ Line clock call)
+        joined_next =
             flat_map-append (Line clock) so_far.printed (call ∷ [])
-            ∙ (λ i. so_far.joined i ++ (append-nil (Line clock call) ∙ sym is_line) i)
-            ∙ append_assoc (Direct clock (settled_calls header first)) so_far.text line
+            ∙ (λ i. so_far.joined i ++ append-nil (Line clock call) i)
+            ∙ append_assoc (Direct clock (settled_calls header first)) so_far.text (Line clock call)
 
-        pub next_lines : (line : List ℕ) (put : Told) (left : List ℕ) (changed : List (List Call)) (new : List ListState) → line ≡ Line clock call → Carries (held ++ line) is put left → changed ≡ slice_set now writer (drop 1 queue)
+        pub next_lines : (grown : List ℕ) (put : Told) (left : List ℕ) (changed : List (List Call)) (new : List ListState) → grown ≡ held ++ Line clock call → Carries grown is put left → changed ≡ slice_set now writer (drop 1 queue)
             → new ≡ slice_set (without_head heads writer) writer (list_of (no_more_come ended all writer) (drop 1 queue)) → HasLines ended header first all ready.valid (lines + 1) was put left changed new
-        next_lines line put left changed new is_line carried changed_is new_is = record {
+        next_lines grown put left changed new grown_is carried changed_is new_is = record {
           printed = longer;
           at = after_turn changed new (changed_is ∙ ap (slice_set now writer) rest_is) (new_is ∙ ap (λ (entries : List Call). slice_set (without_head heads writer) writer (list_of (no_more_come ended all writer) entries)) rest_is);
-          text = so_far.text ++ line;
-          joined = joined_next line is_line;
-          carries = carries_more (so_far.text ++ line) so_far.text line held left was is put refl so_far.carries carried;
+          text = so_far.text ++ Line clock call;
+          joined = joined_next;
+          carries = carries_more (so_far.text ++ Line clock call) so_far.text (Line clock call) held left was is put refl so_far.carries (subst (λ (bytes : List ℕ). Carries bytes is put left) grown_is carried);
           many = omega (arith, so_far.many, length-append so_far.printed (call ∷ []));
         }
 
-        -- the line was cut off
-        pub line_cut : (line : List ℕ) (put : Told) (low mid high : ℕ) (answer : Result ℕ DecodeFault) (changed : List (List Call)) (new : List ListState) → IsErrAnd answer (λ e. e ≡ WriteFault) → line ≡ Line clock call → mid ≡ low → IsCutOff (held ++ line) is put mid high
+        -- the text was cut off with the line
+        pub line_cut : (grown : List ℕ) (put : Told) (low mid high : ℕ) (answer : Result ℕ DecodeFault) (changed : List (List Call)) (new : List ListState) → IsErrAnd answer (λ e. e ≡ WriteFault) → grown ≡ held ++ Line clock call → mid ≡ low → IsCutOff grown is put mid high
             → PrintsReady ended header first all was put low high changed new answer
-        line_cut line put low mid high answer changed new same is_line counted cut =
-            cut_lines longer (so_far.text ++ line) was put low high WriteFault answer changed new same longer_is (joined_next line is_line)
-            (λ whole rest whole_is. cut_more whole so_far.text line rest held was is put low mid high whole_is so_far.carries counted cut)
+        line_cut grown put low mid high answer changed new same grown_is counted cut =
+            cut_lines longer (so_far.text ++ Line clock call) was put low high WriteFault answer changed new same longer_is joined_next
+            (λ whole rest whole_is. cut_more whole so_far.text (Line clock call) rest held was is put low mid high whole_is so_far.carries counted (subst (λ (bytes : List ℕ). IsCutOff bytes is put mid high) grown_is cut))
 
       -- one less waits
       pub less_waits : sum_by length (slice_set now writer (drop 1 queue)) < sum_by length now

@@ -1,7 +1,9 @@
 //! Printing the lines of a log.
 
-ghost use Rattle.std.specs.Prelude.{◌≡◌, ◌⊎◌, ◌<◌, ◌≤◌, ◌++◌, ◌||◌, ℕ, List, false, slice_get, get_or, Some, IsErrOf, OnOk, OnErr};
+ghost use Rattle.std.specs.Prelude.{◌≡◌, ◌⊎◌, ◌<◌, ◌≤◌, ◌++◌, ◌||◌, ℕ, List, [], false, slice_get, get_or, Some, IsErrOf, OnOk, OnErr};
 ghost use Rattle.nl_io.specs.Count.{Rose};
+ghost use Rattle.nl_io.specs.Content.{with_end};
+ghost use Rattle.nl_io.specs.TextWriters.{Carries, IsCutOff};
 ghost use Rattle.log_dictionary.specs.declared.message.Message.{Message};
 ghost use Rattle.arg_records.specs.Calls.{IsCall};
 ghost use Rattle.checkpoint_io.specs.Blocks.{Block};
@@ -13,8 +15,8 @@ use crate::queue::RecordQueue;
 use crate::showing::show_first;
 use buffer_extent::LogRecord;
 use checkpoint_io::Reader;
-use direct_printf::line;
-use nl_io::{Sink, TextWriter};
+use direct_printf::LineWriter;
+use nl_io::{Failed, MAX_HELD, Sink, write_all};
 use stamp_merge::{Merger, Next};
 use std::alloc::{AllocError, Global};
 
@@ -23,6 +25,7 @@ fn push_line(
     reader: &Reader,
     writer: u32,
     call: &LogRecord,
+    lines: &mut LineWriter,
     text: &mut Vec<u8>,
 ) -> Result<(), AllocError>
     requires rate { 1 ≤ reader.now.header.clock.rate }
@@ -43,7 +46,7 @@ fn push_line(
         return Ok(());
     };
     let clock = &reader.header().clock;
-    line(
+    lines.append(
         clock,
         writer,
         message,
@@ -58,6 +61,35 @@ fn is_done(ended: bool, reader: &Reader, writer: u32) -> bool
     ensures { writer < 256 → result ≡ (ended || get_or reader.now.writers.closed writer false) }
 {
     ended || reader.is_closed(writer)
+}
+
+// Writes what is held back of the text.
+fn write_held<K: Sink>(held: &mut Vec<u8>, out: &mut K) -> Result<(), Failed>
+    ensures ok { OnOk result (K.put out.new ≡ with_end held.old.items (K.put out.old)) }
+    ensures empty { OnOk result (held.new.items ≡ []) }
+    ensures counted { OnOk result (K.faults out.new ≡ K.faults out.old) }
+    ensures cut_off { OnErr result (IsCutOff held.old.items (K.put out.old) (K.put out.new)
+        (K.faults out.old) (K.faults out.new)) }
+    ensures others { K.rest out.old out.new }
+{
+    write_all(out, held.as_slice())?;
+    held.clear();
+    Ok(())
+}
+
+// Writes what is held back once it is enough for a large write.
+fn write_large<K: Sink>(held: &mut Vec<u8>, out: &mut K) -> Result<(), Failed>
+    ensures ok { OnOk result (Carries held.old.items (K.put out.old) (K.put out.new) held.new.items) }
+    ensures counted { OnOk result (K.faults out.new ≡ K.faults out.old) }
+    ensures cut_off { OnErr result (IsCutOff held.old.items (K.put out.old) (K.put out.new)
+        (K.faults out.old) (K.faults out.new)) }
+    ensures others { K.rest out.old out.new }
+{
+    if held.len() < MAX_HELD {
+        return Ok(());
+    }
+    write_held(held, out)?;
+    Ok(())
 }
 
 /// Prints the lines of the records before which none can come any more, and answers how many there are. Where the log
@@ -80,8 +112,8 @@ pub fn print_ready<K: Sink>(
     ensures fault { OnErr result (IsErrOf result DecodeFault.WriteFault ⊎ IsErrOf result DecodeFault.NoMemory) }
     ensures others { K.rest out.old out.new }
 {
-    let mut text = TextWriter::make();
-    let mut buffer = Vec::new(alloc);
+    let mut line_writer = LineWriter::make();
+    let mut text = Vec::new(alloc);
     let mut lines = 0;
     while let Next::Take(writer) = merger.next() {
         let queue = &mut waiting[writer as usize];
@@ -89,13 +121,12 @@ pub fn print_ready<K: Sink>(
         let Some(record) = queue.first() else {
             continue;
         };
-        buffer.clear();
-        push_line(reader, writer, record, &mut buffer)?;
-        text.put(out, &buffer)?;
+        push_line(reader, writer, record, &mut line_writer, &mut text)?;
+        write_large(&mut text, out)?;
         queue.remove_first();
         show_first(merger, writer, queue, is_done(ended, reader, writer));
         lines += 1;
     }
-    text.flush(out)?;
+    write_held(&mut text, out)?;
     Ok(lines)
 }
