@@ -15,6 +15,9 @@ use std::alloc::AllocError;
 pub fn count_arguments(spec: &Spec) -> usize
     ensures { result ≡ argument_count spec.now }
 {
+    if spec.width == Size::Absent && spec.precision == Size::Absent {
+        return 1;
+    }
     count_stars(spec.width) + count_stars(spec.precision) + 1
 }
 
