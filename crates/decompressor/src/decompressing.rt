@@ -45,7 +45,7 @@ fn header_fault(fault: BlockFault) -> DecodeFault
 
 /// Prints the lines of the records of a log, which is all that the source has left: by stamp, those of one stamp by
 /// writer, and those of one writer in its order. Lines go out as soon as none can come before them any more. Memory is
-/// taken for the other records alone.
+/// taken for the other records, and for the text of a write.
 ///
 /// # Errors
 ///

@@ -18,7 +18,8 @@ use std::alloc::Global;
 use std::marker::Model;
 
 /// A log that is decompressed block by block. It keeps no source and no sink: each step reads at most one block, and
-/// prints all lines before which no later one can stand. Memory is taken for the other records alone.
+/// prints all lines before which no later one can stand. Memory is taken for the other records, and for the text of a
+/// write.
 #[derive(Debug, Drop)]
 pub struct Decompressor {
     printer: LogPrinter,
