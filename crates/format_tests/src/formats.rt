@@ -1,6 +1,6 @@
 //! Formats: what they are made of, and the texts that they write.
 
-use crate::tables::{check_rows, cut, text_of, values_of};
+use crate::tables::{Told, check_rows, cut, text_of, values_of};
 use direct_printf::render;
 use printf_grammar::{Format, FormatCause, ParseFault, Value, fits, parse};
 use std::alloc::{AllocError, Global};
@@ -22,9 +22,13 @@ fn pieces_shown(alloc: Global, format: &Format) -> Result<String, Fail> {
     Ok(format!(in alloc; "{types:?} {pieces:?}")?)
 }
 
-fn pieces_of(alloc: Global, format: &str) -> Result<String, Fail> {
-    let format = parse(alloc, format.as_bytes())?;
-    pieces_shown(alloc, &format)
+struct PiecesOf;
+
+impl Told for PiecesOf {
+    fn told(alloc: Global, format: &str) -> Result<String, Fail> {
+        let format = parse(alloc, format.as_bytes())?;
+        pieces_shown(alloc, &format)
+    }
 }
 
 /// Formats, and how many pieces and arguments they have, or why and where they break.
@@ -43,12 +47,16 @@ fn break_shown(alloc: Global, cause: FormatCause, place: usize) -> Result<String
     Ok(format!(in alloc; "{name} at {place}")?)
 }
 
-fn counts_of(alloc: Global, word: &str) -> Result<String, Fail> {
-    let text = text_of(alloc, word)?;
-    match parse(alloc, text.as_bytes()) {
-        Ok(format) => counts_shown(alloc, format.pieces().len(), format.types().len()),
-        Err(ParseFault::Bad { cause, place }) => break_shown(alloc, cause, place),
-        Err(ParseFault::NoMemory) => Err("no memory".into()),
+struct CountsOf;
+
+impl Told for CountsOf {
+    fn told(alloc: Global, word: &str) -> Result<String, Fail> {
+        let text = text_of(alloc, word)?;
+        match parse(alloc, text.as_bytes()) {
+            Ok(format) => counts_shown(alloc, format.pieces().len(), format.types().len()),
+            Err(ParseFault::Bad { cause, place }) => break_shown(alloc, cause, place),
+            Err(ParseFault::NoMemory) => Err("no memory".into()),
+        }
     }
 }
 
@@ -109,19 +117,23 @@ fn answers_shown(alloc: Global, front: &str, name: &str) -> Result<String, Alloc
     format!(in alloc; "{name}[{}]", bytes.escape_ascii())
 }
 
-fn answers_behind(alloc: Global, front: &str) -> Result<String, Fail> {
-    let mut text = String::new(alloc);
-    for name in ANSWERS.split(' ') {
-        text.push_str(&answers_shown(alloc, front, name)?)?;
+struct AnswersBehind;
+
+impl Told for AnswersBehind {
+    fn told(alloc: Global, front: &str) -> Result<String, Fail> {
+        let mut text = String::new(alloc);
+        for name in ANSWERS.split(' ') {
+            text.push_str(&answers_shown(alloc, front, name)?)?;
+        }
+        Ok(text)
     }
-    Ok(text)
 }
 
 #[test]
 fn formats_are_parsed(rt: HostRuntime) -> Result<(), Fail> {
-    check_rows(&rt, PIECES, pieces_of)?;
-    check_rows(&rt, COUNTS, counts_of)?;
-    check_rows(&rt, BYTES_BEHIND.trim_start(), answers_behind)
+    check_rows::<PiecesOf, _>(&rt, PIECES)?;
+    check_rows::<CountsOf, _>(&rt, COUNTS)?;
+    check_rows::<AnswersBehind, _>(&rt, BYTES_BEHIND.trim_start())
 }
 
 /// Formats, arguments that fit them, and the text that is written.
@@ -137,14 +149,18 @@ fn rendered(alloc: Global, format: &Format, args: &[Value]) -> Result<String, Fa
     Ok(String::from_utf8(out)?)
 }
 
-fn text_written(alloc: Global, row: &str) -> Result<String, Fail> {
-    let (format, words) = cut(row)?;
-    let values = values_of(alloc, words)?;
-    let format = parse(alloc, format.as_bytes())?;
-    rendered(alloc, &format, values.as_slice())
+struct TextWritten;
+
+impl Told for TextWritten {
+    fn told(alloc: Global, row: &str) -> Result<String, Fail> {
+        let (format, words) = cut(row)?;
+        let values = values_of(alloc, words)?;
+        let format = parse(alloc, format.as_bytes())?;
+        rendered(alloc, &format, values.as_slice())
+    }
 }
 
 #[test]
 fn texts_are_written(rt: HostRuntime) -> Result<(), Fail> {
-    check_rows(&rt, TEXTS, text_written)
+    check_rows::<TextWritten, _>(&rt, TEXTS)
 }

@@ -2,10 +2,11 @@
 
 ghost use Rattle.std.specs.Prelude.{◌≤◌, length, IfSome};
 
-use crate::tables::{check_rows, cut, text_of, times, truth_of, values_of};
+use crate::tables::{Told, check_rows, cut, text_of, times, truth_of, values_of};
 use arg_records::{FrameFault, frame_id, frame_stamp, frame_words, read_frame};
 use printf_grammar::{ArgType, Format, Value, Values, fits, parse};
 use std::alloc::{AllocError, Global};
+use std::fmt::Write;
 use std::test::Fail;
 
 /// An id, a stamp, a format, its arguments, and the words of the frame in hexadecimal.
@@ -30,7 +31,7 @@ fn words_shown(alloc: Global, words: &[u64]) -> Result<String, AllocError> {
     }
     let mut text = String::new(alloc);
     for word in words {
-        text.push_str(&format!(in alloc; " {word:x}")?)?;
+        write!(text, " {word:x}")?;
     }
     Ok(text)
 }
@@ -41,8 +42,36 @@ fn is_broken(alloc: Global, types: &[ArgType], words: &[u64]) -> bool
     matches!(read_frame(alloc, words, types), Err(FrameFault::Broken))
 }
 
-/// Whether the first so many words are the frame of a call with this id, this stamp and these values, and neither fewer
-/// of them nor one more are a frame.
+/// Whether fewer words than those are no frame.
+fn are_fronts_broken(alloc: Global, types: &[ArgType], words: &[u64]) -> bool
+    requires { length types.now ≤ 64 }
+{
+    for end in 0..words.len() {
+        if !is_broken(alloc, types, &words[..end]) {
+            return false;
+        }
+    }
+    true
+}
+
+/// Whether the words are read as a call with this id, this stamp and these values.
+fn is_call(
+    alloc: Global,
+    types: &[ArgType],
+    frame: &[u64],
+    call: (u32, u64, &Values),
+) -> Result<bool, Fail>
+    requires { length types.now ≤ 64 }
+{
+    let (id, stamp, values) = call;
+    let again = read_frame(alloc, frame, types)?;
+    if frame_id(frame) != id || frame_stamp(frame) != stamp {
+        return Ok(false);
+    }
+    Ok(format!(in alloc; "{again:?}")? == format!(in alloc; "{values:?}")?)
+}
+
+/// Whether the first so many words are the frame of that call, and neither fewer of them nor one more are a frame.
 fn is_frame_of(
     alloc: Global,
     types: &[ArgType],
@@ -53,21 +82,12 @@ fn is_frame_of(
     requires few { length types.now ≤ 64 }
     requires within { len ≤ 512 }
 {
-    let (id, stamp, values) = call;
     let frame = &words[..len];
-    let again = read_frame(alloc, frame, types)?;
-    if frame_id(frame) != id || frame_stamp(frame) != stamp {
-        return Ok(false);
-    }
-    if format!(in alloc; "{again:?}")? != format!(in alloc; "{values:?}")? {
-        return Ok(false);
-    }
-    for end in 0..len {
-        if !is_broken(alloc, types, &words[..end]) {
-            return Ok(false);
-        }
-    }
-    Ok(len == 512 || is_broken(alloc, types, &words[..len + 1]))
+    Ok(
+        is_call(alloc, types, frame, call)?
+            && are_fronts_broken(alloc, types, frame)
+            && (len == 512 || is_broken(alloc, types, &words[..len + 1])),
+    )
 }
 
 /// Writes the frame of a call, and answers its length.
@@ -128,14 +148,18 @@ fn format_of(alloc: Global, word: &str) -> Result<Format, Fail> {
     Ok(parse(alloc, text.as_bytes())?)
 }
 
-fn frame_written(alloc: Global, row: &str) -> Result<String, Fail> {
-    let (id, rest) = cut(row)?;
-    let (stamp, rest) = cut(rest)?;
-    let (format, args) = cut(rest)?;
-    let id = id.parse::<u32>()?;
-    let stamp = stamp.parse::<u64>()?;
-    let format = format_of(alloc, format)?;
-    frame_of(alloc, format.types(), id, stamp, args)
+struct FrameWritten;
+
+impl Told for FrameWritten {
+    fn told(alloc: Global, row: &str) -> Result<String, Fail> {
+        let (id, rest) = cut(row)?;
+        let (stamp, rest) = cut(rest)?;
+        let (format, args) = cut(rest)?;
+        let id = id.parse::<u32>()?;
+        let stamp = stamp.parse::<u64>()?;
+        let format = format_of(alloc, format)?;
+        frame_of(alloc, format.types(), id, stamp, args)
+    }
 }
 
 /// Formats and words that are the frame of no arguments of theirs.
@@ -156,9 +180,8 @@ fn words_of(alloc: Global, words: &str) -> Result<Vec<u64>, Fail> {
     for word in words.split_ascii_whitespace() {
         let (count, word) = times(word);
         let word = u64::from_str_radix(word, 16)?;
-        for _ in 0..count {
-            frame.push(word)?;
-        }
+        let len = frame.len().saturating_add(count);
+        frame.resize(len, word)?;
     }
     Ok(frame)
 }
@@ -170,15 +193,19 @@ fn broken_shown(alloc: Global, types: &[ArgType], words: &[u64]) -> Result<Strin
     truth_of(alloc, is_broken(alloc, types, words))
 }
 
-fn frame_broken(alloc: Global, row: &str) -> Result<String, Fail> {
-    let (format, words) = cut(row)?;
-    let frame = words_of(alloc, words)?;
-    let format = format_of(alloc, format)?;
-    broken_shown(alloc, format.types(), &frame)
+struct FrameBroken;
+
+impl Told for FrameBroken {
+    fn told(alloc: Global, row: &str) -> Result<String, Fail> {
+        let (format, words) = cut(row)?;
+        let frame = words_of(alloc, words)?;
+        let format = format_of(alloc, format)?;
+        broken_shown(alloc, format.types(), &frame)
+    }
 }
 
 #[test]
 fn frames_are_written_and_read(rt: HostRuntime) -> Result<(), Fail> {
-    check_rows(&rt, FRAMES, frame_written)?;
-    check_rows(&rt, BROKEN, frame_broken)
+    check_rows::<FrameWritten, _>(&rt, FRAMES)?;
+    check_rows::<FrameBroken, _>(&rt, BROKEN)
 }

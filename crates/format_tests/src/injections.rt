@@ -1,18 +1,24 @@
 //! Sources in which statements are calls by number, and headers.
 
-use crate::tables::{check_rows, text_of};
+use crate::tables::{Told, check_rows, text_of};
 use code_inject::{InjectFault, header, inject};
-use log_dictionary::Dictionary;
+use log_dictionary::{Dictionary, LineFault};
 use preprocessor::{MAX_SOURCE, SourceRefusal, push_refusal};
 use std::alloc::{AllocError, Global};
 use std::test::Fail;
 
-/// The dictionary of these message lines.
-fn dictionary_of(alloc: Global, lines: &str) -> Result<Dictionary, Fail> {
-    let mut dictionary = Dictionary::make(alloc);
+/// Reads these message lines.
+fn read_lines(dictionary: &mut Dictionary, lines: &str) -> Result<(), LineFault> {
     for line in lines.split_terminator('§') {
         dictionary.read_line(line.as_bytes())?;
     }
+    Ok(())
+}
+
+/// The dictionary of these message lines.
+fn dictionary_of(alloc: Global, lines: &str) -> Result<Dictionary, LineFault> {
+    let mut dictionary = Dictionary::make(alloc);
+    read_lines(&mut dictionary, lines)?;
     Ok(dictionary)
 }
 
@@ -24,21 +30,46 @@ fn push_refusals(out: &mut Vec<u8>, refusals: &[SourceRefusal]) -> Result<(), Al
     Ok(())
 }
 
-/// Message lines and a source, the latter behind `=>`.
-fn injection_told(alloc: Global, row: &str) -> Result<String, Fail> {
-    let (lines, source) = row.split_once("=>").ok_or("a row without `=>`")?;
-    let dictionary = dictionary_of(alloc, lines)?;
-    let source = text_of(alloc, source)?;
+/// Appends the number of the statements.
+fn push_count(alloc: Global, out: &mut Vec<u8>, count: u32) -> Result<(), AllocError> {
+    let text = format!(in alloc; " {count}")?;
+    out.extend_from_slice(text.as_bytes())
+}
+
+/// Appends the source with its statements as calls and how many these are, or what is refused.
+fn push_injection(
+    alloc: Global,
+    dictionary: &Dictionary,
+    source: &[u8],
+    out: &mut Vec<u8>,
+) -> Result<(), AllocError> {
     if source.len() > MAX_SOURCE {
-        return Err("the source is too large".into());
+        return out.extend_from_slice(b"the source is too large");
     }
+    match inject(alloc, b"m.cc", source, dictionary, out) {
+        Ok(count) => push_count(alloc, out, count),
+        Err(InjectFault::Bad(refusals)) => push_refusals(out, &refusals),
+        Err(InjectFault::NoMemory) => Err(AllocError),
+    }
+}
+
+/// The same behind a text.
+fn injected(alloc: Global, dictionary: &Dictionary, source: &[u8]) -> Result<String, Fail> {
     let mut out = Vec::from_slice(alloc, b"before ")?;
-    match inject(alloc, b"m.cc", source.as_bytes(), &dictionary, &mut out) {
-        Ok(count) => out.extend_from_slice(format!(in alloc; " {count}")?.as_bytes())?,
-        Err(InjectFault::Bad(refusals)) => push_refusals(&mut out, &refusals)?,
-        Err(InjectFault::NoMemory) => return Err("no memory".into()),
-    }
+    push_injection(alloc, dictionary, source, &mut out)?;
     Ok(String::from_utf8(out)?)
+}
+
+/// Message lines and a source, the latter behind `=>`.
+struct InjectionTold;
+
+impl Told for InjectionTold {
+    fn told(alloc: Global, row: &str) -> Result<String, Fail> {
+        let (lines, source) = row.split_once("=>").ok_or("a row without `=>`")?;
+        let source = text_of(alloc, source)?;
+        let dictionary = dictionary_of(alloc, lines)?;
+        injected(alloc, &dictionary, source.as_bytes())
+    }
 }
 
 /// The same with what stands behind the text of before, and the number of statements behind it or what is refused.
@@ -64,14 +95,18 @@ message 0 ERROR 7 \"h.h\" \"x\"§=># 7 \"h.h\"␊NANO_LOG(ERROR, \"x\");|before 
 
 #[test]
 fn sources_are_rewritten(rt: HostRuntime) -> Result<(), Fail> {
-    check_rows(&rt, INJECTIONS, injection_told)
+    check_rows::<InjectionTold, _>(&rt, INJECTIONS)
 }
 
-fn header_told(alloc: Global, lines: &str) -> Result<String, Fail> {
-    let dictionary = dictionary_of(alloc, lines)?;
-    let mut out = Vec::from_slice(alloc, b"before ")?;
-    header(&dictionary, &mut out)?;
-    Ok(String::from_utf8(out)?)
+struct HeaderTold;
+
+impl Told for HeaderTold {
+    fn told(alloc: Global, lines: &str) -> Result<String, Fail> {
+        let dictionary = dictionary_of(alloc, lines)?;
+        let mut out = Vec::from_slice(alloc, b"before ")?;
+        header(&dictionary, &mut out)?;
+        Ok(String::from_utf8(out)?)
+    }
 }
 
 /// Message lines, and their header.
@@ -87,5 +122,5 @@ message 0 ERROR 1 \"a\" \"\"§message 1 DEBUG 2 \"a\" \"%d%u%ld%p%*.*s\"§messag
 
 #[test]
 fn headers_are_written(rt: HostRuntime) -> Result<(), Fail> {
-    check_rows(&rt, HEADERS, header_told)
+    check_rows::<HeaderTold, _>(&rt, HEADERS)
 }

@@ -3,7 +3,7 @@
 ghost use Rattle.std.specs.Prelude.{None};
 
 use crate::messages::one_message;
-use crate::tables::{bytes_of, check_rows, text_of};
+use crate::tables::{Told, bytes_of, check_rows, joined};
 use checkpoint_io::{
     BlockFault, Header, Reader, append_close, append_extent, append_fragment, append_header,
 };
@@ -28,24 +28,29 @@ const HEADER: Header = Header {
     },
 };
 
-/// The log, as it is appended part by part.
-fn log_appended(alloc: Global, dictionary: &Dictionary) -> Result<Vec<u8>, Fail> {
+/// Appends the log part by part, if there is one message.
+fn append_log(dictionary: &Dictionary, log: &mut Vec<u8>) -> Result<(), AllocError> {
     if dictionary.len() != 1 {
-        return Err("there is one message".into());
+        return Ok(());
     }
+    append_header(&HEADER, log)?;
+    append_fragment(dictionary, 0, 1, log)?;
+    append_extent(0, &[0x10, 3, 1, 7], log)?;
+    append_close(0, log)
+}
+
+/// The log of one message.
+fn log_appended(alloc: Global, line: &str) -> Result<Vec<u8>, Fail> {
+    let dictionary = one_message(alloc, line)?;
     let mut log = Vec::new(alloc);
-    append_header(&HEADER, &mut log)?;
-    append_fragment(dictionary, 0, 1, &mut log)?;
-    append_extent(0, &[0x10, 3, 1, 7], &mut log)?;
-    append_close(0, &mut log)?;
+    append_log(&dictionary, &mut log)?;
     Ok(log)
 }
 
 /// Whether the log of one message is that log.
 fn is_log(alloc: Global, line: &str) -> Result<bool, Fail> {
     let wanted = bytes_of(alloc, LOG)?;
-    let dictionary = one_message(alloc, line)?;
-    Ok(log_appended(alloc, &dictionary)? == wanted)
+    Ok(log_appended(alloc, line)? == wanted)
 }
 
 #[test]
@@ -71,23 +76,33 @@ fn ending(
     }
 }
 
-/// How the blocks of a source are read, to its end or to a fault.
-fn read_blocks<S: Source>(
-    alloc: Global,
-    reader: &mut Reader,
-    source: &mut S,
-) -> Result<String, AllocError> {
+/// How many blocks of a source are read, to its end or to a fault, or till there are very many.
+fn count_blocks<S: Source>(reader: &mut Reader, source: &mut S) -> (u64, Option<BlockFault>) {
     for count in 0..10_000u64 {
         if reader.failed() {
             break;
         }
         match reader.next_block(source) {
             Ok(Some(_)) => {}
-            Ok(None) => return format!(in alloc; "{count} to {}", reader.offset()),
-            Err(fault) => return ending(alloc, count, reader.offset(), fault),
+            Ok(None) => return (count, None),
+            Err(fault) => return (count, Some(fault)),
         }
     }
-    String::from_str(alloc, "on and on")
+    (10_000, None)
+}
+
+/// How the blocks of a source are read, to its end or to a fault.
+fn read_blocks<S: Source>(
+    alloc: Global,
+    reader: &mut Reader,
+    source: &mut S,
+) -> Result<String, AllocError> {
+    let (count, fault) = count_blocks(reader, source);
+    let offset = reader.offset();
+    match fault {
+        Some(fault) => ending(alloc, count, offset, fault),
+        None => format!(in alloc; "{count} to {offset}"),
+    }
 }
 
 /// How a source is read to its end or to a fault.
@@ -98,20 +113,23 @@ fn read_all<S: Source>(alloc: Global, source: &mut S) -> Result<String, AllocErr
     }
 }
 
-/// The bytes of so many fragments of 16 messages, each of which has its id as its line.
+/// Appends a fragment of 16 messages, each of which has its id as its line.
+fn push_fragment(log: &mut Vec<u8>, first: u32) -> Result<(), AllocError> {
+    let [a, b, c, d] = first.to_le_bytes();
+    log.extend_from_slice(&[1, a, b, c, d, 16, 0])?;
+    for place in 0..16 {
+        let [a, b, c, d] = first.saturating_add(place).to_le_bytes();
+        log.extend_from_slice(&[1, a, b, c, d, 1, 0, b'f', 0, 0])?;
+    }
+    Ok(())
+}
+
+/// The bytes of so many such fragments.
 fn full_fragments(alloc: Global, count: u16) -> Result<Vec<u8>, AllocError> {
     let mut log = Vec::new(alloc);
     append_header(&HEADER, &mut log)?;
     for fragment in 0..count {
-        let first = 16 * u32::from(fragment);
-        log.push(1)?;
-        log.extend_from_slice(&first.to_le_bytes())?;
-        log.extend_from_slice(&[16, 0])?;
-        for line in first..first + 16 {
-            log.push(1)?;
-            log.extend_from_slice(&line.to_le_bytes())?;
-            log.extend_from_slice(&[1, 0, b'f', 0, 0])?;
-        }
+        push_fragment(&mut log, 16 * u32::from(fragment))?;
     }
     Ok(log)
 }
@@ -167,22 +185,37 @@ impl Source for LongLog {
     }
 }
 
-/// The header, the message `%s`, 2,047 extents of 65,542 bytes, which together take 134,164,474, an extent of the
-/// 53,205 bytes that are left to the limit, and a close mark.
-fn long_log(alloc: Global) -> Result<LongLog, Fail> {
+/// An extent of 65,542 bytes in hexadecimal.
+const EXTENT: &str = "02 00 00 00 01 00§16* 00 02 a0 0f 4000*61§ 00 02 bc 05 1468*61";
+
+/// An extent of 53,205 bytes, and a close mark.
+const BACK: &str = "02 00 cf cf 00 00§13* 00 02 a0 0f 4000*61§ 00 02 77 04 1143*61 04 00";
+
+fn bytes_joined(alloc: Global, words: &str) -> Result<Vec<u8>, Fail> {
+    let words = joined(alloc, words)?;
+    bytes_of(alloc, &words)
+}
+
+/// The header and the message `%s`.
+fn long_front(alloc: Global) -> Result<Vec<u8>, AllocError> {
     let mut front = Vec::new(alloc);
     append_header(&HEADER, &mut front)?;
     front.extend_from_slice(&[
         1, 0, 0, 0, 0, 1, 0, 1, 0, 0, 0, 0, 1, 0, b'f', 2, 0, b'%', b's',
     ])?;
-    let records = text_of(alloc, "13* 00 02 a0 0f 4000*61")?;
-    let more = text_of(alloc, "3* 00 02 a0 0f 4000*61")?;
-    let extent = format!(in alloc; "02 00 00 00 01 00{records}{more} 00 02 bc 05 1468*61")?;
-    let back = format!(in alloc; "02 00 cf cf 00 00{records} 00 02 77 04 1143*61 04 00")?;
+    Ok(front)
+}
+
+/// The header, the message `%s`, 2,047 extents of 65,542 bytes, which together take 134,164,474, an extent of the
+/// 53,205 bytes that are left to the limit, and a close mark.
+fn long_log(alloc: Global) -> Result<LongLog, Fail> {
+    let front = long_front(alloc)?;
+    let extent = bytes_joined(alloc, EXTENT)?;
+    let back = bytes_joined(alloc, BACK)?;
     Ok(LongLog {
         front,
-        extent: bytes_of(alloc, &extent)?,
-        back: bytes_of(alloc, &back)?,
+        extent,
+        back,
         times: 2047,
         part: 0,
         at: 0,
@@ -192,18 +225,20 @@ fn long_log(alloc: Global) -> Result<LongLog, Fail> {
 /// The bytes of so many fragments of 16 messages and one message more.
 fn one_message_more(alloc: Global, fragments: u16) -> Result<Vec<u8>, AllocError> {
     let mut log = full_fragments(alloc, fragments)?;
-    let first = 16 * u32::from(fragments);
-    log.push(1)?;
-    log.extend_from_slice(&first.to_le_bytes())?;
-    log.extend_from_slice(&[1, 0, 1, 0, 0, 0, 0, 1, 0, b'g', 0, 0])?;
+    let [a, b, c, d] = (16 * u32::from(fragments)).to_le_bytes();
+    log.extend_from_slice(&[1, a, b, c, d, 1, 0, 1, 0, 0, 0, 0, 1, 0, b'g', 0, 0])?;
     Ok(log)
 }
 
 /// How a log is read that has so many fragments of 16 messages and one message more.
-fn messages_read(alloc: Global, fragments: &str) -> Result<String, Fail> {
-    let log = one_message_more(alloc, fragments.parse()?)?;
-    let mut source = MemSource::make(alloc, &log, 65_536, &[])?;
-    Ok(read_all(alloc, &mut source)?)
+struct MessagesRead;
+
+impl Told for MessagesRead {
+    fn told(alloc: Global, fragments: &str) -> Result<String, Fail> {
+        let log = one_message_more(alloc, fragments.parse()?)?;
+        let mut source = MemSource::make(alloc, &log, 65_536, &[])?;
+        Ok(read_all(alloc, &mut source)?)
+    }
 }
 
 /// How many fragments, and how the log is read.
@@ -211,7 +246,7 @@ const FRAGMENTS: &str = "4095|4096 to 683912;;4096|4096 to 684062: 10 BadLength"
 
 #[test]
 fn a_log_has_65_536_messages_at_most(rt: HostRuntime) -> Result<(), Fail> {
-    check_rows(&rt, FRAGMENTS, messages_read)
+    check_rows::<MessagesRead, _>(&rt, FRAGMENTS)
 }
 
 #[test]

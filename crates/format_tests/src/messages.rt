@@ -1,12 +1,13 @@
 //! Messages as lines and as entries, and the dictionaries that they make.
 
-use crate::tables::{bytes_of, check_rows, cut, hexadecimal, text_of, truth_of, values_of};
+use crate::tables::{Told, bytes_of, check_rows, cut, hexadecimal, text_of, truth_of, values_of};
 use log_dictionary::{
     Added, Dictionary, EntryFault, LineFault, Message, SpelledText, ends_field, entry_len,
     first_field, put_entry, read_entry, read_integer, read_number, read_signed, split_at_byte,
     split_integer, split_number, split_text,
 };
-use std::alloc::Global;
+use std::alloc::{AllocError, Global};
+use std::fmt::Write;
 use std::test::Fail;
 
 /// Lines, and how they are written again.
@@ -29,12 +30,16 @@ pub(crate) fn one_format(alloc: Global, format: &str) -> Result<Dictionary, Fail
     Ok(one_message(alloc, &line)?)
 }
 
-fn written(alloc: Global, line: &str) -> Result<String, Fail> {
-    let mut out = Vec::new(alloc);
-    one_message(alloc, line)?.write_text(&mut out)?;
-    let text = String::from_utf8(out)?;
-    let (_, line) = text.split_once('\n').ok_or("no first line")?;
-    Ok(String::from_str(alloc, line.trim_end())?)
+struct LineWritten;
+
+impl Told for LineWritten {
+    fn told(alloc: Global, line: &str) -> Result<String, Fail> {
+        let mut out = Vec::new(alloc);
+        one_message(alloc, line)?.write_text(&mut out)?;
+        let text = String::from_utf8(out)?;
+        let (_, line) = text.split_once('\n').ok_or("no first line")?;
+        Ok(String::from_str(alloc, line.trim_end())?)
+    }
 }
 
 /// Lines, and their entries in hexadecimal.
@@ -106,12 +111,36 @@ fn entry_fault(alloc: Global, words: &str) -> Result<String, Fail> {
     Ok(format!(in alloc; "{fault:?}")?)
 }
 
+struct EntryWritten;
+
+impl Told for EntryWritten {
+    fn told(alloc: Global, row: &str) -> Result<String, Fail> {
+        entry_written(alloc, row)
+    }
+}
+
+struct LargeWritten;
+
+impl Told for LargeWritten {
+    fn told(alloc: Global, row: &str) -> Result<String, Fail> {
+        large_written(alloc, row)
+    }
+}
+
+struct BadEntry;
+
+impl Told for BadEntry {
+    fn told(alloc: Global, row: &str) -> Result<String, Fail> {
+        entry_fault(alloc, row)
+    }
+}
+
 #[test]
 fn messages_are_written_and_read(rt: HostRuntime) -> Result<(), Fail> {
-    check_rows(&rt, LINES.trim_start(), written)?;
-    check_rows(&rt, ENTRIES.trim_start(), entry_written)?;
-    check_rows(&rt, LARGE, large_written)?;
-    check_rows(&rt, BAD_ENTRIES, entry_fault)
+    check_rows::<LineWritten, _>(&rt, LINES.trim_start())?;
+    check_rows::<EntryWritten, _>(&rt, ENTRIES.trim_start())?;
+    check_rows::<LargeWritten, _>(&rt, LARGE)?;
+    check_rows::<BadEntry, _>(&rt, BAD_ENTRIES)
 }
 
 /// Lines that come behind that of `srv.cc`, and how they are answered. That a message is there comes before its id.
@@ -125,10 +154,18 @@ message 1 NOTICE 12 "a" "b" |Err(BadEntry);;message 1 NOTICE 12 "a" "%5f"|Err(Ba
 message 0 NOTICE 12 "a" "b"|Err(Order);;message 2 NOTICE 12 "a" "b"|Err(Order);;message 1 NOTICE 12 "a" "b"|Ok(())
 message 1 NOTICE 12 "srv.cc" "x=%d"|Err(BadEntry);;message 7 NOTICE 12 "srv.cc" "\x78=%d"|Err(BadEntry)"#;
 
-fn line_answer(alloc: Global, line: &str) -> Result<String, Fail> {
-    let mut dictionary = one_message(alloc, "message 0 NOTICE 12 \"srv.cc\" \"x=%d\"")?;
+fn answered(alloc: Global, dictionary: &mut Dictionary, line: &str) -> Result<String, AllocError> {
     let answer = dictionary.read_line(line.as_bytes());
-    Ok(format!(in alloc; "{answer:?}")?)
+    format!(in alloc; "{answer:?}")
+}
+
+struct LineAnswer;
+
+impl Told for LineAnswer {
+    fn told(alloc: Global, line: &str) -> Result<String, Fail> {
+        let mut dictionary = one_message(alloc, "message 0 NOTICE 12 \"srv.cc\" \"x=%d\"")?;
+        Ok(answered(alloc, &mut dictionary, line)?)
+    }
 }
 
 /// Formats, ids and arguments, and whether a dictionary with one message of the format takes such a call.
@@ -139,19 +176,23 @@ const CALLS: &str = "\
 %ld|0|i-9223372036854775808|true;;%*d|0|i-4096,i0|false;;%*d|0|i-4095,i0|true;;%*s|0|i-6,tabc|true
 %.*d|0|i-2147483648,i0|true;;%.*d|0|i4096,i0|false;;%s|0|t4000*a|true;;%s|0|t4001*a|false;;%s|0|ta\0|false";
 
-fn takes(alloc: Global, row: &str) -> Result<String, Fail> {
-    let (format, rest) = cut(row)?;
-    let (id, words) = cut(rest)?;
-    let id = id.parse::<u32>()?;
-    let values = values_of(alloc, words)?;
-    let dictionary = one_format(alloc, format)?;
-    truth_of(alloc, dictionary.takes(id, values.as_slice()))
+struct CallTaken;
+
+impl Told for CallTaken {
+    fn told(alloc: Global, row: &str) -> Result<String, Fail> {
+        let (format, rest) = cut(row)?;
+        let (id, words) = cut(rest)?;
+        let id = id.parse::<u32>()?;
+        let values = values_of(alloc, words)?;
+        let dictionary = one_format(alloc, format)?;
+        truth_of(alloc, dictionary.takes(id, values.as_slice()))
+    }
 }
 
 #[test]
 fn lines_and_calls_are_judged(rt: HostRuntime) -> Result<(), Fail> {
-    check_rows(&rt, OTHER_LINES.trim_start(), line_answer)?;
-    check_rows(&rt, CALLS, takes)
+    check_rows::<LineAnswer, _>(&rt, OTHER_LINES.trim_start())?;
+    check_rows::<CallTaken, _>(&rt, CALLS)
 }
 
 /// What stands in a line, the length of its text and whether a byte 0 is in it, its bytes, and what follows it.
@@ -168,11 +209,15 @@ fn text_shown(alloc: Global, text: SpelledText<'_>, after: &[u8]) -> Result<Stri
     Ok(format!(in alloc; "{} {}{words} >{after}", text.len(), text.has_nul())?)
 }
 
-fn split(alloc: Global, line: &str) -> Result<String, Fail> {
-    let line = text_of(alloc, line)?;
-    match split_text(line.as_bytes()) {
-        Some((text, after)) => text_shown(alloc, text, after),
-        None => Ok(String::from_str(alloc, "none")?),
+struct TextSplit;
+
+impl Told for TextSplit {
+    fn told(alloc: Global, line: &str) -> Result<String, Fail> {
+        let line = text_of(alloc, line)?;
+        match split_text(line.as_bytes()) {
+            Some((text, after)) => text_shown(alloc, text, after),
+            None => Ok(String::from_str(alloc, "none")?),
+        }
     }
 }
 
@@ -191,25 +236,33 @@ const NUMBERS: &str = "\
 --1|None None None;;|None None None;;1a|None None None;;99999999999999999999x|None None None;; 1|None None None
 1:|None None None;;1/|None None None";
 
-fn numbers_read(alloc: Global, field: &str) -> Result<String, Fail> {
-    let integer = read_integer(field.as_bytes());
-    let number = read_number(field.as_bytes());
-    let signed = read_signed(field.as_bytes());
-    Ok(format!(in alloc; "{integer:?} {number:?} {signed:?}")?)
+struct NumbersRead;
+
+impl Told for NumbersRead {
+    fn told(alloc: Global, field: &str) -> Result<String, Fail> {
+        let integer = read_integer(field.as_bytes());
+        let number = read_number(field.as_bytes());
+        let signed = read_signed(field.as_bytes());
+        Ok(format!(in alloc; "{integer:?} {number:?} {signed:?}")?)
+    }
 }
 
 /// A line, its first field and the rest, and how many bytes stand on both sides of its first space.
 const FIELDS: &str = "\
 12 a b|(2, 4) Some((2, 3));;12|(2, 0) None;; 12|(0, 3) Some((0, 2));;|(0, 0) None;;a  b|(1, 3) Some((1, 2))";
 
-fn fields(alloc: Global, line: &str) -> Result<String, Fail> {
-    let (field, rest) = first_field(line.as_bytes());
-    let lens = (field.len(), rest.len());
-    let sides = match split_at_byte(line.as_bytes(), b' ') {
-        Some((before, after)) => Some((before.len(), after.len())),
-        None => None,
-    };
-    Ok(format!(in alloc; "{lens:?} {sides:?}")?)
+struct FieldsFound;
+
+impl Told for FieldsFound {
+    fn told(alloc: Global, line: &str) -> Result<String, Fail> {
+        let (field, rest) = first_field(line.as_bytes());
+        let lens = (field.len(), rest.len());
+        let sides = match split_at_byte(line.as_bytes(), b' ') {
+            Some((before, after)) => Some((before.len(), after.len())),
+            None => None,
+        };
+        Ok(format!(in alloc; "{lens:?} {sides:?}")?)
+    }
 }
 
 /// A line, its first field as a number of any size and as one below 2^64, each with how many bytes stand behind the
@@ -218,26 +271,30 @@ const FIRST_NUMBERS: &str = "\
 12 a|Some((Unsigned(12), 2)) Some((12, 2)) false;;-1|Some((Signed(-1), 0)) None false;;00 1|None None false
 18446744073709551616 7|Some((Beyond, 2)) None false;;12a|None None false;; 1|None None true;;|None None true";
 
-fn first_numbers(alloc: Global, line: &str) -> Result<String, Fail> {
-    let bytes = line.as_bytes();
-    let integer = match split_integer(bytes) {
-        Some((integer, rest)) => Some((integer, rest.len())),
-        None => None,
-    };
-    let number = match split_number(bytes) {
-        Some((number, rest)) => Some((number, rest.len())),
-        None => None,
-    };
-    Ok(format!(in alloc; "{integer:?} {number:?} {}", ends_field(bytes))?)
+struct FirstNumbersRead;
+
+impl Told for FirstNumbersRead {
+    fn told(alloc: Global, line: &str) -> Result<String, Fail> {
+        let bytes = line.as_bytes();
+        let integer = match split_integer(bytes) {
+            Some((integer, rest)) => Some((integer, rest.len())),
+            None => None,
+        };
+        let number = match split_number(bytes) {
+            Some((number, rest)) => Some((number, rest.len())),
+            None => None,
+        };
+        Ok(format!(in alloc; "{integer:?} {number:?} {}", ends_field(bytes))?)
+    }
 }
 
 #[test]
 fn parts_of_lines_are_read(rt: HostRuntime) -> Result<(), Fail> {
-    check_rows(&rt, TEXTS.trim_start(), split)?;
-    check_rows(&rt, "\"del\x7fete\"|none", split)?;
-    check_rows(&rt, NUMBERS, numbers_read)?;
-    check_rows(&rt, FIELDS, fields)?;
-    check_rows(&rt, FIRST_NUMBERS, first_numbers)
+    check_rows::<TextSplit, _>(&rt, TEXTS.trim_start())?;
+    check_rows::<TextSplit, _>(&rt, "\"del\x7fete\"|none")?;
+    check_rows::<NumbersRead, _>(&rt, NUMBERS)?;
+    check_rows::<FieldsFound, _>(&rt, FIELDS)?;
+    check_rows::<FirstNumbersRead, _>(&rt, FIRST_NUMBERS)
 }
 
 /// The message with its number as its line.
@@ -282,13 +339,17 @@ fn additions_shown(alloc: Global, dictionary: &mut Dictionary) -> Result<String,
         text.push_str(&addition_shown(alloc, dictionary, id)?)?;
     }
     let line = dictionary.read_line(b"message 0 NOTICE 0 \"srv.cc\" \"x=%d\"");
-    text.push_str(&format!(in alloc; "{line:?}")?)?;
+    write!(text, "{line:?}")?;
     Ok(text)
 }
 
-fn filled(alloc: Global, count: &str) -> Result<String, Fail> {
-    let mut dictionary = many_messages(alloc, count.parse()?)?;
-    additions_shown(alloc, &mut dictionary)
+struct DictionaryFilled;
+
+impl Told for DictionaryFilled {
+    fn told(alloc: Global, count: &str) -> Result<String, Fail> {
+        let mut dictionary = many_messages(alloc, count.parse()?)?;
+        additions_shown(alloc, &mut dictionary)
+    }
 }
 
 /// How many messages a dictionary has, and how it answers more of them.
@@ -297,5 +358,5 @@ const FULL: &str =
 
 #[test]
 fn a_dictionary_is_filled(rt: HostRuntime) -> Result<(), Fail> {
-    check_rows(&rt, FULL, filled)
+    check_rows::<DictionaryFilled, _>(&rt, FULL)
 }

@@ -1,6 +1,6 @@
 //! Packed numbers.
 
-use crate::tables::{bytes_of, check_rows, cut, hexadecimal};
+use crate::tables::{Told, bytes_of, check_rows, cut, hexadecimal};
 use nibble_pack::{
     pack_signed, pack_unsigned, signed_len, unpack_signed, unpack_unsigned, unsigned_len,
 };
@@ -35,25 +35,33 @@ s|9|07|Some(0) Ok(-1);;s|10|00|Some(1) Err(NotShortest);;s|8|07 7*00|Some(8) Err
 s|15|5*00|Some(6) Err(Cut);;s|16||None Err(BadCode)";
 
 /// The code and the bytes of an unsigned number, if they are read as that number again.
-fn packed_unsigned(alloc: Global, number: &str) -> Result<String, Fail> {
-    let number = number.parse::<u64>()?;
-    let packed = pack_unsigned(number);
-    let words = hexadecimal(alloc, &packed.bytes[..packed.len])?;
-    if unpack_unsigned(packed.code, &packed.bytes) != Ok(number) {
-        return Err("it is another number".into());
+struct UnsignedPacked;
+
+impl Told for UnsignedPacked {
+    fn told(alloc: Global, number: &str) -> Result<String, Fail> {
+        let number = number.parse::<u64>()?;
+        let packed = pack_unsigned(number);
+        let words = hexadecimal(alloc, &packed.bytes[..packed.len])?;
+        if unpack_unsigned(packed.code, &packed.bytes) != Ok(number) {
+            return Err("it is another number".into());
+        }
+        Ok(format!(in alloc; "{}{words}", packed.code)?)
     }
-    Ok(format!(in alloc; "{}{words}", packed.code)?)
 }
 
 /// The same of a signed number.
-fn packed_signed(alloc: Global, number: &str) -> Result<String, Fail> {
-    let number = number.parse::<i64>()?;
-    let packed = pack_signed(number);
-    let words = hexadecimal(alloc, &packed.bytes[..packed.len])?;
-    if unpack_signed(packed.code, &packed.bytes) != Ok(number) {
-        return Err("it is another number".into());
+struct SignedPacked;
+
+impl Told for SignedPacked {
+    fn told(alloc: Global, number: &str) -> Result<String, Fail> {
+        let number = number.parse::<i64>()?;
+        let packed = pack_signed(number);
+        let words = hexadecimal(alloc, &packed.bytes[..packed.len])?;
+        if unpack_signed(packed.code, &packed.bytes) != Ok(number) {
+            return Err("it is another number".into());
+        }
+        Ok(format!(in alloc; "{}{words}", packed.code)?)
     }
-    Ok(format!(in alloc; "{}{words}", packed.code)?)
 }
 
 fn unsigned_read(alloc: Global, code: u8, bytes: &[u8]) -> Result<String, AllocError> {
@@ -67,21 +75,25 @@ fn signed_read(alloc: Global, code: u8, bytes: &[u8]) -> Result<String, AllocErr
 }
 
 /// How many bytes a code has, and the number that is read.
-fn unpacked(alloc: Global, row: &str) -> Result<String, Fail> {
-    let (kind, rest) = cut(row)?;
-    let (code, words) = cut(rest)?;
-    let code = code.parse::<u8>()?;
-    let bytes = bytes_of(alloc, words)?;
-    let told = match kind {
-        "u" => unsigned_read(alloc, code, &bytes)?,
-        _ => signed_read(alloc, code, &bytes)?,
-    };
-    Ok(told)
+struct NumberUnpacked;
+
+impl Told for NumberUnpacked {
+    fn told(alloc: Global, row: &str) -> Result<String, Fail> {
+        let (kind, rest) = cut(row)?;
+        let (code, words) = cut(rest)?;
+        let code = code.parse::<u8>()?;
+        let bytes = bytes_of(alloc, words)?;
+        let told = match kind {
+            "u" => unsigned_read(alloc, code, &bytes)?,
+            _ => signed_read(alloc, code, &bytes)?,
+        };
+        Ok(told)
+    }
 }
 
 #[test]
 fn numbers_are_packed_and_unpacked(rt: HostRuntime) -> Result<(), Fail> {
-    check_rows(&rt, UNSIGNED, packed_unsigned)?;
-    check_rows(&rt, SIGNED, packed_signed)?;
-    check_rows(&rt, OTHERS, unpacked)
+    check_rows::<UnsignedPacked, _>(&rt, UNSIGNED)?;
+    check_rows::<SignedPacked, _>(&rt, SIGNED)?;
+    check_rows::<NumberUnpacked, _>(&rt, OTHERS)
 }

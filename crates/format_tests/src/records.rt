@@ -4,7 +4,7 @@ ghost use Rattle.std.specs.Prelude.{◌≤◌, length, IfOk};
 
 use crate::frames::framed;
 use crate::messages::one_format;
-use crate::tables::{bytes_of, check_rows, cut, hexadecimal, text_of, values_of};
+use crate::tables::{Told, bytes_of, check_rows, cut, hexadecimal, text_of, values_of};
 use arg_records::{Call, Calls, FrameFault, frame_stamp, read_frame};
 use buffer_extent::{BodyFault, put_record, read_body};
 use log_dictionary::Dictionary;
@@ -85,6 +85,29 @@ fn put_call(
 }
 
 /// The bytes of the record, if they are read as the same call, and no part of their front is read.
+fn record_read(
+    alloc: Global,
+    dictionary: &Dictionary,
+    record: &[u8],
+    before: u64,
+    call: Call,
+) -> Result<String, Fail> {
+    if !is_read(alloc, dictionary, record, before, call)?
+        || is_front_read(alloc, dictionary, record, before)
+    {
+        return Err("another call is read".into());
+    }
+    Ok(hexadecimal(alloc, record)?)
+}
+
+/// Whether all places but those from the third up to the end are as they were.
+fn are_others_kept(body: &[u8; 8200], end: usize) -> bool
+    requires { end ≤ 8200 }
+{
+    body[..3] == [77; 3] && body[end..].iter().all(|byte| *byte == 77)
+}
+
+/// The bytes of the record, if no others are written, and they are read so.
 fn record_shown(
     alloc: Global,
     dictionary: &Dictionary,
@@ -95,28 +118,26 @@ fn record_shown(
     let types = dictionary.get(0).ok_or("no message")?.format.types();
     let mut body = [77; 8200];
     let end = put_call(alloc, types, stamp, args.as_slice(), before, &mut body)?;
-    if body[..3] != [77; 3] || body[end..].iter().any(|byte| *byte != 77) {
+    if !are_others_kept(&body, end) {
         return Err("other bytes are written".into());
     }
-    let record = &body[3..end];
     let call = Call { stamp, id: 0, args };
-    if !is_read(alloc, dictionary, record, before, call)?
-        || is_front_read(alloc, dictionary, record, before)
-    {
-        return Err("another call is read".into());
-    }
-    Ok(hexadecimal(alloc, record)?)
+    record_read(alloc, dictionary, &body[3..end], before, call)
 }
 
-fn record_written(alloc: Global, row: &str) -> Result<String, Fail> {
-    let (format, rest) = cut(row)?;
-    let (before, rest) = cut(rest)?;
-    let (stamp, words) = cut(rest)?;
-    let before = before.parse::<u64>()?;
-    let stamp = stamp.parse::<u64>()?;
-    let args = values_of(alloc, words)?;
-    let dictionary = one_format(alloc, format)?;
-    record_shown(alloc, &dictionary, before, stamp, args)
+struct RecordWritten;
+
+impl Told for RecordWritten {
+    fn told(alloc: Global, row: &str) -> Result<String, Fail> {
+        let (format, rest) = cut(row)?;
+        let (before, rest) = cut(rest)?;
+        let (stamp, words) = cut(rest)?;
+        let before = before.parse::<u64>()?;
+        let stamp = stamp.parse::<u64>()?;
+        let args = values_of(alloc, words)?;
+        let dictionary = one_format(alloc, format)?;
+        record_shown(alloc, &dictionary, before, stamp, args)
+    }
 }
 
 /// A format, the clock's tick, the writer's last stamp, and the bytes of a body: how many records it has and the last
@@ -164,19 +185,23 @@ fn body_of(alloc: Global, words: &str) -> Result<Vec<u8>, Fail> {
     bytes_of(alloc, &words)
 }
 
-fn body_read(alloc: Global, row: &str) -> Result<String, Fail> {
-    let (format, rest) = cut(row)?;
-    let (base, rest) = cut(rest)?;
-    let (last, words) = cut(rest)?;
-    let base = base.parse::<u64>()?;
-    let last = last.parse::<u64>()?;
-    let body = body_of(alloc, words)?;
-    let dictionary = one_format(alloc, format)?;
-    body_shown(alloc, &dictionary, &body, base, last)
+struct BodyRead;
+
+impl Told for BodyRead {
+    fn told(alloc: Global, row: &str) -> Result<String, Fail> {
+        let (format, rest) = cut(row)?;
+        let (base, rest) = cut(rest)?;
+        let (last, words) = cut(rest)?;
+        let base = base.parse::<u64>()?;
+        let last = last.parse::<u64>()?;
+        let body = body_of(alloc, words)?;
+        let dictionary = one_format(alloc, format)?;
+        body_shown(alloc, &dictionary, &body, base, last)
+    }
 }
 
 #[test]
 fn records_are_written_and_read(rt: HostRuntime) -> Result<(), Fail> {
-    check_rows(&rt, RECORDS, record_written)?;
-    check_rows(&rt, BODIES, body_read)
+    check_rows::<RecordWritten, _>(&rt, RECORDS)?;
+    check_rows::<BodyRead, _>(&rt, BODIES)
 }

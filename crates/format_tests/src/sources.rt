@@ -1,10 +1,11 @@
 //! Sources: what they are made of, and what of them is refused.
 
-use crate::tables::{check_rows, text_of};
+use crate::tables::{Told, check_rows, text_of};
 use preprocessor::{MAX_SOURCE, Numbering, push_refusal};
 use source_scan::{Found, literal_bytes, scan};
 use source_tokens::{TokenList, parts, tokens};
 use std::alloc::{AllocError, Global};
+use std::fmt::Write;
 use std::test::Fail;
 
 /// The kinds of tokens and their ends, where each begins at the end of the one before.
@@ -17,7 +18,7 @@ fn kinds_of(alloc: Global, list: &TokenList) -> Result<String, Fail> {
         }
         start = token.end;
         let kind = token.kind;
-        text.push_str(&format!(in alloc; "{kind:?} {start} ")?)?;
+        write!(text, "{kind:?} {start} ")?;
     }
     Ok(String::from_str(alloc, text.trim_end())?)
 }
@@ -41,9 +42,13 @@ aR"("u8R"()"|Identifier 2 StringLiteral 5 RawString 12;;R"|Identifier 1 BrokenSt
 /*"*/"|BlockComment 5 BrokenString 6;;/*/ a|BlockComment 5
 /**/ // 'a␊|BlockComment 4 Space 5 LineComment 10 NewLine 11;;|"#;
 
-fn tokens_told(alloc: Global, source: &str) -> Result<String, Fail> {
-    let source = text_of(alloc, source)?;
-    kinds_of(alloc, &tokens(alloc, source.as_bytes())?)
+struct TokensTold;
+
+impl Told for TokensTold {
+    fn told(alloc: Global, source: &str) -> Result<String, Fail> {
+        let source = text_of(alloc, source)?;
+        kinds_of(alloc, &tokens(alloc, source.as_bytes())?)
+    }
 }
 
 /// The same of sources with control bytes.
@@ -63,27 +68,35 @@ const MARKS: &str = "\
 \u{feff}#a // b␊|Space 3 Directive 10 NewLine 11;;\
 a\u{feff}#|Identifier 4 Punctuator(35) 5";
 
-fn parts_told(alloc: Global, source: &str) -> Result<String, Fail> {
-    let source = text_of(alloc, source)?;
-    kinds_of(alloc, &parts(alloc, source.as_bytes())?)
+struct PartsTold;
+
+impl Told for PartsTold {
+    fn told(alloc: Global, source: &str) -> Result<String, Fail> {
+        let source = text_of(alloc, source)?;
+        kinds_of(alloc, &parts(alloc, source.as_bytes())?)
+    }
 }
 
 #[test]
 fn sources_are_parted(rt: HostRuntime) -> Result<(), Fail> {
-    check_rows(&rt, TOKENS.trim_start(), tokens_told)?;
-    check_rows(&rt, CONTROLS, tokens_told)?;
-    check_rows(&rt, PARTS.trim_start(), parts_told)?;
-    check_rows(&rt, MARKS, parts_told)
+    check_rows::<TokensTold, _>(&rt, TOKENS.trim_start())?;
+    check_rows::<TokensTold, _>(&rt, CONTROLS)?;
+    check_rows::<PartsTold, _>(&rt, PARTS.trim_start())?;
+    check_rows::<PartsTold, _>(&rt, MARKS)
 }
 
 /// What stands between the marks of literals, and the bytes that it stands for.
 const ESCAPES: &str = r#"
 |;;a bé|a b\xc3\xa9;;\0\18\0071\377|\x00\x018\x071\xff;;\0417\08|!7\x008;;\u00e9\U0010ffff|\xc3\xa9\xf4\x8f\xbf\xbf;;a\|none"#;
 
-fn escapes_told(alloc: Global, body: &str) -> Result<String, Fail> {
-    match literal_bytes(alloc, body.as_bytes())? {
-        Some(bytes) => Ok(format!(in alloc; "{}", bytes.as_slice().escape_ascii())?),
-        None => Ok(String::from_str(alloc, "none")?),
+struct EscapesTold;
+
+impl Told for EscapesTold {
+    fn told(alloc: Global, body: &str) -> Result<String, Fail> {
+        match literal_bytes(alloc, body.as_bytes())? {
+            Some(bytes) => Ok(format!(in alloc; "{}", bytes.as_slice().escape_ascii())?),
+            None => Ok(String::from_str(alloc, "none")?),
+        }
     }
 }
 
@@ -112,19 +125,23 @@ fn places_shown(alloc: Global, all: &[Found]) -> Result<String, Fail> {
     Ok(text)
 }
 
-fn places_told(alloc: Global, row: &str) -> Result<String, Fail> {
-    let source = text_of(alloc, row)?;
-    if source.len() > MAX_SOURCE {
-        return Err("the source is too large".into());
+struct PlacesTold;
+
+impl Told for PlacesTold {
+    fn told(alloc: Global, row: &str) -> Result<String, Fail> {
+        let source = text_of(alloc, row)?;
+        if source.len() > MAX_SOURCE {
+            return Err("the source is too large".into());
+        }
+        let found = scan(alloc, b"t.cc", source.as_bytes())?;
+        places_shown(alloc, &found)
     }
-    let found = scan(alloc, b"t.cc", source.as_bytes())?;
-    places_shown(alloc, &found)
 }
 
 #[test]
 fn statements_are_found(rt: HostRuntime) -> Result<(), Fail> {
-    check_rows(&rt, ESCAPES.trim_start(), escapes_told)?;
-    check_rows(&rt, PLACES.trim_start(), places_told)
+    check_rows::<EscapesTold, _>(&rt, ESCAPES.trim_start())?;
+    check_rows::<PlacesTold, _>(&rt, PLACES.trim_start())
 }
 
 /// Files, each with its name in front of `=`, and what of them is refused. Of a file without `=` it is known that it is
@@ -164,17 +181,25 @@ fn with_files(alloc: Global, files: &str) -> Result<Numbering, AllocError> {
     Ok(numbering)
 }
 
-fn files_told(alloc: Global, row: &str) -> Result<String, Fail> {
-    let numbering = with_files(alloc, row)?;
-    refusals_told(alloc, &numbering)
+struct FilesTold;
+
+impl Told for FilesTold {
+    fn told(alloc: Global, row: &str) -> Result<String, Fail> {
+        let numbering = with_files(alloc, row)?;
+        refusals_told(alloc, &numbering)
+    }
 }
 
 /// What is said of a file of so many bytes, spaces behind a statement that is refused.
-fn large_told(alloc: Global, len: &str) -> Result<String, Fail> {
-    let mut source = Vec::from_slice(alloc, b"NANO_LOG(FATAL, \"x\");")?;
-    source.resize(len.parse()?, b' ')?;
-    let numbering = Numbering::make(alloc).add_source(alloc, b"l.cc", &source)?;
-    refusals_told(alloc, &numbering)
+struct LargeTold;
+
+impl Told for LargeTold {
+    fn told(alloc: Global, len: &str) -> Result<String, Fail> {
+        let mut source = Vec::from_slice(alloc, b"NANO_LOG(FATAL, \"x\");")?;
+        source.resize(len.parse()?, b' ')?;
+        let numbering = Numbering::make(alloc).add_source(alloc, b"l.cc", &source)?;
+        refusals_told(alloc, &numbering)
+    }
 }
 
 /// Lengths of such files.
@@ -183,10 +208,10 @@ const LARGE: &str = "\
 
 #[test]
 fn large_sources_are_refused(rt: HostRuntime) -> Result<(), Fail> {
-    check_rows(&rt, LARGE, large_told)
+    check_rows::<LargeTold, _>(&rt, LARGE)
 }
 
 #[test]
 fn messages_are_numbered(rt: HostRuntime) -> Result<(), Fail> {
-    check_rows(&rt, FILES, files_told)
+    check_rows::<FilesTold, _>(&rt, FILES)
 }

@@ -4,7 +4,7 @@ ghost use Rattle.std.specs.Prelude.{◌≢◌, ◌≤◌, None, IfOk};
 ghost use Rattle.std.specs.FinMap as map;
 ghost use Rattle.nl_io.specs.Desk.{SameButHeld};
 
-use crate::tables::{check_rows, cut, text_of};
+use crate::tables::{Told, check_rows, cut, text_of};
 use nl_io::{
     Failed, FileSink, FileSource, Files, MemFiles, MemSink, MemSource, Sink, Source, StdFiles,
     StdSink, StdSource, TextWriter, read_to_limit, write_all,
@@ -33,10 +33,14 @@ fn sink_shown(alloc: Global, sink: &mut MemSink) -> Result<String, Fail> {
     Ok(format!(in alloc; "{first:?} {second:?} {out} {}", sink.starved())?)
 }
 
-fn sink_told(alloc: Global, row: &str) -> Result<String, Fail> {
-    let (piece, failing) = numbers(row)?;
-    let mut sink = MemSink::make(alloc, piece.max(1), &[failing])?;
-    sink_shown(alloc, &mut sink)
+struct SinkTold;
+
+impl Told for SinkTold {
+    fn told(alloc: Global, row: &str) -> Result<String, Fail> {
+        let (piece, failing) = numbers(row)?;
+        let mut sink = MemSink::make(alloc, piece.max(1), &[failing])?;
+        sink_shown(alloc, &mut sink)
+    }
 }
 
 /// Which call of the sink fails, and what is put behind `hello`: what a writer answers to that text and at the end, and
@@ -54,12 +58,16 @@ fn writer_shown(alloc: Global, sink: &mut MemSink, text: &[u8]) -> Result<String
     Ok(format!(in alloc; "{put:?} {ended:?} {}", sink.bytes().len())?)
 }
 
-fn writer_told(alloc: Global, row: &str) -> Result<String, Fail> {
-    let (failing, word) = cut(row)?;
-    let failing = failing.parse::<u64>()?;
-    let text = text_of(alloc, word)?;
-    let mut sink = MemSink::make(alloc, 100_000, &[failing])?;
-    writer_shown(alloc, &mut sink, text.as_bytes())
+struct WriterTold;
+
+impl Told for WriterTold {
+    fn told(alloc: Global, row: &str) -> Result<String, Fail> {
+        let (failing, word) = cut(row)?;
+        let failing = failing.parse::<u64>()?;
+        let text = text_of(alloc, word)?;
+        let mut sink = MemSink::make(alloc, 100_000, &[failing])?;
+        writer_shown(alloc, &mut sink, text.as_bytes())
+    }
 }
 
 /// The name, opened, as a source.
@@ -126,15 +134,19 @@ fn memory_source_told(
     Ok(told)
 }
 
-fn sources_told(alloc: Global, row: &str) -> Result<String, Fail> {
-    let (limit, rest) = cut(row)?;
-    let limit = limit.parse::<usize>()?;
-    let (piece, failing) = numbers(rest)?;
-    let told = memory_source_told(alloc, limit, piece, failing)?;
-    if file_source_told(alloc, limit, piece, failing)? != told {
-        return Err("a file is read otherwise".into());
+struct SourcesTold;
+
+impl Told for SourcesTold {
+    fn told(alloc: Global, row: &str) -> Result<String, Fail> {
+        let (limit, rest) = cut(row)?;
+        let limit = limit.parse::<usize>()?;
+        let (piece, failing) = numbers(rest)?;
+        let told = memory_source_told(alloc, limit, piece, failing)?;
+        if file_source_told(alloc, limit, piece, failing)? != told {
+            return Err("a file is read otherwise".into());
+        }
+        Ok(told)
     }
-    Ok(told)
 }
 
 /// Writes the bytes to a created file, by a sink.
@@ -198,10 +210,31 @@ fn files_shown(alloc: Global, files: &mut MemFiles) -> Result<String, Fail> {
     Ok(format!(in alloc; "{first} {read}. {second} {}", files.starved())?)
 }
 
-fn files_told(alloc: Global, row: &str) -> Result<String, Fail> {
-    let (piece, failing) = numbers(row)?;
-    let mut files = MemFiles::make(alloc, piece.max(1), &[failing])?;
-    files_shown(alloc, &mut files)
+struct FilesTold;
+
+impl Told for FilesTold {
+    fn told(alloc: Global, row: &str) -> Result<String, Fail> {
+        let (piece, failing) = numbers(row)?;
+        let mut files = MemFiles::make(alloc, piece.max(1), &[failing])?;
+        files_shown(alloc, &mut files)
+    }
+}
+
+/// The id of a name, if it is opened.
+fn opened_once<F: Files>(files: &mut F, name: &str) -> Option<u32> {
+    match files.open_read(name) {
+        Ok(id) => id,
+        Err(_) => None,
+    }
+}
+
+/// Puts an id behind those, if it is none of them.
+fn note(ids: &mut Vec<u32>, id: u32) -> Result<(), AllocError> {
+    if ids.contains(&id) {
+        return Ok(());
+    }
+    ids.push(id)?;
+    Ok(())
 }
 
 /// Opens a name so many times, and tells how many of the ids are new.
@@ -213,10 +246,8 @@ fn opened<F: Files>(
 ) -> Result<usize, AllocError> {
     let mut ids = Vec::new(alloc);
     for _ in 0..times {
-        if let Ok(Some(id)) = files.open_read(name)
-            && !ids.as_slice().contains(&id)
-        {
-            ids.push(id)?;
+        if let Some(id) = opened_once(files, name) {
+            note(&mut ids, id)?;
         }
     }
     Ok(ids.len())
@@ -239,23 +270,23 @@ fn long_file_told(alloc: Global, files: &mut MemFiles, text: &str) -> Result<Str
     Ok(format!(in alloc; "{wrote:?} {is_same} {ids}")?)
 }
 
-fn ids_told(alloc: Global, word: &str) -> Result<String, Fail> {
-    let text = text_of(alloc, word)?;
-    let mut files = MemFiles::make(alloc, 100_000, &[])?;
-    long_file_told(alloc, &mut files, &text)
+struct IdsTold;
+
+impl Told for IdsTold {
+    fn told(alloc: Global, word: &str) -> Result<String, Fail> {
+        let text = text_of(alloc, word)?;
+        let mut files = MemFiles::make(alloc, 100_000, &[])?;
+        long_file_told(alloc, &mut files, &text)
+    }
 }
 
 #[test]
 fn streams_in_memory_move_pieces(rt: HostRuntime) -> Result<(), Fail> {
-    check_rows(&rt, SINKS, sink_told)?;
-    check_rows(&rt, WRITERS, writer_told)?;
-    check_rows(&rt, SOURCES, sources_told)?;
-    check_rows(&rt, FILES, files_told)?;
-    check_rows(
-        &rt,
-        "200000*x|Ok(()) true 40 Ok(None) Ok(Some(7)) 0",
-        ids_told,
-    )
+    check_rows::<SinkTold, _>(&rt, SINKS)?;
+    check_rows::<WriterTold, _>(&rt, WRITERS)?;
+    check_rows::<SourcesTold, _>(&rt, SOURCES)?;
+    check_rows::<FilesTold, _>(&rt, FILES)?;
+    check_rows::<IdsTold, _>(&rt, "200000*x|Ok(()) true 40 Ok(None) Ok(Some(7)) 0")
 }
 
 /// A reader and writer that is interrupted some times, and then moves some bytes or fails.
@@ -316,24 +347,32 @@ fn fakes_shown(alloc: Global, interruptions: u32, most: Option<usize>) -> Result
     Ok(format!(in alloc; "{wrote:?} {read:?}")?)
 }
 
-fn fakes_told(alloc: Global, row: &str) -> Result<String, Fail> {
-    let (interruptions, most) = cut(row)?;
-    let interruptions = interruptions.parse::<u32>()?;
-    fakes_shown(alloc, interruptions, most.parse::<usize>().ok())
+struct FakesTold;
+
+impl Told for FakesTold {
+    fn told(alloc: Global, row: &str) -> Result<String, Fail> {
+        let (interruptions, most) = cut(row)?;
+        let interruptions = interruptions.parse::<u32>()?;
+        fakes_shown(alloc, interruptions, most.parse::<usize>().ok())
+    }
 }
 
 /// What goes through a slice and a vector of std.
-fn through_std(alloc: Global, text: &str) -> Result<String, Fail> {
-    let mut out = Vec::new(alloc);
-    let wrote = write_all(&mut StdSink::make(&mut out), text.as_bytes());
-    let read = rest_of(alloc, &mut StdSource::make(out.as_slice()), 5)?;
-    Ok(format!(in alloc; "{wrote:?} {read}")?)
+struct ThroughStd;
+
+impl Told for ThroughStd {
+    fn told(alloc: Global, text: &str) -> Result<String, Fail> {
+        let mut out = Vec::new(alloc);
+        let wrote = write_all(&mut StdSink::make(&mut out), text.as_bytes());
+        let read = rest_of(alloc, &mut StdSource::make(out.as_slice()), 5)?;
+        Ok(format!(in alloc; "{wrote:?} {read}")?)
+    }
 }
 
 #[test]
 fn streams_of_the_system_are_tried_again(rt: HostRuntime) -> Result<(), Fail> {
-    check_rows(&rt, FAKES, fakes_told)?;
-    check_rows(&rt, "hello|Ok(()) hello", through_std)
+    check_rows::<FakesTold, _>(&rt, FAKES)?;
+    check_rows::<ThroughStd, _>(&rt, "hello|Ok(()) hello")
 }
 
 /// What is answered where there is no file, no folder, no file but a folder, and no room.
@@ -352,15 +391,25 @@ fn file_told<F: Files>(alloc: Global, files: &mut F, name: &str) -> Result<Strin
     Ok(format!(in alloc; "{wrote:?} {read} {}", opened(alloc, files, name, 40)?)?)
 }
 
-/// What is told of files of the system, and of one that was removed again.
-fn system_told(rt: &HostRuntime) -> Result<String, Fail> {
-    let alloc = rt.alloc();
-    let mut files = StdFiles::make(rt, alloc);
-    let refusals = refusals_told(alloc, &mut files)?;
-    let told = file_told(alloc, &mut files, "written_by_a_test")?;
+/// The same, and the answer to opening the file once it was removed again.
+fn removed_file_told<F: Files>(rt: &HostRuntime, files: &mut F) -> Result<String, Fail> {
+    let told = file_told(rt.alloc(), files, "written_by_a_test")?;
     fs::remove_file(rt, "written_by_a_test")?;
     let removed = files.open_read("written_by_a_test");
-    Ok(format!(in alloc; "{refusals}, {told}, {removed:?}")?)
+    Ok(format!(in rt.alloc(); "{told}, {removed:?}")?)
+}
+
+/// What is told of refusals, and of a file that is written and removed.
+fn files_of_system_told<F: Files>(rt: &HostRuntime, files: &mut F) -> Result<String, Fail> {
+    let refusals = refusals_told(rt.alloc(), files)?;
+    let told = removed_file_told(rt, files)?;
+    Ok(format!(in rt.alloc(); "{refusals}, {told}")?)
+}
+
+/// What is told of files of the system.
+fn system_told(rt: &HostRuntime) -> Result<String, Fail> {
+    let mut files = StdFiles::make(rt, rt.alloc());
+    files_of_system_told(rt, &mut files)
 }
 
 #[test]

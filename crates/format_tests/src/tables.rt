@@ -2,6 +2,7 @@
 
 use printf_grammar::{Bytes, Value, Values};
 use std::alloc::{AllocError, Global};
+use std::fmt::Write;
 use std::process::Abort;
 use std::test::Fail;
 
@@ -17,30 +18,23 @@ pub(crate) fn check_told<R: Abort + AllocGlobal>(
     Ok(())
 }
 
+/// What is told of a row, of all its columns but the last.
+pub(crate) trait Told {
+    fn told(alloc: Global, row: &str) -> Result<String, Fail>;
+}
+
 /// Asserts that the last column of a row is what is told of the others.
-fn check_row<R: Abort + AllocGlobal, F: Fn(Global, &str) -> Result<String, Fail>>(
-    rt: &R,
-    row: &str,
-    told: &F,
-) -> Result<(), Fail>
-    requires { F.IsAlwaysCallable told.now }
-{
+fn check_row<T: Told, R: Abort + AllocGlobal>(rt: &R, row: &str) -> Result<(), Fail> {
     let (given, want) = row.rsplit_once('|').ok_or("a row of one column")?;
-    let found = told(rt.alloc(), given)?;
+    let found = T::told(rt.alloc(), given)?;
     check_told(rt, row, &found, want)
 }
 
 /// Asserts so of each row. Rows stand in lines, and between `;;`.
-pub(crate) fn check_rows<R: Abort + AllocGlobal, F: Fn(Global, &str) -> Result<String, Fail>>(
-    rt: &R,
-    rows: &str,
-    told: F,
-) -> Result<(), Fail>
-    requires { F.IsAlwaysCallable told }
-{
+pub(crate) fn check_rows<T: Told, R: Abort + AllocGlobal>(rt: &R, rows: &str) -> Result<(), Fail> {
     for line in rows.lines() {
         for row in line.split(";;") {
-            check_row(rt, row, &told)?;
+            check_row::<T, R>(rt, row)?;
         }
     }
     Ok(())
@@ -58,27 +52,20 @@ pub(crate) fn cut(row: &str) -> Result<(&str, &str), Fail> {
 
 /// How often a word stands there, and the word: `64*ff` is 64 times `ff`.
 pub(crate) fn times(word: &str) -> (usize, &str) {
-    if let Some((count, unit)) = word.split_once('*')
-        && let Ok(count) = count.parse::<usize>()
-    {
-        return (count, unit);
+    match word.split_once('*') {
+        Some((count, unit)) => match count.parse::<usize>() {
+            Ok(count) => (count, unit),
+            Err(_) => (1, word),
+        },
+        None => (1, word),
     }
-    (1, word)
 }
 
 /// The text of a word, as often as it stands there. A line feed stands for each `␊`.
 pub(crate) fn text_of(alloc: Global, word: &str) -> Result<String, AllocError> {
     let (count, unit) = times(word);
-    let mut text = String::new(alloc);
-    for _ in 0..count {
-        for (place, part) in unit.split('␊').enumerate() {
-            if place > 0 {
-                text.push('\n')?;
-            }
-            text.push_str(part)?;
-        }
-    }
-    Ok(text)
+    let text = unit.replace(alloc, "␊", "\n")?;
+    text.as_str().repeat(alloc, count)
 }
 
 /// The texts of words, which `§` parts.
@@ -96,9 +83,8 @@ pub(crate) fn bytes_of(alloc: Global, words: &str) -> Result<Vec<u8>, Fail> {
     for word in words.split_ascii_whitespace() {
         let (count, word) = times(word);
         let byte = u8::from_str_radix(word, 16)?;
-        for _ in 0..count {
-            bytes.push(byte)?;
-        }
+        let len = bytes.len().saturating_add(count);
+        bytes.resize(len, byte)?;
     }
     Ok(bytes)
 }
@@ -110,7 +96,7 @@ pub(crate) fn hexadecimal(alloc: Global, bytes: &[u8]) -> Result<String, AllocEr
     }
     let mut words = String::new(alloc);
     for byte in bytes {
-        words.push_str(&format!(in alloc; " {byte:02x}")?)?;
+        write!(words, " {byte:02x}")?;
     }
     Ok(words)
 }
@@ -131,17 +117,23 @@ fn value_of(alloc: Global, word: &str) -> Result<Value, Fail> {
     }
 }
 
+/// Puts the argument that a word spells behind the others, as often as it stands there.
+fn push_values(alloc: Global, values: &mut Values, word: &str) -> Result<(), Fail> {
+    let (count, word) = times(word);
+    for _ in 0..count {
+        if values.len() >= 64 {
+            return Err("more than 64 arguments".into());
+        }
+        values.push(value_of(alloc, word)?)?;
+    }
+    Ok(())
+}
+
 /// The arguments that words spell, with a comma between each two.
 pub(crate) fn values_of(alloc: Global, words: &str) -> Result<Values, Fail> {
     let mut values = Values::make(alloc);
     for word in words.split_terminator(',') {
-        let (count, word) = times(word);
-        for _ in 0..count {
-            if values.len() >= 64 {
-                return Err("more than 64 arguments".into());
-            }
-            values.push(value_of(alloc, word)?)?;
-        }
+        push_values(alloc, &mut values, word)?;
     }
     Ok(values)
 }

@@ -3,10 +3,11 @@
 ghost use Rattle.std.specs.Prelude.{◌≡◌, ◌<◌, true};
 ghost use Rattle.stamp_merge.specs.Mergers.{list_at, wants};
 
-use crate::tables::{check_rows, check_told, cut, joined, truth_of};
+use crate::tables::{Told, check_rows, check_told, cut, joined, truth_of};
 use nl_io::{MAX_HELD, MemSink, MemSource};
 use stamp_merge::{Merger, Next, merge_order};
 use std::alloc::{AllocError, Global};
+use std::fmt::Write;
 use std::test::Fail;
 use trace_text::{
     Trace, TraceFault, WriteTraceFault, read_dictionary, read_text, read_trace, write_trace,
@@ -52,34 +53,40 @@ fn many_messages(alloc: Global, last: &str) -> Result<String, Fail> {
     let mut text = String::new(alloc);
     text.push_str("nanolog-trace 1\n")?;
     for id in 0..65_536u32 {
-        text.push_str(&format!(in alloc; "message {id} ERROR {id} \"a\" \"b\"\n")?)?;
+        writeln!(text, "message {id} ERROR {id} \"a\" \"b\"")?;
     }
     text.push_str(joined(alloc, last)?.as_str())?;
     Ok(text)
 }
 
-fn full_trace(alloc: Global, last: &str) -> Result<String, Fail> {
-    let text = many_messages(alloc, last)?;
-    answer(alloc, text.as_bytes())
+struct FullTrace;
+
+impl Told for FullTrace {
+    fn told(alloc: Global, last: &str) -> Result<String, Fail> {
+        let text = many_messages(alloc, last)?;
+        answer(alloc, text.as_bytes())
+    }
 }
 
-fn full_dictionary(alloc: Global, last: &str) -> Result<String, Fail> {
-    let text = many_messages(alloc, last)?;
-    let fault = read_dictionary(alloc, text.as_bytes()).err();
-    Ok(fault_shown(alloc, fault)?)
+struct FullDictionary;
+
+impl Told for FullDictionary {
+    fn told(alloc: Global, last: &str) -> Result<String, Fail> {
+        let text = many_messages(alloc, last)?;
+        let fault = read_dictionary(alloc, text.as_bytes()).err();
+        Ok(fault_shown(alloc, fault)?)
+    }
 }
 
 #[test]
 fn traces_are_judged(rt: HostRuntime) -> Result<(), Fail> {
-    check_rows(
+    check_rows::<FullTrace, _>(
         &rt,
         "message 7␊|65538 15 TooMany;;clock 1 2 3␊writers 1␊end␊|right",
-        full_trace,
     )?;
-    check_rows(
+    check_rows::<FullDictionary, _>(
         &rt,
         "|right;;message 7␊|65538 15 TooMany;;message 7|65538 2 Message;;clock 1 2 3␊|65538 2 Message",
-        full_dictionary,
     )
 }
 
@@ -165,6 +172,14 @@ fn calls_written(alloc: Global, words: &str) -> Result<String, Fail> {
     calls_shown(alloc, &rewritten(alloc, &text)?, &lines)
 }
 
+struct CallsWritten;
+
+impl Told for CallsWritten {
+    fn told(alloc: Global, row: &str) -> Result<String, Fail> {
+        calls_written(alloc, row)
+    }
+}
+
 /// A call whose text has all bytes but 0, as it is written.
 const ALL_BYTES: &str = "\
 call 0 1000 1 \"\\x01\\x02\\x03\\x04\\x05\\x06\\x07\\x08\\t\\n\\x0b\\x0c\\x0d\\x0e\\x0f\\x10\\x11\\x12\\x13\\x14\\x15\\x16\\x17\
@@ -183,7 +198,7 @@ call 0 1000 1 \"\\x01\\x02\\x03\\x04\\x05\\x06\\x07\\x08\\t\\n\\x0b\\x0c\\x0d\\x
 fn all_written(alloc: Global) -> Result<String, Fail> {
     let mut line = String::from_str(alloc, "call 0 1000 1 \"")?;
     for byte in 1..=255u8 {
-        line.push_str(&format!(in alloc; "\\x{byte:02x}")?)?;
+        write!(line, "\\x{byte:02x}")?;
     }
     line.push_str("\"\n")?;
     calls_written(alloc, &line)
@@ -206,12 +221,16 @@ fn failures_of(
 }
 
 /// The reads of a trace from here to there, and what is told where one of them fails.
-fn reads_failed(alloc: Global, row: &str) -> Result<String, Fail> {
-    let (first, last) = cut(row)?;
-    let (first, last) = (first.parse::<u64>()?, last.parse::<u64>()?);
-    let text = format!(in alloc; "{HEAD}call 1 1000 1 \"a\"\nend\n")?;
-    let fault = failures_of(alloc, text.as_bytes(), first, last)?;
-    Ok(fault_shown(alloc, fault)?)
+struct ReadsFailed;
+
+impl Told for ReadsFailed {
+    fn told(alloc: Global, row: &str) -> Result<String, Fail> {
+        let (first, last) = cut(row)?;
+        let (first, last) = (first.parse::<u64>()?, last.parse::<u64>()?);
+        let text = format!(in alloc; "{HEAD}call 1 1000 1 \"a\"\nend\n")?;
+        let fault = failures_of(alloc, text.as_bytes(), first, last)?;
+        Ok(fault_shown(alloc, fault)?)
+    }
 }
 
 /// Whether it is told that this write fails, one byte each, and what comes before it goes out.
@@ -231,18 +250,22 @@ fn failures_shown(alloc: Global, trace: &Trace, text: &[u8]) -> Result<String, F
     truth_of(alloc, true)
 }
 
-fn writes_failed(alloc: Global, lines: &str) -> Result<String, Fail> {
-    let lines = joined(alloc, lines)?;
-    let text = format!(in alloc; "{WRITTEN_HEAD}{lines}end\n")?;
-    let trace = read_text(alloc, text.as_bytes())?;
-    failures_shown(alloc, &trace, text.as_bytes())
+struct WritesFailed;
+
+impl Told for WritesFailed {
+    fn told(alloc: Global, lines: &str) -> Result<String, Fail> {
+        let lines = joined(alloc, lines)?;
+        let text = format!(in alloc; "{WRITTEN_HEAD}{lines}end\n")?;
+        let trace = read_text(alloc, text.as_bytes())?;
+        failures_shown(alloc, &trace, text.as_bytes())
+    }
 }
 
 /// A text of so many calls.
 fn long_text(alloc: Global, calls: u64) -> Result<String, Fail> {
     let mut text = String::from_str(alloc, WRITTEN_HEAD)?;
     for call in 0..calls {
-        text.push_str(&format!(in alloc; "call 1 {} 1 \"a\"\n", call.saturating_add(1_000))?)?;
+        writeln!(text, "call 1 {} 1 \"a\"", call.saturating_add(1_000))?;
     }
     text.push_str("end\n")?;
     Ok(text)
@@ -257,24 +280,28 @@ fn front_written(alloc: Global, trace: &Trace, text: &[u8]) -> Result<String, Fa
     Ok(format!(in alloc; "{fault:?} {pieces} {is_front}")?)
 }
 
-fn long_text_written(alloc: Global, calls: &str) -> Result<String, Fail> {
-    let text = long_text(alloc, calls.parse()?)?;
-    if rewritten(alloc, &text)? != text {
-        return Err("another text is written".into());
+struct LongTextWritten;
+
+impl Told for LongTextWritten {
+    fn told(alloc: Global, calls: &str) -> Result<String, Fail> {
+        let text = long_text(alloc, calls.parse()?)?;
+        if rewritten(alloc, &text)? != text {
+            return Err("another text is written".into());
+        }
+        let trace = read_text(alloc, text.as_bytes())?;
+        front_written(alloc, &trace, text.as_bytes())
     }
-    let trace = read_text(alloc, text.as_bytes())?;
-    front_written(alloc, &trace, text.as_bytes())
 }
 
 #[test]
 fn traces_are_written(rt: HostRuntime) -> Result<(), Fail> {
     let alloc = rt.alloc();
-    check_rows(&rt, WRITTEN.trim_start(), calls_written)?;
-    check_rows(&rt, MIXED, calls_written)?;
+    check_rows::<CallsWritten, _>(&rt, WRITTEN.trim_start())?;
+    check_rows::<CallsWritten, _>(&rt, MIXED)?;
     check_told(&rt, "all bytes", &all_written(alloc)?, ALL_BYTES)?;
-    check_rows(&rt, "0|178|ReadFault;;179|179|right", reads_failed)?;
-    check_rows(&rt, "call 0 1000 1 \"a\"␊|true", writes_failed)?;
-    check_rows(&rt, "2000|Some(Failed) 1 true", long_text_written)
+    check_rows::<ReadsFailed, _>(&rt, "0|178|ReadFault;;179|179|right")?;
+    check_rows::<WritesFailed, _>(&rt, "call 0 1000 1 \"a\"␊|true")?;
+    check_rows::<LongTextWritten, _>(&rt, "2000|Some(Failed) 1 true")
 }
 
 /// Lists of stamps between `/`, and the numbers of the lists in order.
@@ -307,11 +334,15 @@ fn lists_of(alloc: Global, row: &str) -> Result<Vec<Vec<u64>>, Fail> {
     Ok(lists)
 }
 
-fn order_of(alloc: Global, row: &str) -> Result<String, Fail> {
-    let words = joined(alloc, row)?;
-    let lists = lists_of(alloc, &words)?;
-    let order = merged(alloc, &lists)?;
-    Ok(format!(in alloc; "{order:?}")?)
+struct OrderOf;
+
+impl Told for OrderOf {
+    fn told(alloc: Global, row: &str) -> Result<String, Fail> {
+        let words = joined(alloc, row)?;
+        let lists = lists_of(alloc, &words)?;
+        let order = merged(alloc, &lists)?;
+        Ok(format!(in alloc; "{order:?}")?)
+    }
 }
 
 /// 64 lists of one stamp, three times each.
@@ -352,17 +383,21 @@ fn taken(alloc: Global, lists: &[Vec<u64>]) -> Result<Vec<u32>, Fail> {
     Err("the merger doesn't end".into())
 }
 
-fn taken_order_of(alloc: Global, row: &str) -> Result<String, Fail> {
-    let words = joined(alloc, row)?;
-    let lists = lists_of(alloc, &words)?;
-    let order = taken(alloc, &lists)?;
-    Ok(format!(in alloc; "{order:?}")?)
+struct TakenOrderOf;
+
+impl Told for TakenOrderOf {
+    fn told(alloc: Global, row: &str) -> Result<String, Fail> {
+        let words = joined(alloc, row)?;
+        let lists = lists_of(alloc, &words)?;
+        let order = taken(alloc, &lists)?;
+        Ok(format!(in alloc; "{order:?}")?)
+    }
 }
 
 #[test]
 fn stamps_are_put_in_order(rt: HostRuntime) -> Result<(), Fail> {
-    check_rows(&rt, ORDERS, order_of)?;
-    check_rows(&rt, EQUAL, order_of)?;
-    check_rows(&rt, ORDERS, taken_order_of)?;
-    check_rows(&rt, EQUAL, taken_order_of)
+    check_rows::<OrderOf, _>(&rt, ORDERS)?;
+    check_rows::<OrderOf, _>(&rt, EQUAL)?;
+    check_rows::<TakenOrderOf, _>(&rt, ORDERS)?;
+    check_rows::<TakenOrderOf, _>(&rt, EQUAL)
 }

@@ -1,6 +1,6 @@
 //! The words of command lines, and what they ask for.
 
-use crate::tables::{check_rows, check_told, joined};
+use crate::tables::{Told, check_rows, check_told, joined};
 use cli_words::{Command, command_of};
 use session_options::Options;
 use std::alloc::{AllocError, Global};
@@ -75,14 +75,18 @@ fn words_of(alloc: Global, line: &str) -> Result<Vec<String>, AllocError> {
     Ok(words)
 }
 
-fn command_told(alloc: Global, line: &str) -> Result<String, Fail> {
-    let line = joined(alloc, line)?;
-    let words = words_of(alloc, &line)?;
-    Ok(command_asked(alloc, &words)?)
+struct CommandTold;
+
+impl Told for CommandTold {
+    fn told(alloc: Global, line: &str) -> Result<String, Fail> {
+        let line = joined(alloc, line)?;
+        let words = words_of(alloc, &line)?;
+        Ok(command_asked(alloc, &words)?)
+    }
 }
 
 #[test]
 fn lines_ask_for_commands(rt: HostRuntime) -> Result<(), Fail> {
     check_told(&rt, "no words", &command_asked(rt.alloc(), &[])?, "none")?;
-    check_rows(&rt, LINES.trim_start(), command_told)
+    check_rows::<CommandTold, _>(&rt, LINES.trim_start())
 }
