@@ -158,24 +158,20 @@ fn options(ring: u64, policy: Policy, level: Severity) -> Options
     }
 }
 
-/// What a session came to, and its sink.
-type Ran<S> = (Result<Outcome<<S as Stage>::Done>, RunFault>, MemSink);
-
-/// Runs a session over rings of this kind. These calls of the sink fail.
+/// What a session over rings of this kind came to.
 fn run_over<S: Stage, R: Machine, G: Gate + 'static>(
     rt: &R,
     alloc: Global,
     trace: &Arc<Trace, Global>,
     options: &Options,
-    failing: &[u64],
+    sink: &mut MemSink,
     gate: &Arc<G, Global>,
-) -> Result<Ran<S>, Fail>
+) -> Result<Outcome<S::Done>, RunFault>
     requires { options.now.batch ≡ 4_096 }
 {
-    let mut sink = MemSink::make(alloc, PIECE, failing)?;
-    let ran = run::<R, S, MemSink, G>(*rt, alloc, trace, options, &mut sink, gate);
+    let ran = run::<R, S, MemSink, G>(*rt, alloc, trace, options, sink, gate);
     assert_eq!(rt; sink.starved(), 0);
-    Ok((ran, sink))
+    ran
 }
 
 /// How many calls were accepted, dropped and passed over, and how many rings are left.
@@ -188,23 +184,50 @@ fn counts<D>(outcome: &Outcome<D>) -> (u64, usize, u64, usize) {
     )
 }
 
+/// Asserts these counts of a session, and that each ring that is left tells of so many frames.
+fn expect_counts<S: Stage>(
+    rt: &impl Abort,
+    outcome: &Outcome<S::Done>,
+    want: (u64, usize, u64, usize),
+    frames: u64,
+) {
+    assert_eq!(rt; counts(outcome), want);
+    for left in &outcome.settled {
+        assert_eq!(rt; left.frames(), frames);
+    }
+}
+
 /// Each writer has a thread of its own: the second call of each waits for the other's.
 #[test]
 fn writers_meet(rt: HostRuntime) -> Result<(), Fail> {
     let trace = trace_of(rt.alloc(), MEETING)?;
-    let gate = Arc::new(
-        rt.alloc(),
-        Meeting {
-            first: AtomicU64::new(0),
-            second: AtomicU64::new(0),
-            late: AtomicU64::new(0),
-        },
-    )?;
+    let meeting = Meeting {
+        first: AtomicU64::new(0),
+        second: AtomicU64::new(0),
+        late: AtomicU64::new(0),
+    };
+    let gate = Arc::new(rt.alloc(), meeting)?;
+    let mut sink = MemSink::make(rt.alloc(), PIECE, &[])?;
     let given = options(1_024, Policy::Wait, Severity::Debug);
-    let (ran, _) = run_over::<WordRing, _, _>(&rt, rt.alloc(), &trace, &given, &[], &gate)?;
-    let outcome = ran?;
-    assert_eq!(rt; counts(&outcome), (4, 0, 0, 2));
+    let ran = run_over::<WordRing, _, _>(&rt, rt.alloc(), &trace, &given, &mut sink, &gate);
+    assert_eq!(rt; counts(&ran?), (4, 0, 0, 2));
     assert_eq!(rt; gate.late.load(Ordering::SeqCst), 0);
+    Ok(())
+}
+
+/// Asserts which calls are kept at the level NOTICE with this policy.
+fn expect_level(
+    rt: &impl Machine,
+    alloc: Global,
+    trace: &Arc<Trace, Global>,
+    policy: Policy,
+) -> Result<(), Fail> {
+    let gate = Arc::new(alloc, FreeGate)?;
+    let mut sink = MemSink::make(alloc, PIECE, &[])?;
+    let given = options(1_024, policy, Severity::Notice);
+    let outcome = run_over::<WordRing, _, _>(rt, alloc, trace, &given, &mut sink, &gate)?;
+    expect_counts::<WordRing>(rt, &outcome, (6, 0, 3, 2), 3);
+    assert!(rt; sink.bytes().starts_with(HEADER));
     Ok(())
 }
 
@@ -212,17 +235,24 @@ fn writers_meet(rt: HostRuntime) -> Result<(), Fail> {
 #[test]
 fn a_level_keeps_graver_calls(rt: HostRuntime) -> Result<(), Fail> {
     let trace = trace_of(rt.alloc(), LEVELS)?;
-    let gate = Arc::new(rt.alloc(), FreeGate)?;
-    for policy in [Policy::Wait, Policy::Shed] {
-        let given = options(1_024, policy, Severity::Notice);
-        let (ran, sink) = run_over::<WordRing, _, _>(&rt, rt.alloc(), &trace, &given, &[], &gate)?;
-        let outcome = ran?;
-        assert_eq!(rt; counts(&outcome), (6, 0, 3, 2));
-        for left in &outcome.settled {
-            assert_eq!(rt; left.frames(), 3);
-        }
-        assert!(rt; sink.bytes().starts_with(HEADER));
-    }
+    expect_level(&rt, rt.alloc(), &trace, Policy::Wait)?;
+    expect_level(&rt, rt.alloc(), &trace, Policy::Shed)
+}
+
+/// Asserts that no session runs over rings of so many words, and that the first call of the sink is still to come.
+fn expect_no_size(
+    rt: &impl Machine,
+    alloc: Global,
+    trace: &Arc<Trace, Global>,
+    ring: u64,
+) -> Result<(), Fail> {
+    let gate = Arc::new(alloc, FreeGate)?;
+    let mut sink = MemSink::make(alloc, PIECE, &[0])?;
+    let given = options(ring, Policy::Wait, Severity::Debug);
+    let ran = run_over::<WordRing, _, _>(rt, alloc, trace, &given, &mut sink, &gate);
+    assert_eq!(rt; ran.err(), Some(RunFault::BadSize), "{ring} words");
+    assert!(rt; sink.bytes().is_empty());
+    assert!(rt; sink.write(b"x").is_err());
     Ok(())
 }
 
@@ -230,21 +260,33 @@ fn a_level_keeps_graver_calls(rt: HostRuntime) -> Result<(), Fail> {
 #[test]
 fn rings_of_no_size(rt: HostRuntime) -> Result<(), Fail> {
     let trace = trace_of(rt.alloc(), MEETING)?;
-    let gate = Arc::new(rt.alloc(), FreeGate)?;
-    for ring in [1_023, 1_048_577] {
-        let given = options(ring, Policy::Wait, Severity::Debug);
-        let (ran, mut sink) = run_over::<WordRing, _, _>(
-            &rt,
-            rt.alloc(),
-            &trace,
-            &given,
-            &[0],
-            &gate,
-        )?;
-        assert_eq!(rt; ran.err(), Some(RunFault::BadSize), "{ring} words");
-        assert!(rt; sink.bytes().is_empty());
-        assert!(rt; sink.write(b"x").is_err());
-    }
+    expect_no_size(&rt, rt.alloc(), &trace, 1_023)?;
+    expect_no_size(&rt, rt.alloc(), &trace, 1_048_577)
+}
+
+/// Asserts that a session fails whose writes of this number and of the next fail, that so many calls were answered, and
+/// that the second of these writes is still to come.
+fn expect_failure(
+    rt: &impl Machine,
+    alloc: Global,
+    trace: &Arc<Trace, Global>,
+    failing: [u64; 2],
+    answered: u64,
+) -> Result<(), Fail> {
+    let gate = Arc::new(alloc, HeldRound::make(4))?;
+    let mut sink = MemSink::make(alloc, PIECE, &failing)?;
+    let given = options(1_024, Policy::Wait, Severity::Debug);
+    let ran = run_over::<WordRing, _, _>(rt, alloc, trace, &given, &mut sink, &gate);
+    assert_eq!(rt;
+        ran.err(),
+        Some(RunFault::SinkFault),
+        "write {}",
+        failing[0]
+    );
+    assert_eq!(rt; gate.late.load(Ordering::SeqCst), 0);
+    assert_eq!(rt; gate.answered.load(Ordering::SeqCst), answered);
+    assert!(rt; sink.write(b"x").is_err());
+    assert!(rt; sink.write(b"x").is_ok());
     Ok(())
 }
 
@@ -253,24 +295,9 @@ fn rings_of_no_size(rt: HostRuntime) -> Result<(), Fail> {
 #[test]
 fn writes_that_fail(rt: HostRuntime) -> Result<(), Fail> {
     let trace = trace_of(rt.alloc(), MEETING)?;
-    let given = options(1_024, Policy::Wait, Severity::Debug);
     for failing in 0..WRITES {
-        let gate = Arc::new(rt.alloc(), HeldRound::make(4))?;
-        let listed = [failing, failing + 1];
-        let (ran, mut sink) = run_over::<WordRing, _, _>(
-            &rt,
-            rt.alloc(),
-            &trace,
-            &given,
-            &listed,
-            &gate,
-        )?;
-        assert_eq!(rt; ran.err(), Some(RunFault::SinkFault), "write {failing}");
-        assert_eq!(rt; gate.late.load(Ordering::SeqCst), 0);
         let answered = if failing == 0 { 0 } else { 4 };
-        assert_eq!(rt; gate.answered.load(Ordering::SeqCst), answered);
-        assert!(rt; sink.write(b"x").is_err());
-        assert!(rt; sink.write(b"x").is_ok());
+        expect_failure(&rt, rt.alloc(), &trace, [failing, failing + 1], answered)?;
     }
     Ok(())
 }
@@ -279,16 +306,10 @@ fn writes_that_fail(rt: HostRuntime) -> Result<(), Fail> {
 #[test]
 fn all_writes(rt: HostRuntime) -> Result<(), Fail> {
     let trace = trace_of(rt.alloc(), MEETING)?;
-    let given = options(1_024, Policy::Wait, Severity::Debug);
     let gate = Arc::new(rt.alloc(), HeldRound::make(4))?;
-    let (ran, mut sink) = run_over::<WordRing, _, _>(
-        &rt,
-        rt.alloc(),
-        &trace,
-        &given,
-        &[WRITES],
-        &gate,
-    )?;
+    let mut sink = MemSink::make(rt.alloc(), PIECE, &[WRITES])?;
+    let given = options(1_024, Policy::Wait, Severity::Debug);
+    let ran = run_over::<WordRing, _, _>(&rt, rt.alloc(), &trace, &given, &mut sink, &gate);
     assert_eq!(rt; counts(&ran?), (4, 0, 0, 2));
     assert_eq!(rt; gate.late.load(Ordering::SeqCst), 0);
     assert!(rt; sink.write(b"x").is_err());
@@ -317,40 +338,39 @@ impl Gate for HeldCall {
     }
 }
 
-/// Two calls whose frames have 512 words, and one whose frame has 3.
-fn two_long_calls(alloc: Global) -> Result<String, Fail> {
-    let long = "a".repeat(alloc, 2_032)?;
-    Ok(format!(in alloc;
-        "nanolog-trace 1
+/// Two calls whose frames have 512 words where `@` is 2,032 characters, and one whose frame has 3.
+const LONG_CALLS: &str = "nanolog-trace 1
 message 0 NOTICE 1 \"f\" \"%s%s\"
 message 1 NOTICE 2 \"f\" \"%d\"
 clock 1000 1514764800000000000 2000000000
 writers 1
-call 0 1003 0 \"{long}\" \"{long}\"
-call 0 1003 0 \"{long}\" \"{long}\"
+call 0 1003 0 \"@\" \"@\"
+call 0 1003 0 \"@\" \"@\"
 call 0 1003 1 7
 end
-"
-    )?)
+";
+
+/// The run of these calls.
+fn long_trace(alloc: Global) -> Result<Arc<Trace, Global>, Fail> {
+    let long = "a".repeat(alloc, 2_032)?;
+    let text = LONG_CALLS.replace(alloc, "@", long.as_str())?;
+    trace_of(alloc, text.as_str())
 }
 
 /// A call for which its writer knows of no room is dropped, although there would be room.
 #[test]
 fn a_writer_that_knows_of_no_room(rt: HostRuntime) -> Result<(), Fail> {
-    let text = two_long_calls(rt.alloc())?;
-    let trace = trace_of(rt.alloc(), text.as_str())?;
-    let gate = Arc::new(
-        rt.alloc(),
-        HeldCall {
-            rounds: AtomicU64::new(0),
-            late: AtomicU64::new(0),
-        },
-    )?;
+    let trace = long_trace(rt.alloc())?;
+    let held = HeldCall {
+        rounds: AtomicU64::new(0),
+        late: AtomicU64::new(0),
+    };
+    let gate = Arc::new(rt.alloc(), held)?;
+    let mut sink = MemSink::make(rt.alloc(), PIECE, &[])?;
     let given = options(1_024, Policy::Shed, Severity::Debug);
-    let (ran, _) = run_over::<LateStage, _, _>(&rt, rt.alloc(), &trace, &given, &[], &gate)?;
-    let outcome = ran?;
+    let outcome = run_over::<LateStage, _, _>(&rt, rt.alloc(), &trace, &given, &mut sink, &gate)?;
     assert_eq!(rt; gate.late.load(Ordering::SeqCst), 0);
-    assert_eq!(rt; counts(&outcome), (2, 1, 0, 1));
+    expect_counts::<LateStage>(&rt, &outcome, (2, 1, 0, 1), 2);
     let dropped = Dropped {
         writer: 0,
         ordinal: 2,
@@ -358,8 +378,5 @@ fn a_writer_that_knows_of_no_room(rt: HostRuntime) -> Result<(), Fail> {
         room: 0,
     };
     assert_eq!(rt; outcome.drops.get(0), Some(&dropped));
-    for left in &outcome.settled {
-        assert_eq!(rt; left.frames(), 2);
-    }
     Ok(())
 }

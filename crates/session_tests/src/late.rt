@@ -35,12 +35,13 @@ impl LateIn {
         }
     }
 
-    /// The answer to a frame of so many words for which the room isn't enough of which it knows.
+    /// The answer to a frame of so many words, if it is the third and the room isn't enough of which it knows.
     fn wanting(&self, frame: usize) -> Option<Full>
         ensures { IfSome result (λ full. IsFull self.now.end.at frame self.now.end.words self.now.known full) }
     {
         let (at, words) = (self.end.at(), self.end.words());
-        if words < MIN_RING || words > MAX_RING || frame > MAX_FRAME_WORDS {
+        let is_lawful = MIN_RING <= words && words <= MAX_RING && frame <= MAX_FRAME_WORDS;
+        if self.offers != 3 || !is_lawful {
             return None;
         }
         let need = need(at % words, frame as u64, words);
@@ -96,9 +97,7 @@ impl StageIn for LateIn {
 
     fn offer(&mut self, frame: &[u64]) -> Result<(), Full> {
         self.offers = self.offers.saturating_add(1);
-        if self.offers == 3
-            && let Some(full) = self.wanting(frame.len())
-        {
+        if let Some(full) = self.wanting(frame.len()) {
             self.looks = self.looks.saturating_add(1);
             return Err(full);
         }

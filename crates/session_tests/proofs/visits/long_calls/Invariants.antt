@@ -1,8 +1,0 @@
-use Rattle.std.proofs.Common.{◌≡◌, []}
-use Rattle.session_tests.proofs.visits.long_calls.Given as goal
-
-abbrev pub invariant-loop-call : goal.invariant-loop-call
-invariant-loop-call l = record {
-  untaken : l.end.got ≡ [];
-  same_plan : l.end.plan ≡ l.initial.end.plan;
-}
