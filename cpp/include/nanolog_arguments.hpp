@@ -110,17 +110,6 @@ class Argument {
     Word<Letter> word_;
 };
 
-// How many bytes stand in front of the NUL, and at most as many as the bound says. Most texts are so short that a call
-// of the C library takes longer than to look at their bytes.
-inline std::size_t length_within(const char *text, std::size_t bound) {
-    constexpr std::size_t kShort = 16;
-    const std::size_t front = bound < kShort ? bound : kShort;
-    for (std::size_t len = 0; len < front; len++) {
-        if (text[len] == '\0') return len;
-    }
-    return front == bound ? bound : front + strnlen(text + front, bound - front);
-}
-
 // A text. Where its precision is an argument, no more of it is read than that says. It has two words, so that it goes
 // by registers.
 template <std::size_t Number, char Before>
@@ -152,7 +141,7 @@ class Argument<Number, 's', Before> {
             }
         }
         constexpr std::size_t most = NANOLOG_MAX_TEXT;
-        const std::size_t len = length_within(text_, bound < most + 1 ? bound : most + 1);
+        const std::size_t len = bound == 0 ? 0 : strnlen(text_, bound < most + 1 ? bound : most + 1);
         nanolog_arg &arg = args[Number - 1];
         arg.tag = NANOLOG_TEXT;
         arg.word = 0;
