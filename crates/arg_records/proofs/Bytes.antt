@@ -1,23 +1,25 @@
 -- Bytes as words.
-use Rattle.std.proofs.Common.{◌≡◌, ℕ, ◌^◌, ◌<◌, ◌≤◌, List, [], ◌∷◌, length, take, drop, refl, sym, ap, ◌∙◌, arith}
+use Rattle.std.proofs.Common.{◌≡◌, ℕ, ◌-◌, ◌<◌, ◌≤◌, List, [], ◌∷◌, ◌++◌, length, take, drop, replicate, refl, sym, ap, ◌∙◌, arith}
 use Rattle.std.specs.Int.{w64, from_le_bytes}
-use Rattle.std.proofs.Math.Nat.{pow-le-pow_right}
-use Rattle.std.proofs.lemmas.List.{length-drop, length-take-le}
-use Rattle.std.proofs.lemmas.List.Elements.{All-drop}
-use Rattle.nibble_pack.specs.Bytes.{AreBytes, number_of_bytes, number_of_bytes-lt, from_le_bytes-number}
+use Rattle.std.proofs.lemmas.List.{length-append, length-take-le, length-replicate, drop-replicate}
+use Rattle.nibble_pack.specs.Bytes.{number_of_bytes, number_of_bytes-zeros, from_le_bytes-number}
 use Rattle.arg_records.specs.Frames.{words_of_bytes}
 
 -- the number of the first eight bytes
 pub eight : (bytes : List ℕ) → 8 ≤ length bytes → from_le_bytes w64 (take 8 bytes) ≡ number_of_bytes (take 8 bytes)
 eight bytes long = from_le_bytes-number (take 8 bytes) (length-take-le 8 bytes long)
 
--- what follows the first of fewer than eight bytes has room for two more
-pub below_first : (bytes : List ℕ) (place : ℕ) → AreBytes bytes → length bytes < 8 → 0 < place
-    → number_of_bytes (drop place bytes) < 256 ^ 6
-below_first bytes place are short some =
-    let few : length (drop place bytes) ≤ 6 = omega (arith, length-drop place bytes) in
-    let most : 256 ^ length (drop place bytes) ≤ 256 ^ 6 = pow-le-pow_right {n = 256} (omega arith) few in
-    omega (arith, most, number_of_bytes-lt (drop place bytes) (All-drop (λ byte. byte < 256) place bytes are))
+-- zeros behind bytes add nothing
+filled : (bytes : List ℕ) → length bytes < 8 → from_le_bytes w64 (bytes ++ drop (length bytes) (0 ∷ 0 ∷ 0 ∷ 0 ∷ 0 ∷ 0 ∷ 0 ∷ 0 ∷ [])) ≡ number_of_bytes bytes
+filled bytes short =
+    let zeros : ℕ = 8 - length bytes in
+    let all : List ℕ = bytes ++ replicate zeros 0 in
+    ap (λ (z : List ℕ). from_le_bytes w64 (bytes ++ z)) (drop-replicate (length bytes) 8 0)
+    ∙ from_le_bytes-number all (omega (arith, short, length-append bytes (replicate zeros 0), length-replicate {A = ℕ} zeros 0))
+    ∙ number_of_bytes-zeros bytes zeros
+
+pub last_word_is : (bytes written : List ℕ) → length bytes < 8 → written ≡ bytes → from_le_bytes w64 (written ++ drop (length bytes) (0 ∷ 0 ∷ 0 ∷ 0 ∷ 0 ∷ 0 ∷ 0 ∷ 0 ∷ [])) ≡ number_of_bytes bytes
+last_word_is bytes written short is = ap (λ (w : List ℕ). from_le_bytes w64 (w ++ drop (length bytes) (0 ∷ 0 ∷ 0 ∷ 0 ∷ 0 ∷ 0 ∷ 0 ∷ 0 ∷ []))) is ∙ filled bytes short
 
 -- eight bytes are the first word
 pub first_bytes : (bytes : List ℕ) → 8 ≤ length bytes → words_of_bytes bytes ≡ number_of_bytes (take 8 bytes) ∷ words_of_bytes (drop 8 bytes)

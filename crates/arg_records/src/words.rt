@@ -28,17 +28,14 @@ pub(crate) fn word_count(arg: Arg) -> u64
     }
 }
 
-/// The word of fewer than eight bytes, filled up with zeros. A copy of so few bytes takes longer, as does reading them
-/// as a word right behind it.
+/// The word of fewer than eight bytes, filled up with zeros.
 fn last_word(bytes: &[u8]) -> u64
     requires { length bytes.now < 8 }
     ensures { result ≡ number_of_bytes bytes.now }
 {
-    let mut word = 0;
-    for place in (0..bytes.len()).rev() {
-        word = word * 256 + u64::from(bytes[place]);
-    }
-    word
+    let mut word = [0; 8];
+    word[..bytes.len()].copy_from_slice(bytes);
+    u64::from_le_bytes(word)
 }
 
 /// Writes bytes as words from a place on. It answers the place behind them.
