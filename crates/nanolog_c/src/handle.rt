@@ -36,7 +36,10 @@ impl Handle {
     pub(crate) fn put(&mut self, alloc: Global, end: Slot)
         ensures { self.new.value ≡ end_in end }
     {
-        drop(replace(self, Handle::of(end)).into_box(alloc));
+        // What is held is mostly nothing, and then there is nothing to drop.
+        if let Some(held) = replace(self, Handle::of(end)).into_box(alloc) {
+            drop(held);
+        }
     }
 
     /// The handle of a box, if there is one, and null else.
