@@ -36,7 +36,7 @@ impl Handle {
     pub(crate) fn put(&mut self, alloc: Global, end: Slot)
         ensures { self.new.value ≡ end_in end }
     {
-        // What is held is mostly nothing, and then there is nothing to drop.
+        // Mostly nothing is held, and dropping that would be a call all the same.
         if let Some(held) = replace(self, Handle::of(end)).into_box(alloc) {
             drop(held);
         }
