@@ -1,8 +1,7 @@
-//! Formats: what they are made of, and the texts that they write.
+//! Formats: what they are made of, and where texts break that are none.
 
-use crate::tables::{Told, check_rows, cut, text_of, values_of};
-use direct_printf::render;
-use printf_grammar::{Format, FormatCause, ParseFault, Value, fits, parse};
+use crate::tables::{Told, check_rows, text_of};
+use printf_grammar::{Format, FormatCause, ParseFault, parse};
 use std::alloc::{AllocError, Global};
 use std::test::Fail;
 
@@ -134,33 +133,4 @@ fn formats_are_parsed(rt: HostRuntime) -> Result<(), Fail> {
     check_rows::<PiecesOf, _>(&rt, PIECES)?;
     check_rows::<CountsOf, _>(&rt, COUNTS)?;
     check_rows::<AnswersBehind, _>(&rt, BYTES_BEHIND.trim_start())
-}
-
-/// Formats, arguments that fit them, and the text that is written.
-const TEXTS: &str = "\
-%d%%|i2147483647|2147483647%;;%8p/%-8p|u0,u255|   (nil)/0xff    ;;%*s|i-6,tabc|abc   ;;%.*d|i-1,i0|0;;no||no";
-
-fn rendered(alloc: Global, format: &Format, args: &[Value]) -> Result<String, Fail> {
-    if !fits(format.types(), args) {
-        return Err("they don't fit".into());
-    }
-    let mut out = Vec::new(alloc);
-    render(format, args, &mut out)?;
-    Ok(String::from_utf8(out)?)
-}
-
-struct TextWritten;
-
-impl Told for TextWritten {
-    fn told(alloc: Global, row: &str) -> Result<String, Fail> {
-        let (format, words) = cut(row)?;
-        let values = values_of(alloc, words)?;
-        let format = parse(alloc, format.as_bytes())?;
-        rendered(alloc, &format, values.as_slice())
-    }
-}
-
-#[test]
-fn texts_are_written(rt: HostRuntime) -> Result<(), Fail> {
-    check_rows::<TextWritten, _>(&rt, TEXTS)
 }

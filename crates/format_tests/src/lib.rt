@@ -8,15 +8,7 @@ mod formats;
 #[cfg(test)]
 mod frames;
 #[cfg(test)]
-mod injections;
-#[cfg(test)]
 mod logs;
-#[cfg(test)]
-mod messages;
-#[cfg(test)]
-mod numbers;
-#[cfg(test)]
-mod records;
 #[cfg(test)]
 mod sources;
 #[cfg(test)]
@@ -27,5 +19,3 @@ mod streams;
 mod tables;
 #[cfg(test)]
 mod traces;
-#[cfg(test)]
-mod words;

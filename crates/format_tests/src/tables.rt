@@ -2,21 +2,8 @@
 
 use printf_grammar::{Bytes, Value, Values};
 use std::alloc::{AllocError, Global};
-use std::fmt::Write;
 use std::process::Abort;
 use std::test::Fail;
-
-/// Asserts that this is told of a row, the text of its last column.
-pub(crate) fn check_told<R: Abort + AllocGlobal>(
-    rt: &R,
-    row: &str,
-    found: &str,
-    want: &str,
-) -> Result<(), Fail> {
-    let want = text_of(rt.alloc(), want)?;
-    assert_eq!(rt; found, want.as_str(), "{row}");
-    Ok(())
-}
 
 /// What is told of a row, of all its columns but the last.
 pub(crate) trait Told {
@@ -27,7 +14,9 @@ pub(crate) trait Told {
 fn check_row<T: Told, R: Abort + AllocGlobal>(rt: &R, row: &str) -> Result<(), Fail> {
     let (given, want) = row.rsplit_once('|').ok_or("a row of one column")?;
     let found = T::told(rt.alloc(), given)?;
-    check_told(rt, row, &found, want)
+    let want = text_of(rt.alloc(), want)?;
+    assert_eq!(rt; found.as_str(), want.as_str(), "{row}");
+    Ok(())
 }
 
 /// Asserts so of each row. Rows stand in lines, and between `;;`.
@@ -38,11 +27,6 @@ pub(crate) fn check_rows<T: Told, R: Abort + AllocGlobal>(rt: &R, rows: &str) ->
         }
     }
     Ok(())
-}
-
-/// What is told of a question.
-pub(crate) fn truth_of(alloc: Global, holds: bool) -> Result<String, Fail> {
-    Ok(String::from_str(alloc, if holds { "true" } else { "false" })?)
 }
 
 /// The first column of a row, and the others.
@@ -87,18 +71,6 @@ pub(crate) fn bytes_of(alloc: Global, words: &str) -> Result<Vec<u8>, Fail> {
         bytes.resize(len, byte)?;
     }
     Ok(bytes)
-}
-
-/// Bytes in hexadecimal, with a space before each. Of many, only how many they are.
-pub(crate) fn hexadecimal(alloc: Global, bytes: &[u8]) -> Result<String, AllocError> {
-    if bytes.len() > 60 {
-        return format!(in alloc; " {} bytes", bytes.len());
-    }
-    let mut words = String::new(alloc);
-    for byte in bytes {
-        write!(words, " {byte:02x}")?;
-    }
-    Ok(words)
 }
 
 /// The text that a word spells, as an argument.
