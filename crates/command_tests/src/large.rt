@@ -1,63 +1,28 @@
 //! Inputs as large as they can be, and larger.
 
-use crate::runs::{PIECE, TRACE, run_gated, run_over, words_of};
+use crate::runs::{PIECE, TRACE, run_over, words_of};
 use nanolog_cli::{Status, quick};
-use nl_io::{MAX_HELD, MemFiles, MemSink};
+use nl_io::{MemFiles, MemSink};
 use std::alloc::{AllocError, Global};
 use std::fmt::Write;
 use std::process::Abort;
-use std::sync::Arc;
 use std::test::Fail;
-use trace_session::FreeGate;
 
-/// A trace of so many messages, and so many calls of the first.
-fn counted_trace(alloc: Global, messages: u32, calls: u32) -> Result<String, AllocError> {
+/// A trace of so many messages, and of no calls.
+fn counted_trace(alloc: Global, messages: u32) -> Result<String, AllocError> {
     let mut text = String::from_str(alloc, "nanolog-trace 1\n")?;
     for id in 0..messages {
         writeln!(text, "message {id} NOTICE {id} \"srv.cc\" \"x=%d\"")?;
     }
-    text.push_str("clock 1000 1514764800000000000 2000000000\nwriters 1\n")?;
-    for number in 0..calls {
-        writeln!(text, "call 0 1003 0 {number}")?;
-    }
-    text.push_str("end\n")?;
+    text.push_str("clock 1000 1514764800000000000 2000000000\nwriters 1\nend\n")?;
     Ok(text)
-}
-
-/// The lines of so many calls.
-fn counted_lines(alloc: Global, calls: u32) -> Result<String, AllocError> {
-    let mut lines = String::new(alloc);
-    for number in 0..calls {
-        writeln!(lines, "1514764800.000000001 srv.cc:0 NOTICE[0]: x={number}")?;
-    }
-    Ok(lines)
-}
-
-/// One call of the output takes lines of 16 KiB at most, which a further one would exceed, and the next call fails.
-#[test]
-fn a_long_text_is_printed_in_pieces(rt: HostRuntime) -> Result<(), Fail> {
-    let alloc = rt.alloc();
-    let text = counted_trace(alloc, 1, 1_000)?;
-    let lines = counted_lines(alloc, 1_000)?;
-    let file = ("t", text.as_bytes());
-    let ran = run_over(&rt, alloc, "direct t", file)?;
-    assert!(rt; ran.shown() == (Status::Done, lines.as_str(), ""));
-    let gate = Arc::new(alloc, FreeGate)?;
-    let ran = run_gated(&rt, alloc, "direct t", file, &[1], &gate)?;
-    let (status, out, err) = ran.shown();
-    let told = "nanolog: standard output: write fault\n";
-    assert_eq!(rt; (status, err), (Status::WriteFault, told));
-    assert!(rt;
-        out.len() > MAX_HELD - 50 && out.len() <= MAX_HELD && lines.as_str().starts_with(out)
-    );
-    Ok(())
 }
 
 /// One message more than there can be is told, also where its line is wrong. A dictionary is read as a trace is.
 #[test]
 fn too_many_messages_are_told(rt: HostRuntime) -> Result<(), Fail> {
     let alloc = rt.alloc();
-    let text = counted_trace(alloc, 65_537, 0)?;
+    let text = counted_trace(alloc, 65_537)?;
     let (right, wrong) = ("NOTICE 65536", "Notice 65536");
     let wrong = text.as_str().replacen(alloc, right, wrong, 1)?;
     let told = "nanolog: t:65538: refused: 15 TooMany\n";

@@ -7,8 +7,6 @@ mod faults;
 #[cfg(test)]
 mod large;
 #[cfg(test)]
-mod made;
-#[cfg(test)]
 mod memory;
 #[cfg(test)]
 mod runs;

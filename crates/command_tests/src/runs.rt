@@ -59,16 +59,15 @@ fn text_of(alloc: Global, bytes: &[u8]) -> Result<String, Fail> {
     Ok(String::from_utf8(bytes.to_vec(alloc)?)?)
 }
 
-/// Runs the words of a line over these files, with this gate. These calls of the output fail.
+/// Runs the words of a line over these files, with this gate.
 fn run_in<G: Gate + 'static>(
     rt: &impl Machine,
     alloc: Global,
     line: &str,
     mut files: MemFiles,
-    failing: &[u64],
     gate: &Arc<G, Global>,
 ) -> Result<Ran, Fail> {
-    let mut out = MemSink::make(alloc, PIECE, failing)?;
+    let mut out = MemSink::make(alloc, PIECE, &[])?;
     let mut err = MemSink::make(alloc, PIECE, &[])?;
     let words = words_of(alloc, line)?;
     let status = nanolog(*rt, alloc, &words, &mut files, &mut out, &mut err, gate);
@@ -85,18 +84,17 @@ fn run_in<G: Gate + 'static>(
     })
 }
 
-/// Runs the words of a line where one file holds these bytes, with this gate. These calls of the output fail.
+/// Runs the words of a line where one file holds these bytes, with this gate.
 pub(crate) fn run_gated<G: Gate + 'static>(
     rt: &impl Machine,
     alloc: Global,
     line: &str,
     file: (&str, &[u8]),
-    failing: &[u64],
     gate: &Arc<G, Global>,
 ) -> Result<Ran, Fail> {
     let mut files = MemFiles::make(alloc, PIECE, &[])?;
     files.put_file(file.0, file.1)?;
-    run_in(rt, alloc, line, files, failing, gate)
+    run_in(rt, alloc, line, files, gate)
 }
 
 /// Runs the words of a line where one file holds these bytes. One call of the files moves few bytes, and the one with
@@ -111,7 +109,7 @@ pub(crate) fn run_failing(
     let gate = Arc::new(alloc, FreeGate)?;
     let mut files = MemFiles::make(alloc, SMALL_PIECE, &[number])?;
     files.put_file(file.0, file.1)?;
-    run_in(rt, alloc, line, files, &[], &gate)
+    run_in(rt, alloc, line, files, &gate)
 }
 
 /// Runs the words of a line where one file holds these bytes.
@@ -122,7 +120,7 @@ pub(crate) fn run_over(
     file: (&str, &[u8]),
 ) -> Result<Ran, Fail> {
     let gate = Arc::new(alloc, FreeGate)?;
-    run_gated(rt, alloc, line, file, &[], &gate)
+    run_gated(rt, alloc, line, file, &gate)
 }
 
 /// Asserts that `decompress` of the log that a run left prints these lines, and that no writer of it is open.

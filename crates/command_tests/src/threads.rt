@@ -25,24 +25,19 @@ fn wait_for(number: &AtomicU64, least: u64, late: &AtomicU64) {
 
 /// Holds the consumer's first round until so many calls were answered.
 #[derive(Drop)]
-pub(crate) struct HeldRound {
+struct HeldRound {
     answered: AtomicU64,
     least: u64,
     late: AtomicU64,
 }
 
 impl HeldRound {
-    pub(crate) fn make(least: u64) -> HeldRound {
+    fn make(least: u64) -> HeldRound {
         HeldRound {
             answered: AtomicU64::new(0),
             least,
             late: AtomicU64::new(0),
         }
-    }
-
-    /// Whether the gate let go before the calls were answered.
-    pub(crate) fn was_late(&self) -> bool {
-        self.late.load(Ordering::SeqCst) != 0
     }
 }
 
@@ -102,13 +97,13 @@ fn a_full_ring_drops_calls(rt: HostRuntime) -> Result<(), Fail> {
     let gate = Arc::new(alloc, HeldRound::make(343))?;
     let line = "replay t l --ring 1024 --full drop";
     let file = ("t", text.as_bytes());
-    let ran = run_gated(&rt, alloc, line, file, &[], &gate)?;
+    let ran = run_gated(&rt, alloc, line, file, &gate)?;
     let told = "drop 0 341 need 4 room 1
 drop 0 342 need 4 room 1
 accepted 341 dropped 2 filtered 0
 ";
     assert_eq!(rt; ran.shown(), (Status::Done, told, ""));
-    assert!(rt; !gate.was_late());
+    assert_eq!(rt; gate.late.load(Ordering::SeqCst), 0);
     let lines = LINE.repeat(alloc, 341)?;
     expect_lines(&rt, alloc, &ran, lines.as_str())
 }
@@ -131,7 +126,7 @@ call 1 1003 0 4
     };
     let gate = Arc::new(alloc, meeting)?;
     let file = ("t", text.as_bytes());
-    let ran = run_gated(&rt, alloc, "replay t l", file, &[], &gate)?;
+    let ran = run_gated(&rt, alloc, "replay t l", file, &gate)?;
     let told = "accepted 4 dropped 0 filtered 0\n";
     assert_eq!(rt; ran.shown(), (Status::Done, told, ""));
     assert_eq!(rt; gate.late.load(Ordering::SeqCst), 0);

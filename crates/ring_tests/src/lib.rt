@@ -1,10 +1,8 @@
-//! Tests of rings: of the pure machine, and of the rings of sessions, a frame at a time.
+//! Tests of the rings of sessions, a frame at a time.
 #![tactic(auto)]
 
 #[cfg(test)]
 mod feed;
-#[cfg(test)]
-mod machine;
 #[cfg(test)]
 mod rings;
 #[cfg(test)]

@@ -2,10 +2,10 @@
 #![tactic(auto)]
 
 #[cfg(test)]
+mod faults;
+#[cfg(test)]
 mod gates;
 #[cfg(test)]
 mod late;
-#[cfg(test)]
-mod stored;
 #[cfg(test)]
 mod visits;
