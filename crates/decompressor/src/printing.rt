@@ -2,8 +2,6 @@
 
 ghost use Rattle.std.specs.Prelude.{◌≡◌, ◌⊎◌, ◌<◌, ◌≤◌, ◌++◌, ◌||◌, ℕ, List, [], false, slice_get, get_or, Some, IsErrOf, OnOk, OnErr};
 ghost use Rattle.nl_io.specs.Count.{Rose};
-ghost use Rattle.nl_io.specs.Content.{with_end};
-ghost use Rattle.nl_io.specs.TextWriters.{Carries, IsCutOff};
 ghost use Rattle.log_dictionary.specs.declared.message.Message.{Message};
 ghost use Rattle.arg_records.specs.Calls.{IsCall};
 ghost use Rattle.checkpoint_io.specs.Blocks.{Block};
@@ -16,24 +14,24 @@ use crate::showing::show_first;
 use buffer_extent::LogRecord;
 use checkpoint_io::Reader;
 use direct_printf::LineWriter;
-use nl_io::{Failed, MAX_HELD, Sink, write_all};
+use nl_io::{Sink, TextWriter};
 use stamp_merge::{Merger, Next};
 use std::alloc::{AllocError, Global};
 
-// The line of a record.
-fn push_line(
+// Makes the line of a record, in place of what is there.
+fn make_line(
     reader: &Reader,
     writer: u32,
     call: &LogRecord,
-    lines: &mut LineWriter,
-    text: &mut Vec<u8>,
+    line_writer: &mut LineWriter,
+    line: &mut Vec<u8>,
 ) -> Result<(), AllocError>
     requires rate { 1 ≤ reader.now.header.clock.rate }
     requires named { IsCall reader.now.messages call.now }
     requires not_before { reader.now.header.clock.tick ≤ call.now.stamp }
     ensures { OnOk result ((message : Message) (ordinal : ℕ)
         → slice_get reader.now.messages call.now.id ≡ Some message
-        → text.new.items ≡ text.old.items ++ Line reader.now.header.clock (record {
+        → line.new.items ≡ Line reader.now.header.clock (record {
           writer = writer;
           ordinal = ordinal;
           stamp = call.now.stamp;
@@ -41,18 +39,19 @@ fn push_line(
           args = call.now.args;
         })) }
 {
+    line.clear();
     // Each record names a message that was read.
     let Some(message) = reader.dictionary().get(call.id) else {
         return Ok(());
     };
     let clock = &reader.header().clock;
-    lines.append(
+    line_writer.append(
         clock,
         writer,
         message,
         call.stamp,
         call.args.as_slice(),
-        text,
+        line,
     )
 }
 
@@ -61,35 +60,6 @@ fn is_done(ended: bool, reader: &Reader, writer: u32) -> bool
     ensures { writer < 256 → result ≡ (ended || get_or reader.now.writers.closed writer false) }
 {
     ended || reader.is_closed(writer)
-}
-
-// Writes what is held back of the text.
-fn write_held<K: Sink>(held: &mut Vec<u8>, out: &mut K) -> Result<(), Failed>
-    ensures ok { OnOk result (K.put out.new ≡ with_end held.old.items (K.put out.old)) }
-    ensures empty { OnOk result (held.new.items ≡ []) }
-    ensures counted { OnOk result (K.faults out.new ≡ K.faults out.old) }
-    ensures cut_off { OnErr result (IsCutOff held.old.items (K.put out.old) (K.put out.new)
-        (K.faults out.old) (K.faults out.new)) }
-    ensures others { K.rest out.old out.new }
-{
-    write_all(out, held.as_slice())?;
-    held.clear();
-    Ok(())
-}
-
-// Writes what is held back once it is enough for a large write.
-fn write_large<K: Sink>(held: &mut Vec<u8>, out: &mut K) -> Result<(), Failed>
-    ensures ok { OnOk result (Carries held.old.items (K.put out.old) (K.put out.new) held.new.items) }
-    ensures counted { OnOk result (K.faults out.new ≡ K.faults out.old) }
-    ensures cut_off { OnErr result (IsCutOff held.old.items (K.put out.old) (K.put out.new)
-        (K.faults out.old) (K.faults out.new)) }
-    ensures others { K.rest out.old out.new }
-{
-    if held.len() < MAX_HELD {
-        return Ok(());
-    }
-    write_held(held, out)?;
-    Ok(())
 }
 
 /// Prints the lines of the records before which none can come any more, and answers how many there are. Where the log
@@ -113,7 +83,8 @@ pub fn print_ready<K: Sink>(
     ensures others { K.rest out.old out.new }
 {
     let mut line_writer = LineWriter::make();
-    let mut text = Vec::new(alloc);
+    let mut text_writer = TextWriter::make();
+    let mut line = Vec::new(alloc);
     let mut lines = 0;
     while let Next::Take(writer) = merger.next() {
         let queue = &mut waiting[writer as usize];
@@ -121,12 +92,12 @@ pub fn print_ready<K: Sink>(
         let Some(record) = queue.first() else {
             continue;
         };
-        push_line(reader, writer, record, &mut line_writer, &mut text)?;
-        write_large(&mut text, out)?;
+        make_line(reader, writer, record, &mut line_writer, &mut line)?;
+        text_writer.put(out, line.as_slice())?;
         queue.remove_first();
         show_first(merger, writer, queue, is_done(ended, reader, writer));
         lines += 1;
     }
-    write_held(&mut text, out)?;
+    text_writer.flush(out)?;
     Ok(lines)
 }

@@ -1,4 +1,4 @@
-use Rattle.std.proofs.Common.{◌≡◌, ◌<◌, List, [], length, get_or, refl, ap, sym, subst, ◌∙◌, arith, rules}
+use Rattle.std.proofs.Common.{◌≡◌, ◌<◌, ℕ, ◌++◌, List, [], length, get_or, refl, ap, sym, subst, ◌∙◌, arith, rules}
 use Rattle.std.specs.Prelude.{sum_by, slice_set}
 use Rattle.std.proofs.lemmas.List.{get_or_default}
 use Rattle.nl_io.proofs.lemmas.TextWriters.{carries_held}
@@ -11,7 +11,7 @@ use Rattle.decompressor.proofs.printing.print_ready.Goals as goal
 
 pub loop-writer-init : goal.loop-writer-init
 loop-writer-init g c = record {
-  lines_so_far = λ first all ready. begin_lines c.args.ended c.args.reader.now first all c.args.waiting.now c.args.merger.now ready (g.K.Sink.put c.args.out.now) c.new-text.result.items (carries_held [] c.new-text.result.items (g.K.Sink.put c.args.out.now) c.new-text.ensures.items);
+  lines_so_far = λ first all ready. begin_lines c.args.ended c.args.reader.now first all c.args.waiting.now c.args.merger.now ready (g.K.Sink.put c.args.out.now) c.make-text_writer.result (carries_held [] c.make-text_writer.result (g.K.Sink.put c.args.out.now) c.make-text_writer.ensures);
   counted = refl;
   others = g.met.K.Sink.rest_same _;
 }
@@ -22,7 +22,7 @@ bounds-waiting-writer g c =
     let l = c.loop-writer in
     let so_far = l.invariant.lines_so_far first all ready in
     let top = (c.in-Take.ensures.take c.in-Take.writer).0 refl in
-    within c.args.ended c.args.reader.now first all c.args.waiting.now c.args.merger.now ready l.lines (g.K.Sink.put c.args.out.now) (g.K.Sink.put l.out) l.text.items l.waiting l.merger so_far c.in-Take.writer top.0 top.1
+    within c.args.ended c.args.reader.now first all c.args.waiting.now c.args.merger.now ready l.lines (g.K.Sink.put c.args.out.now) (g.K.Sink.put l.out) l.text_writer l.waiting l.merger so_far c.in-Take.writer top.0 top.1
 
 pub loop-writer-smaller-in_default-first : goal.loop-writer-smaller-in_default-first
 loop-writer-smaller-in_default-first g c =
@@ -31,7 +31,7 @@ loop-writer-smaller-in_default-first g c =
     let so_far = l.invariant.lines_so_far first all ready in
     let top = (c.in-Take.ensures.take c.in-Take.writer).0 refl in
     let empty : get_or l.waiting c.in-Take.writer c.index-waiting-writer.result ≡ [] = search rules in
-    absurd (some_first c.args.ended c.args.reader.now first all c.args.waiting.now c.args.merger.now ready l.lines (g.K.Sink.put c.args.out.now) (g.K.Sink.put l.out) l.text.items l.waiting l.merger so_far c.in-Take.writer top.0 top.1 (get_or l.waiting c.in-Take.writer c.index-waiting-writer.result) (get_or_default l.waiting c.in-Take.writer c.index-waiting-writer.result [] (within c.args.ended c.args.reader.now first all c.args.waiting.now c.args.merger.now ready l.lines (g.K.Sink.put c.args.out.now) (g.K.Sink.put l.out) l.text.items l.waiting l.merger so_far c.in-Take.writer top.0 top.1)) empty)
+    absurd (some_first c.args.ended c.args.reader.now first all c.args.waiting.now c.args.merger.now ready l.lines (g.K.Sink.put c.args.out.now) (g.K.Sink.put l.out) l.text_writer l.waiting l.merger so_far c.in-Take.writer top.0 top.1 (get_or l.waiting c.in-Take.writer c.index-waiting-writer.result) (get_or_default l.waiting c.in-Take.writer c.index-waiting-writer.result [] (within c.args.ended c.args.reader.now first all c.args.waiting.now c.args.merger.now ready l.lines (g.K.Sink.put c.args.out.now) (g.K.Sink.put l.out) l.text_writer l.waiting l.merger so_far c.in-Take.writer top.0 top.1)) empty)
 
 pub loop-writer-preserved-in_default-first : goal.loop-writer-preserved-in_default-first
 loop-writer-preserved-in_default-first g c =
@@ -40,37 +40,37 @@ loop-writer-preserved-in_default-first g c =
     let so_far = l.invariant.lines_so_far first all ready in
     let top = (c.in-Take.ensures.take c.in-Take.writer).0 refl in
     let empty : get_or l.waiting c.in-Take.writer c.index-waiting-writer.result ≡ [] = search rules in
-    absurd (some_first c.args.ended c.args.reader.now first all c.args.waiting.now c.args.merger.now ready l.lines (g.K.Sink.put c.args.out.now) (g.K.Sink.put l.out) l.text.items l.waiting l.merger so_far c.in-Take.writer top.0 top.1 (get_or l.waiting c.in-Take.writer c.index-waiting-writer.result) (get_or_default l.waiting c.in-Take.writer c.index-waiting-writer.result [] (within c.args.ended c.args.reader.now first all c.args.waiting.now c.args.merger.now ready l.lines (g.K.Sink.put c.args.out.now) (g.K.Sink.put l.out) l.text.items l.waiting l.merger so_far c.in-Take.writer top.0 top.1)) empty)
+    absurd (some_first c.args.ended c.args.reader.now first all c.args.waiting.now c.args.merger.now ready l.lines (g.K.Sink.put c.args.out.now) (g.K.Sink.put l.out) l.text_writer l.waiting l.merger so_far c.in-Take.writer top.0 top.1 (get_or l.waiting c.in-Take.writer c.index-waiting-writer.result) (get_or_default l.waiting c.in-Take.writer c.index-waiting-writer.result [] (within c.args.ended c.args.reader.now first all c.args.waiting.now c.args.merger.now ready l.lines (g.K.Sink.put c.args.out.now) (g.K.Sink.put l.out) l.text_writer l.waiting l.merger so_far c.in-Take.writer top.0 top.1)) empty)
 
-pub push_line-requires-clause-named : goal.push_line-requires-clause-named
-push_line-requires-clause-named g c =
+pub make_line-requires-clause-named : goal.make_line-requires-clause-named
+make_line-requires-clause-named g c =
     let (first, all, ready) = c.requires in
     let l = c.loop-writer in
     let so_far = l.invariant.lines_so_far first all ready in
     let top = (c.in-Take.ensures.take c.in-Take.writer).0 refl in
-    (said c.args.ended c.args.reader.now first all c.args.waiting.now c.args.merger.now ready l.lines (g.K.Sink.put c.args.out.now) (g.K.Sink.put l.out) l.text.items l.waiting l.merger so_far c.in-Take.writer top.0 top.1 (get_or l.waiting c.in-Take.writer c.index-waiting-writer.result) (get_or_default l.waiting c.in-Take.writer c.index-waiting-writer.result [] (within c.args.ended c.args.reader.now first all c.args.waiting.now c.args.merger.now ready l.lines (g.K.Sink.put c.args.out.now) (g.K.Sink.put l.out) l.text.items l.waiting l.merger so_far c.in-Take.writer top.0 top.1)) c.in-Some.record.now c.in-Some.ensures.some).right
+    (said c.args.ended c.args.reader.now first all c.args.waiting.now c.args.merger.now ready l.lines (g.K.Sink.put c.args.out.now) (g.K.Sink.put l.out) l.text_writer l.waiting l.merger so_far c.in-Take.writer top.0 top.1 (get_or l.waiting c.in-Take.writer c.index-waiting-writer.result) (get_or_default l.waiting c.in-Take.writer c.index-waiting-writer.result [] (within c.args.ended c.args.reader.now first all c.args.waiting.now c.args.merger.now ready l.lines (g.K.Sink.put c.args.out.now) (g.K.Sink.put l.out) l.text_writer l.waiting l.merger so_far c.in-Take.writer top.0 top.1)) c.in-Some.record.now c.in-Some.ensures.some).right
 
-pub push_line-requires-clause-not_before : goal.push_line-requires-clause-not_before
-push_line-requires-clause-not_before g c =
+pub make_line-requires-clause-not_before : goal.make_line-requires-clause-not_before
+make_line-requires-clause-not_before g c =
     let (first, all, ready) = c.requires in
     let l = c.loop-writer in
     let so_far = l.invariant.lines_so_far first all ready in
     let top = (c.in-Take.ensures.take c.in-Take.writer).0 refl in
-    (said c.args.ended c.args.reader.now first all c.args.waiting.now c.args.merger.now ready l.lines (g.K.Sink.put c.args.out.now) (g.K.Sink.put l.out) l.text.items l.waiting l.merger so_far c.in-Take.writer top.0 top.1 (get_or l.waiting c.in-Take.writer c.index-waiting-writer.result) (get_or_default l.waiting c.in-Take.writer c.index-waiting-writer.result [] (within c.args.ended c.args.reader.now first all c.args.waiting.now c.args.merger.now ready l.lines (g.K.Sink.put c.args.out.now) (g.K.Sink.put l.out) l.text.items l.waiting l.merger so_far c.in-Take.writer top.0 top.1)) c.in-Some.record.now c.in-Some.ensures.some).not_before
+    (said c.args.ended c.args.reader.now first all c.args.waiting.now c.args.merger.now ready l.lines (g.K.Sink.put c.args.out.now) (g.K.Sink.put l.out) l.text_writer l.waiting l.merger so_far c.in-Take.writer top.0 top.1 (get_or l.waiting c.in-Take.writer c.index-waiting-writer.result) (get_or_default l.waiting c.in-Take.writer c.index-waiting-writer.result [] (within c.args.ended c.args.reader.now first all c.args.waiting.now c.args.merger.now ready l.lines (g.K.Sink.put c.args.out.now) (g.K.Sink.put l.out) l.text_writer l.waiting l.merger so_far c.in-Take.writer top.0 top.1)) c.in-Some.record.now c.in-Some.ensures.some).not_before
 
-pub returns-in_err-push_line-clause-printed : goal.returns-in_err-push_line-clause-printed
-returns-in_err-push_line-clause-printed g c first all ready =
+pub returns-in_err-make_line-clause-printed : goal.returns-in_err-make_line-clause-printed
+returns-in_err-make_line-clause-printed g c first all ready =
     let l = c.loop-writer in
     let so_far = l.invariant.lines_so_far first all ready in
-    lacked c.args.ended c.args.reader.now first all c.args.waiting.now c.args.merger.now ready l.lines (g.K.Sink.put c.args.out.now) (g.K.Sink.put l.out) l.text.items l.waiting l.merger so_far (g.K.Sink.faults c.args.out.now) (g.K.Sink.faults l.out) c.from_residual.result _ _ c.from_residual.ensures.1 l.invariant.counted
+    lacked c.args.ended c.args.reader.now first all c.args.waiting.now c.args.merger.now ready l.lines (g.K.Sink.put c.args.out.now) (g.K.Sink.put l.out) l.text_writer l.waiting l.merger so_far (g.K.Sink.faults c.args.out.now) (g.K.Sink.faults l.out) c.from_residual.result _ _ c.from_residual.ensures.1 l.invariant.counted
 
-pub returns-in_err-write_large-clause-printed : goal.returns-in_err-write_large-clause-printed
-returns-in_err-write_large-clause-printed g c first all ready =
+pub returns-in_err-put-clause-printed : goal.returns-in_err-put-clause-printed
+returns-in_err-put-clause-printed g c first all ready =
     let l = c.loop-writer in
     let so_far = l.invariant.lines_so_far first all ready in
     let top = (c.in-Take.ensures.take c.in-Take.writer).0 refl in
-    line_cut c.args.ended c.args.reader.now first all c.args.waiting.now c.args.merger.now ready l.lines (g.K.Sink.put c.args.out.now) (g.K.Sink.put l.out) l.text.items l.waiting l.merger so_far c.in-Take.writer top.0 top.1 (get_or l.waiting c.in-Take.writer c.index-waiting-writer.result) (get_or_default l.waiting c.in-Take.writer c.index-waiting-writer.result [] (within c.args.ended c.args.reader.now first all c.args.waiting.now c.args.merger.now ready l.lines (g.K.Sink.put c.args.out.now) (g.K.Sink.put l.out) l.text.items l.waiting l.merger so_far c.in-Take.writer top.0 top.1)) c.in-Some.record.now c.in-Some.ensures.some c.push_line.new.text.items (g.K.Sink.put c.write_large.new.out) (g.K.Sink.faults c.args.out.now) (g.K.Sink.faults l.out) (g.K.Sink.faults c.write_large.new.out) c.from_residual-in_err-write_large.result _ _
-    c.from_residual-in_err-write_large.ensures.1 (line_said c.args.ended c.args.reader.now first all c.args.waiting.now c.args.merger.now ready l.lines (g.K.Sink.put c.args.out.now) (g.K.Sink.put l.out) l.text.items l.waiting l.merger so_far c.in-Take.writer top.0 top.1 (get_or l.waiting c.in-Take.writer c.index-waiting-writer.result) (get_or_default l.waiting c.in-Take.writer c.index-waiting-writer.result [] (within c.args.ended c.args.reader.now first all c.args.waiting.now c.args.merger.now ready l.lines (g.K.Sink.put c.args.out.now) (g.K.Sink.put l.out) l.text.items l.waiting l.merger so_far c.in-Take.writer top.0 top.1)) c.in-Some.record.now c.in-Some.ensures.some l.text.items c.push_line.new.text.items c.in_ok-push_line.ensures) l.invariant.counted c.in_err-write_large.ensures.cut_off
+    line_cut c.args.ended c.args.reader.now first all c.args.waiting.now c.args.merger.now ready l.lines (g.K.Sink.put c.args.out.now) (g.K.Sink.put l.out) l.text_writer l.waiting l.merger so_far c.in-Take.writer top.0 top.1 (get_or l.waiting c.in-Take.writer c.index-waiting-writer.result) (get_or_default l.waiting c.in-Take.writer c.index-waiting-writer.result [] (within c.args.ended c.args.reader.now first all c.args.waiting.now c.args.merger.now ready l.lines (g.K.Sink.put c.args.out.now) (g.K.Sink.put l.out) l.text_writer l.waiting l.merger so_far c.in-Take.writer top.0 top.1)) c.in-Some.record.now c.in-Some.ensures.some (l.text_writer ++ c.as_slice.result.now) (g.K.Sink.put c.put.new.sink) (g.K.Sink.faults c.args.out.now) (g.K.Sink.faults l.out) (g.K.Sink.faults c.put.new.sink) c.from_residual-in_err-put.result _ _
+    c.from_residual-in_err-put.ensures.1 (ap (λ (line : List ℕ). l.text_writer ++ line) (c.as_slice.ensures.value ∙ line_said c.args.ended c.args.reader.now first all c.args.waiting.now c.args.merger.now ready l.lines (g.K.Sink.put c.args.out.now) (g.K.Sink.put l.out) l.text_writer l.waiting l.merger so_far c.in-Take.writer top.0 top.1 (get_or l.waiting c.in-Take.writer c.index-waiting-writer.result) (get_or_default l.waiting c.in-Take.writer c.index-waiting-writer.result [] (within c.args.ended c.args.reader.now first all c.args.waiting.now c.args.merger.now ready l.lines (g.K.Sink.put c.args.out.now) (g.K.Sink.put l.out) l.text_writer l.waiting l.merger so_far c.in-Take.writer top.0 top.1)) c.in-Some.record.now c.in-Some.ensures.some [] c.make_line.new.line.items c.in_ok-make_line.ensures)) l.invariant.counted c.in_err-put.ensures.cut_off
 
 pub show_first-requires : goal.show_first-requires
 show_first-requires g c =
@@ -78,7 +78,7 @@ show_first-requires g c =
     let l = c.loop-writer in
     let so_far = l.invariant.lines_so_far first all ready in
     let top = (c.in-Take.ensures.take c.in-Take.writer).0 refl in
-    wished c.args.ended c.args.reader.now first all c.args.waiting.now c.args.merger.now ready l.lines (g.K.Sink.put c.args.out.now) (g.K.Sink.put l.out) l.text.items l.waiting l.merger so_far c.in-Take.writer top.0 top.1 c.next.new.self (c.next.ensures.taken c.in-Take.writer c.in-Take.is)
+    wished c.args.ended c.args.reader.now first all c.args.waiting.now c.args.merger.now ready l.lines (g.K.Sink.put c.args.out.now) (g.K.Sink.put l.out) l.text_writer l.waiting l.merger so_far c.in-Take.writer top.0 top.1 c.next.new.self (c.next.ensures.taken c.in-Take.writer c.in-Take.is)
 
 pub overflow_add-lines : goal.overflow_add-lines
 overflow_add-lines g c =
@@ -86,7 +86,7 @@ overflow_add-lines g c =
     let l = c.loop-writer in
     let so_far = l.invariant.lines_so_far first all ready in
     let top = (c.in-Take.ensures.take c.in-Take.writer).0 refl in
-    omega (arith, few_next c.args.ended c.args.reader.now first all c.args.waiting.now c.args.merger.now ready l.lines (g.K.Sink.put c.args.out.now) (g.K.Sink.put l.out) l.text.items l.waiting l.merger so_far c.in-Take.writer top.0 top.1)
+    omega (arith, few_next c.args.ended c.args.reader.now first all c.args.waiting.now c.args.merger.now ready l.lines (g.K.Sink.put c.args.out.now) (g.K.Sink.put l.out) l.text_writer l.waiting l.merger so_far c.in-Take.writer top.0 top.1)
 
 pub loop-writer-smaller : goal.loop-writer-smaller
 loop-writer-smaller g c =
@@ -94,7 +94,7 @@ loop-writer-smaller g c =
     let l = c.loop-writer in
     let so_far = l.invariant.lines_so_far first all ready in
     let top = (c.in-Take.ensures.take c.in-Take.writer).0 refl in
-    subst (λ (entries : List Call). sum_by length (slice_set l.waiting c.in-Take.writer entries) < sum_by length l.waiting) (sym c.remove_first.ensures) (less_waits c.args.ended c.args.reader.now first all c.args.waiting.now c.args.merger.now ready l.lines (g.K.Sink.put c.args.out.now) (g.K.Sink.put l.out) l.text.items l.waiting l.merger so_far c.in-Take.writer top.0 top.1 (get_or l.waiting c.in-Take.writer c.index-waiting-writer.result) (get_or_default l.waiting c.in-Take.writer c.index-waiting-writer.result [] (within c.args.ended c.args.reader.now first all c.args.waiting.now c.args.merger.now ready l.lines (g.K.Sink.put c.args.out.now) (g.K.Sink.put l.out) l.text.items l.waiting l.merger so_far c.in-Take.writer top.0 top.1)))
+    subst (λ (entries : List Call). sum_by length (slice_set l.waiting c.in-Take.writer entries) < sum_by length l.waiting) (sym c.remove_first.ensures) (less_waits c.args.ended c.args.reader.now first all c.args.waiting.now c.args.merger.now ready l.lines (g.K.Sink.put c.args.out.now) (g.K.Sink.put l.out) l.text_writer l.waiting l.merger so_far c.in-Take.writer top.0 top.1 (get_or l.waiting c.in-Take.writer c.index-waiting-writer.result) (get_or_default l.waiting c.in-Take.writer c.index-waiting-writer.result [] (within c.args.ended c.args.reader.now first all c.args.waiting.now c.args.merger.now ready l.lines (g.K.Sink.put c.args.out.now) (g.K.Sink.put l.out) l.text_writer l.waiting l.merger so_far c.in-Take.writer top.0 top.1)))
 
 pub loop-writer-preserved : goal.loop-writer-preserved
 loop-writer-preserved g c = record {
@@ -102,21 +102,21 @@ loop-writer-preserved g c = record {
       let l = c.loop-writer in
       let so_far = l.invariant.lines_so_far first all ready in
       let top = (c.in-Take.ensures.take c.in-Take.writer).0 refl in
-      let t = turn c.args.ended c.args.reader.now first all c.args.waiting.now c.args.merger.now ready l.lines (g.K.Sink.put c.args.out.now) (g.K.Sink.put l.out) l.text.items l.waiting l.merger so_far c.in-Take.writer top.0 top.1 in
+      let t = turn c.args.ended c.args.reader.now first all c.args.waiting.now c.args.merger.now ready l.lines (g.K.Sink.put c.args.out.now) (g.K.Sink.put l.out) l.text_writer l.waiting l.merger so_far c.in-Take.writer top.0 top.1 in
       let done = c.is_done.ensures (omega (arith, t.known, ready.valid.header_right.few_writers)) ∙ ready.closed c.in-Take.writer t.known in
-      next_lines c.args.ended c.args.reader.now first all c.args.waiting.now c.args.merger.now ready l.lines (g.K.Sink.put c.args.out.now) (g.K.Sink.put l.out) l.text.items l.waiting l.merger so_far c.in-Take.writer top.0 top.1 (get_or l.waiting c.in-Take.writer c.index-waiting-writer.result) (get_or_default l.waiting c.in-Take.writer c.index-waiting-writer.result [] (within c.args.ended c.args.reader.now first all c.args.waiting.now c.args.merger.now ready l.lines (g.K.Sink.put c.args.out.now) (g.K.Sink.put l.out) l.text.items l.waiting l.merger so_far c.in-Take.writer top.0 top.1)) c.in-Some.record.now c.in-Some.ensures.some c.push_line.new.text.items (g.K.Sink.put c.write_large.new.out) c.write_large.new.held.items _ c.show_first.new.merger
-      (line_said c.args.ended c.args.reader.now first all c.args.waiting.now c.args.merger.now ready l.lines (g.K.Sink.put c.args.out.now) (g.K.Sink.put l.out) l.text.items l.waiting l.merger so_far c.in-Take.writer top.0 top.1 (get_or l.waiting c.in-Take.writer c.index-waiting-writer.result) (get_or_default l.waiting c.in-Take.writer c.index-waiting-writer.result [] (within c.args.ended c.args.reader.now first all c.args.waiting.now c.args.merger.now ready l.lines (g.K.Sink.put c.args.out.now) (g.K.Sink.put l.out) l.text.items l.waiting l.merger so_far c.in-Take.writer top.0 top.1)) c.in-Some.record.now c.in-Some.ensures.some l.text.items c.push_line.new.text.items c.in_ok-push_line.ensures) c.in_ok-write_large.ensures.ok (ap (slice_set l.waiting c.in-Take.writer) c.remove_first.ensures)
+      next_lines c.args.ended c.args.reader.now first all c.args.waiting.now c.args.merger.now ready l.lines (g.K.Sink.put c.args.out.now) (g.K.Sink.put l.out) l.text_writer l.waiting l.merger so_far c.in-Take.writer top.0 top.1 (get_or l.waiting c.in-Take.writer c.index-waiting-writer.result) (get_or_default l.waiting c.in-Take.writer c.index-waiting-writer.result [] (within c.args.ended c.args.reader.now first all c.args.waiting.now c.args.merger.now ready l.lines (g.K.Sink.put c.args.out.now) (g.K.Sink.put l.out) l.text_writer l.waiting l.merger so_far c.in-Take.writer top.0 top.1)) c.in-Some.record.now c.in-Some.ensures.some (l.text_writer ++ c.as_slice.result.now) (g.K.Sink.put c.put.new.sink) c.put.new.self _ c.show_first.new.merger
+      (ap (λ (line : List ℕ). l.text_writer ++ line) (c.as_slice.ensures.value ∙ line_said c.args.ended c.args.reader.now first all c.args.waiting.now c.args.merger.now ready l.lines (g.K.Sink.put c.args.out.now) (g.K.Sink.put l.out) l.text_writer l.waiting l.merger so_far c.in-Take.writer top.0 top.1 (get_or l.waiting c.in-Take.writer c.index-waiting-writer.result) (get_or_default l.waiting c.in-Take.writer c.index-waiting-writer.result [] (within c.args.ended c.args.reader.now first all c.args.waiting.now c.args.merger.now ready l.lines (g.K.Sink.put c.args.out.now) (g.K.Sink.put l.out) l.text_writer l.waiting l.merger so_far c.in-Take.writer top.0 top.1)) c.in-Some.record.now c.in-Some.ensures.some [] c.make_line.new.line.items c.in_ok-make_line.ensures)) c.in_ok-put.ensures.ok (ap (slice_set l.waiting c.in-Take.writer) c.remove_first.ensures)
       (c.show_first.ensures ∙ λ i. slice_set (c.next.ensures.taken c.in-Take.writer c.in-Take.is i) c.in-Take.writer (list_of (done i) (c.remove_first.ensures i)));
-  counted = c.in_ok-write_large.ensures.counted ∙ c.loop-writer.invariant.counted;
-  others = g.met.K.Sink.rest_then _ _ _ c.loop-writer.invariant.others c.write_large.ensures.others;
+  counted = c.in_ok-put.ensures.counted ∙ c.loop-writer.invariant.counted;
+  others = g.met.K.Sink.rest_then _ _ _ c.loop-writer.invariant.others c.put.ensures.others;
 }
 
-pub returns-in_err-write_held-clause-printed : goal.returns-in_err-write_held-clause-printed
-returns-in_err-write_held-clause-printed g c first all ready =
+pub returns-in_err-flush-clause-printed : goal.returns-in_err-flush-clause-printed
+returns-in_err-flush-clause-printed g c first all ready =
     let l = c.loop-writer in
     let so_far = l.invariant.lines_so_far first all ready in
-    held_cut c.args.ended c.args.reader.now first all c.args.waiting.now c.args.merger.now ready l.lines (g.K.Sink.put c.args.out.now) (g.K.Sink.put l.out) l.text.items l.waiting l.merger so_far (g.K.Sink.put c.write_held.new.out) (g.K.Sink.faults c.args.out.now) (g.K.Sink.faults l.out) (g.K.Sink.faults c.write_held.new.out) c.from_residual-in_err-write_held.result _ _
-    c.from_residual-in_err-write_held.ensures.1 l.invariant.counted c.in_err-write_held.ensures.cut_off
+    held_cut c.args.ended c.args.reader.now first all c.args.waiting.now c.args.merger.now ready l.lines (g.K.Sink.put c.args.out.now) (g.K.Sink.put l.out) l.text_writer l.waiting l.merger so_far (g.K.Sink.put c.flush.new.sink) (g.K.Sink.faults c.args.out.now) (g.K.Sink.faults l.out) (g.K.Sink.faults c.flush.new.sink) c.from_residual-in_err-flush.result _ _
+    c.from_residual-in_err-flush.ensures.1 l.invariant.counted c.in_err-flush.ensures.cut_off
 
 pub returns-clause-printed : goal.returns-clause-printed
 returns-clause-printed g c first all ready =
@@ -124,7 +124,7 @@ returns-clause-printed g c first all ready =
     let so_far = l.invariant.lines_so_far first all ready in
     let kept = c.next.ensures.kept c.in_default.not-Take in
     let printed_are = all_ready c.args.reader.now.header all ready.valid c.args.ended so_far.printed l.waiting l.merger so_far.at c.next.result c.in_default.not-Take (λ w is. (c.next.ensures.want w).0 is) c.next.ensures.done.0 in (
-      subst (HasMore c.args.ended c.args.reader.now.header first all l.lines (g.K.Sink.put c.args.out.now) (g.K.Sink.put c.write_held.new.out) l.waiting) (sym kept)
-          (all_out c.args.ended c.args.reader.now first all c.args.waiting.now c.args.merger.now ready l.lines (g.K.Sink.put c.args.out.now) (g.K.Sink.put l.out) l.text.items l.waiting l.merger so_far (g.K.Sink.put c.write_held.new.out) printed_are c.in_ok-write_held.ensures.ok),
-      c.in_ok-write_held.ensures.counted ∙ l.invariant.counted,
+      subst (HasMore c.args.ended c.args.reader.now.header first all l.lines (g.K.Sink.put c.args.out.now) (g.K.Sink.put c.flush.new.sink) l.waiting) (sym kept)
+          (all_out c.args.ended c.args.reader.now first all c.args.waiting.now c.args.merger.now ready l.lines (g.K.Sink.put c.args.out.now) (g.K.Sink.put l.out) l.text_writer l.waiting l.merger so_far (g.K.Sink.put c.flush.new.sink) printed_are c.in_ok-flush.ensures.ok),
+      c.in_ok-flush.ensures.counted ∙ l.invariant.counted,
     )

@@ -10,7 +10,7 @@ abbrev pub invariant-loop-writer : goal.invariant-loop-writer
 invariant-loop-writer g l =
     record {
       lines_so_far : (first all : List Block) (ready : HasToPrint l.ended l.reader first all l.fn.waiting l.fn.merger)
-          → HasLines l.ended l.reader.header first all ready.valid l.lines (g.K.Sink.put l.fn.out) (g.K.Sink.put l.out) l.text.items l.waiting l.merger;
+          → HasLines l.ended l.reader.header first all ready.valid l.lines (g.K.Sink.put l.fn.out) (g.K.Sink.put l.out) l.text_writer l.waiting l.merger;
       counted : g.K.Sink.faults l.out ≡ g.K.Sink.faults l.fn.out;
       others : g.K.Sink.rest l.fn.out l.out;
     }
