@@ -10,6 +10,8 @@ mod frames;
 #[cfg(test)]
 mod logs;
 #[cfg(test)]
+mod numbers;
+#[cfg(test)]
 mod sources;
 #[cfg(test)]
 mod steps;

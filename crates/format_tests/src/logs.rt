@@ -1,15 +1,23 @@
-//! Logs: the most that they may hold.
+//! Logs: their parts, and the most that they may hold.
 
 ghost use Rattle.std.specs.Prelude.{None};
 
 use crate::tables::{Told, bytes_of, check_rows, joined};
-use checkpoint_io::{BlockFault, Header, Reader, append_header};
-use log_dictionary::Clock;
+use checkpoint_io::{
+    BlockFault, Header, Reader, append_close, append_extent, append_fragment, append_header,
+};
+use log_dictionary::{Clock, Dictionary};
 use nl_io::{Failed, MemSource, Source};
 use std::alloc::{AllocError, Global};
 use std::test::Fail;
 
-/// The header of the logs.
+/// A log of 68 bytes in hexadecimal: the header up to byte 30, a message up to 56, a record of it up to 66, and the
+/// close mark of its writer.
+const LOG: &str =
+    "4e 4c 4f 47 01 01 e8 03 00 00 00 00 00 00 00 00 44 5e 8f 86 05 15 00 94 35 77 00 00 00 00 \
+    01 00 00 00 00 01 00 03 0c 00 00 00 06 00 73 72 76 2e 63 63 04 00 78 3d 25 64 02 00 04 00 00 00 10 03 01 07 04 00";
+
+/// Its header, and that of the other logs.
 const HEADER: Header = Header {
     writers: 1,
     clock: Clock {
@@ -18,6 +26,38 @@ const HEADER: Header = Header {
         rate: 2_000_000_000,
     },
 };
+
+/// Appends the log part by part, if there is one message.
+fn append_log(dictionary: &Dictionary, log: &mut Vec<u8>) -> Result<(), AllocError> {
+    if dictionary.len() != 1 {
+        return Ok(());
+    }
+    append_header(&HEADER, log)?;
+    append_fragment(dictionary, 0, 1, log)?;
+    append_extent(0, &[0x10, 3, 1, 7], log)?;
+    append_close(0, log)
+}
+
+/// The log of one message.
+fn log_appended(alloc: Global, line: &str) -> Result<Vec<u8>, Fail> {
+    let mut dictionary = Dictionary::make(alloc);
+    dictionary.read_line(line.as_bytes())?;
+    let mut log = Vec::new(alloc);
+    append_log(&dictionary, &mut log)?;
+    Ok(log)
+}
+
+/// Whether the log of one message is that log.
+fn is_log(alloc: Global, line: &str) -> Result<bool, Fail> {
+    let wanted = bytes_of(alloc, LOG)?;
+    Ok(log_appended(alloc, line)? == wanted)
+}
+
+#[test]
+fn parts_are_appended(rt: HostRuntime) -> Result<(), Fail> {
+    assert!(rt; is_log(rt.alloc(), "message 0 NOTICE 12 \"srv.cc\" \"x=%d\"")?);
+    Ok(())
+}
 
 /// How reading ended: how many blocks were read, the offset, and the fault.
 fn ending(

@@ -1,8 +1,10 @@
-//! Tests of the rings of sessions, a frame at a time.
+//! Tests of rings: of the pure machine, and of the rings of sessions, a frame at a time.
 #![tactic(auto)]
 
 #[cfg(test)]
 mod feed;
+#[cfg(test)]
+mod machine;
 #[cfg(test)]
 mod rings;
 #[cfg(test)]
