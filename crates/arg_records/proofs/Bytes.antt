@@ -1,25 +1,30 @@
 -- Bytes as words.
-use Rattle.std.proofs.Common.{◌≡◌, ℕ, ◌-◌, ◌<◌, ◌≤◌, List, [], ◌∷◌, ◌++◌, length, take, drop, replicate, refl, sym, ap, ◌∙◌, arith}
+use Rattle.std.proofs.Common.{◌≡◌, ℕ, suc, ◌+◌, ◌-◌, ◌*◌, ◌^◌, ◌<◌, ◌≤◌, List, [], ◌∷◌, length, take, drop, get_or, refl, sym, ap, ◌∙◌, arith}
+use Rattle.std.proofs.Math.Nat.{pow-le-pow_right, pow-succ'}
 use Rattle.std.specs.Int.{w64, from_le_bytes}
-use Rattle.std.proofs.lemmas.List.{length-append, length-take-le, length-replicate, drop-replicate}
-use Rattle.nibble_pack.specs.Bytes.{number_of_bytes, number_of_bytes-zeros, from_le_bytes-number}
+use Rattle.std.proofs.lemmas.List.{length-take-le, at_drop_more}
+use Rattle.nibble_pack.specs.Bytes.{number_of_bytes, from_le_bytes-number}
 use Rattle.arg_records.specs.Frames.{words_of_bytes}
 
 -- the number of the first eight bytes
 pub eight : (bytes : List ℕ) → 8 ≤ length bytes → from_le_bytes w64 (take 8 bytes) ≡ number_of_bytes (take 8 bytes)
 eight bytes long = from_le_bytes-number (take 8 bytes) (length-take-le 8 bytes long)
 
--- zeros behind bytes add nothing
-filled : (bytes : List ℕ) → length bytes < 8 → from_le_bytes w64 (bytes ++ drop (length bytes) (0 ∷ 0 ∷ 0 ∷ 0 ∷ 0 ∷ 0 ∷ 0 ∷ 0 ∷ [])) ≡ number_of_bytes bytes
-filled bytes short =
-    let zeros : ℕ = 8 - length bytes in
-    let all : List ℕ = bytes ++ replicate zeros 0 in
-    ap (λ (z : List ℕ). from_le_bytes w64 (bytes ++ z)) (drop-replicate (length bytes) 8 0)
-    ∙ from_le_bytes-number all (omega (arith, short, length-append bytes (replicate zeros 0), length-replicate {A = ℕ} zeros 0))
-    ∙ number_of_bytes-zeros bytes zeros
+-- one byte more in front
+pub word_grows : (bytes : List ℕ) (at word byte : ℕ) → 0 < at → at ≤ length bytes → word ≡ number_of_bytes (drop at bytes) → byte ≡ get_or bytes (at - 1) 0
+    → word * 256 + byte ≡ number_of_bytes (drop (at - 1) bytes)
+word_grows bytes at word byte some within is byte_is =
+    let next : at - 1 + 1 ≡ at = omega (arith, some) in
+    omega (arith, at_drop_more number_of_bytes bytes (at - 1) 0 (omega (arith, some, within)), ap (λ (k : ℕ). number_of_bytes (drop k bytes)) next, is, byte_is)
 
-pub last_word_is : (bytes written : List ℕ) → length bytes < 8 → written ≡ bytes → from_le_bytes w64 (written ++ drop (length bytes) (0 ∷ 0 ∷ 0 ∷ 0 ∷ 0 ∷ 0 ∷ 0 ∷ 0 ∷ [])) ≡ number_of_bytes bytes
-last_word_is bytes written short is = ap (λ (w : List ℕ). from_le_bytes w64 (w ++ drop (length bytes) (0 ∷ 0 ∷ 0 ∷ 0 ∷ 0 ∷ 0 ∷ 0 ∷ 0 ∷ []))) is ∙ filled bytes short
+pub word_small : (len at word byte : ℕ) → 0 < at → at ≤ len → word < 256 ^ (len - at) → byte < 256 → word * 256 + byte < 256 ^ (len - (at - 1))
+word_small len at word byte some within small byte_small =
+    let steps : len - (at - 1) ≡ suc (len - at) = omega (arith, some, within) in
+    omega (arith, small, byte_small, ap (λ (k : ℕ). 256 ^ k) steps, pow-succ' 256 (len - at))
+
+-- fewer than seven bytes leave room for one more
+pub word_fits : (len at word : ℕ) → 0 < at → at ≤ len → len < 8 → word < 256 ^ (len - at) → word * 256 + 255 < 18446744073709551616
+word_fits len at word some within short small = omega (arith, small, pow-le-pow_right {n = 256} (omega arith) {i = len - at} {j = 6} (omega (arith, some, within, short)))
 
 -- eight bytes are the first word
 pub first_bytes : (bytes : List ℕ) → 8 ≤ length bytes → words_of_bytes bytes ≡ number_of_bytes (take 8 bytes) ∷ words_of_bytes (drop 8 bytes)

@@ -33,9 +33,14 @@ fn last_word(bytes: &[u8]) -> u64
     requires { length bytes.now < 8 }
     ensures { result ≡ number_of_bytes bytes.now }
 {
-    let mut word = [0; 8];
-    word[..bytes.len()].copy_from_slice(bytes);
-    u64::from_le_bytes(word)
+    // put together in a register: a copy into eight bytes would be waited for by the load behind it
+    let mut word = 0;
+    let mut at = bytes.len();
+    while at > 0 {
+        at -= 1;
+        word = word * 256 + u64::from(bytes[at]);
+    }
+    word
 }
 
 /// Writes bytes as words from a place on. It answers the place behind them.
