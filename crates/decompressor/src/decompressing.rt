@@ -7,13 +7,13 @@ ghost use Rattle.checkpoint_io.specs.Readers.{StandsFor};
 ghost use Rattle.decompressor.specs.Settling.{open_writers as open_writers_of};
 ghost use Rattle.decompressor.specs.Decompressing.{header_fault as header_fault_of, Decompresses};
 
-use crate::decompressor::Decompressor;
 use crate::fault::DecodeFault;
+use crate::log_printer::LogPrinter;
 use crate::numbers::Numbers;
 use crate::report::Report;
 use crate::step::Step;
 use checkpoint_io::{BlockFault, Reader};
-use nl_io::{Sink, Source};
+use nl_io::{Sink, Source, TextWriter};
 use std::alloc::{AllocError, Global};
 
 // The writers without a close mark, from the least number on.
@@ -77,12 +77,13 @@ pub fn decompress<S: Source, K: Sink>(
     ensures out_others { K.rest out.old out.new }
     ensures source_others { S.rest source.old source.new }
 {
-    let mut log = match Decompressor::make(alloc, source) {
-        Ok(log) => log,
+    let mut printer = match LogPrinter::make(alloc, source) {
+        Ok(printer) => printer,
         Err(fault) => return Err(header_fault(fault)),
     };
+    let mut text_writer = TextWriter::make();
     loop {
-        match log.step(source, out)? {
+        match printer.step(source, &mut text_writer, out)? {
             Step::More => {}
             Step::End(report) => return Ok(report),
         }

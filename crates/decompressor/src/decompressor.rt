@@ -13,7 +13,7 @@ use crate::fault::DecodeFault;
 use crate::log_printer::LogPrinter;
 use crate::step::Step;
 use checkpoint_io::BlockFault;
-use nl_io::{Sink, Source};
+use nl_io::{Sink, Source, TextWriter};
 use std::alloc::Global;
 use std::marker::Model;
 
@@ -108,7 +108,7 @@ impl Decompressor {
         ensures out_others { K.rest out.old out.new }
         ensures source_others { S.rest source.old source.new }
     {
-        match self.printer.step(source, out) {
+        match self.printer.step(source, &mut TextWriter::make(), out) {
             Ok(Step::More) => Ok(Step::More),
             Ok(Step::End(report)) => {
                 self.ended = true;

@@ -1,6 +1,6 @@
 //! Printing the lines of a log block by block.
 
-ghost use Rattle.std.specs.Prelude.{◌≡◌, ◌⊎◌, ◌≤◌, ◌++◌, ℕ, List, [], ◌∷◌, replicate, false, true, Ok, IfOk, IfSome, IsErrOf, IsOkAnd, OnErr, Err, Result};
+ghost use Rattle.std.specs.Prelude.{◌≡◌, ◌⊎◌, ◌≤◌, ◌++◌, ℕ, List, [], ◌∷◌, replicate, false, true, Ok, IfOk, IfSome, IsErrOf, IsOkAnd, OnOk, OnErr, Err, Result};
 ghost use Rattle.nl_io.specs.Count.{Rose};
 ghost use Rattle.nl_io.specs.Content.{IsAtEnd};
 ghost use Rattle.checkpoint_io.specs.declared.cause.Cause.{Cause as LogCause};
@@ -20,7 +20,7 @@ use crate::report::Report;
 use crate::showing::{add_block, close_all};
 use crate::step::Step;
 use checkpoint_io::{Block, BlockFault, Reader};
-use nl_io::{Sink, Source};
+use nl_io::{Sink, Source, TextWriter};
 use stamp_merge::Merger;
 use std::alloc::{AllocError, Global};
 use std::marker::Model;
@@ -98,8 +98,15 @@ impl LogPrinter {
     }
 
     // Takes a block that was read, and prints the lines of the records that are settled now.
-    fn take_block<K: Sink>(&mut self, block: Block, out: &mut K) -> Result<(), DecodeFault>
-        requires { (first : List LogBlock) × (next : LogBlock) × Describes block next × HasTaken self.old first next }
+    fn take_block<K: Sink>(
+        &mut self,
+        block: Block,
+        text_writer: &mut TextWriter,
+        out: &mut K,
+    ) -> Result<(), DecodeFault>
+        requires next { (first : List LogBlock) × (next : LogBlock) × Describes block next
+            × HasTaken self.old first next }
+        requires held { text_writer.old ≡ [] }
         ensures printed { (first : List LogBlock) (next : LogBlock) → Describes block next
             → HasTaken self.old first next
             → PrintsTo false self.old self.new first (first ++ next ∷ []) (K.put out.old) (K.put out.new)
@@ -108,6 +115,7 @@ impl LogPrinter {
         ensures written { ¬ (IsErrOf result DecodeFault.WriteFault) → K.faults out.new ≡ K.faults out.old }
         ensures count { K.faults out.old ≤ K.faults out.new }
         ensures fault { OnErr result (IsErrOf result DecodeFault.WriteFault ⊎ IsErrOf result DecodeFault.NoMemory) }
+        ensures held { OnOk result (text_writer.new ≡ []) }
         ensures others { K.rest out.old out.new }
     {
         add_block(&mut self.merger, &mut self.waiting, block)?;
@@ -117,14 +125,20 @@ impl LogPrinter {
             false,
             &mut self.merger,
             &mut self.waiting,
+            text_writer,
             out,
         )?;
         Ok(())
     }
 
     // Prints the lines of all records that wait.
-    fn print_rest<K: Sink>(&mut self, out: &mut K) -> Result<(), DecodeFault>
-        requires { (blocks : List LogBlock) × HasLast self.old blocks }
+    fn print_rest<K: Sink>(
+        &mut self,
+        text_writer: &mut TextWriter,
+        out: &mut K,
+    ) -> Result<(), DecodeFault>
+        requires last { (blocks : List LogBlock) × HasLast self.old blocks }
+        requires held { text_writer.old ≡ [] }
         ensures printed { (blocks : List LogBlock) → HasLast self.old blocks
             → PrintsTo true self.old self.new blocks blocks (K.put out.old) (K.put out.new)
             (K.faults out.old) (K.faults out.new) result }
@@ -141,13 +155,14 @@ impl LogPrinter {
             true,
             &mut self.merger,
             &mut self.waiting,
+            text_writer,
             out,
         )?;
         Ok(())
     }
 
     /// Reads the next block, and prints all lines before which no later one can stand. Where the log has ended, or
-    /// breaks there, these are all lines that are left.
+    /// breaks there, these are all lines that are left. The text writer has room for the text of a write.
     ///
     /// # Errors
     ///
@@ -155,9 +170,11 @@ impl LogPrinter {
     pub fn step<S: Source, K: Sink>(
         &mut self,
         source: &mut S,
+        text_writer: &mut TextWriter,
         out: &mut K,
     ) -> Result<Step, DecodeFault>
-        requires { (taken text : List ℕ) × HasPrinted self.old taken text }
+        requires printed { (taken text : List ℕ) × HasPrinted self.old taken text }
+        requires held { text_writer.old ≡ [] }
         // What was printed, and what the answer says of the bytes that stand behind those that were taken.
         ensures step { (taken text : List ℕ) (printed : HasPrinted self.old taken text)
             → Steps self.old self.new taken text printed (S.left source.old) (S.left source.new)
@@ -175,31 +192,33 @@ impl LogPrinter {
         ensures out_count { K.faults out.old ≤ K.faults out.new }
         ensures source_count { S.faults source.old ≤ S.faults source.new }
 
+        ensures held { result ≡ Ok Step.More → text_writer.new ≡ [] }
+
         // All else is as it was.
         ensures out_others { K.rest out.old out.new }
         ensures source_others { S.rest source.old source.new }
     {
         match self.reader.next_block(source) {
             Ok(Some(block)) => {
-                self.take_block(block, out)?;
+                self.take_block(block, text_writer, out)?;
                 Ok(Step::More)
             }
             Ok(None) => {
-                self.print_rest(out)?;
+                self.print_rest(text_writer, out)?;
                 Ok(Step::End(Report {
                     lines: self.lines,
                     unclosed: open_writers(self.alloc, &self.reader)?,
                 }))
             }
             Err(BlockFault::Damaged(cause)) => {
-                self.print_rest(out)?;
+                self.print_rest(text_writer, out)?;
                 Err(DecodeFault::Damaged {
                     offset: self.reader.offset(),
                     cause,
                 })
             }
             Err(BlockFault::ReadFault) => {
-                self.print_rest(out)?;
+                self.print_rest(text_writer, out)?;
                 Err(DecodeFault::ReadFault)
             }
             Err(BlockFault::NoMemory) => Err(DecodeFault::NoMemory),

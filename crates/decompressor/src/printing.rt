@@ -70,9 +70,11 @@ pub fn print_ready<K: Sink>(
     ended: bool,
     merger: &mut Merger,
     waiting: &mut [RecordQueue],
+    text_writer: &mut TextWriter,
     out: &mut K,
 ) -> Result<u64, DecodeFault>
-    requires { (first all : List Block) × HasToPrint ended reader.now first all waiting.old merger.old }
+    requires ready { (first all : List Block) × HasToPrint ended reader.now first all waiting.old merger.old }
+    requires held { text_writer.old ≡ [] }
     ensures printed { (first all : List Block) → HasToPrint ended reader.now first all waiting.old merger.old
         → PrintsReady ended reader.now.header first all (K.put out.old) (K.put out.new)
         (K.faults out.old) (K.faults out.new) waiting.new merger.new result }
@@ -80,10 +82,10 @@ pub fn print_ready<K: Sink>(
     ensures written { ¬ (IsErrOf result DecodeFault.WriteFault) → K.faults out.new ≡ K.faults out.old }
     ensures count { K.faults out.old ≤ K.faults out.new }
     ensures fault { OnErr result (IsErrOf result DecodeFault.WriteFault ⊎ IsErrOf result DecodeFault.NoMemory) }
+    ensures held { OnOk result (text_writer.new ≡ []) }
     ensures others { K.rest out.old out.new }
 {
     let mut line_writer = LineWriter::make();
-    let mut text_writer = TextWriter::make();
     let mut line = Vec::new(alloc);
     let mut lines = 0;
     while let Next::Take(writer) = merger.next() {

@@ -19,48 +19,48 @@ returns-in-Err-clause-text g c =
 
 pub returns-in_err-step-clause-text : goal.returns-in_err-step-clause-text
 returns-in_err-step-clause-text g c =
-    let on = c.loop-log.invariant.on in
-    subst (λ (n : ℕ). Decompresses (g.S.Source.left c.args.source.now) (g.S.Source.left c.step.new.source) n (g.S.Source.faults c.step.new.source) (g.K.Sink.put c.args.out.now) (g.K.Sink.put c.step.new.out) c.from_residual.result) c.loop-log.invariant.counted
-    (failed_as (g.S.Source.left c.args.source.now) (g.K.Sink.put c.args.out.now) c.loop-log.log.printer (g.S.Source.left c.loop-log.source) (g.K.Sink.put c.loop-log.out) c.loop-log.invariant.on c.step.new.self.printer (g.S.Source.left c.step.new.source) (g.K.Sink.put c.step.new.out) (g.S.Source.faults c.loop-log.source) (g.S.Source.faults c.step.new.source) c.in_err-step.field-0.0 c.from_residual.result c.from_residual.ensures.1
+    let on = c.loop-printer.invariant.on in
+    subst (λ (n : ℕ). Decompresses (g.S.Source.left c.args.source.now) (g.S.Source.left c.step.new.source) n (g.S.Source.faults c.step.new.source) (g.K.Sink.put c.args.out.now) (g.K.Sink.put c.step.new.out) c.from_residual.result) c.loop-printer.invariant.counted
+    (failed_as (g.S.Source.left c.args.source.now) (g.K.Sink.put c.args.out.now) c.loop-printer.printer (g.S.Source.left c.loop-printer.source) (g.K.Sink.put c.loop-printer.out) c.loop-printer.invariant.on c.step.new.self (g.S.Source.left c.step.new.source) (g.K.Sink.put c.step.new.out) (g.S.Source.faults c.loop-printer.source) (g.S.Source.faults c.step.new.source) c.in_err-step.field-0.0 c.from_residual.result c.from_residual.ensures.1
     (c.in_err-step.ensures.step on.taken on.text on.printed))
 
 pub returns-in_err-step-clause-out_others : goal.returns-in_err-step-clause-out_others
-returns-in_err-step-clause-out_others g c = g.met.K.Sink.rest_then _ _ _ c.loop-log.invariant.out_others c.step.ensures.out_others
+returns-in_err-step-clause-out_others g c = g.met.K.Sink.rest_then _ _ _ c.loop-printer.invariant.out_others c.step.ensures.out_others
 
 pub returns-in_err-step-clause-source_others : goal.returns-in_err-step-clause-source_others
-returns-in_err-step-clause-source_others g c = g.met.S.Source.rest_then _ _ _ c.loop-log.invariant.source_others c.step.ensures.source_others
+returns-in_err-step-clause-source_others g c = g.met.S.Source.rest_then _ _ _ c.loop-printer.invariant.source_others c.step.ensures.source_others
 
-pub loop-log-smaller : goal.loop-log-smaller
-loop-log-smaller g c =
-    let on = c.loop-log.invariant.on in
-    let stepped = subst (λ (step : Step). Steps c.loop-log.log.printer c.step.new.self.printer on.taken on.text on.printed (g.S.Source.left c.loop-log.source) (g.S.Source.left c.step.new.source) (g.S.Source.faults c.loop-log.source) (g.S.Source.faults c.step.new.source) (g.K.Sink.put c.loop-log.out) (g.K.Sink.put c.step.new.out) (Ok step)) c.in-More.is
+pub loop-printer-smaller : goal.loop-printer-smaller
+loop-printer-smaller g c =
+    let on = c.loop-printer.invariant.on in
+    let stepped = subst (λ (step : Step). Steps c.loop-printer.printer c.step.new.self on.taken on.text on.printed (g.S.Source.left c.loop-printer.source) (g.S.Source.left c.step.new.source) (g.S.Source.faults c.loop-printer.source) (g.S.Source.faults c.step.new.source) (g.K.Sink.put c.loop-printer.out) (g.K.Sink.put c.step.new.out) (Ok step)) c.in-More.is
     (c.in_ok-step.ensures.step on.taken on.text on.printed) in
-    falls (g.S.Source.left c.args.source.now) (g.K.Sink.put c.args.out.now) c.loop-log.log.printer (g.S.Source.left c.loop-log.source) (g.K.Sink.put c.loop-log.out) c.loop-log.invariant.on c.step.new.self.printer (g.S.Source.left c.step.new.source) (g.K.Sink.put c.step.new.out) stepped.0
+    falls (g.S.Source.left c.args.source.now) (g.K.Sink.put c.args.out.now) c.loop-printer.printer (g.S.Source.left c.loop-printer.source) (g.K.Sink.put c.loop-printer.out) c.loop-printer.invariant.on c.step.new.self (g.S.Source.left c.step.new.source) (g.K.Sink.put c.step.new.out) stepped.0
 
-pub loop-log-preserved : goal.loop-log-preserved
-loop-log-preserved g c =
-    let on = c.loop-log.invariant.on in
-    let stepped = subst (λ (step : Step). Steps c.loop-log.log.printer c.step.new.self.printer on.taken on.text on.printed (g.S.Source.left c.loop-log.source) (g.S.Source.left c.step.new.source) (g.S.Source.faults c.loop-log.source) (g.S.Source.faults c.step.new.source) (g.K.Sink.put c.loop-log.out) (g.K.Sink.put c.step.new.out) (Ok step)) c.in-More.is
+pub loop-printer-preserved : goal.loop-printer-preserved
+loop-printer-preserved g c =
+    let on = c.loop-printer.invariant.on in
+    let stepped = subst (λ (step : Step). Steps c.loop-printer.printer c.step.new.self on.taken on.text on.printed (g.S.Source.left c.loop-printer.source) (g.S.Source.left c.step.new.source) (g.S.Source.faults c.loop-printer.source) (g.S.Source.faults c.step.new.source) (g.K.Sink.put c.loop-printer.out) (g.K.Sink.put c.step.new.out) (Ok step)) c.in-More.is
     (c.in_ok-step.ensures.step on.taken on.text on.printed) in
     record {
-      going = c.in_ok-step.ensures.more (ap Ok c.in-More.is);
-      on = on_next (g.S.Source.left c.args.source.now) (g.K.Sink.put c.args.out.now) c.loop-log.log.printer (g.S.Source.left c.loop-log.source) (g.K.Sink.put c.loop-log.out) c.loop-log.invariant.on c.step.new.self.printer (g.S.Source.left c.step.new.source) (g.K.Sink.put c.step.new.out) stepped.0;
-      counted = stepped.1 ∙ c.loop-log.invariant.counted;
-      written = c.in_ok-step.ensures.written (λ e. cc) ∙ c.loop-log.invariant.written;
-      source_others = g.met.S.Source.rest_then _ _ _ c.loop-log.invariant.source_others c.step.ensures.source_others;
-      out_others = g.met.K.Sink.rest_then _ _ _ c.loop-log.invariant.out_others c.step.ensures.out_others;
+      held = c.in_ok-step.ensures.held (ap Ok c.in-More.is);
+      on = on_next (g.S.Source.left c.args.source.now) (g.K.Sink.put c.args.out.now) c.loop-printer.printer (g.S.Source.left c.loop-printer.source) (g.K.Sink.put c.loop-printer.out) c.loop-printer.invariant.on c.step.new.self (g.S.Source.left c.step.new.source) (g.K.Sink.put c.step.new.out) stepped.0;
+      counted = stepped.1 ∙ c.loop-printer.invariant.counted;
+      written = c.in_ok-step.ensures.written (λ e. cc) ∙ c.loop-printer.invariant.written;
+      source_others = g.met.S.Source.rest_then _ _ _ c.loop-printer.invariant.source_others c.step.ensures.source_others;
+      out_others = g.met.K.Sink.rest_then _ _ _ c.loop-printer.invariant.out_others c.step.ensures.out_others;
     }
 
 pub returns-in-End-clause-text : goal.returns-in-End-clause-text
 returns-in-End-clause-text g c =
-    let on = c.loop-log.invariant.on in
-    let stepped = subst (λ (step : Step). Steps c.loop-log.log.printer c.step.new.self.printer on.taken on.text on.printed (g.S.Source.left c.loop-log.source) (g.S.Source.left c.step.new.source) (g.S.Source.faults c.loop-log.source) (g.S.Source.faults c.step.new.source) (g.K.Sink.put c.loop-log.out) (g.K.Sink.put c.step.new.out) (Ok step)) c.in-End.is
+    let on = c.loop-printer.invariant.on in
+    let stepped = subst (λ (step : Step). Steps c.loop-printer.printer c.step.new.self on.taken on.text on.printed (g.S.Source.left c.loop-printer.source) (g.S.Source.left c.step.new.source) (g.S.Source.faults c.loop-printer.source) (g.S.Source.faults c.step.new.source) (g.K.Sink.put c.loop-printer.out) (g.K.Sink.put c.step.new.out) (Ok step)) c.in-End.is
     (c.in_ok-step.ensures.step on.taken on.text on.printed) in
-    subst (λ (n : ℕ). Decompresses (g.S.Source.left c.args.source.now) (g.S.Source.left c.step.new.source) n (g.S.Source.faults c.step.new.source) (g.K.Sink.put c.args.out.now) (g.K.Sink.put c.step.new.out) (Ok c.in-End.report)) c.loop-log.invariant.counted
-    (ended (g.S.Source.left c.args.source.now) (g.K.Sink.put c.args.out.now) c.loop-log.log.printer (g.S.Source.left c.loop-log.source) (g.K.Sink.put c.loop-log.out) c.loop-log.invariant.on c.step.new.self.printer (g.S.Source.left c.step.new.source) (g.K.Sink.put c.step.new.out) (g.S.Source.faults c.loop-log.source) (g.S.Source.faults c.step.new.source) c.in-End.report stepped)
+    subst (λ (n : ℕ). Decompresses (g.S.Source.left c.args.source.now) (g.S.Source.left c.step.new.source) n (g.S.Source.faults c.step.new.source) (g.K.Sink.put c.args.out.now) (g.K.Sink.put c.step.new.out) (Ok c.in-End.report)) c.loop-printer.invariant.counted
+    (ended (g.S.Source.left c.args.source.now) (g.K.Sink.put c.args.out.now) c.loop-printer.printer (g.S.Source.left c.loop-printer.source) (g.K.Sink.put c.loop-printer.out) c.loop-printer.invariant.on c.step.new.self (g.S.Source.left c.step.new.source) (g.K.Sink.put c.step.new.out) (g.S.Source.faults c.loop-printer.source) (g.S.Source.faults c.step.new.source) c.in-End.report stepped)
 
 pub returns-in-End-clause-out_others : goal.returns-in-End-clause-out_others
-returns-in-End-clause-out_others g c = g.met.K.Sink.rest_then _ _ _ c.loop-log.invariant.out_others c.step.ensures.out_others
+returns-in-End-clause-out_others g c = g.met.K.Sink.rest_then _ _ _ c.loop-printer.invariant.out_others c.step.ensures.out_others
 
 pub returns-in-End-clause-source_others : goal.returns-in-End-clause-source_others
-returns-in-End-clause-source_others g c = g.met.S.Source.rest_then _ _ _ c.loop-log.invariant.source_others c.step.ensures.source_others
+returns-in-End-clause-source_others g c = g.met.S.Source.rest_then _ _ _ c.loop-printer.invariant.source_others c.step.ensures.source_others

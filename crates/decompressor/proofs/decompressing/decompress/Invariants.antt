@@ -1,12 +1,12 @@
-use Rattle.std.proofs.Common.{◌≡◌, ◌-◌, false}
+use Rattle.std.proofs.Common.{◌≡◌, ◌-◌, []}
 use Rattle.decompressor.proofs.Outcomes.{IsOn}
 use Rattle.decompressor.proofs.decompressing.decompress.Given as goal
 
 -- the text of what was taken was put
-abbrev pub invariant-loop-log : goal.invariant-loop-log
-invariant-loop-log g l = record {
-  going : l.log.ended ≡ false;
-  on : IsOn (g.S.Source.left l.fn.source) (g.K.Sink.put l.fn.out) l.log.printer (g.S.Source.left l.source) (g.K.Sink.put l.out);
+abbrev pub invariant-loop-printer : goal.invariant-loop-printer
+invariant-loop-printer g l = record {
+  held : l.text_writer ≡ [];
+  on : IsOn (g.S.Source.left l.fn.source) (g.K.Sink.put l.fn.out) l.printer (g.S.Source.left l.source) (g.K.Sink.put l.out);
   counted : g.S.Source.faults l.source ≡ g.S.Source.faults l.fn.source;
   written : g.K.Sink.faults l.out ≡ g.K.Sink.faults l.fn.out;
   source_others : g.S.Source.rest l.fn.source l.source;
@@ -14,5 +14,5 @@ invariant-loop-log g l = record {
 }
 
 -- each step takes a block
-abbrev pub decreases-loop-log : goal.decreases-loop-log
-decreases-loop-log g l = 134217728 - l.log.printer.reader.offset
+abbrev pub decreases-loop-printer : goal.decreases-loop-printer
+decreases-loop-printer g l = 134217728 - l.printer.reader.offset

@@ -11,14 +11,14 @@ use Rattle.decompressor.proofs.printing.print_ready.Goals as goal
 
 pub loop-writer-init : goal.loop-writer-init
 loop-writer-init g c = record {
-  lines_so_far = λ first all ready. begin_lines c.args.ended c.args.reader.now first all c.args.waiting.now c.args.merger.now ready (g.K.Sink.put c.args.out.now) c.make-text_writer.result (carries_held [] c.make-text_writer.result (g.K.Sink.put c.args.out.now) c.make-text_writer.ensures);
+  lines_so_far = λ first all ready. begin_lines c.args.ended c.args.reader.now first all c.args.waiting.now c.args.merger.now ready (g.K.Sink.put c.args.out.now) c.args.text_writer.now (carries_held [] c.args.text_writer.now (g.K.Sink.put c.args.out.now) c.requires.held);
   counted = refl;
   others = g.met.K.Sink.rest_same _;
 }
 
 pub bounds-waiting-writer : goal.bounds-waiting-writer
 bounds-waiting-writer g c =
-    let (first, all, ready) = c.requires in
+    let (first, all, ready) = c.requires.ready in
     let l = c.loop-writer in
     let so_far = l.invariant.lines_so_far first all ready in
     let top = (c.in-Take.ensures.take c.in-Take.writer).0 refl in
@@ -26,7 +26,7 @@ bounds-waiting-writer g c =
 
 pub loop-writer-smaller-in_default-first : goal.loop-writer-smaller-in_default-first
 loop-writer-smaller-in_default-first g c =
-    let (first, all, ready) = c.requires in
+    let (first, all, ready) = c.requires.ready in
     let l = c.loop-writer in
     let so_far = l.invariant.lines_so_far first all ready in
     let top = (c.in-Take.ensures.take c.in-Take.writer).0 refl in
@@ -35,7 +35,7 @@ loop-writer-smaller-in_default-first g c =
 
 pub loop-writer-preserved-in_default-first : goal.loop-writer-preserved-in_default-first
 loop-writer-preserved-in_default-first g c =
-    let (first, all, ready) = c.requires in
+    let (first, all, ready) = c.requires.ready in
     let l = c.loop-writer in
     let so_far = l.invariant.lines_so_far first all ready in
     let top = (c.in-Take.ensures.take c.in-Take.writer).0 refl in
@@ -44,7 +44,7 @@ loop-writer-preserved-in_default-first g c =
 
 pub make_line-requires-clause-named : goal.make_line-requires-clause-named
 make_line-requires-clause-named g c =
-    let (first, all, ready) = c.requires in
+    let (first, all, ready) = c.requires.ready in
     let l = c.loop-writer in
     let so_far = l.invariant.lines_so_far first all ready in
     let top = (c.in-Take.ensures.take c.in-Take.writer).0 refl in
@@ -52,7 +52,7 @@ make_line-requires-clause-named g c =
 
 pub make_line-requires-clause-not_before : goal.make_line-requires-clause-not_before
 make_line-requires-clause-not_before g c =
-    let (first, all, ready) = c.requires in
+    let (first, all, ready) = c.requires.ready in
     let l = c.loop-writer in
     let so_far = l.invariant.lines_so_far first all ready in
     let top = (c.in-Take.ensures.take c.in-Take.writer).0 refl in
@@ -74,7 +74,7 @@ returns-in_err-put-clause-printed g c first all ready =
 
 pub show_first-requires : goal.show_first-requires
 show_first-requires g c =
-    let (first, all, ready) = c.requires in
+    let (first, all, ready) = c.requires.ready in
     let l = c.loop-writer in
     let so_far = l.invariant.lines_so_far first all ready in
     let top = (c.in-Take.ensures.take c.in-Take.writer).0 refl in
@@ -82,7 +82,7 @@ show_first-requires g c =
 
 pub overflow_add-lines : goal.overflow_add-lines
 overflow_add-lines g c =
-    let (first, all, ready) = c.requires in
+    let (first, all, ready) = c.requires.ready in
     let l = c.loop-writer in
     let so_far = l.invariant.lines_so_far first all ready in
     let top = (c.in-Take.ensures.take c.in-Take.writer).0 refl in
@@ -90,7 +90,7 @@ overflow_add-lines g c =
 
 pub loop-writer-smaller : goal.loop-writer-smaller
 loop-writer-smaller g c =
-    let (first, all, ready) = c.requires in
+    let (first, all, ready) = c.requires.ready in
     let l = c.loop-writer in
     let so_far = l.invariant.lines_so_far first all ready in
     let top = (c.in-Take.ensures.take c.in-Take.writer).0 refl in

@@ -4,8 +4,8 @@ use Rattle.decompressor.specs.declared.step.Step.TheVariants.{More, End}
 use Rattle.decompressor.specs.Decompressors.{DecompressorState, HasPrinted, Steps}
 use Rattle.decompressor.proofs.decompressor.Decompressor.step.Goals as goal
 
-pub step-requires : goal.step-requires
-step-requires g c = c.self.invariant (ap (λ (s : DecompressorState). s.ended) c.self.view_is ∙ c.requires)
+pub step-requires-clause-printed : goal.step-requires-clause-printed
+step-requires-clause-printed g c = c.self.invariant (ap (λ (s : DecompressorState). s.ended) c.self.view_is ∙ c.requires)
 
 pub invariant_of-self : goal.invariant_of-self
 invariant_of-self g c =

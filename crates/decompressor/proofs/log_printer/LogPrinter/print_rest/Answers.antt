@@ -9,14 +9,14 @@ use Rattle.decompressor.proofs.Blocks.{all_ready_now}
 use Rattle.decompressor.proofs.Parts.{lines_fit, prints_on, prints_cut}
 use Rattle.decompressor.proofs.log_printer.LogPrinter.print_rest.Goals as goal
 
-pub print_ready-requires : goal.print_ready-requires
-print_ready-requires g c =
+pub print_ready-requires-clause-ready : goal.print_ready-requires-clause-ready
+print_ready-requires-clause-ready g c =
     let inside = c.self.inside in
     let old : PrinterState = record { reader = inside.reader; waiting = inside.waiting.items; lists = inside.merger; lines = inside.lines } in
     let ready : (blocks : List Block) → HasLast old blocks → HasToPrint true inside.reader blocks blocks c.deref_mut.result.now c.close_all.new.merger = λ blocks last.
     subst (λ (waiting : List (List Call)). HasToPrint true inside.reader blocks blocks waiting c.close_all.new.merger) (sym c.deref_mut.ensures.value)
     (all_ready_now old blocks last c.close_all.new.merger (subst (HasHeads (λ writer. true) c.close_all.new.merger) c.deref.ensures.value c.close_all.ensures)) in
-    let (blocks, last) = subst (λ (s : PrinterState). (blocks : List Block) × HasLast s blocks) (sym c.self.view_is) c.requires in
+    let (blocks, last) = subst (λ (s : PrinterState). (blocks : List Block) × HasLast s blocks) (sym c.self.view_is) c.requires.last in
     (blocks, blocks, ready blocks last)
 
 pub returns-in_err-self-inside-clause-printed : goal.returns-in_err-self-inside-clause-printed
@@ -37,7 +37,7 @@ overflow_add-self g c =
     let ready : (blocks : List Block) → HasLast old blocks → HasToPrint true inside.reader blocks blocks c.deref_mut.result.now c.close_all.new.merger = λ blocks last.
     subst (λ (waiting : List (List Call)). HasToPrint true inside.reader blocks blocks waiting c.close_all.new.merger) (sym c.deref_mut.ensures.value)
     (all_ready_now old blocks last c.close_all.new.merger (subst (HasHeads (λ writer. true) c.close_all.new.merger) c.deref.ensures.value c.close_all.ensures)) in
-    let (blocks, last) = subst (λ (s : PrinterState). (blocks : List Block) × HasLast s blocks) (sym c.self.view_is) c.requires in
+    let (blocks, last) = subst (λ (s : PrinterState). (blocks : List Block) × HasLast s blocks) (sym c.self.view_is) c.requires.last in
     let more = (c.in_ok-self-inside.ensures.printed blocks blocks (ready blocks last)).0 in
     omega (arith, lines_fit true old blocks blocks last.lines c.in_ok-self-inside.field-0 (g.K.Sink.put c.args.out.now) (g.K.Sink.put c.print_ready.new.out) c.print_ready.new.waiting c.print_ready.new.merger last.few more)
 

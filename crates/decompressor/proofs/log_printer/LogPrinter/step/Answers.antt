@@ -13,8 +13,8 @@ use Rattle.decompressor.specs.Decompressors.{PrinterState, HasPrinted, HasLast, 
 use Rattle.decompressor.proofs.Stepping.{blocks, at_reader, has_read, advances, had_last, whole_reads, damaged_reads, failed_reads, completes, nothing_put, all_put, rest_stops, lacks, block_stops}
 use Rattle.decompressor.proofs.log_printer.LogPrinter.step.Goals as goal
 
-pub take_block-requires : goal.take_block-requires
-take_block-requires g c =
+pub take_block-requires-clause-next : goal.take_block-requires-clause-next
+take_block-requires-clause-next g c =
     let inside = c.self.inside in
     let old : PrinterState = record { reader = inside.reader; waiting = inside.waiting.items; lists = inside.merger; lines = inside.lines } in
     let new = c.next_block.new.self in
@@ -23,7 +23,7 @@ take_block-requires g c =
     let same = c.next_block.ensures.header in
     let nexts : (taken text : List ℕ) (printed : HasPrinted old taken text) → TakesNext inside.reader new taken printed.read c.in-Ok-Some.block left behind = λ taken text printed.
     subst (λ (answer : Option ReadBlock). AnswersNext inside.reader new taken printed.read answer left behind) c.in-Ok-Some.field-0-is (c.in-Ok-Some.ensures.ok taken printed.read) in
-    let (taken, text, printed) = subst (λ (s : PrinterState). (taken : List ℕ) × (text : List ℕ) × HasPrinted s taken text) (sym c.self.view_is) c.requires in
+    let (taken, text, printed) = subst (λ (s : PrinterState). (taken : List ℕ) × (text : List ℕ) × HasPrinted s taken text) (sym c.self.view_is) c.requires.printed in
     let next = nexts taken text printed in
     (blocks old taken text printed, next.block, next.tells, has_read old taken text printed new same c.in-Ok-Some.block left behind next)
 
@@ -61,8 +61,8 @@ returns-in_ok-take_block-in-Ok-Some-clause-step g c =
     let did = c.in_ok-take_block-in-Ok-Some.ensures.printed printed.read.blocks next.block next.tells (has_read old taken text printed new same c.in-Ok-Some.block left behind next) in
     (advances old taken text printed new same c.in-Ok-Some.block left behind next c.take_block.new.self (g.K.Sink.put c.args.out.now) (g.K.Sink.put c.take_block.new.out) c.in-Ok-Some.ensures.right did.0, counted))
 
-pub print_rest-requires : goal.print_rest-requires
-print_rest-requires g c =
+pub print_rest-requires-clause-last : goal.print_rest-requires-clause-last
+print_rest-requires-clause-last g c =
     let inside = c.self.inside in
     let old : PrinterState = record { reader = inside.reader; waiting = inside.waiting.items; lists = inside.merger; lines = inside.lines } in
     let new = c.next_block.new.self in
@@ -73,11 +73,11 @@ print_rest-requires g c =
     subst (λ (answer : Option ReadBlock). AnswersNext inside.reader new taken printed.read answer left behind) c.in-Ok-None.field-0-is (c.in-Ok-None.ensures.ok taken printed.read) in
     let last : (taken text : List ℕ) (printed : HasPrinted old taken text) → HasLast (at_reader old taken text printed new) printed.read.blocks = λ taken text printed.
     had_last old taken text printed new same left c.next_block.ensures.defined in
-    let (taken, text, printed) = subst (λ (s : PrinterState). (taken : List ℕ) × (text : List ℕ) × HasPrinted s taken text) (sym c.self.view_is) c.requires in
+    let (taken, text, printed) = subst (λ (s : PrinterState). (taken : List ℕ) × (text : List ℕ) × HasPrinted s taken text) (sym c.self.view_is) c.requires.printed in
     (blocks old taken text printed, last taken text printed)
 
-pub print_rest-requires-in-Err-Damaged : goal.print_rest-requires-in-Err-Damaged
-print_rest-requires-in-Err-Damaged g c =
+pub print_rest-requires-in-Err-Damaged-clause-last : goal.print_rest-requires-in-Err-Damaged-clause-last
+print_rest-requires-in-Err-Damaged-clause-last g c =
     let inside = c.self.inside in
     let old : PrinterState = record { reader = inside.reader; waiting = inside.waiting.items; lists = inside.merger; lines = inside.lines } in
     let new = c.next_block.new.self in
@@ -86,11 +86,11 @@ print_rest-requires-in-Err-Damaged g c =
     let same = c.next_block.ensures.header in
     let last : (taken text : List ℕ) (printed : HasPrinted old taken text) → HasLast (at_reader old taken text printed new) printed.read.blocks = λ taken text printed.
     had_last old taken text printed new same left c.next_block.ensures.defined in
-    let (taken, text, printed) = subst (λ (s : PrinterState). (taken : List ℕ) × (text : List ℕ) × HasPrinted s taken text) (sym c.self.view_is) c.requires in
+    let (taken, text, printed) = subst (λ (s : PrinterState). (taken : List ℕ) × (text : List ℕ) × HasPrinted s taken text) (sym c.self.view_is) c.requires.printed in
     (blocks old taken text printed, last taken text printed)
 
-pub print_rest-requires-in-Err-ReadFault : goal.print_rest-requires-in-Err-ReadFault
-print_rest-requires-in-Err-ReadFault g c =
+pub print_rest-requires-in-Err-ReadFault-clause-last : goal.print_rest-requires-in-Err-ReadFault-clause-last
+print_rest-requires-in-Err-ReadFault-clause-last g c =
     let inside = c.self.inside in
     let old : PrinterState = record { reader = inside.reader; waiting = inside.waiting.items; lists = inside.merger; lines = inside.lines } in
     let new = c.next_block.new.self in
@@ -99,7 +99,7 @@ print_rest-requires-in-Err-ReadFault g c =
     let same = c.next_block.ensures.header in
     let last : (taken text : List ℕ) (printed : HasPrinted old taken text) → HasLast (at_reader old taken text printed new) printed.read.blocks = λ taken text printed.
     had_last old taken text printed new same left c.next_block.ensures.defined in
-    let (taken, text, printed) = subst (λ (s : PrinterState). (taken : List ℕ) × (text : List ℕ) × HasPrinted s taken text) (sym c.self.view_is) c.requires in
+    let (taken, text, printed) = subst (λ (s : PrinterState). (taken : List ℕ) × (text : List ℕ) × HasPrinted s taken text) (sym c.self.view_is) c.requires.printed in
     (blocks old taken text printed, last taken text printed)
 
 pub returns-in-Err-NoMemory-clause-step : goal.returns-in-Err-NoMemory-clause-step

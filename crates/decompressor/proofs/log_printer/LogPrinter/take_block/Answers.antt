@@ -16,7 +16,7 @@ pub add_block-requires : goal.add_block-requires
 add_block-requires g c =
     let inside = c.self.inside in
     let old : PrinterState = record { reader = inside.reader; waiting = inside.waiting.items; lists = inside.merger; lines = inside.lines } in
-    let (first, next, tells, read) = subst (λ (s : PrinterState). (first : List Block) × (next : Block) × Describes c.args.block next × HasTaken s first next) (sym c.self.view_is) c.requires in (
+    let (first, next, tells, read) = subst (λ (s : PrinterState). (first : List Block) × (next : Block) × Describes c.args.block next × HasTaken s first next) (sym c.self.view_is) c.requires.next in (
       closed_by first,
       next,
       tells,
@@ -24,8 +24,8 @@ add_block-requires g c =
       subst (HasHeads (closed_by first) inside.merger) (sym c.deref_mut.ensures.value) read.heads,
     )
 
-pub print_ready-requires : goal.print_ready-requires
-print_ready-requires g c =
+pub print_ready-requires-clause-ready : goal.print_ready-requires-clause-ready
+print_ready-requires-clause-ready g c =
     let inside = c.self.inside in
     let old : PrinterState = record { reader = inside.reader; waiting = inside.waiting.items; lists = inside.merger; lines = inside.lines } in
     let took : (first : List Block) (next : Block) → Describes c.args.block next → HasTaken old first next → TakesRecords (closed_by first) next inside.waiting.items c.add_block.new.waiting c.add_block.new.merger = λ first next tells read.
@@ -36,7 +36,7 @@ print_ready-requires g c =
     let made : (first : List Block) (next : Block) → Describes c.args.block next → HasTaken old first next → HasToPrint false inside.reader first (first ++ next ∷ []) c.deref_mut-2.result.now c.add_block.new.merger = λ first next tells read.
     subst (λ (waiting : List (List Call)). HasToPrint false inside.reader first (first ++ next ∷ []) waiting c.add_block.new.merger) (sym shown)
     (ready old first next read c.add_block.new.waiting c.add_block.new.merger (took first next tells read)) in
-    let (first, next, tells, read) = subst (λ (s : PrinterState). (first : List Block) × (next : Block) × Describes c.args.block next × HasTaken s first next) (sym c.self.view_is) c.requires in
+    let (first, next, tells, read) = subst (λ (s : PrinterState). (first : List Block) × (next : Block) × Describes c.args.block next × HasTaken s first next) (sym c.self.view_is) c.requires.next in
     (first, first ++ next ∷ [], made first next tells read)
 
 pub returns-in_err-add_block-clause-printed : goal.returns-in_err-add_block-clause-printed
@@ -79,7 +79,7 @@ overflow_add-self g c =
     let made : (first : List Block) (next : Block) → Describes c.args.block next → HasTaken old first next → HasToPrint false inside.reader first (first ++ next ∷ []) c.deref_mut-2.result.now c.add_block.new.merger = λ first next tells read.
     subst (λ (waiting : List (List Call)). HasToPrint false inside.reader first (first ++ next ∷ []) waiting c.add_block.new.merger) (sym shown)
     (ready old first next read c.add_block.new.waiting c.add_block.new.merger (took first next tells read)) in
-    let (first, next, tells, read) = subst (λ (s : PrinterState). (first : List Block) × (next : Block) × Describes c.args.block next × HasTaken s first next) (sym c.self.view_is) c.requires in
+    let (first, next, tells, read) = subst (λ (s : PrinterState). (first : List Block) × (next : Block) × Describes c.args.block next × HasTaken s first next) (sym c.self.view_is) c.requires.next in
     let more = (c.in_ok-self-inside.ensures.printed first (first ++ next ∷ []) (made first next tells read)).0 in
     omega (arith, lines_fit false old first (first ++ next ∷ []) read.lines c.in_ok-self-inside.field-0 (g.K.Sink.put c.args.out.now) (g.K.Sink.put c.print_ready.new.out) c.print_ready.new.waiting c.print_ready.new.merger read.few more)
 
