@@ -14,9 +14,11 @@
 
 constexpr unsigned long long kBurst = 20000;
 constexpr int kBursts = 5;
-// The threads sleep so long, and begin together so long after the first of them was started.
-constexpr std::chrono::milliseconds kPause{20};
-constexpr std::chrono::milliseconds kBegin{25};
+// The threads sleep so long, and begin together so long after the first of them was started: each burst a little later
+// than the one before, since a consumer that sleeps may wake in the midst of those that all begin after the same time.
+constexpr std::chrono::microseconds kPause{20000};
+constexpr std::chrono::microseconds kBegin{25000};
+constexpr std::chrono::microseconds kLater{1300};
 
 // What is called: every so many numbers from a first one on, and how many calls a long run has, of all threads
 // together.
@@ -28,7 +30,8 @@ constexpr Kind kKinds[] = {{"all", 0, 1, 4000000}, {"queue", 1, 4, 10000000}, {"
 
 // How many nanoseconds a thousand calls took, on the average of the writers.
 template <class Session>
-unsigned long long measure(const Kind &kind, unsigned writers, unsigned long long calls) {
+unsigned long long measure(const Kind &kind, unsigned writers, unsigned long long calls,
+                           std::chrono::microseconds begin = kBegin) {
     using Clock = std::chrono::steady_clock;
     Session session(writers);
     std::vector<unsigned long long> taken(writers);
@@ -37,7 +40,7 @@ unsigned long long measure(const Kind &kind, unsigned writers, unsigned long lon
     for (unsigned writer = 0; writer < writers; writer++) {
         threads.emplace_back([&, writer] {
             std::this_thread::sleep_for(kPause);
-            while (Clock::now() - start < kBegin) {
+            while (Clock::now() - start < begin) {
             }
             const auto begun = Clock::now();
             const unsigned long long end = kind.first + calls * kind.step;
@@ -62,7 +65,7 @@ int measure_all(int count, char **words) {
         for (const unsigned writers : {1u, 2u, 4u}) {
             unsigned long long best = ~0ull;
             for (int burst = 0; burst < kBursts; burst++)
-                best = std::min(best, measure<Session>(kind, writers, kBurst));
+                best = std::min(best, measure<Session>(kind, writers, kBurst, kBegin + burst * kLater));
             std::printf("%u burst %llu\n", writers, best);
             std::printf("%u run %llu\n", writers, measure<Session>(kind, writers, kind.run / writers));
         }
