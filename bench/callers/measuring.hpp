@@ -16,8 +16,8 @@ constexpr unsigned long long kBurst = 20000;
 constexpr int kBursts = 5;
 // The threads sleep so long, and begin together so long after the first of them was started: each burst a little later
 // than the one before, since a consumer that sleeps may wake in the midst of those that all begin after the same time.
-constexpr std::chrono::microseconds kPause{20000};
-constexpr std::chrono::microseconds kBegin{25000};
+constexpr std::chrono::milliseconds kPause{20};
+constexpr std::chrono::milliseconds kBegin{25};
 constexpr std::chrono::microseconds kLater{1300};
 
 // What is called: every so many numbers from a first one on, and how many calls a long run has, of all threads
