@@ -1,5 +1,6 @@
 ghost use Rattle.std.specs.Prelude.{◌≡◌, ◌↔◌, ◌++◌, map, IsTrue, OnOk, FitsSigned, neg_ℤ, pos, ◌≤ℤ◌};
 ghost use Rattle.std.specs.Int.{w32};
+ghost use Rattle.printf_grammar.specs.declared.argument.Value.TheVariants.{Signed as SignedValue};
 ghost use Rattle.printf_grammar.specs.declared.limits.TheConstants.{MAX_SIZE};
 ghost use Rattle.printf_grammar.specs.Types.{Fits, IsText, signed_type, unsigned_type, conversion_type, field_types, piece_types};
 
@@ -34,15 +35,26 @@ impl ArgType {
     pub fn takes(self, arg: Arg) -> bool
         ensures { IsTrue result ↔ FitsType (argument_value arg.entry) self }
     {
-        match (self, arg) {
-            (ArgType::Int, Arg::Signed(number)) => is_int(number),
-            (ArgType::Long, Arg::Signed(_)) => true,
-            (ArgType::Width, Arg::Signed(number)) => is_size(number),
-            (ArgType::Precision, Arg::Signed(number)) => is_int(number)
-                && number <= MAX_SIZE as i64,
-            (ArgType::UInt, Arg::Unsigned(number)) => number <= 0xffff_ffff,
-            (ArgType::ULong, Arg::Unsigned(_)) => true,
-            (ArgType::Text, Arg::Text(text)) => is_text(text),
+        match arg {
+            Arg::Signed(number) => self.takes_signed(number),
+            Arg::Unsigned(number) => match self {
+                ArgType::UInt => number <= 0xffff_ffff,
+                ArgType::ULong => true,
+                _ => false,
+            },
+            Arg::Text(text) => self == ArgType::Text && is_text(text),
+        }
+    }
+
+    /// Whether the signed number is of this type's kind and in its range.
+    fn takes_signed(self, number: i64) -> bool
+        ensures { IsTrue result ↔ FitsType (SignedValue number) self }
+    {
+        match self {
+            ArgType::Int => is_int(number),
+            ArgType::Long => true,
+            ArgType::Width => is_size(number),
+            ArgType::Precision => is_int(number) && number <= MAX_SIZE as i64,
             _ => false,
         }
     }
