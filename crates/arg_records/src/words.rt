@@ -33,7 +33,7 @@ fn last_word(bytes: &[u8]) -> u64
     requires { length bytes.now < 8 }
     ensures { result ≡ number_of_bytes bytes.now }
 {
-    // put together in a register: a copy into eight bytes would be waited for by the load behind it
+    // It is put together in a register: a load would wait for a copy of the bytes into eight.
     let mut word = 0;
     let mut at = bytes.len();
     while at > 0 {
