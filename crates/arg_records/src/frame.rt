@@ -19,6 +19,7 @@ pub const MAX_FRAME_WORDS: usize = 512;
 pub struct TooLong;
 
 /// How many words the frame of a call with these arguments has.
+#[inline(always)]
 pub fn frame_len<A: Argument>(args: &[A]) -> u64
     requires { AreArguments (map A.value args.now) }
     ensures { result ≡ FrameLen (map A.value args.now) }
@@ -31,6 +32,7 @@ pub fn frame_len<A: Argument>(args: &[A]) -> u64
 }
 
 /// Writes the arguments' words behind the head of a frame. It answers the frame's length.
+#[inline(always)]
 fn put_arguments<A: Argument>(args: &[A], into: &mut [u64; MAX_FRAME_WORDS]) -> usize
     requires { FrameLen (map A.value args.now) ≤ MAX_FRAME_WORDS }
     ensures written { into.new ≡ with_words into.old 2 (flat_map words_of_argument (map A.value args.now)) }
@@ -45,6 +47,8 @@ fn put_arguments<A: Argument>(args: &[A], into: &mut [u64; MAX_FRAME_WORDS]) -> 
 }
 
 /// Writes the frame of a call, and answers its length. The words behind it stay as they were.
+// Where its caller knows the number and the kinds of the arguments, no loop and no test of them is left.
+#[inline(always)]
 pub fn frame_words<A: Argument>(
     id: u32,
     stamp: u64,

@@ -19,6 +19,7 @@ pub fn text_words(len: usize) -> u64
 }
 
 /// How many words an argument takes.
+#[inline(always)]
 pub(crate) fn word_count(arg: Arg) -> u64
     ensures { result ≡ argument_words (argument_value arg.entry) }
 {
@@ -75,6 +76,7 @@ fn put_text(text: &[u8], into: &mut [u64; MAX_FRAME_WORDS], at: usize) -> usize
 }
 
 /// Writes an argument's words from a place on. It answers the place behind them.
+#[inline(always)]
 pub(crate) fn put_argument(arg: Arg, into: &mut [u64; MAX_FRAME_WORDS], at: usize) -> usize
     requires { at + argument_words (argument_value arg) ≤ MAX_FRAME_WORDS }
     ensures written { into.new ≡ with_words into.old at (words_of_argument (argument_value arg.entry)) }

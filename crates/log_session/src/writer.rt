@@ -77,6 +77,8 @@ impl<S: StageIn> Writer<S> {
     /// # Errors
     ///
     /// The ring has too little room, or the call is too long for any ring. Nothing was logged then.
+    // The frame is made in the caller's code, where the number and the kinds of the arguments are mostly known.
+    #[inline(always)]
     pub fn log<A: Argument>(&mut self, stamp: u64, id: u32, args: &[A]) -> Result<(), LogRefusal>
         requires known { Knows (S.plan self.old.end) id (map A.value args.now) }
         requires not_closed { S.closed self.old.end ≡ false }
