@@ -13,6 +13,7 @@ use crate::cause::TraceCause;
 use crate::trace::{MAX_CALLS, Trace};
 use arg_records::{Call, Calls, MAX_FRAME_WORDS};
 use log_dictionary::{Dictionary, Message, split_number};
+use printf_grammar::Values;
 use std::alloc::Global;
 
 /// Why a line gave no call.
@@ -140,8 +141,9 @@ pub(crate) fn read_call(
         Err(cause) => return Err(CallFault::Refused(cause)),
     };
     let types = begun.message.format.types();
-    let (kept, words) = match read_arguments(alloc, types, begun.fields) {
-        Ok(read) => read,
+    let mut kept = Some(Values::make(alloc));
+    let words = match read_arguments(alloc, types, begun.fields, &mut kept) {
+        Ok(words) => words,
         Err(cause) => return Err(CallFault::Refused(cause)),
     };
     if words > MAX_FRAME_WORDS as u64 {
