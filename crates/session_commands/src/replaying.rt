@@ -20,6 +20,7 @@ use nl_io::{FileSink, Files, Sink};
 use ring_core::Stage;
 use session_options::Options;
 use std::alloc::Global;
+use std::mem;
 use std::sync::{Arc, Wait};
 use std::thread::Threads;
 use trace_commands::trace_of_file;
@@ -147,5 +148,7 @@ where
         return Err(Refusal::NoMemory);
     };
     let outcome = write_log::<R, S, F, G>(rt, alloc, &run, options, files, log, gate)?;
+    // The program ends soon, and its memory with it: giving that of millions of calls back one by one takes longer.
+    mem::forget(run);
     tell(out, &outcome.drops, outcome.accepted, outcome.filtered)
 }
