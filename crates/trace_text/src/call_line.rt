@@ -43,6 +43,7 @@ struct BegunCall<'a> {
 }
 
 // A number and a space, and what follows the space.
+#[inline(always)]
 fn number_before(bytes: &[u8]) -> Option<(u64, &[u8])>
     ensures { option_map (λ found. (found.0, found.1.now)) result ≡ number_before bytes.now }
 {
