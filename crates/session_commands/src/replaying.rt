@@ -119,7 +119,8 @@ where
 }
 
 /// Reads the run that a name holds, makes its calls through rings, writes their log to another name, and tells which
-/// calls were dropped and how many were accepted, dropped and filtered.
+/// calls were dropped and how many were accepted, dropped and filtered. The memory of a run whose log was written isn't
+/// given back before the program ends.
 pub fn replay<'a, R, S, F, O, G>(
     rt: R,
     alloc: Global,
