@@ -47,7 +47,7 @@ fn put_arguments<A: Argument>(args: &[A], into: &mut [u64; MAX_FRAME_WORDS]) -> 
 }
 
 /// Writes the frame of a call, and answers its length. The words behind it stay as they were.
-// Where its caller knows the number and the kinds of the arguments, no loop and no test of them is left.
+// Where its caller knows the number and the kinds of the arguments, the compiler can do without a loop over them.
 #[inline(always)]
 pub fn frame_words<A: Argument>(
     id: u32,
