@@ -1,4 +1,5 @@
 pub mod Breaks
+pub mod Bytes
 pub mod Causes
 pub mod Narrow
 pub mod Parts

@@ -11,6 +11,7 @@ mod limits;
 mod parsing;
 mod parts;
 mod piece;
+mod short_bytes;
 
 pub use arg_type::{ArgType, fits};
 pub use argument::{Arg, Argument, Value, Values};

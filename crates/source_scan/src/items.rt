@@ -38,7 +38,7 @@ fn word_bytes(alloc: Global, bytes: &[u8]) -> Result<Option<Bytes>, AllocError>
         bytes.push(b'l')?;
     }
     bytes.push(conversion.letter)?;
-    Ok(Some(Bytes::from_vec(bytes)))
+    Ok(Some(Bytes::from_slice(alloc, &bytes)?))
 }
 
 /// What a token stands for, if it is an item.
@@ -89,7 +89,7 @@ fn items_bytes(alloc: Global, source: &[u8], tokens: &[Token]) -> Result<Option<
         };
         push_item(&mut bytes, item)?;
     }
-    Ok(Some(Bytes::from_vec(bytes)))
+    Ok(Some(Bytes::from_slice(alloc, &bytes)?))
 }
 
 /// Whether one of the tokens at least is a literal.

@@ -37,5 +37,5 @@ pub fn literal_bytes(alloc: Global, body: &[u8]) -> Result<Option<Bytes>, AllocE
         push_meaning(&mut bytes, meaning)?;
         rest = behind.split_at(len).1;
     }
-    Ok(Some(Bytes::from_vec(bytes)))
+    Ok(Some(Bytes::from_slice(alloc, &bytes)?))
 }

@@ -17,4 +17,4 @@ loop-rest-preserved c =
     (items-item c.args.source.now c.loop-rest.bytes.items c.in-Some.item c.args.tokens.now c.loop-rest.rest.now _ c.in-len1-up.len_at_least c.loop-rest.invariant (sym c.is_prefix.ensures ∙ c.if-is_prefix.false) (sym c.in_ok-item.ensures ∙ c.in-Some.is))
 
 pub returns : goal.returns
-returns c = rw c.from_vec.ensures (items-all c.args.source.now c.loop-rest.bytes.items c.args.tokens.now c.loop-rest.rest.now c.in_default.len_below c.loop-rest.invariant)
+returns c = rw (c.in_ok-from_slice.ensures, c.deref.ensures.value) (items-all c.args.source.now c.loop-rest.bytes.items c.args.tokens.now c.loop-rest.rest.now c.in_default.len_below c.loop-rest.invariant)

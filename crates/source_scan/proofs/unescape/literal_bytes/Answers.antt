@@ -12,4 +12,4 @@ loop-rest-preserved c =
     rw (c.in_ok-push_meaning.ensures, c.split_at.ensures.back) (part-more c.args.body.now c.loop-rest.bytes.items c.loop-rest.rest.now c.in-Some.meaning c.in-Some.len c.in-len1-up.len_at_least c.loop-rest.invariant part)
 
 pub returns : goal.returns
-returns c = rw c.from_vec.ensures (parts-all c.args.body.now c.loop-rest.bytes.items c.loop-rest.rest.now c.in_default.len_below c.loop-rest.invariant)
+returns c = rw (c.in_ok-from_slice.ensures, c.deref.ensures.value) (parts-all c.args.body.now c.loop-rest.bytes.items c.loop-rest.rest.now c.in_default.len_below c.loop-rest.invariant)
