@@ -15,7 +15,7 @@ use Rattle.stamp_merge.proofs.lemmas.Sorted.{in_order_by-behind}
 use Rattle.stamp_merge.proofs.lemmas.MergeKeys.{key_at, key_total, key_exact, merged-rises, keys_same, merge_order-counts}
 use Rattle.stamp_merge.proofs.ListChanges.{key_order, keys_after, sum-merged, sum-in_order, all-keys}
 use Rattle.stamp_merge.proofs.lemmas.Mergers.{head_at, closed_of, closed_at, closed-head, was_open, waiting_is, is_merging, taken_rises}
-use Rattle.stamp_merge.proofs.Heaps.{at-set, never_wants, no_spent_heads}
+use Rattle.stamp_merge.proofs.Winners.{never_wants, no_spent_heads}
 
 -- ---- what more comes
 
@@ -130,6 +130,13 @@ pushed_count lists past n calls =
     )
 
 -- ---- what stands behind all that was taken
+
+at-set : {X : Type 0} (P : X → Type 0) (xs : List X) (n m : ℕ) (y d : X) → P y → P (get_or xs m d) → P (get_or (set xs n y) m d)
+at-set P [] n m y d new old = old
+at-set P (x ∷ xs) zero zero y d new old = new
+at-set P (x ∷ xs) zero (suc m) y d new old = old
+at-set P (x ∷ xs) (suc n) zero y d new old = old
+at-set P (x ∷ xs) (suc n) (suc m) y d new old = at-set P xs n m y d new old
 
 -- once something was taken each list that isn't closed has had a stamp
 begun : (lists : List ListState) (past : Merging) → Merges lists past → (n : ℕ) → (list_at lists n).closed ≡ false → past.taken ≢ []

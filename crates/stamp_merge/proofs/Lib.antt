@@ -1,4 +1,4 @@
 pub mod lemmas
 mod ListChanges
-mod Heaps
+mod Winners
 mod Later

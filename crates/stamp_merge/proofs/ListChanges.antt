@@ -99,24 +99,23 @@ module _ (P : MergeKey → Type 0) where
       one_list k list here (keys_after (k + 1) lists)
       (all-keys (k + 1) lists (λ j within. subst (λ n. AllByRecursion (λ stamp. P (key_at stamp n)) (get_or lists j [])) (omega arith) (all (suc j) (omega (arith, within)))))
 
-  to_lists : (k : ℕ) (lists : List (List ℕ)) → AllByRecursion P (keys_after k lists) → HoldsOfLists k lists
-  to_lists k [] all j within = absurd (omega (arith, within))
-  to_lists k (list ∷ lists) all zero within =
+  to_lists : (k j : ℕ) (lists : List (List ℕ)) → AllByRecursion P (keys_after k lists) → AllByRecursion (λ stamp. P (key_at stamp (k + j))) (get_or lists j [])
+  to_lists k j [] all = tt
+  to_lists k zero (list ∷ lists) all =
       subst (λ n. AllByRecursion (λ stamp. P (key_at stamp n)) list) (omega arith) (first_list k list (keys_after (k + 1) lists) all).0
-  to_lists k (list ∷ lists) all (suc j) within =
-      subst (λ n. AllByRecursion (λ stamp. P (key_at stamp n)) (get_or lists j [])) (omega arith)
-      (to_lists (k + 1) lists (first_list k list (keys_after (k + 1) lists) all).1 j (omega (arith, within)))
+  to_lists k (suc j) (list ∷ lists) all =
+      subst (λ n. AllByRecursion (λ stamp. P (key_at stamp n)) (get_or lists j [])) (omega arith) (to_lists (k + 1) j lists (first_list k list (keys_after (k + 1) lists) all).1)
 
   moved : (keys others : List MergeKey) → IsPermutation keys others → AllByRecursion P keys → AllByRecursion P others
   moved keys others same all = recursion_from_All P others (All-permutation P keys others same (All-from_recursion P keys all))
 
-  pub all-in_order : (keys : List MergeKey) → AllByRecursion P keys → AllByRecursion P (in_order_by stamp_before keys)
-  all-in_order keys all = moved keys (in_order_by stamp_before keys) (in_order_by-permutation stamp_before keys) all
-
   -- what holds of the stamps of each list holds of all merged stamps
-  pub all-merged : (lists : List (List ℕ)) → HoldsOfLists 0 lists → AllByRecursion P (merged lists)
-  all-merged lists all = all-in_order (keys_of lists) (all-keys 0 lists all)
+  pub all-merged : (lists : List (List ℕ)) → ((n : ℕ) → n < length lists → AllByRecursion (λ stamp. P (key_at stamp n)) (get_or lists n [])) → AllByRecursion P (merged lists)
+  all-merged lists all =
+      moved (keys_of lists) (merged lists) (in_order_by-permutation stamp_before (keys_of lists))
+      (all-keys 0 lists (λ n within. subst (λ m. AllByRecursion (λ stamp. P (key_at stamp m)) (get_or lists n [])) (omega arith) (all n within)))
 
-  pub merged-all : (lists : List (List ℕ)) → AllByRecursion P (merged lists) → HoldsOfLists 0 lists
-  merged-all lists all =
-      to_lists 0 lists (moved (merged lists) (keys_of lists) (IsPermutation-sym (keys_of lists) (merged lists) (in_order_by-permutation stamp_before (keys_of lists))) all)
+  pub merged-all : (lists : List (List ℕ)) → AllByRecursion P (merged lists) → (n : ℕ) → AllByRecursion (λ stamp. P (key_at stamp n)) (get_or lists n [])
+  merged-all lists all n =
+      subst (λ m. AllByRecursion (λ stamp. P (key_at stamp m)) (get_or lists n [])) (omega arith)
+      (to_lists 0 n lists (moved (merged lists) (keys_of lists) (IsPermutation-sym (keys_of lists) (merged lists) (in_order_by-permutation stamp_before (keys_of lists))) all))

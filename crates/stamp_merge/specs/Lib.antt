@@ -1,5 +1,5 @@
 pub mod Ordering
 pub mod Merging
 pub mod Mergers
-pub mod Heaps
+pub mod Winners
 pub mod Rows

@@ -1,14 +1,13 @@
 //! Merging lists of stamps that come one at a time.
 
-ghost use Rattle.std.specs.Prelude.{◌≡◌, ◌↔◌, ℕ, ◌<◌, ◌^◌, true, false, length, replicate, slice_get, Some, All, IfOk, position};
+ghost use Rattle.std.specs.Prelude.{◌≡◌, ◌↔◌, ℕ, ◌<◌, ◌/◌, ◌^◌, true, false, length, replicate, slice_get, Some, All, IfOk, position};
 ghost use Rattle.std.specs.List.{position_or_len};
 ghost use Rattle.stamp_merge.specs.Merging.{merge_order};
 ghost use Rattle.stamp_merge.specs.Mergers.{fresh_list, wants as list_wants, heads_of, list_at, with_head, without_head, with_close, NoneWants, IsSpent};
+ghost use Rattle.stamp_merge.specs.Winners.{earlier as earlier_key, AllWon, Played};
 
 use crate::merge::MergeKey;
 use std::alloc::{AllocError, Global};
-use std::cmp::Reverse;
-use std::collections::BinaryHeap;
 use std::marker::Model;
 
 /// What a merger answers.
@@ -51,12 +50,46 @@ fn first_wanting(lists: &[ListState], from: usize) -> usize
     lists.len()
 }
 
+// The key of a list that has no head: all heads stand before it.
+const NO_HEAD: MergeKey = MergeKey {
+    stamp: u64::MAX,
+    list: u32::MAX,
+};
+
+// The one of two keys that is taken first.
+#[tactic(auto, unfolding(crate::specs::Winners::earlier))]
+fn earlier(a: MergeKey, b: MergeKey) -> MergeKey
+    ensures { result ≡ earlier_key a b }
+{
+    if b.stamp < a.stamp || (b.stamp == a.stamp && b.list < a.list) {
+        b
+    } else {
+        a
+    }
+}
+
+// Makes this the key of the list, and plays the matches that it is in again.
+fn play(winners: &mut [MergeKey], list: u32, key: MergeKey)
+    requires won { AllWon winners.old }
+    requires there { list < length winners.old / 2 }
+    ensures { Played winners.old list key winners.new }
+{
+    let mut place = winners.len() / 2 + list as usize;
+    winners[place] = key;
+    while place > 1 {
+        place /= 2;
+        winners[place] = earlier(winners[2 * place], winners[2 * place + 1]);
+    }
+}
+
 /// Lists of stamps that are merged while their stamps come. It keeps of each list no more than its head.
 #[derive(Debug, Drop)]
 pub struct Merger {
     lists: Vec<ListState>,
-    // The heads, the one to be taken first on top.
-    heads: BinaryHeap<Reverse<MergeKey>>,
+    // The tree of the matches in which heads meet. The second half are the lists' own keys, in the lists' order, and
+    // in front of it the earlier of the keys at 2 n and 2 n + 1 stands at place n. So the one to be taken first is at
+    // place 1. The key of a list that wants a head is an old one, until it has a head or is closed.
+    winners: Vec<MergeKey>,
     // How many lists want a head, and a place in front of which there is none of them.
     wanting: usize,
     first: usize,
@@ -68,7 +101,7 @@ impl Model for Merger {
 
     ghost Value = { List ListState };
 
-    ghost use Rattle.stamp_merge.specs.Heaps.{IsMerger};
+    ghost use Rattle.stamp_merge.specs.Winners.{IsMerger};
 
     ghost view = { λ m. m.lists.items };
 
@@ -88,9 +121,11 @@ impl Merger {
             head: None,
             closed: false,
         };
+        // Without lists there is still a place 1.
+        let keys = usize::max(lists as usize, 1);
         Ok(Merger {
             lists: Vec::from_elem(alloc, fresh, lists as usize)?,
-            heads: BinaryHeap::with_capacity(alloc, lists as usize)?,
+            winners: Vec::from_elem(alloc, NO_HEAD, 2 * keys)?,
             wanting: lists as usize,
             first: 0,
         })
@@ -104,8 +139,7 @@ impl Merger {
     {
         self.lists[list as usize].head = Some(stamp);
         self.wanting -= 1;
-        // There is room for a head of each list.
-        let _ = self.heads.push(Reverse(MergeKey { stamp, list }));
+        play(&mut self.winners, list, MergeKey { stamp, list });
     }
 
     /// Nothing more is going to come of the list. Its head, if it has one, is still taken.
@@ -114,8 +148,12 @@ impl Merger {
         ensures { self.new ≡ with_close self.old list }
     {
         let state = &mut self.lists[list as usize];
-        self.wanting -= usize::from(state.wants());
+        let wanted = state.wants();
         state.closed = true;
+        if wanted {
+            self.wanting -= 1;
+            play(&mut self.winners, list, NO_HEAD);
+        }
     }
 
     /// Takes the head that is the least, by stamp and then by list, once each list has a head or is closed.
@@ -132,14 +170,21 @@ impl Merger {
             self.first = first_wanting(&self.lists, self.first);
             return Next::Want(self.first as u32);
         }
-        let Some(Reverse(key)) = self.heads.pop() else {
+        // No list wants a head, so all keys are right.
+        let key = self.winners[1];
+        if key.list == NO_HEAD.list {
             return Next::Done;
-        };
+        }
         let place = key.list as usize;
         let list = &mut self.lists[place];
         list.head = None;
-        self.wanting += usize::from(list.wants());
-        self.first = place;
+        if list.closed {
+            play(&mut self.winners, key.list, NO_HEAD);
+        } else {
+            // Its key may stay: the matches are played with its next head, or when it is closed.
+            self.wanting += 1;
+            self.first = place;
+        }
         Next::Take(key.list)
     }
 }

@@ -84,10 +84,33 @@ alone_in own (Some stamp) P is each = subst (AllByRecursion P) (sym is) (each st
 pub heads_are : (lists : List ListState) → AllByRecursion (IsHead (heads_of lists)) (merged (heads_of lists))
 heads_are lists =
     all-merged (IsHead (heads_of lists)) (heads_of lists)
-    (λ j within. alone_in (get_or (heads_of lists) j []) (list_at lists j).head (λ stamp. IsHead (heads_of lists) (key_at stamp (0 + j))) (head_at lists j)
-    (λ stamp is.
-    let same : j ≡ 0 + j = omega arith in
-    record { there = omega (arith, within); alone = subst (λ n. get_or (heads_of lists) n [] ≡ stamp ∷ []) same is }))
+    (λ n within. alone_in (get_or (heads_of lists) n []) (list_at lists n).head (λ stamp. IsHead (heads_of lists) (key_at stamp n)) (head_at lists n)
+    (λ stamp is. record { there = within; alone = is }))
+
+-- the list of the first head has it
+pub first_is_head : (lists : List ListState) (key : MergeKey) (rest : List MergeKey) → merged (heads_of lists) ≡ key ∷ rest
+    → (key.list < length lists) × ((list_at lists key.list).head ≡ Some key.stamp)
+first_is_head lists key rest is =
+    let here : IsHead (heads_of lists) key = (subst (AllByRecursion (IsHead (heads_of lists))) is (heads_are lists)).0 in (
+      omega (arith, here.there, length-map lists (λ (list : ListState). option_to_list list.head)),
+      only (list_at lists key.list).head (sym (head_at lists key.list) ∙ here.alone),
+    )
+  where
+    only : (head : Option ℕ) → option_to_list head ≡ key.stamp ∷ [] → head ≡ Some key.stamp
+    only None one = absurd cc
+    only (Some stamp) one = cc
+
+-- what holds of all heads holds of each list's
+pub heads_all : (P : MergeKey → Type 0) (lists : List ListState) → AllByRecursion P (merged (heads_of lists)) → (n : ℕ)
+    → AllByRecursion (λ stamp. P (key_at stamp n)) (option_to_list (list_at lists n).head)
+heads_all P lists all n = subst (AllByRecursion (λ stamp. P (key_at stamp n))) (head_at lists n) (merged-all P (heads_of lists) all n)
+
+-- no head stands before the first
+pub first_is_least : (lists : List ListState) (key : MergeKey) (rest : List MergeKey) → merged (heads_of lists) ≡ key ∷ rest
+    → AllByRecursion (λ other. stamp_before other key ≡ false) (merged (heads_of lists))
+first_is_least lists key rest is =
+    subst (AllByRecursion (λ other. stamp_before other key ≡ false)) (sym is)
+    (none_less key_cmp key_total key_exact key rest (subst (IsSortedBy stamp_before) is (merged-rises (heads_of lists))))
 
 -- the first key, whose list this is
 pub record FirstKey (keys : List MergeKey) (number : ℕ) : Type 0 where
@@ -242,7 +265,7 @@ module _ (lists : List ListState) (past : Merging) (is : IsMerging lists past) w
   heads_below : AllByRecursion (λ key. key.stamp ≤ last_or 0 (pushed_to past key.list)) (merged (heads_of lists))
   heads_below =
       let all = all-merged (λ key. key.stamp ≤ last_or 0 (pushed_to past key.list)) past.pushed
-      (λ j there. subst (λ n. AllByRecursion (λ stamp. stamp ≤ last_or 0 (pushed_to past n)) (pushed_to past j)) (omega arith) (all_below 0 (pushed_to past j) (is.rises j [] there))) in
+      (λ n there. all_below 0 (pushed_to past n) (is.rises n [] there)) in
       behind past.taken (merged (heads_of lists)) (subst (AllByRecursion (λ key. key.stamp ≤ last_or 0 (pushed_to past key.list))) is.order all)
     where
       behind : (front back : List MergeKey) → AllByRecursion (λ key. key.stamp ≤ last_or 0 (pushed_to past key.list)) (front ++ back) → AllByRecursion (λ key. key.stamp ≤ last_or 0 (pushed_to past key.list)) back
@@ -260,18 +283,14 @@ module _ (lists : List ListState) (past : Merging) (is : IsMerging lists past) w
       let is_open : (list_at lists n).closed ≡ false = sym (closed_at lists n) ∙ still in
       let there : n < length lists = open_is_there lists n is_open in
       let head = waiting_is (list_at lists n).head (list_at lists n).closed (none n no_list there) is_open in
-      let own : get_or (heads_of lists) n [] ≡ head.0 ∷ [] = head_at lists n ∙ ap option_to_list head.1 in
-      let within : n < length (heads_of lists) = omega (arith, there, length-map lists (λ (list : ListState). option_to_list list.head)) in
-      let least : AllByRecursion (λ y. stamp_before y key ≡ false) (merged (heads_of lists)) =
-      subst (AllByRecursion (λ y. stamp_before y key ≡ false)) (sym first) (none_less key_cmp key_total key_exact key rest (subst (IsSortedBy stamp_before) first (merged-rises (heads_of lists)))) in
-      let head_least : stamp_before (key_at head.0 (0 + n)) key ≡ false =
-      (subst (AllByRecursion (λ s. stamp_before (key_at s (0 + n)) key ≡ false)) own (merged-all (λ y. stamp_before y key ≡ false) (heads_of lists) least n within)).0 in
-      let head_below : head.0 ≤ last_or 0 (pushed_to past (0 + n)) =
-      (subst (AllByRecursion (λ s. s ≤ last_or 0 (pushed_to past (0 + n)))) own (merged-all (λ y. y.stamp ≤ last_or 0 (pushed_to past y.list)) (heads_of lists) heads_below n within)).0 in
-      let same : 0 + n ≡ n = omega arith in
-      let below : head.0 ≤ stamp = omega (arith, above, subst (λ m. head.0 ≤ last_or 0 (pushed_to past m)) same head_below) in
+      let own : option_to_list (list_at lists n).head ≡ head.0 ∷ [] = ap option_to_list head.1 in
+      let head_least : stamp_before (key_at head.0 n) key ≡ false =
+      (subst (AllByRecursion (λ s. stamp_before (key_at s n) key ≡ false)) own (heads_all (λ y. stamp_before y key ≡ false) lists (first_is_least lists key rest first) n)).0 in
+      let head_below : head.0 ≤ last_or 0 (pushed_to past n) =
+      (subst (AllByRecursion (λ s. s ≤ last_or 0 (pushed_to past n))) own (heads_all (λ y. y.stamp ≤ last_or 0 (pushed_to past y.list)) lists heads_below n)).0 in
+      let below : head.0 ≤ stamp = omega (arith, above, head_below) in
       let own_order : stamp_before (key_at stamp n) (key_at head.0 n) ≡ false = both_none_less _ _ (not_less head.0 stamp below) (not_less n n (omega arith)) in
-      key_order.chain (key_at stamp n) (key_at head.0 n) key own_order (subst (λ m. stamp_before (key_at head.0 m) key ≡ false) same head_least)
+      key_order.chain (key_at stamp n) (key_at head.0 n) key own_order head_least
 
   after_take : NoneWants lists → (key : MergeKey) (rest : List MergeKey) → merged (heads_of lists) ≡ key ∷ rest
       → IsMerging (without_head lists key.list) (record { pushed = past.pushed; taken = past.taken ++ key ∷ [] })

@@ -39,7 +39,7 @@ module _ {X : Type 0} (cmp : X → X → Ordering) (total : IsTotalOrder cmp) (e
   order : IsStrictWeakOrder lt
   order = ranks_by total (λ x. x)
 
-  tied : (a b : X) → lt a b ≡ false → lt b a ≡ false → a ≡ b
+  pub tied : (a b : X) → lt a b ≡ false → lt b a ≡ false → a ≡ b
   tied a b there back = exact a b (neither (cmp a b) (cmp b a) (total.antisymm a b) there back)
 
   -- in a sorted list nothing is less than the first element

@@ -3,7 +3,7 @@ use Rattle.std.specs.Prelude.{All}
 use Rattle.std.proofs.lemmas.List.Elements.{All-from_recursion}
 use Rattle.stamp_merge.specs.Ordering.{insert_by, in_order_by}
 use Rattle.stamp_merge.specs.Mergers.{IsSpent, no_list}
-use Rattle.stamp_merge.proofs.Heaps.{none_wants}
+use Rattle.stamp_merge.proofs.Winners.{none_wants}
 use Rattle.stamp_merge.proofs.laws.worked_mergers.Goals as goal
 
 all_spent : All IsSpent (no_list ∷ no_list ∷ no_list ∷ [])

@@ -1,8 +1,9 @@
-use Rattle.std.proofs.Common.{ap, ◌∙◌, refl, arith}
+use Rattle.std.proofs.Common.{ap, ◌∙◌, arith}
 use Rattle.std.specs.List.{position_or_len}
-use Rattle.std.proofs.lemmas.List.{get_or_read}
-use Rattle.stamp_merge.specs.Mergers.{no_list, wants}
-use Rattle.stamp_merge.proofs.Heaps.{number_of, byte_is, first_is_there, found_keeps, top_is_there, take_keeps, nothing_kept, want_follows, take_follows, taken_follows, done_follows}
+use Rattle.std.proofs.lemmas.Grind.{common_steps}
+use Rattle.std.proofs.lemmas.List.Sums.{fails_before_first}
+use Rattle.stamp_merge.specs.Mergers.{wants}
+use Rattle.stamp_merge.proofs.Winners.{first_is_there, want_follows, root_there, take_follows, done_follows}
 use Rattle.stamp_merge.proofs.merger.Merger.next.Goals as goal
 
 -- ---- some list wants a head
@@ -15,62 +16,45 @@ overflow_cast-result c =
 
 pub invariant_of-self : goal.invariant_of-self
 invariant_of-self c =
-    found_keeps _ _ _ _ _ _ c.self.invariant c.first_wanting-self-inside.result
-    (c.first_wanting-self-inside.ensures ∙ ap (position_or_len wants) c.deref.ensures.value)
+    let place = c.first_wanting-self-inside.ensures ∙ ap (position_or_len wants) c.deref.ensures.value in
+    grind (arith, common_steps, fails_before_first)
 
 pub returns-then-self-gt0 : goal.returns-then-self-gt0
 returns-then-self-gt0 c =
     let place = c.first_wanting-self-inside.ensures ∙ ap (position_or_len wants) c.deref.ensures.value in
-    let answer = want_follows _ _ _ _ _ _ _ c.self.view_is c.self.invariant c.first_wanting-self-inside.result (omega arith) place in
-    record {
-      take = answer.take;
-      want = answer.want;
-      done = answer.done;
-      taken = λ list is. absurd cc;
-      kept = λ other. c.self.view_is;
-    }
+    want_follows _ _ _ _ _ c.self.view_is c.self.invariant c.first_wanting-self-inside.result (omega arith) place
 
 -- ---- there is no head
 
-pub returns-in_default : goal.returns-in_default
-returns-in_default c =
-    let answer = done_follows _ _ _ _ _ _ _ c.self.view_is c.self.invariant (omega arith) (nothing_kept _ (omega (arith, c.self.inside.heads.data.ok.0, c.in_default.ensures.none))) in
-    record {
-      take = answer.take;
-      want = answer.want;
-      done = answer.done;
-      taken = λ list is. absurd cc;
-      kept = λ other. c.self.view_is;
-    }
+pub returns-then-key : goal.returns-then-key
+returns-then-key c =
+    done_follows _ _ _ _ _ c.self.view_is c.self.invariant c.index-key.result.now c.index-key.ensures (omega arith) c.if-key.true
 
 -- ---- a head is taken
 
 pub index_mut-list-requires : goal.index_mut-list-requires
 index_mut-list-requires c =
-    omega (arith, c.self.inside.lists.ok.0, top_is_there _ _ _ _ _ _ c.self.invariant c.in-Some.field-0 _ c.in-Some.ensures.permutation (c.in-Some.ensures.below_top c.self.invariant.ordered))
+    omega (arith, root_there _ _ _ _ _ c.self.view_is c.self.invariant c.index-key.result.now c.index-key.ensures (omega arith) c.if-key.false)
 
-pub invariant_of-self-2 : goal.invariant_of-self-2
-invariant_of-self-2 c =
-    let keeps = c.self.invariant in
-    let lists = c.self.inside.lists.items in
-    let top = c.in-Some.field-0 in
-    let bound = c.in-Some.ensures.below_top keeps.ordered in
-    let within = top_is_there _ _ _ _ _ _ keeps top _ c.in-Some.ensures.permutation bound in
-    let is = get_or_read lists top.0.list c.index_mut-list.result.now within c.index_mut-list.ensures.value no_list in
-    take_keeps _ _ _ _ _ _ keeps top _ c.index_mut-list.result.now _ _ c.from.result (omega arith) c.in-Some.ensures.permutation bound (c.in-Some.ensures.heap_order keeps.ordered).0
-    c.in-Some.ensures.len c.pop.ensures.capacity is (c.from.ensures ∙ byte_is c.wants.result ∙ ap number_of c.wants.ensures)
+pub play-requires-clause-there : goal.play-requires-clause-there
+play-requires-clause-there c =
+    let within = root_there _ _ _ _ _ c.self.view_is c.self.invariant c.index-key.result.now c.index-key.ensures (omega arith) c.if-key.false in
+    omega (arith, c.deref_mut.ensures.len, c.self.invariant.enough)
 
-pub returns : goal.returns
-returns c =
-    let top = c.in-Some.field-0 in
-    let bound = c.in-Some.ensures.below_top c.self.invariant.ordered in
-    let answer = take_follows _ _ _ _ _ _ _ c.self.view_is c.self.invariant top _ (omega arith) c.in-Some.ensures.permutation bound in
-    let within = top_is_there _ _ _ _ _ _ c.self.invariant top _ c.in-Some.ensures.permutation bound in
-    let is = get_or_read c.self.inside.lists.items top.0.list c.index_mut-list.result.now within c.index_mut-list.ensures.value no_list in
-    record {
-      take = answer.take;
-      want = answer.want;
-      done = answer.done;
-      taken = λ list same. taken_follows _ _ _ _ _ _ _ c.self.view_is c.self.invariant top.0.list c.index_mut-list.result.now list is cc;
-      kept = λ other. absurd (other top.0.list refl);
-    }
+pub invariant_of-self-then-list : goal.invariant_of-self-then-list
+invariant_of-self-then-list c =
+    let within = root_there _ _ _ _ _ c.self.view_is c.self.invariant c.index-key.result.now c.index-key.ensures (omega arith) c.if-key.false in
+    grind (arith, common_steps)
+
+pub invariant_of-self-else-list : goal.invariant_of-self-else-list
+invariant_of-self-else-list c =
+    let within = root_there _ _ _ _ _ c.self.view_is c.self.invariant c.index-key.result.now c.index-key.ensures (omega arith) c.if-key.false in
+    grind (arith, common_steps)
+
+pub returns-then-list : goal.returns-then-list
+returns-then-list c =
+    take_follows _ _ _ _ _ c.self.view_is c.self.invariant c.index-key.result.now c.index-key.ensures (omega arith) c.if-key.false c.index_mut-list.result.now c.index_mut-list.ensures.value
+
+pub returns-else-list : goal.returns-else-list
+returns-else-list c =
+    take_follows _ _ _ _ _ c.self.view_is c.self.invariant c.index-key.result.now c.index-key.ensures (omega arith) c.if-key.false c.index_mut-list.result.now c.index_mut-list.ensures.value
