@@ -20,6 +20,7 @@ use crate::report::Report;
 use crate::showing::{add_block, close_all};
 use crate::step::Step;
 use checkpoint_io::{Block, BlockFault, Reader};
+use direct_printf::Origins;
 use nl_io::{Sink, Source, TextWriter};
 use stamp_merge::Merger;
 use std::alloc::{AllocError, Global};
@@ -30,6 +31,8 @@ use std::marker::Model;
 pub struct LogPrinter {
     alloc: Global,
     reader: Reader,
+    // Of the reader's messages, or the first of them where more were read since lines were printed.
+    origins: Origins,
     merger: Merger,
     // Of each writer the records that weren't printed yet.
     waiting: Vec<RecordQueue>,
@@ -37,6 +40,7 @@ pub struct LogPrinter {
 }
 
 impl Model for LogPrinter {
+    ghost use Rattle.direct_printf.specs.Lines.{AreFirstOrigins};
     ghost use Rattle.decompressor.specs.Decompressors.{PrinterState};
 
     ghost Value = { PrinterState };
@@ -47,6 +51,8 @@ impl Model for LogPrinter {
       lists = p.merger;
       lines = p.lines;
     } };
+
+    ghost invariant = { λ p. AreFirstOrigins p.origins p.reader.messages };
 }
 
 // A merger of so many lists, and as many queues.
@@ -89,6 +95,7 @@ impl LogPrinter {
             Ok((merger, waiting)) => Ok(LogPrinter {
                 alloc,
                 reader,
+                origins: Origins::make(alloc),
                 merger,
                 waiting,
                 lines: 0,
@@ -122,6 +129,7 @@ impl LogPrinter {
         self.lines += print_ready(
             self.alloc,
             &self.reader,
+            &mut self.origins,
             false,
             &mut self.merger,
             &mut self.waiting,
@@ -152,6 +160,7 @@ impl LogPrinter {
         self.lines += print_ready(
             self.alloc,
             &self.reader,
+            &mut self.origins,
             true,
             &mut self.merger,
             &mut self.waiting,
@@ -167,6 +176,7 @@ impl LogPrinter {
     /// # Errors
     ///
     /// The log is damaged there, a read or a write failed, or there is no memory.
+    #[tactic(auto, using(direct_printf::proofs::lemmas::Origins::first_of_more))]
     pub fn step<S: Source, K: Sink>(
         &mut self,
         source: &mut S,

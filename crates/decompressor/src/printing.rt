@@ -1,11 +1,11 @@
 //! Printing the lines of a log.
 
-ghost use Rattle.std.specs.Prelude.{◌≡◌, ◌⊎◌, ◌<◌, ◌≤◌, ◌++◌, ◌||◌, ℕ, List, [], false, slice_get, get_or, Some, IsErrOf, OnOk, OnErr};
+ghost use Rattle.std.specs.Prelude.{◌≡◌, ◌⊎◌, ◌<◌, ◌≤◌, ◌++◌, ◌||◌, ℕ, List, [], false, slice_get, get_or, Some, IsErrOf, OnOk, OnErr, map};
 ghost use Rattle.nl_io.specs.Count.{Rose};
 ghost use Rattle.log_dictionary.specs.declared.message.Message.{Message};
 ghost use Rattle.arg_records.specs.Calls.{IsCall};
 ghost use Rattle.checkpoint_io.specs.Blocks.{Block};
-ghost use Rattle.direct_printf.specs.Lines.{Line};
+ghost use Rattle.direct_printf.specs.Lines.{Line, origin_text, AreFirstOrigins};
 ghost use Rattle.decompressor.specs.Decompressors.{HasToPrint, PrintsReady};
 
 use crate::fault::DecodeFault;
@@ -13,7 +13,7 @@ use crate::queue::RecordQueue;
 use crate::showing::show_first;
 use buffer_extent::LogRecord;
 use checkpoint_io::Reader;
-use direct_printf::LineWriter;
+use direct_printf::{LineWriter, Origins};
 use nl_io::{Sink, TextWriter};
 use stamp_merge::{Merger, Next};
 use std::alloc::{AllocError, Global};
@@ -21,6 +21,7 @@ use std::alloc::{AllocError, Global};
 // Makes the line of a record, in place of what is there.
 fn make_line(
     reader: &Reader,
+    origins: &Origins,
     writer: u32,
     call: &LogRecord,
     line_writer: &mut LineWriter,
@@ -29,6 +30,7 @@ fn make_line(
     requires rate { 1 ≤ reader.now.header.clock.rate }
     requires named { IsCall reader.now.messages call.now }
     requires not_before { reader.now.header.clock.tick ≤ call.now.stamp }
+    requires origins { origins.now ≡ map origin_text reader.now.messages }
     ensures { OnOk result ((message : Message) (ordinal : ℕ)
         → slice_get reader.now.messages call.now.id ≡ Some message
         → line.new.items ≡ Line reader.now.header.clock (record {
@@ -49,6 +51,7 @@ fn make_line(
         clock,
         writer,
         message,
+        origins.get(call.id),
         call.stamp,
         call.args.as_slice(),
         line,
@@ -67,6 +70,7 @@ fn is_done(ended: bool, reader: &Reader, writer: u32) -> bool
 pub fn print_ready<K: Sink>(
     alloc: Global,
     reader: &Reader,
+    origins: &mut Origins,
     ended: bool,
     merger: &mut Merger,
     waiting: &mut [RecordQueue],
@@ -74,6 +78,7 @@ pub fn print_ready<K: Sink>(
     out: &mut K,
 ) -> Result<u64, DecodeFault>
     requires ready { (first all : List Block) × HasToPrint ended reader.now first all waiting.old merger.old }
+    requires origins { AreFirstOrigins origins.old reader.now.messages }
     requires held { text_writer.old ≡ [] }
     ensures printed { (first all : List Block) → HasToPrint ended reader.now first all waiting.old merger.old
         → PrintsReady ended reader.now.header first all (K.put out.old) (K.put out.new)
@@ -82,9 +87,11 @@ pub fn print_ready<K: Sink>(
     ensures written { ¬ (IsErrOf result DecodeFault.WriteFault) → K.faults out.new ≡ K.faults out.old }
     ensures count { K.faults out.old ≤ K.faults out.new }
     ensures fault { OnErr result (IsErrOf result DecodeFault.WriteFault ⊎ IsErrOf result DecodeFault.NoMemory) }
+    ensures origins { AreFirstOrigins origins.new reader.now.messages }
     ensures held { OnOk result (text_writer.new ≡ []) }
     ensures others { K.rest out.old out.new }
 {
+    origins.extend(reader.dictionary().as_slice())?;
     let mut line_writer = LineWriter::make();
     let mut line = Vec::new(alloc);
     let mut lines = 0;
@@ -94,7 +101,7 @@ pub fn print_ready<K: Sink>(
         let Some(record) = queue.first() else {
             continue;
         };
-        make_line(reader, writer, record, &mut line_writer, &mut line)?;
+        make_line(reader, origins, writer, record, &mut line_writer, &mut line)?;
         text_writer.put(out, line.as_slice())?;
         queue.remove_first();
         show_first(merger, writer, queue, is_done(ended, reader, writer));

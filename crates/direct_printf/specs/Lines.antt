@@ -1,10 +1,11 @@
 -- A line of the log, and the lines of many calls in order.
-use Rattle.std.specs.Prelude.{ℕ, ◌/◌, ◌%◌, Bool, false, List, [], ◌∷◌, ◌++◌, codes}
+use Rattle.std.specs.Prelude.{◌≡◌, ℕ, ◌/◌, ◌%◌, Bool, false, List, [], ◌∷◌, ◌++◌, length, map, take, codes}
 use Rattle.std.specs.declared.cmp.Ordering.{Ordering}
 use Rattle.std.specs.Ordering.{is_lt, nat_cmp, ordering_then}
 use Rattle.std.specs.List.{flat_map}
 use Rattle.std.specs.Fmt.{decimal}
 use Rattle.log_dictionary.specs.declared.clock.Clock.{Clock}
+use Rattle.log_dictionary.specs.declared.message.Message.{Message}
 use Rattle.log_dictionary.specs.Times.{Time}
 use Rattle.log_dictionary.specs.Severities.{severity_name}
 use Rattle.log_dictionary.specs.Calls.{LogCall}
@@ -14,6 +15,14 @@ use Rattle.direct_printf.specs.Fields.{Digits, Text}
 -- a time in nanoseconds as seconds, a point and nine digits
 abbrev pub seconds_text : ℕ → List ℕ
 seconds_text nanos = decimal (nanos / 1000000000) ++ 46 ∷ Digits (nanos % 1000000000) 10 false 9
+
+-- what stands in each line of a message between the time and the writer: `FILE:LINE SEVERITY[`
+abbrev pub origin_text : Message → List ℕ
+origin_text message = message.file ++ 58 ∷ decimal message.line ++ 32 ∷ severity_name message.severity ++ 91 ∷ []
+
+-- the texts are those of the first messages
+abbrev pub AreFirstOrigins : List (List ℕ) → List Message → Type 0
+AreFirstOrigins texts messages = texts ≡ map origin_text (take (length texts) messages)
 
 -- the line of a call: `SECONDS.NNNNNNNNN FILE:LINE SEVERITY[WRITER]: TEXT` and LF
 unfoldable pub Line : Clock → LogCall → List ℕ

@@ -6,8 +6,10 @@ mod digits;
 mod field;
 pub mod laws;
 mod log_line;
+mod origins;
 mod padding;
 mod text;
 
 pub use log_line::{LineWriter, line};
+pub use origins::Origins;
 pub use text::render;

@@ -2,16 +2,15 @@
 
 ghost use Rattle.std.specs.Prelude.{◌≡◌, ◌≤◌, ◌<◌, ◌+◌, ◌^◌, ◌++◌, ◌∷◌, [], ℕ, OnOk, OnErr, codes, false, map, length, take, drop, vec_len};
 ghost use Rattle.std.specs.Fmt.{decimal};
-ghost use Rattle.log_dictionary.specs.Severities.{severity_name};
 ghost use Rattle.log_dictionary.specs.Times.{Time};
 ghost use Rattle.printf_grammar.specs.Types.{Types, Fits};
 ghost use Rattle.direct_printf.specs.Fields.{Digits};
-ghost use Rattle.direct_printf.specs.Lines.{Line, seconds_text};
+ghost use Rattle.direct_printf.specs.Lines.{Line, origin_text, seconds_text};
 ghost use Rattle.direct_printf.specs.LineWriters.{ShowsSecond};
 
 use crate::text::render;
 use itoa::{Buffer, write_digits};
-use log_dictionary::{Clock, Message, Severity};
+use log_dictionary::{Clock, Message};
 use printf_grammar::Argument;
 use std::alloc::AllocError;
 use std::marker::Model;
@@ -27,6 +26,7 @@ pub fn line<A: Argument>(
     clock: &Clock,
     writer: u32,
     message: &Message,
+    origin: &[u8],
     stamp: u64,
     args: &[A],
     out: &mut Vec<u8>,
@@ -34,6 +34,7 @@ pub fn line<A: Argument>(
     requires not_before { clock.now.tick ≤ stamp }
     requires rate { 1 ≤ clock.now.rate }
     requires fitting { Fits (map A.value args.now) (Types message.now.format.pieces) }
+    requires origin { origin.now ≡ origin_text message.now }
     ensures ok { OnOk result ((ordinal : ℕ) → out.new.items ≡ out.old.items
         ++ Line clock.now (record {
           writer = writer;
@@ -44,7 +45,7 @@ pub fn line<A: Argument>(
         })) }
     ensures err { OnErr result (out.new.items ≡ out.old.items) }
 {
-    LineWriter::make().append(clock, writer, message, stamp, args, out)
+    LineWriter::make().append(clock, writer, message, origin, stamp, args, out)
 }
 
 /// Appends lines. It keeps the text of the last second, which the next line mostly has too.
@@ -84,6 +85,7 @@ impl LineWriter {
         clock: &Clock,
         writer: u32,
         message: &Message,
+        origin: &[u8],
         stamp: u64,
         args: &[A],
         out: &mut Vec<u8>,
@@ -91,6 +93,7 @@ impl LineWriter {
         requires not_before { clock.now.tick ≤ stamp }
         requires rate { 1 ≤ clock.now.rate }
         requires fitting { Fits (map A.value args.now) (Types message.now.format.pieces) }
+        requires origin { origin.now ≡ origin_text message.now }
         ensures ok { OnOk result ((ordinal : ℕ) → out.new.items ≡ out.old.items
             ++ Line clock.now (record {
               writer = writer;
@@ -102,7 +105,7 @@ impl LineWriter {
         ensures err { OnErr result (out.new.items ≡ out.old.items) }
     {
         let before = out.len();
-        let written = self.append_line(clock, writer, message, stamp, args, out);
+        let written = self.append_line(clock, writer, message, origin, stamp, args, out);
         if written.is_err() {
             out.truncate(before);
         }
@@ -115,6 +118,7 @@ impl LineWriter {
         clock: &Clock,
         writer: u32,
         message: &Message,
+        origin: &[u8],
         stamp: u64,
         args: &[A],
         out: &mut Vec<u8>,
@@ -122,6 +126,7 @@ impl LineWriter {
         requires not_before { clock.now.tick ≤ stamp }
         requires rate { 1 ≤ clock.now.rate }
         requires fitting { Fits (map A.value args.now) (Types message.now.format.pieces) }
+        requires origin { origin.now ≡ origin_text message.now }
         ensures ok { OnOk result ((ordinal : ℕ) → out.new.items ≡ out.old.items
             ++ Line clock.now (record {
               writer = writer;
@@ -133,7 +138,7 @@ impl LineWriter {
         ensures err { OnErr result (take (vec_len out.old) out.new.items ≡ out.old.items) }
     {
         self.append_time(time_of(clock, stamp), out)?;
-        append_origin(message, writer, out)?;
+        append_origin(origin, writer, out)?;
         render(&message.format, args, out)?;
         out.push(b'\n')?;
         Ok(())
@@ -225,58 +230,14 @@ fn append_long_time(seconds: u128, rest: u32, out: &mut Vec<u8>) -> Result<(), A
     Ok(())
 }
 
-// Where the message stands, how grave it is, and who says it. Behind the file's name all is put
-// together from the end on, so that it is copied once.
-fn append_origin(message: &Message, writer: u32, out: &mut Vec<u8>) -> Result<(), AllocError>
-    ensures ok { OnOk result (out.new.items ≡ out.old.items ++ (message.now.file
-        ++ 58 ∷ decimal message.now.line
-        ++ 32 ∷ severity_name message.now.severity
-        ++ 91 ∷ decimal writer
-        ++ codes "]: ")) }
+// Where the message stands, how grave it is, and who says it.
+fn append_origin(origin: &[u8], writer: u32, out: &mut Vec<u8>) -> Result<(), AllocError>
+    ensures ok { OnOk result (out.new.items ≡ out.old.items ++ (origin.now ++ decimal writer ++ codes "]: ")) }
     ensures err { OnErr result (take (vec_len out.old) out.new.items ≡ out.old.items) }
 {
-    let mut text = *b"                              ]: ";
-    let writer_at = write_number(writer, &mut text, 30);
-    let severity_at = write_severity(message.severity, &mut text, writer_at);
-    let line_at = write_number(message.line, &mut text, severity_at);
-    text[line_at - 1] = b':';
-    out.extend_from_slice(message.file.as_slice())?;
-    out.extend_from_slice(&text[line_at - 1..])?;
+    let mut text = *b"          ]: ";
+    let start = write_digits(u64::from(writer), &mut text, 10);
+    out.extend_from_slice(origin)?;
+    out.extend_from_slice(&text[start..])?;
     Ok(())
-}
-
-// These write so that what they write ends at `end`, and answer where it begins.
-#[inline(always)]
-fn write_number(number: u32, text: &mut [u8], end: usize) -> usize
-    requires { (10 ≤ end) × (end ≤ length text.old) }
-    ensures start { (result ≤ end) × (end ≤ result + 10) }
-    ensures written { drop result text.new ≡ decimal number ++ drop end text.old }
-{
-    write_digits(u64::from(number), text, end)
-}
-
-// A space, the name and a bracket, as bytes whose number is known where they are copied.
-#[inline(always)]
-fn write_severity(severity: Severity, text: &mut [u8], end: usize) -> usize
-    requires { (9 ≤ end) × (end ≤ length text.old) }
-    ensures start { (result ≤ end) × (end ≤ result + 9) }
-    ensures written { drop result text.new ≡ 32 ∷ severity_name severity ++ 91 ∷ drop end text.old }
-{
-    match severity {
-        Severity::Error => write_before(b" ERROR[", text, end),
-        Severity::Warning => write_before(b" WARNING[", text, end),
-        Severity::Notice => write_before(b" NOTICE[", text, end),
-        Severity::Debug => write_before(b" DEBUG[", text, end),
-    }
-}
-
-#[inline(always)]
-fn write_before(bytes: &[u8], text: &mut [u8], end: usize) -> usize
-    requires { (length bytes.now ≤ end) × (end ≤ length text.old) }
-    ensures start { result + length bytes.now ≡ end }
-    ensures written { drop result text.new ≡ bytes.now ++ drop end text.old }
-{
-    let start = end - bytes.len();
-    text[start..end].copy_from_slice(bytes);
-    start
 }

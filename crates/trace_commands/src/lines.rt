@@ -1,8 +1,8 @@
 //! The lines of calls.
 
-ghost use Rattle.std.specs.Prelude.{◌≡◌, ◌≤◌, ◌++◌, ℕ, Some, OnOk};
+ghost use Rattle.std.specs.Prelude.{◌≡◌, ◌≤◌, ◌++◌, ℕ, Some, OnOk, map};
 ghost use Rattle.log_dictionary.specs.Calls.{LogCall};
-ghost use Rattle.direct_printf.specs.Lines.{Line};
+ghost use Rattle.direct_printf.specs.Lines.{Line, origin_text};
 ghost use Rattle.arg_records.specs.Calls.{IsCall, log_call};
 ghost use Rattle.trace_text.specs.Order.{call_place, places_in_order as ordered_places};
 ghost use Rattle.command_base.specs.Endings.{ending_of};
@@ -10,7 +10,7 @@ ghost use Rattle.command_base.specs.Printing.{Prints};
 ghost use Rattle.trace_commands.specs.Texts.{direct_text, HasCall};
 
 use command_base::Refusal;
-use direct_printf::line;
+use direct_printf::{Origins, line};
 use log_dictionary::{Clock, Dictionary};
 use nl_io::{Sink, TextWriter};
 use std::alloc::{AllocError, Global};
@@ -19,6 +19,7 @@ use trace_text::{Call, CallPlace, Trace, places_in_order};
 /// Appends the line of a call of a writer.
 fn append_line(
     dictionary: &Dictionary,
+    origins: &Origins,
     clock: &Clock,
     writer: u32,
     call: &Call,
@@ -27,6 +28,7 @@ fn append_line(
     requires rate { 1 ≤ clock.now.rate }
     requires named { IsCall dictionary.now call.now }
     requires later { clock.now.tick ≤ call.now.stamp }
+    requires origins { origins.now ≡ map origin_text dictionary.now }
     ensures { OnOk result ((ordinal : ℕ) (made : LogCall)
         → log_call dictionary.now writer (ordinal, call.now) ≡ Some made →
         text.new.items ≡ text.old.items ++ Line clock.now made) }
@@ -36,6 +38,7 @@ fn append_line(
         clock,
         writer,
         message,
+        origins.get(call.id),
         call.stamp,
         call.args.as_slice(),
         text,
@@ -55,23 +58,38 @@ fn call_at<'a>(run: &'a Trace, place: CallPlace) -> &'a Call
 }
 
 /// Appends the line of the call at a place of a run.
-fn append_call(run: &Trace, place: CallPlace, text: &mut Vec<u8>) -> Result<(), AllocError>
-    requires { (call : LogCall) × HasCall run.now call × (place ≡ call_place call) }
+fn append_call(
+    run: &Trace,
+    origins: &Origins,
+    place: CallPlace,
+    text: &mut Vec<u8>,
+) -> Result<(), AllocError>
+    requires there { (call : LogCall) × HasCall run.now call × (place ≡ call_place call) }
+    requires origins { origins.now ≡ map origin_text run.now.dictionary }
     ensures { OnOk result ((call : LogCall) → HasCall run.now call → place ≡ call_place call →
         text.new.items ≡ text.old.items ++ Line run.now.clock call) }
 {
     let call = call_at(run, place);
-    append_line(&run.dictionary, &run.clock, place.writer, call, text)
+    append_line(
+        &run.dictionary,
+        origins,
+        &run.clock,
+        place.writer,
+        call,
+        text,
+    )
 }
 
 /// Prints the lines of the calls at the places.
 fn print_places<O: Sink>(
     alloc: Global,
     run: &Trace,
+    origins: &Origins,
     places: &[CallPlace],
     out: &mut O,
 ) -> Result<(), Refusal<'static>>
-    requires { places.now ≡ ordered_places run.now }
+    requires places { places.now ≡ ordered_places run.now }
+    requires origins { origins.now ≡ map origin_text run.now.dictionary }
     ensures printed { Prints (direct_text run.now) (O.put out.old) (O.put out.new)
         (O.faults out.old) (O.faults out.new) (ending_of result) }
     ensures others { O.rest out.old out.new }
@@ -80,7 +98,7 @@ fn print_places<O: Sink>(
     let mut line = Vec::new(alloc);
     for place in places {
         line.clear();
-        append_call(run, *place, &mut line)?;
+        append_call(run, origins, *place, &mut line)?;
         match writer.put(out, &line) {
             Ok(()) => {}
             Err(_) => return Err(Refusal::WriteFault("standard output")),
@@ -103,5 +121,7 @@ pub(crate) fn print_run<O: Sink>(
     ensures others { O.rest out.old out.new }
 {
     let places = places_in_order(alloc, run)?;
-    print_places(alloc, run, &places, out)
+    let mut origins = Origins::make(alloc);
+    origins.extend(run.dictionary.as_slice())?;
+    print_places(alloc, run, &origins, &places, out)
 }

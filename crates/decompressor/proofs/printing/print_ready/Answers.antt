@@ -58,19 +58,25 @@ make_line-requires-clause-not_before g c =
     let top = (c.in-Take.ensures.take c.in-Take.writer).0 refl in
     (said c.args.ended c.args.reader.now first all c.args.waiting.now c.args.merger.now ready l.lines (g.K.Sink.put c.args.out.now) (g.K.Sink.put l.out) l.text_writer l.waiting l.merger so_far c.in-Take.writer top.0 top.1 (get_or l.waiting c.in-Take.writer c.index-waiting-writer.result) (get_or_default l.waiting c.in-Take.writer c.index-waiting-writer.result [] (within c.args.ended c.args.reader.now first all c.args.waiting.now c.args.merger.now ready l.lines (g.K.Sink.put c.args.out.now) (g.K.Sink.put l.out) l.text_writer l.waiting l.merger so_far c.in-Take.writer top.0 top.1)) c.in-Some.record.now c.in-Some.ensures.some).not_before
 
+pub returns-in_err-extend-clause-printed : goal.returns-in_err-extend-clause-printed
+returns-in_err-extend-clause-printed g c first all ready =
+    let put = g.K.Sink.put c.args.out.now in
+    let none = begin_lines c.args.ended c.args.reader.now first all c.args.waiting.now c.args.merger.now ready put c.args.text_writer.now (carries_held [] c.args.text_writer.now put c.requires.held) in
+    lacked c.args.ended c.args.reader.now first all c.args.waiting.now c.args.merger.now ready 0 put put c.args.text_writer.now c.args.waiting.now c.args.merger.now none (g.K.Sink.faults c.args.out.now) (g.K.Sink.faults c.args.out.now) c.from_residual.result _ _ c.from_residual.ensures.1 refl
+
 pub returns-in_err-make_line-clause-printed : goal.returns-in_err-make_line-clause-printed
 returns-in_err-make_line-clause-printed g c first all ready =
     let l = c.loop-writer in
     let so_far = l.invariant.lines_so_far first all ready in
-    lacked c.args.ended c.args.reader.now first all c.args.waiting.now c.args.merger.now ready l.lines (g.K.Sink.put c.args.out.now) (g.K.Sink.put l.out) l.text_writer l.waiting l.merger so_far (g.K.Sink.faults c.args.out.now) (g.K.Sink.faults l.out) c.from_residual.result _ _ c.from_residual.ensures.1 l.invariant.counted
+    lacked c.args.ended c.args.reader.now first all c.args.waiting.now c.args.merger.now ready l.lines (g.K.Sink.put c.args.out.now) (g.K.Sink.put l.out) l.text_writer l.waiting l.merger so_far (g.K.Sink.faults c.args.out.now) (g.K.Sink.faults l.out) c.from_residual-in_err-make_line.result _ _ c.from_residual-in_err-make_line.ensures.1 l.invariant.counted
 
 pub returns-in_err-put-clause-printed : goal.returns-in_err-put-clause-printed
 returns-in_err-put-clause-printed g c first all ready =
     let l = c.loop-writer in
     let so_far = l.invariant.lines_so_far first all ready in
     let top = (c.in-Take.ensures.take c.in-Take.writer).0 refl in
-    line_cut c.args.ended c.args.reader.now first all c.args.waiting.now c.args.merger.now ready l.lines (g.K.Sink.put c.args.out.now) (g.K.Sink.put l.out) l.text_writer l.waiting l.merger so_far c.in-Take.writer top.0 top.1 (get_or l.waiting c.in-Take.writer c.index-waiting-writer.result) (get_or_default l.waiting c.in-Take.writer c.index-waiting-writer.result [] (within c.args.ended c.args.reader.now first all c.args.waiting.now c.args.merger.now ready l.lines (g.K.Sink.put c.args.out.now) (g.K.Sink.put l.out) l.text_writer l.waiting l.merger so_far c.in-Take.writer top.0 top.1)) c.in-Some.record.now c.in-Some.ensures.some (l.text_writer ++ c.as_slice.result.now) (g.K.Sink.put c.put.new.sink) (g.K.Sink.faults c.args.out.now) (g.K.Sink.faults l.out) (g.K.Sink.faults c.put.new.sink) c.from_residual-in_err-put.result _ _
-    c.from_residual-in_err-put.ensures.1 (ap (λ (line : List ℕ). l.text_writer ++ line) (c.as_slice.ensures.value ∙ line_said c.args.ended c.args.reader.now first all c.args.waiting.now c.args.merger.now ready l.lines (g.K.Sink.put c.args.out.now) (g.K.Sink.put l.out) l.text_writer l.waiting l.merger so_far c.in-Take.writer top.0 top.1 (get_or l.waiting c.in-Take.writer c.index-waiting-writer.result) (get_or_default l.waiting c.in-Take.writer c.index-waiting-writer.result [] (within c.args.ended c.args.reader.now first all c.args.waiting.now c.args.merger.now ready l.lines (g.K.Sink.put c.args.out.now) (g.K.Sink.put l.out) l.text_writer l.waiting l.merger so_far c.in-Take.writer top.0 top.1)) c.in-Some.record.now c.in-Some.ensures.some [] c.make_line.new.line.items c.in_ok-make_line.ensures)) l.invariant.counted c.in_err-put.ensures.cut_off
+    line_cut c.args.ended c.args.reader.now first all c.args.waiting.now c.args.merger.now ready l.lines (g.K.Sink.put c.args.out.now) (g.K.Sink.put l.out) l.text_writer l.waiting l.merger so_far c.in-Take.writer top.0 top.1 (get_or l.waiting c.in-Take.writer c.index-waiting-writer.result) (get_or_default l.waiting c.in-Take.writer c.index-waiting-writer.result [] (within c.args.ended c.args.reader.now first all c.args.waiting.now c.args.merger.now ready l.lines (g.K.Sink.put c.args.out.now) (g.K.Sink.put l.out) l.text_writer l.waiting l.merger so_far c.in-Take.writer top.0 top.1)) c.in-Some.record.now c.in-Some.ensures.some (l.text_writer ++ c.as_slice-in-Take.result.now) (g.K.Sink.put c.put.new.sink) (g.K.Sink.faults c.args.out.now) (g.K.Sink.faults l.out) (g.K.Sink.faults c.put.new.sink) c.from_residual-in_err-put.result _ _
+    c.from_residual-in_err-put.ensures.1 (ap (λ (line : List ℕ). l.text_writer ++ line) (c.as_slice-in-Take.ensures.value ∙ line_said c.args.ended c.args.reader.now first all c.args.waiting.now c.args.merger.now ready l.lines (g.K.Sink.put c.args.out.now) (g.K.Sink.put l.out) l.text_writer l.waiting l.merger so_far c.in-Take.writer top.0 top.1 (get_or l.waiting c.in-Take.writer c.index-waiting-writer.result) (get_or_default l.waiting c.in-Take.writer c.index-waiting-writer.result [] (within c.args.ended c.args.reader.now first all c.args.waiting.now c.args.merger.now ready l.lines (g.K.Sink.put c.args.out.now) (g.K.Sink.put l.out) l.text_writer l.waiting l.merger so_far c.in-Take.writer top.0 top.1)) c.in-Some.record.now c.in-Some.ensures.some [] c.make_line.new.line.items c.in_ok-make_line.ensures)) l.invariant.counted c.in_err-put.ensures.cut_off
 
 pub show_first-requires : goal.show_first-requires
 show_first-requires g c =
@@ -104,8 +110,8 @@ loop-writer-preserved g c = record {
       let top = (c.in-Take.ensures.take c.in-Take.writer).0 refl in
       let t = turn c.args.ended c.args.reader.now first all c.args.waiting.now c.args.merger.now ready l.lines (g.K.Sink.put c.args.out.now) (g.K.Sink.put l.out) l.text_writer l.waiting l.merger so_far c.in-Take.writer top.0 top.1 in
       let done = c.is_done.ensures (omega (arith, t.known, ready.valid.header_right.few_writers)) ∙ ready.closed c.in-Take.writer t.known in
-      next_lines c.args.ended c.args.reader.now first all c.args.waiting.now c.args.merger.now ready l.lines (g.K.Sink.put c.args.out.now) (g.K.Sink.put l.out) l.text_writer l.waiting l.merger so_far c.in-Take.writer top.0 top.1 (get_or l.waiting c.in-Take.writer c.index-waiting-writer.result) (get_or_default l.waiting c.in-Take.writer c.index-waiting-writer.result [] (within c.args.ended c.args.reader.now first all c.args.waiting.now c.args.merger.now ready l.lines (g.K.Sink.put c.args.out.now) (g.K.Sink.put l.out) l.text_writer l.waiting l.merger so_far c.in-Take.writer top.0 top.1)) c.in-Some.record.now c.in-Some.ensures.some (l.text_writer ++ c.as_slice.result.now) (g.K.Sink.put c.put.new.sink) c.put.new.self _ c.show_first.new.merger
-      (ap (λ (line : List ℕ). l.text_writer ++ line) (c.as_slice.ensures.value ∙ line_said c.args.ended c.args.reader.now first all c.args.waiting.now c.args.merger.now ready l.lines (g.K.Sink.put c.args.out.now) (g.K.Sink.put l.out) l.text_writer l.waiting l.merger so_far c.in-Take.writer top.0 top.1 (get_or l.waiting c.in-Take.writer c.index-waiting-writer.result) (get_or_default l.waiting c.in-Take.writer c.index-waiting-writer.result [] (within c.args.ended c.args.reader.now first all c.args.waiting.now c.args.merger.now ready l.lines (g.K.Sink.put c.args.out.now) (g.K.Sink.put l.out) l.text_writer l.waiting l.merger so_far c.in-Take.writer top.0 top.1)) c.in-Some.record.now c.in-Some.ensures.some [] c.make_line.new.line.items c.in_ok-make_line.ensures)) c.in_ok-put.ensures.ok (ap (slice_set l.waiting c.in-Take.writer) c.remove_first.ensures)
+      next_lines c.args.ended c.args.reader.now first all c.args.waiting.now c.args.merger.now ready l.lines (g.K.Sink.put c.args.out.now) (g.K.Sink.put l.out) l.text_writer l.waiting l.merger so_far c.in-Take.writer top.0 top.1 (get_or l.waiting c.in-Take.writer c.index-waiting-writer.result) (get_or_default l.waiting c.in-Take.writer c.index-waiting-writer.result [] (within c.args.ended c.args.reader.now first all c.args.waiting.now c.args.merger.now ready l.lines (g.K.Sink.put c.args.out.now) (g.K.Sink.put l.out) l.text_writer l.waiting l.merger so_far c.in-Take.writer top.0 top.1)) c.in-Some.record.now c.in-Some.ensures.some (l.text_writer ++ c.as_slice-in-Take.result.now) (g.K.Sink.put c.put.new.sink) c.put.new.self _ c.show_first.new.merger
+      (ap (λ (line : List ℕ). l.text_writer ++ line) (c.as_slice-in-Take.ensures.value ∙ line_said c.args.ended c.args.reader.now first all c.args.waiting.now c.args.merger.now ready l.lines (g.K.Sink.put c.args.out.now) (g.K.Sink.put l.out) l.text_writer l.waiting l.merger so_far c.in-Take.writer top.0 top.1 (get_or l.waiting c.in-Take.writer c.index-waiting-writer.result) (get_or_default l.waiting c.in-Take.writer c.index-waiting-writer.result [] (within c.args.ended c.args.reader.now first all c.args.waiting.now c.args.merger.now ready l.lines (g.K.Sink.put c.args.out.now) (g.K.Sink.put l.out) l.text_writer l.waiting l.merger so_far c.in-Take.writer top.0 top.1)) c.in-Some.record.now c.in-Some.ensures.some [] c.make_line.new.line.items c.in_ok-make_line.ensures)) c.in_ok-put.ensures.ok (ap (slice_set l.waiting c.in-Take.writer) c.remove_first.ensures)
       (c.show_first.ensures ∙ λ i. slice_set (c.next.ensures.taken c.in-Take.writer c.in-Take.is i) c.in-Take.writer (list_of (done i) (c.remove_first.ensures i)));
   counted = c.in_ok-put.ensures.counted ∙ c.loop-writer.invariant.counted;
   others = g.met.K.Sink.rest_then _ _ _ c.loop-writer.invariant.others c.put.ensures.others;

@@ -17,9 +17,9 @@ loop-place-init g c = record {
   others = g.met.O.Sink.rest_same _;
 }
 
-pub append_call-requires : goal.append_call-requires
-append_call-requires g c =
-    let at = call_at_place c.args.run.now c.args.places.now c.loop-place.place-index (record { stamp = 0; writer = 0; ordinal = 0 }) c.requires c.loop-place-test.true in
+pub append_call-requires-clause-there : goal.append_call-requires-clause-there
+append_call-requires-clause-there g c =
+    let at = call_at_place c.args.run.now c.args.places.now c.loop-place.place-index (record { stamp = 0; writer = 0; ordinal = 0 }) c.requires.places c.loop-place-test.true in
     (at.call, at.there, at.place_is)
 
 pub returns-in_err-append_call-clause-printed : goal.returns-in_err-append_call-clause-printed
@@ -32,7 +32,7 @@ returns-in_err-append_call-clause-printed g c =
 pub returns-in-Err-clause-printed : goal.returns-in-Err-clause-printed
 returns-in-Err-clause-printed g c =
     let was = c.loop-place.invariant in
-    let at = call_at_place c.args.run.now c.args.places.now c.loop-place.place-index (record { stamp = 0; writer = 0; ordinal = 0 }) c.requires c.loop-place-test.true in
+    let at = call_at_place c.args.run.now c.args.places.now c.loop-place.place-index (record { stamp = 0; writer = 0; ordinal = 0 }) c.requires.places c.loop-place-test.true in
     let line = c.deref.ensures.value ∙ c.in_ok-append_call.ensures at.call at.there at.place_is ∙ ap (λ (text : List ℕ). text ++ Line c.args.run.now.clock at.call) c.clear.ensures.items in
     let cut = cut_more _ _ (Line c.args.run.now.clock at.call) _ _ _ _ _ _ _ _ (lines_cut_behind c.args.run.now c.loop-place.place-index _ at) was.carries was.counted
     (subst (λ (text : List ℕ). IsCutOff (c.loop-place.writer ++ text) (g.O.Sink.put c.loop-place.out) (g.O.Sink.put c.put.new.sink) (g.O.Sink.faults c.loop-place.out) (g.O.Sink.faults c.put.new.sink)) line c.in-Err.ensures.cut_off) in
@@ -41,7 +41,7 @@ returns-in-Err-clause-printed g c =
 pub loop-place-preserved : goal.loop-place-preserved
 loop-place-preserved g c =
     let was = c.loop-place.invariant in
-    let at = call_at_place c.args.run.now c.args.places.now c.loop-place.place-index (record { stamp = 0; writer = 0; ordinal = 0 }) c.requires c.loop-place-test.true in
+    let at = call_at_place c.args.run.now c.args.places.now c.loop-place.place-index (record { stamp = 0; writer = 0; ordinal = 0 }) c.requires.places c.loop-place-test.true in
     let line = c.deref.ensures.value ∙ c.in_ok-append_call.ensures at.call at.there at.place_is ∙ ap (λ (text : List ℕ). text ++ Line c.args.run.now.clock at.call) c.clear.ensures.items in
     record {
       carries = carries_more _ _ (Line c.args.run.now.clock at.call) _ _ _ _ _ (line_more c.args.run.now c.loop-place.place-index _ at) was.carries
@@ -53,12 +53,12 @@ loop-place-preserved g c =
 pub returns-in-Ok-flush-clause-printed : goal.returns-in-Ok-flush-clause-printed
 returns-in-Ok-flush-clause-printed g c =
     let was = c.loop-place.invariant in
-    let all = all_lines c.args.run.now c.args.places.now c.loop-place.place-index c.requires c.loop-place-test.false in
+    let all = all_lines c.args.run.now c.args.places.now c.loop-place.place-index c.requires.places c.loop-place-test.false in
     (carries_all _ _ _ _ _ (rw all at was.carries) c.in-Ok-flush.ensures.ok, c.in-Ok-flush.ensures.counted ∙ was.counted)
 
 pub returns-clause-printed : goal.returns-clause-printed
 returns-clause-printed g c =
     let was = c.loop-place.invariant in
-    let all = all_lines c.args.run.now c.args.places.now c.loop-place.place-index c.requires c.loop-place-test.false in
+    let all = all_lines c.args.run.now c.args.places.now c.loop-place.place-index c.requires.places c.loop-place-test.false in
     let cut = cut_held (direct_text c.args.run.now) (direct_text c.args.run.now) [] _ _ _ _ _ _ _ (sym (append-nil (direct_text c.args.run.now))) (rw all at was.carries) was.counted c.in-Err-flush.ensures.cut_off in
     (refl, cut.some, cut.put, cut.rose)

@@ -11,4 +11,4 @@ pub returns-clause-ok : goal.returns-clause-ok
 unfolding Line
 returns-clause-ok g c =
     let message = c.args.message.now in
-    λ ordinal. joined _ (seconds_text (Time c.args.clock.now c.args.stamp)) (32 ∷ []) message.file (58 ∷ decimal message.line) (32 ∷ severity_name message.severity) (91 ∷ decimal c.args.writer) (codes "]: ") (Text message.format (map g.A.Argument.value c.args.args.now)) (10 ∷ []) _ _ _ _ (rw c.time_of.ensures at c.in_ok-append_time.ensures.ok) c.in_ok-append_origin.ensures.ok c.in_ok-render.ensures.ok c.in_ok-push.ensures.items
+    λ ordinal. joined _ (seconds_text (Time c.args.clock.now c.args.stamp)) (32 ∷ []) message.file (58 ∷ decimal message.line) (32 ∷ severity_name message.severity) (91 ∷ []) c.args.origin.now (decimal c.args.writer) (codes "]: ") (Text message.format (map g.A.Argument.value c.args.args.now)) (10 ∷ []) _ _ _ _ c.requires.origin (rw c.time_of.ensures at c.in_ok-append_time.ensures.ok) c.in_ok-append_origin.ensures.ok c.in_ok-render.ensures.ok c.in_ok-push.ensures.items
