@@ -15,7 +15,7 @@ use Rattle.arg_records.specs.Places.{with_words}
 use Rattle.arg_records.proofs.lemmas.Lengths.{length-words_of_argument, length-Frame}
 use Rattle.arg_records.proofs.lemmas.Places.{word_first, words_first}
 
-short_words : (value : Value) → IsShort value → argument_words value ≤ 501
+pub short_words : (value : Value) → IsShort value → argument_words value ≤ 501
 short_words (values.Signed z) short = omega arith
 short_words (values.Unsigned n) short = omega arith
 short_words (values.Text bytes) short = omega arith

@@ -1,6 +1,6 @@
 //! The words of one argument.
 
-ghost use Rattle.std.specs.Prelude.{◌≡◌, ◌+◌, ◌/◌, ◌<◌, ◌≤◌, length, All};
+ghost use Rattle.std.specs.Prelude.{◌≡◌, ◌+◌, ◌/◌, ◌^◌, ◌<◌, ◌≤◌, length, All};
 ghost use Rattle.printf_grammar.specs.declared.argument.Value.TheVariants.{Text as TextValue};
 ghost use Rattle.printf_grammar.specs.Types.{argument_value};
 ghost use Rattle.nibble_pack.specs.Bytes.{number_of_bytes};
@@ -94,4 +94,20 @@ pub(crate) fn put_argument(arg: Arg, into: &mut [u64; MAX_FRAME_WORDS], at: usiz
         }
         Arg::Text(text) => put_text(text, into, at),
     }
+}
+
+/// Writes an argument's words from a place on, unless they would go beyond a frame's. It answers the place behind them.
+#[inline(always)]
+pub(crate) fn put_within(arg: Arg, into: &mut [u64; MAX_FRAME_WORDS], at: u64) -> u64
+    requires { at + argument_words (argument_value arg) < 2 ^ 64 }
+    ensures written { result ≤ MAX_FRAME_WORDS
+        → into.new ≡ with_words into.old at (words_of_argument (argument_value arg.entry)) }
+    ensures end { result ≡ at + argument_words (argument_value arg.entry) }
+    ensures bytes { result ≤ MAX_FRAME_WORDS → HoldsBytes (argument_value arg.entry) }
+{
+    let end = at + word_count(arg);
+    if end <= MAX_FRAME_WORDS as u64 {
+        put_argument(arg, into, at as usize);
+    }
+    end
 }

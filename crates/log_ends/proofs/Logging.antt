@@ -1,22 +1,28 @@
 -- Calls that aren't logged.
-use Rattle.std.proofs.Common.{◌≡◌, ℕ, ◌+◌, ◌<◌, ◌≤◌, false, List, Err, refl, sym, ap, ◌∙◌, arith}
+use Rattle.std.proofs.Common.{◌≡◌, ℕ, ◌+◌, ◌<◌, ◌≤◌, false, List, Some, Err, refl, sym, ◌∙◌, arith}
 use Rattle.std.specs.Prelude.{slice_get}
 use Rattle.printf_grammar.specs.declared.argument.Value.{Value}
 use Rattle.printf_grammar.specs.declared.arg_type.ArgType.{ArgType}
+use Rattle.printf_grammar.specs.Types.{Types, Fits}
+use Rattle.log_dictionary.specs.declared.message.Message.{Message}
 use Rattle.log_dictionary.specs.Calls.{Takes}
 use Rattle.arg_records.specs.declared.frame.TheConstants.{MAX_FRAME_WORDS}
 use Rattle.arg_records.specs.Frames.{FrameLen}
+use Rattle.ring_core.specs.declared.limits.TheConstants.{MAX_POSITION, OFFER_ROOM}
 use Rattle.ring_core.specs.Counts.{RisesBy}
-use Rattle.log_session.specs.Writers.{Knows, knows_taken}
 use Rattle.log_ends.specs.declared.writer.WriterEnd.{WriterEnd}
 use Rattle.log_ends.specs.declared.writer.LogFault.TheVariants as faults
 use Rattle.log_ends.specs.Writers.{ring_of, logged, is_finished, writer_stamp, writer_messages, IsWornOut, IsSameWriter, MayLog, LogsCall}
 
--- the ring's plan has what the dictionary takes
-pub plan_knows : (writer : WriterEnd) (id : ℕ) (args : List Value) → Takes (writer_messages writer) id args → Knows (ring_of writer).plan id args
-plan_knows writer id args takes =
-    let known = knows_taken (writer_messages writer) (ring_of writer).plan.first id args takes in
-    (known.0, ap (λ (types : List (List ArgType)). slice_get types id) writer.planned ∙ known.1, known.2)
+-- a call may be logged whose arguments fit the types of the message that its id names
+pub may_log : (writer : WriterEnd) (stamp id : ℕ) (message : Message) (types : List ArgType) (args : List Value) → is_finished writer ≡ false → slice_get (writer_messages writer) id ≡ Some message → types ≡ Types message.format.pieces
+    → Fits args types → writer_stamp writer ≤ stamp → (ring_of writer).at + OFFER_ROOM ≤ MAX_POSITION → MayLog writer stamp id args
+may_log writer stamp id message types args unfinished there is fits not_early room = record {
+  unfinished = unfinished;
+  fits = (message, there, rw (← is) fits);
+  not_early = not_early;
+  counted = λ worn. omega (arith, worn, room);
+}
 
 same_writer : (writer : WriterEnd) → IsSameWriter writer writer
 same_writer writer = record { same_pair = refl; same_words = refl; same_plan = refl; same_messages = refl }

@@ -1,11 +1,11 @@
 //! The end that a thread logs with.
 
-ghost use Rattle.std.specs.Prelude.{◌≡◌, map};
+ghost use Rattle.std.specs.Prelude.{◌≡◌, ◌≤◌, map, false, Err};
 ghost use Rattle.ring_core.specs.Plans.{types_by_id};
 
 use crate::argument::Argument;
 use log_dictionary::Dictionary;
-use log_session::{LogRefusal, Writer};
+use log_session::{JudgedRefusal, Writer};
 use ring_core::{Full, MAX_POSITION, OFFER_ROOM};
 use word_ring::WordIn;
 
@@ -36,7 +36,7 @@ pub enum LogFault {
 
 impl WriterEnd {
     ghost use Rattle.log_ends.specs.Arguments.{argument_given};
-    ghost use Rattle.log_ends.specs.Writers.{LogsCall, FinishesWriter};
+    ghost use Rattle.log_ends.specs.Writers.{is_finished, writer_stamp, IsWornOut, LogsCall, FinishesWriter};
 
     /// Logs a call, unless there is a cause not to; of several causes the first of [`LogFault`] is told. It waits for
     /// nobody, and takes no memory.
@@ -50,20 +50,35 @@ impl WriterEnd {
         if self.writer.is_closed() {
             return Err(LogFault::Finished);
         }
-        if !self.dictionary.takes(id, args) {
+        if stamp < self.writer.last_stamp() || self.writer.sent() > MAX_POSITION - OFFER_ROOM {
+            return Err(self.refuse(stamp, id, args));
+        }
+        let Some(message) = self.dictionary.get(id) else {
             return Err(LogFault::Misfit);
+        };
+        let types = message.format.types();
+        match self.writer.log_judged(stamp, id, types, args) {
+            Ok(()) => Ok(()),
+            Err(JudgedRefusal::Misfit) => Err(LogFault::Misfit),
+            Err(JudgedRefusal::TooLong) => Err(LogFault::TooLong),
+            Err(JudgedRefusal::Full(full)) => Err(LogFault::Full(full)),
+        }
+    }
+
+    /// What is told of a call that is too early or has no words left to count: that it doesn't fit comes before both.
+    #[cold]
+    fn refuse(&self, stamp: u64, id: u32, args: &[Argument<'_>]) -> LogFault
+        requires unfinished { is_finished self.now ≡ false }
+        requires refused { writer_stamp self.now ≤ stamp → IsWornOut self.now }
+        ensures { LogsCall self.now stamp id (map argument_given args.now) (Err result) self.now }
+    {
+        if !self.dictionary.takes(id, args) {
+            return LogFault::Misfit;
         }
         if stamp < self.writer.last_stamp() {
-            return Err(LogFault::Early);
+            return LogFault::Early;
         }
-        if self.writer.sent() > MAX_POSITION - OFFER_ROOM {
-            return Err(LogFault::WornOut);
-        }
-        match self.writer.log(stamp, id, args) {
-            Ok(()) => Ok(()),
-            Err(LogRefusal::TooLong) => Err(LogFault::TooLong),
-            Err(LogRefusal::Full(full)) => Err(LogFault::Full(full)),
-        }
+        LogFault::WornOut
     }
 
     /// Finishes the writer, so that nothing more is logged. It answers whether it wasn't finished before.

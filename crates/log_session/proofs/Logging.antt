@@ -1,7 +1,6 @@
 -- Writers that log one call more.
-use Rattle.std.proofs.Common.{◌≡◌, true, false, ℕ, ◌+◌, ◌<◌, ◌≤◌, ◌^◌, List, [], ◌∷◌, ◌++◌, length, refl, sym, ap, subst, ◌∙◌, arith, inl, inr}
+use Rattle.std.proofs.Common.{◌≡◌, ℕ, ◌+◌, ◌<◌, ◌≤◌, ◌^◌, List, [], ◌∷◌, ◌++◌, length, refl, sym, ap, subst, ◌∙◌, arith}
 use Rattle.std.specs.Prelude.{All, Option, None, Some, option_map, slice_get}
-use Rattle.std.proofs.lemmas.Bool.{cases_lt}
 use Rattle.std.proofs.lemmas.List.{length-append, length-map}
 use Rattle.std.proofs.lemmas.Option.{slice_get-map, slice_get_within, get_or_from_slice_get}
 use Rattle.std.proofs.lemmas.List.Elements.{All-get_or, All-map, All-weaker}
@@ -66,18 +65,12 @@ may_follow plan stamp id last args is known bytes fits short later = record {
   not_before = later;
 }
 
-short_enough : (words most : ℕ) → (most < words → false ≡ true) → words ≤ most
-short_enough words most never = elim (cases_lt most words) [
-  | inl long ↦ let no = never long in absurd cc
-  | inr within ↦ within
-]
-
 -- a call that a writer is asked to log, as it is seen from outside, may follow what it has inside
 pub may_log : {S : Type 0} (plan : S → Plan) (inside seen : WriterView S) (stamp id : ℕ) (args : List Value) → inside ≡ seen → IsDictionaryPlan (plan inside.end) → Knows (plan seen.end) id args → seen.last ≤ stamp
-    → All HoldsBytes args → stamp < 2 ^ 64 → (512 < FrameLen args → false ≡ true) → MayFollow (plan inside.end) inside.last (call_of stamp id args)
-may_log {S} plan inside seen stamp id args same is known later bytes fits never =
+    → All HoldsBytes args → stamp < 2 ^ 64 → FrameLen args ≤ 512 → MayFollow (plan inside.end) inside.last (call_of stamp id args)
+may_log {S} plan inside seen stamp id args same is known later bytes fits short =
     let asked = subst (λ (w : WriterView S). Knows (plan w.end) id args × (w.last ≤ stamp)) (sym same) (known, later) in
-    may_follow (plan inside.end) stamp id inside.last args is asked.0 bytes fits (short_enough (FrameLen args) 512 never) asked.1
+    may_follow (plan inside.end) stamp id inside.last args is asked.0 bytes fits short asked.1
 
 -- what a writer knows of one call more
 pub logged_more : (plan : Plan) (sent : List (List ℕ)) (at words last accepted stamp id : ℕ) (args : List Value) → (h : HasLogged plan sent at words last accepted)

@@ -17,6 +17,8 @@ use Rattle.ring_core.specs.Plans.{Plan, plan_of, AreFramesOf}
 use Rattle.ring_core.specs.Positions.{Position}
 use Rattle.log_session.specs.declared.refusal.LogRefusal.{LogRefusal}
 use Rattle.log_session.specs.declared.refusal.LogRefusal.TheVariants as refusals
+use Rattle.log_session.specs.declared.refusal.JudgedRefusal.{JudgedRefusal}
+use Rattle.log_session.specs.declared.refusal.JudgedRefusal.TheVariants as judged
 
 -- a writer as contracts see it: the end of its ring, the stamp of its last call, the number of its calls, and how often
 -- it was asked to log one
@@ -60,6 +62,12 @@ pub record HasLogged (plan : Plan) (sent : List (List ℕ)) (at words : ℕ) (la
 abbrev pub IfRefusedFull : LogRefusal → (Full → Type 0) → Type 0
 IfRefusedFull (refusals.Full full) said = said full
 IfRefusedFull refusals.TooLong said = ⊤
+
+-- the same where the arguments were judged too
+abbrev pub IfJudgedFull : JudgedRefusal → (Full → Type 0) → Type 0
+IfJudgedFull (judged.Full full) said = said full
+IfJudgedFull judged.TooLong said = ⊤
+IfJudgedFull judged.Misfit said = ⊤
 
 -- all but what a call changes is as it was: which ring it is, its size and its plan, and whether it is closed
 pub record IsSameEnd {S : Type 0} (pair : S → List ℕ) (words : S → ℕ) (plan : S → Plan) (old new : S) : Type 0 where

@@ -7,7 +7,7 @@ mod settling;
 mod starting;
 mod writer;
 
-pub use refusal::LogRefusal;
+pub use refusal::{JudgedRefusal, LogRefusal};
 pub use settling::settle;
 pub use starting::start;
 pub use writer::Writer;

@@ -10,3 +10,14 @@ pub enum LogRefusal {
     /// The frame of the call would have more than [`MAX_FRAME_WORDS`](arg_records::MAX_FRAME_WORDS) words.
     TooLong,
 }
+
+/// Why a call wasn't logged whose arguments were judged with it.
+#[derive(Clone, Copy, Debug, PartialEq, Eq)]
+pub enum JudgedRefusal {
+    /// The arguments don't fit the types of the call's message.
+    Misfit,
+    /// The frame of the call would have more than [`MAX_FRAME_WORDS`](arg_records::MAX_FRAME_WORDS) words.
+    TooLong,
+    /// The ring had too little room.
+    Full(Full),
+}

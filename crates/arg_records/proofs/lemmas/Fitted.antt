@@ -61,7 +61,7 @@ argument_fits (values.Text bytes) types.Width fits bytes_below = absurd fits
 argument_fits (values.Text bytes) types.Precision fits bytes_below = absurd fits
 argument_fits (values.Text bytes) types.Text fits bytes_below = bytes_below
 
-short_fits : (value : Value) (type : ArgType) → FitsType value type → IsShort value
+pub short_fits : (value : Value) (type : ArgType) → FitsType value type → IsShort value
 short_fits (values.Signed z) type fits = tt
 short_fits (values.Unsigned n) type fits = tt
 short_fits (values.Text bytes) types.Int fits = absurd fits

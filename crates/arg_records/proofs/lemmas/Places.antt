@@ -41,3 +41,10 @@ words_first list at end xs ys is within =
 -- one word alone
 pub one_word : (list : List ℕ) (at word : ℕ) → at < length list → set list at word ≡ with_words list at (word ∷ [])
 one_word list at word within = sym (no_words (set list at word) (at + 1)) ∙ word_first list at word [] within
+
+-- the two words in front, written behind the others
+pub front_last : (list words : List ℕ) (head stamp : ℕ) → 2 ≤ length list → set (set (with_words list 2 words) 0 head) 1 stamp ≡ with_words (set (set list 0 head) 1 stamp) 2 words
+front_last [] words head stamp two = absurd omega arith
+front_last (a ∷ []) words head stamp two = absurd omega arith
+front_last (a ∷ b ∷ list) words head stamp two =
+    ap (λ (back : List ℕ). head ∷ stamp ∷ (words ++ back)) (sym (drop-drop (length words) 2 (a ∷ b ∷ list)) ∙ drop-drop (length words) 2 (head ∷ stamp ∷ list))
