@@ -1,8 +1,9 @@
 -- The arguments of a call's line as they are read.
-use Rattle.std.specs.Prelude.{◌≡◌, ℕ, ℤ, ◌≤◌, List, [], ◌∷◌, ◌++◌, Option, IfSome, Result, Ok, Err}
+use Rattle.std.specs.Prelude.{◌≡◌, ℕ, ℤ, ◌<◌, ◌≤◌, length, List, [], ◌∷◌, ◌++◌, Option, IfSome, Result, Ok, Err}
 use Rattle.std.specs.Option.{ok_or}
 use Rattle.printf_grammar.specs.declared.arg_type.ArgType.{ArgType}
 use Rattle.printf_grammar.specs.declared.argument.Value.{Value}
+use Rattle.printf_grammar.specs.declared.limits.TheConstants.{MAX_ARGUMENTS}
 use Rattle.log_dictionary.specs.declared.numbers.Integer.{Integer}
 use Rattle.log_dictionary.specs.Numbers.{integer_read}
 use Rattle.arg_records.specs.Frames.{argument_words}
@@ -29,12 +30,20 @@ spaced_argument type (space ∷ bytes) = item_argument type bytes
 
 -- ---- keeping arguments, as long as there is memory for them
 
--- the argument takes so many words, and stands behind those that were kept, if there was memory for them and for it
+-- those that were kept have room for one more
+abbrev pub HasRoom : Option (List Value) → Type 0
+HasRoom kept = IfSome kept (λ values. length values < MAX_ARGUMENTS)
+
+-- the argument stands behind those that were kept, if there was memory for them and for it
+abbrev pub Appends : Value → Option (List Value) → Option (List Value) → Type 0
+Appends value old new =
+    (args : List Value) → IfSome old (λ values. values ≡ args) → IfSome new (λ values. values ≡ args ++ value ∷ [])
+
+-- the argument takes so many words, and stands behind those that were kept
 pub record Keeps (value : Value) (words : ℕ) (old new : Option (List Value)) : Type 0 where
   pub words_are : words ≡ argument_words value
   pub few : words ≤ 501
-  pub kept : (args : List Value) → IfSome old (λ values. values ≡ args)
-      → IfSome new (λ values. values ≡ args ++ value ∷ [])
+  pub appends : Appends value old new
 
 -- so does the argument that the number is
 pub record KeepsNumber (argument : ℤ → Result Value TraceCause) (integer : Integer) (old new : Option (List Value))

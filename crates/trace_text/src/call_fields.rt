@@ -1,15 +1,14 @@
 //! The arguments of a call's line.
 
-ghost use Rattle.std.specs.Prelude.{◌≡◌, ◌≢◌, ◌+◌, ◌≤◌, ℤ, IfOk, IfErr, IfSome, IfNone, OnOk, length, Ok, Err, Some, List, ◌<◌, ◌++◌, ◌∷◌, []};
-ghost use Rattle.printf_grammar.specs.declared.argument.Value.{Value as ArgValue};
+ghost use Rattle.std.specs.Prelude.{◌≡◌, ◌≢◌, ◌+◌, ◌≤◌, ℤ, IfOk, IfErr, IfSome, IfNone, OnOk, length, Ok, Err, Some, ◌<◌, ◌++◌, ◌∷◌, []};
 ghost use Rattle.printf_grammar.specs.declared.argument.Value.TheVariants.{Signed as SignedValue, Unsigned as UnsignedValue, Text as TextValue};
 ghost use Rattle.printf_grammar.specs.declared.limits.TheConstants.{MAX_ARGUMENTS, MAX_TEXT};
 ghost use Rattle.log_dictionary.specs.Numbers.{integer_read, if_signed};
-ghost use Rattle.arg_records.specs.Frames.{FrameLen, argument_words};
+ghost use Rattle.arg_records.specs.Frames.{FrameLen};
 ghost use Rattle.trace_text.specs.declared.cause.TraceCause.TheVariants.{ArgRange};
 ghost use Rattle.trace_text.specs.CallReading.{signed_within, unsigned_below, checked_text, argument_of, arguments_at};
 ghost use Rattle.trace_text.specs.CallReading.Item.{number};
-ghost use Rattle.trace_text.specs.CallFields.{result_as, item_argument, spaced_argument, Keeps, KeepsNumber, KeepsRead};
+ghost use Rattle.trace_text.specs.CallFields.{result_as, item_argument, spaced_argument, HasRoom, Appends, KeepsNumber, KeepsRead};
 
 use crate::cause::TraceCause;
 use arg_records::text_words;
@@ -30,9 +29,8 @@ fn signed_of(integer: Integer) -> Option<i64>
 // Adds an argument to those so far. There are none once memory lacked.
 #[inline(always)]
 fn keep_value(kept: &mut Option<Values>, value: Value)
-    requires { IfSome kept.old (λ values. length values < MAX_ARGUMENTS) }
-    ensures { (args : List ArgValue) → IfSome kept.old (λ values. values ≡ args)
-        → IfSome kept.new (λ values. values ≡ args ++ value ∷ []) }
+    requires { HasRoom kept.old }
+    ensures { Appends value kept.old kept.new }
 {
     let Some(values) = kept else {
         return;
@@ -46,18 +44,16 @@ fn keep_value(kept: &mut Option<Values>, value: Value)
 // with its padding, in halves that overlap, and each copy would wait for the one before.
 #[inline(never)]
 fn keep_signed(kept: &mut Option<Values>, number: i64)
-    requires { IfSome kept.old (λ values. length values < MAX_ARGUMENTS) }
-    ensures { (args : List ArgValue) → IfSome kept.old (λ values. values ≡ args)
-        → IfSome kept.new (λ values. values ≡ args ++ SignedValue number ∷ []) }
+    requires { HasRoom kept.old }
+    ensures { Appends (SignedValue number) kept.old kept.new }
 {
     keep_value(kept, Value::Signed(number));
 }
 
 #[inline(never)]
 fn keep_unsigned(kept: &mut Option<Values>, number: u64)
-    requires { IfSome kept.old (λ values. length values < MAX_ARGUMENTS) }
-    ensures { (args : List ArgValue) → IfSome kept.old (λ values. values ≡ args)
-        → IfSome kept.new (λ values. values ≡ args ++ UnsignedValue number ∷ []) }
+    requires { HasRoom kept.old }
+    ensures { Appends (UnsignedValue number) kept.old kept.new }
 {
     keep_value(kept, Value::Unsigned(number));
 }
@@ -70,9 +66,8 @@ fn push_text(alloc: Global, values: &mut Values, text: &SpelledText<'_>) -> Resu
 }
 
 fn keep_text(alloc: Global, kept: &mut Option<Values>, text: &SpelledText<'_>)
-    requires { IfSome kept.old (λ values. length values < MAX_ARGUMENTS) }
-    ensures { (args : List ArgValue) → IfSome kept.old (λ values. values ≡ args)
-        → IfSome kept.new (λ values. values ≡ args ++ TextValue text.now ∷ []) }
+    requires { HasRoom kept.old }
+    ensures { Appends (TextValue text.now) kept.old kept.new }
 {
     let Some(values) = kept else {
         return;
@@ -113,7 +108,7 @@ fn keep_from(
     most: i64,
     kept: &mut Option<Values>,
 ) -> Result<(), TraceCause>
-    requires { IfSome kept.old (λ values. length values < MAX_ARGUMENTS) }
+    requires { HasRoom kept.old }
     ensures ok { OnOk result (KeepsNumber (signed_within least most) integer kept.old kept.new) }
     ensures err { IfErr result (λ cause. (z : ℤ) → integer ≡ integer_read z → Err cause ≡ signed_within least most z) }
 {
@@ -128,7 +123,7 @@ fn keep_from(
 
 // Keeps an integer from 0 to `most`.
 fn keep_to(integer: Integer, most: u64, kept: &mut Option<Values>) -> Result<(), TraceCause>
-    requires { IfSome kept.old (λ values. length values < MAX_ARGUMENTS) }
+    requires { HasRoom kept.old }
     ensures ok { OnOk result (KeepsNumber (unsigned_below (most + 1)) integer kept.old kept.new) }
     ensures err { IfErr result (λ cause. (z : ℤ) → integer ≡ integer_read z → Err cause ≡ unsigned_below (most + 1) z) }
 {
@@ -142,7 +137,7 @@ fn keep_to(integer: Integer, most: u64, kept: &mut Option<Values>) -> Result<(),
 }
 
 fn keep_number(kind: ArgType, integer: Integer, kept: &mut Option<Values>) -> Result<(), TraceCause>
-    requires { IfSome kept.old (λ values. length values < MAX_ARGUMENTS) }
+    requires { HasRoom kept.old }
     ensures ok { OnOk result (KeepsNumber (λ z. argument_of kind (number z)) integer kept.old kept.new) }
     ensures err { IfErr result (λ cause. (z : ℤ) → integer ≡ integer_read z
         → Err cause ≡ argument_of kind (number z)) }
@@ -179,7 +174,7 @@ fn read_number<'a>(
     bytes: &'a [u8],
     kept: &mut Option<Values>,
 ) -> Result<&'a [u8], TraceCause>
-    requires { IfSome kept.old (λ values. length values < MAX_ARGUMENTS) }
+    requires { HasRoom kept.old }
     ensures ok { kind ≢ ArgType.Text
         → IfOk result (λ rest. KeepsRead (item_argument kind bytes.now) 1 rest.now kept.old kept.new) }
     ensures err { kind ≢ ArgType.Text → IfErr result (λ cause. Err cause ≡ item_argument kind bytes.now) }
@@ -199,7 +194,7 @@ fn read_text<'a>(
     bytes: &'a [u8],
     kept: &mut Option<Values>,
 ) -> Result<(u64, &'a [u8]), TraceCause>
-    requires { IfSome kept.old (λ values. length values < MAX_ARGUMENTS) }
+    requires { HasRoom kept.old }
     ensures ok { IfOk result (λ read. KeepsRead (item_argument ArgType.Text bytes.now) read.0 read.1.now
         kept.old kept.new) }
     ensures err { IfErr result (λ cause. Err cause ≡ item_argument ArgType.Text bytes.now) }
@@ -225,7 +220,7 @@ fn read_item<'a>(
     bytes: &'a [u8],
     kept: &mut Option<Values>,
 ) -> Result<(u64, &'a [u8]), TraceCause>
-    requires { IfSome kept.old (λ values. length values < MAX_ARGUMENTS) }
+    requires { HasRoom kept.old }
     ensures ok { IfOk result (λ read. KeepsRead (item_argument kind bytes.now) read.0 read.1.now kept.old kept.new) }
     ensures err { IfErr result (λ cause. Err cause ≡ item_argument kind bytes.now) }
 {
@@ -245,7 +240,7 @@ fn read_field<'a>(
     bytes: &'a [u8],
     kept: &mut Option<Values>,
 ) -> Result<(u64, &'a [u8]), TraceCause>
-    requires { IfSome kept.old (λ values. length values < MAX_ARGUMENTS) }
+    requires { HasRoom kept.old }
     ensures ok { IfOk result (λ read. KeepsRead (spaced_argument kind bytes.now) read.0 read.1.now kept.old kept.new) }
     ensures err { IfErr result (λ cause. Err cause ≡ spaced_argument kind bytes.now) }
 {
