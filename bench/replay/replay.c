@@ -8,6 +8,18 @@
 
 enum { RING = 65536, FRAME = 512 };
 
+/* With EXCHANGES the words of a ring go to memory as those of `nanolog replay` do: each store is an exchange, and a
+   writer looks how much was taken before each call, and not only where it knows of no room. */
+#ifdef EXCHANGES
+enum { LOOKS_EACH_TIME = 1 };
+#define STORE(place, word) atomic_exchange(place, word)
+#define PUT(place, word) __atomic_exchange_n(place, word, __ATOMIC_SEQ_CST)
+#else
+enum { LOOKS_EACH_TIME = 0 };
+#define STORE(place, word) atomic_store_explicit(place, word, memory_order_release)
+#define PUT(place, word) (*(place) = (word))
+#endif
+
 struct call {
     unsigned long long stamp;
     size_t arguments;
@@ -93,13 +105,14 @@ static void *make_calls(void *of) {
     for (size_t at = 0; at < writer->call_count; at++) {
         const struct call *call = &writer->calls[at];
         size_t length = make_frame(call, &writer->arguments[call->arguments], frame);
+        if (LOOKS_EACH_TIME) taken = atomic_load_explicit(&writer->taken, memory_order_acquire);
         while (put + length > taken + RING) {
             taken = atomic_load_explicit(&writer->taken, memory_order_acquire);
             if (put + length > taken + RING) sched_yield();
         }
-        for (size_t word = 0; word < length; word++) writer->words[(put + word) % RING] = frame[word];
+        for (size_t word = 0; word < length; word++) PUT(&writer->words[(put + word) % RING], frame[word]);
         put += length;
-        atomic_store_explicit(&writer->put, put, memory_order_release);
+        STORE(&writer->put, put);
     }
     atomic_store_explicit(&writer->closed, 1, memory_order_release);
     return 0;
@@ -117,7 +130,7 @@ static unsigned visit(FILE *log, unsigned number) {
         size_t length = writer->words[taken % RING] & 65535;
         for (size_t word = 0; word < length; word++) frame[word] = writer->words[(taken + word) % RING];
         taken += length;
-        atomic_store_explicit(&writer->taken, taken, memory_order_release);
+        STORE(&writer->taken, taken);
         out = pack_frame(frame, before, out);
         before = frame[1];
     }
