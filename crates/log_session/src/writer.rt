@@ -271,7 +271,7 @@ impl<S: StageIn> Writer<S> {
     }
 
     /// The end of its ring.
-    pub(crate) fn into_end(self) -> S
+    pub fn into_end(self) -> S
         ensures end { result ≡ self.end }
         ensures frames { self.accepted ≡ length (S.sent self.end) }
     {

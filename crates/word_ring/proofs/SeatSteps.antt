@@ -464,6 +464,7 @@ settles size slots id me writes reads table h homes at small =
         same = refl;
         settled = record {
           front = subst (λ (w : Walk × Walk). BeginsWith w.0.frames w.1.frames) (λ i. (sym written_is i, sym read_is i)) (front_read ring h.ok);
+          closed = λ learnt. ap (λ (x : WriterTold). x.1.closed) wrote ∙ h.ok.producer_bit ∙ h.ok.bits.learnt_closed (sym (ap (λ (x : RoamerTold). x.1.learnt) has_read) ∙ learnt);
           whole = λ learnt here.
               ap (λ (w : Walk). w.frames) read_is
               ∙ all_read ring h.ok (sym (ap (λ (x : RoamerTold). x.1.learnt) has_read) ∙ learnt) (sym (ap (λ (w : Walk). w.at) read_is) ∙ here ∙ ap (λ (x : RoamerTold). x.1.loaded) has_read)

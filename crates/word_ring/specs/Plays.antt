@@ -108,9 +108,10 @@ abbrev pub Releases : RingStep → Sitting → ℕ → Sitting → Type 0
 Releases step before stored after = LeavesSeat before (having_released before.0) after
 
 -- what was read is the front of what was stored, and all of it where the roamer has read what it loaded and learnt that the
--- ring is closed
+-- ring is closed, which it learns of a closed ring alone
 pub record HasReadFront (v : Known) : Type 0 where
   pub front : BeginsWith (written_by v).frames (read_by v).frames
+  pub closed : v.roamer.learnt ≡ true → v.writer.closed ≡ true
   pub whole : v.roamer.learnt ≡ true → (read_by v).at ≡ v.roamer.loaded → (read_by v).frames ≡ (written_by v).frames
 
 pub record Settles (step : RingStep) (before : Sitting) (found : ℕ) (after : Sitting) : Type 0 where

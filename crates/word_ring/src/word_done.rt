@@ -32,12 +32,13 @@ impl Model for WordDone {
 }
 
 impl WordDone {
-    /// Brings the two ends of a ring together.
-    pub(crate) fn of(writer: WordIn, roamer: WordOut) -> WordDone
+    /// Brings the two ends of a ring together. What was taken is the front of what was put, and all of it where the
+    /// roamer's end has ended, which it does of a closed ring alone.
+    pub fn of(writer: WordIn, roamer: WordOut) -> WordDone
         requires { writer.pair ≡ roamer.pair }
         ensures ends { result ≡ both_ends writer roamer }
         ensures front { BeginsWith writer.sent roamer.got }
-        ensures whole { writer.closed ≡ true → roamer.ended ≡ true → roamer.got ≡ writer.sent }
+        ensures whole { roamer.ended ≡ true → (writer.closed ≡ true) × (roamer.got ≡ writer.sent) }
     {
         let WordIn {
             ring,
