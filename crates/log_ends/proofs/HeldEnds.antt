@@ -5,7 +5,6 @@ use Rattle.std.specs.Global.{Global}
 use Rattle.log_ends.specs.declared.end.End.{End}
 use Rattle.log_ends.specs.declared.end.End.TheVariants as ends
 use Rattle.log_ends.specs.declared.session.SessionEnd.{SessionEnd}
-use Rattle.log_ends.specs.declared.writer.WriterEnd.{WriterEnd}
 use Rattle.log_ends.specs.declared.consumer.ConsumerEnd.{ConsumerEnd}
 use Rattle.log_ends.specs.declared.setup.Setup.{Setup}
 use Rattle.log_ends.specs.declared.opening.OpenFault.{OpenFault}

@@ -10,3 +10,5 @@ pub mod Logging
 pub mod Finishing
 pub mod Openings
 pub mod HeldEnds
+pub mod Printing
+pub mod Logged

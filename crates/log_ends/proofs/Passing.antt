@@ -12,7 +12,7 @@ use Rattle.roaming_consumer.specs.declared.visit.Visit.TheVariants as visits
 use Rattle.roaming_consumer.specs.Roamers.{is_marked, IsSameRun}
 use Rattle.roaming_consumer.proofs.lemmas.OnePlace.{get_set_other}
 use Rattle.log_ends.specs.declared.consumer.ConsumerEnd.{ConsumerEnd}
-use Rattle.log_ends.specs.Consumers.{HasPut, consumer_ends, waiting, is_over, EndGoesOn, FoundNone}
+use Rattle.log_ends.specs.Consumers.{HasPut, consumer_ends, next_writer, waiting, is_over, EndGoesOn, FoundNone}
 use Rattle.log_ends.specs.Rounds.{VisitAnswers, IsVisited, Passes}
 
 -- The writers from the first one up to this one were visited, and nothing waits.
@@ -28,6 +28,19 @@ pub record IsPassing (old : ConsumerEnd) (first upto : ℕ) (all_ended : Bool) (
   pub some_open : all_ended ≡ false → (writer : ℕ) × (end : WordRoamerEnd) × (writer < upto) × (slice_get (consumer_ends new) writer ≡ Some end) × (end.ended ≡ false)
   pub same_run : IsSameRun old.roamer new.roamer
   pub same_writers : new.writers ≡ old.writers
+  pub same_next : next_writer new ≡ next_writer old
+  pub same_over : is_over new ≡ is_over old
+
+-- The writers from the first one up to this one were visited, and bytes wait of this one alone.
+pub record IsStopping (old : ConsumerEnd) (first writer : ℕ) (new : ConsumerEnd) : Type 0 where
+  pub ends : AllZip EndGoesOn (consumer_ends old) (consumer_ends new)
+  pub stands : (wrote : List ℕ) → HasPut old.roamer wrote → HasPut new.roamer (wrote ++ waiting new)
+  pub below : (other : ℕ) → other < first → slice_get (consumer_ends new) other ≡ slice_get (consumer_ends old) other
+  pub there : writer < length (consumer_ends new)
+  pub ahead : first ≤ writer
+  pub passed : (other : ℕ) (before after : WordRoamerEnd) → first ≤ other → other < writer → slice_get (consumer_ends old) other ≡ Some before → slice_get (consumer_ends new) other ≡ Some after → FoundNone before after
+  pub behind : (other : ℕ) → writer < other → slice_get (consumer_ends new) other ≡ slice_get (consumer_ends old) other
+  pub same_run : IsSameRun old.roamer new.roamer
   pub same_over : is_over new ≡ is_over old
 
 -- ---- ends that go on
@@ -87,6 +100,7 @@ passing_none old first none = record {
   some_open = λ is. absurd cc;
   same_run = record { messages = refl; clock = refl; batch = refl };
   same_writers = refl;
+  same_next = refl;
   same_over = refl;
 }
 
@@ -161,18 +175,20 @@ module _ (old cur new : ConsumerEnd) (first writer : ℕ) (all_ended : Bool) (an
     some_open = one_open none all_now told;
     same_run = run_then old cur new passing.same_run visited.same_run;
     same_writers = visited.same_place.0 ∙ passing.same_writers;
+    same_next = visited.same_place.1 ∙ passing.same_next;
     same_over = visited.same_over ∙ passing.same_over;
   }
 
   -- something waits behind the visit
-  pub passing_stops : ¬ (waiting new ≡ []) → Passes old first false new
-  passing_stops some = record {
+  pub passing_stops : IsStopping old first writer new
+  passing_stops = record {
     ends = ends_go_on;
     stands = λ wrote stands. visited.stands wrote (passing.stands wrote stands);
     below = still_below;
-    found = λ none. absurd (some none);
-    over = λ is. absurd cc;
-    some_open = λ is none. absurd (some none);
+    there = slice_get_within (consumer_ends new) writer visited.after at_writer;
+    ahead = passing.ahead;
+    passed = λ other before after from below was now. passing.found other before after from below was (sym (elsewhere other (λ here. omega (arith, here, below))) ∙ now);
+    behind = λ other above. elsewhere other (λ here. omega (arith, here, above)) ∙ passing.untouched other (omega arith);
     same_run = run_then old cur new passing.same_run visited.same_run;
     same_over = visited.same_over ∙ passing.same_over;
   }
@@ -184,6 +200,8 @@ passed old new first upto all_ended all passing = record {
   stands = λ wrote stands. subst (λ (bytes : List ℕ). HasPut new.roamer bytes) (sym (ap (λ (back : List ℕ). wrote ++ back) passing.none ∙ append-nil wrote)) (passing.stands wrote stands);
   below = passing.below;
   found = λ none writer before after from was now. passing.found writer before after from (omega (arith, all, slice_get_within (consumer_ends new) writer after now)) was now;
+  stopped = λ some. absurd (some passing.none);
+  same_next = λ none. passing.same_next;
   over = λ is. (passing.none, λ writer from below. passing.over is writer from (omega (arith, all, below)));
   some_open = λ is none. let o = passing.some_open is in (o.0, o.1, o.3, o.4);
   same_run = passing.same_run;

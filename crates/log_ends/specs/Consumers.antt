@@ -1,5 +1,5 @@
 -- What a consumer stands for, and what a pump does.
-use Rattle.std.specs.Prelude.{◌≡◌, ◌⊎◌, ◌↔◌, ℕ, ◌≤◌, ⊤, Bool, true, false, List, [], ◌++◌, length, take, drop, slice_get, Some}
+use Rattle.std.specs.Prelude.{◌≡◌, ◌≢◌, ◌⊎◌, ◌↔◌, ℕ, ◌+◌, ◌-◌, ◌<◌, ◌≤◌, nat_le, if◌then◌else◌, ⊤, Bool, true, false, List, [], ◌++◌, length, take, drop, slice_get, Some}
 use Rattle.std.specs.List.{AllZip}
 use Rattle.nl_io.specs.Count.{Rose}
 use Rattle.ring_core.specs.Plans.{BeginsWith}
@@ -35,6 +35,10 @@ IsAllGiven consumer = AreMarked consumer.roamer × (waiting consumer ≡ [])
 abbrev pub is_over : ConsumerEnd → Bool
 is_over consumer = consumer.over
 
+-- the writer at whose ring the next search begins, or behind the last one
+abbrev pub next_writer : ConsumerEnd → ℕ
+next_writer consumer = consumer.next
+
 -- ---- the ends of the rings
 
 -- An end of a ring stays one of that ring, and frames came behind those that were taken before.
@@ -48,6 +52,33 @@ pub record EndGoesOn (before after : WordRoamerEnd) : Type 0 where
 pub record FoundNone (before after : WordRoamerEnd) : Type 0 where
   pub none : after.got ≡ before.got
   pub looked : (after.ended ≡ true) ⊎ Rose before.loads after.loads
+
+-- ---- a search
+
+-- who goes round from the first on comes by this writer before the other
+abbrev pub ComesSooner : ℕ → ℕ → ℕ → Type 0
+ComesSooner first writer other =
+    ((first ≤ writer) × (writer < other)) ⊎ ((other < first) × ((first ≤ writer) ⊎ (writer < other)))
+
+-- how many writers of so many one comes by before this one, going round from the first on
+abbrev pub turns_before : ℕ → ℕ → ℕ → ℕ
+turns_before count first writer =
+    if nat_le first writer then writer - first else count + writer - first
+
+-- The search went round from the writer that was next, and stopped at this one, of which the bytes are. All writers by
+-- which it came before had no frame, and none was taken of any other. The next search begins behind this one.
+pub record ServesNext (old new : ConsumerEnd) : Type 0 where
+  pub writer : ℕ
+  pub there : writer < length (consumer_ends new)
+  pub passed : (other : ℕ) (before after : WordRoamerEnd) → ComesSooner (next_writer old) other writer
+      → slice_get (consumer_ends old) other ≡ Some before
+      → slice_get (consumer_ends new) other ≡ Some after
+      → FoundNone before after
+  pub alone : (other : ℕ) (before after : WordRoamerEnd) → other ≢ writer
+      → slice_get (consumer_ends old) other ≡ Some before
+      → slice_get (consumer_ends new) other ≡ Some after
+      → after.got ≡ before.got
+  pub next : next_writer new ≡ writer + 1
 
 -- ---- a pump
 
@@ -64,6 +95,13 @@ IfGave (pumped.Gave n) P = P n
 IfGave pumped.NoRoom P = ⊤
 IfGave pumped.Nothing P = ⊤
 IfGave pumped.AtEnd P = ⊤
+
+-- Where bytes waited, no ring was looked into. Else the bytes are of the writer whose turn it was, of those that had
+-- any.
+pub record TakesTurns (old : ConsumerEnd) (answer : Pumped) (new : ConsumerEnd) : Type 0 where
+  pub waited : ¬ (waiting old ≡ []) → (consumer_ends new ≡ consumer_ends old) × (next_writer new ≡ next_writer old)
+  pub served : waiting old ≡ [] → IfGave answer (λ n. ServesNext old new)
+  pub none : given_count answer ≡ 0 → next_writer new ≡ next_writer old
 
 -- What a pump answers, and what it leaves.
 pub record Pumps (old : ConsumerEnd) (into : List ℕ) (answer : Pumped) (new : ConsumerEnd) (into_after : List ℕ)
@@ -84,6 +122,8 @@ pub record Pumps (old : ConsumerEnd) (into : List ℕ) (answer : Pumped) (new : 
   -- once it is told that all is over, nothing changes any more, and it is told again
   pub told : (is_over new ≡ true) ↔ ((is_over old ≡ true) ⊎ (answer ≡ pumped.AtEnd))
   pub again : is_over old ≡ true → (new ≡ old) × ((answer ≡ pumped.AtEnd) ⊎ (answer ≡ pumped.NoRoom))
+  -- no ring is passed over while others are served
+  pub turns : TakesTurns old answer new
   -- the same run, of the same rings
   pub ends : AllZip EndGoesOn (consumer_ends old) (consumer_ends new)
   pub same_run : IsSameRun old.roamer new.roamer

@@ -2,9 +2,11 @@ pub mod Arguments
 pub mod Helds
 pub mod Ends
 pub mod Rooms
+pub mod Texts
 pub mod Consumers
 pub mod Rounds
 pub mod Writers
 pub mod Sessions
 pub mod Openings
 pub mod Slots
+pub mod Logged

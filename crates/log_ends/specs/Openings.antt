@@ -19,8 +19,8 @@ use Rattle.log_ends.specs.declared.writer.WriterEnd.{WriterEnd}
 use Rattle.log_ends.specs.declared.session.SessionEnd.{SessionEnd}
 use Rattle.log_ends.specs.declared.consumer.ConsumerEnd.{ConsumerEnd}
 use Rattle.log_ends.specs.Writers.{writer_messages}
-use Rattle.log_ends.specs.Sessions.{writers_left, is_session_ended}
-use Rattle.log_ends.specs.Consumers.{consumer_ends, is_over, HasGiven}
+use Rattle.log_ends.specs.Sessions.{writers_left, is_session_ended, session_messages}
+use Rattle.log_ends.specs.Consumers.{consumer_ends, next_writer, is_over, HasGiven}
 
 -- a session may have these numbers
 pub record IsSetupInRange (setup : Setup) : Type 0 where
@@ -62,8 +62,10 @@ pub record IsOpened (messages : List Message) (setup : Setup) (session : Session
       (consumer_ends consumer)
   pub named : All (λ writer. writer_messages writer ≡ messages) (writers_left session)
   pub lasts : is_session_ended session ≡ false
+  pub known : session_messages session ≡ messages
   pub messages_are : roamer_messages consumer.roamer ≡ messages
   pub clock_is : roamer_clock consumer.roamer ≡ setup.clock
   pub batch_is : roamer_batch consumer.roamer ≡ setup.batch
   pub ungiven : HasGiven consumer []
+  pub first_is_next : next_writer consumer ≡ 0
   pub goes_on : is_over consumer ≡ false

@@ -1,12 +1,12 @@
 -- What the visits of a round do.
-use Rattle.std.specs.Prelude.{◌≡◌, ℕ, ◌<◌, ◌≤◌, Bool, true, false, List, [], ◌++◌, length, slice_get, slice_set, Some}
+use Rattle.std.specs.Prelude.{◌≡◌, ℕ, ◌+◌, ◌<◌, ◌≤◌, Bool, true, false, List, [], ◌++◌, length, slice_get, slice_set, Some}
 use Rattle.std.specs.List.{AllZip}
 use Rattle.roaming_consumer.specs.declared.visit.Visit.{Visit}
 use Rattle.roaming_consumer.specs.declared.visit.Visit.TheVariants as visits
 use Rattle.word_ring.specs.Ends.{WordRoamerEnd}
 use Rattle.roaming_consumer.specs.Roamers.{is_marked, IsSameRun}
 use Rattle.log_ends.specs.declared.consumer.ConsumerEnd.{ConsumerEnd}
-use Rattle.log_ends.specs.Consumers.{HasPut, consumer_ends, waiting, HasGiven, IsAllGiven, is_over, EndGoesOn, FoundNone}
+use Rattle.log_ends.specs.Consumers.{HasPut, consumer_ends, next_writer, waiting, HasGiven, IsAllGiven, is_over, EndGoesOn, FoundNone, ServesNext}
 
 -- What a visit of a writer answers, of what its end was and is, and of the bytes that wait then: calls were taken, and
 -- bytes wait; it had none, and none wait; or it has ended.
@@ -31,6 +31,19 @@ pub record IsVisited (old : ConsumerEnd) (writer : ℕ) (answer : Visit) (new : 
   pub same_place : (new.writers ≡ old.writers) × (new.next ≡ old.next)
   pub same_over : is_over new ≡ is_over old
 
+-- Bytes wait of this writer. It is the first one in a row that had any: those in front of it had no frame, and those
+-- behind it weren't visited. The next search begins behind it.
+pub record StopsAtWriter (old : ConsumerEnd) (first writer : ℕ) (new : ConsumerEnd) : Type 0 where
+  pub there : writer < length (consumer_ends new)
+  pub ahead : first ≤ writer
+  pub passed : (other : ℕ) (before after : WordRoamerEnd) → first ≤ other → other < writer
+      → slice_get (consumer_ends old) other ≡ Some before
+      → slice_get (consumer_ends new) other ≡ Some after
+      → FoundNone before after
+  pub behind : (other : ℕ) → writer < other
+      → slice_get (consumer_ends new) other ≡ slice_get (consumer_ends old) other
+  pub next : next_writer new ≡ writer + 1
+
 -- The writers from the first one on were visited, up to one of which bytes wait. All ends go on, and what was written waits.
 pub record Passes (old : ConsumerEnd) (first : ℕ) (all_ended : Bool) (new : ConsumerEnd) : Type 0 where
   pub ends : AllZip EndGoesOn (consumer_ends old) (consumer_ends new)
@@ -42,6 +55,8 @@ pub record Passes (old : ConsumerEnd) (first : ℕ) (all_ended : Bool) (new : Co
       → slice_get (consumer_ends old) writer ≡ Some before
       → slice_get (consumer_ends new) writer ≡ Some after
       → FoundNone before after
+  pub stopped : ¬ (waiting new ≡ []) → (writer : ℕ) × StopsAtWriter old first writer new
+  pub same_next : waiting new ≡ [] → next_writer new ≡ next_writer old
   pub over : all_ended ≡ true → (waiting new ≡ [])
       × ((writer : ℕ) → first ≤ writer → writer < length (consumer_ends new) → is_marked new.roamer writer ≡ true)
   pub some_open : all_ended ≡ false → waiting new ≡ []
@@ -54,6 +69,9 @@ pub record Seeks (old : ConsumerEnd) (at_end : Bool) (new : ConsumerEnd) : Type 
   pub ends : AllZip EndGoesOn (consumer_ends old) (consumer_ends new)
   pub stands : (given : List ℕ) → HasGiven old given → HasGiven new given
   pub found : waiting new ≡ [] → AllZip FoundNone (consumer_ends old) (consumer_ends new)
+  pub waited : ¬ (waiting old ≡ []) → new ≡ old
+  pub served : waiting old ≡ [] → ¬ (waiting new ≡ []) → ServesNext old new
+  pub same_next : waiting new ≡ [] → next_writer new ≡ next_writer old
   pub over : at_end ≡ true → IsAllGiven new
   pub some_open : at_end ≡ false → waiting new ≡ []
       → (writer : ℕ) × (end : WordRoamerEnd) × (slice_get (consumer_ends new) writer ≡ Some end) × (end.ended ≡ false)

@@ -13,7 +13,7 @@ use Rattle.log_ends.specs.declared.consumer.ConsumerEnd.{ConsumerEnd}
 use Rattle.log_ends.specs.declared.setup.Setup.{Setup}
 use Rattle.log_ends.specs.declared.opening.OpenFault.{OpenFault}
 use Rattle.log_ends.specs.declared.opening.OpenFault.TheVariants as opens
-use Rattle.log_ends.specs.Sessions.{writers_left, is_session_ended, HasNoneLeft, IsSameSession}
+use Rattle.log_ends.specs.Sessions.{writers_left, is_session_ended, session_messages, HasNoneLeft, IsSameSession}
 use Rattle.log_ends.specs.Openings.{IsSetupInRange, IsTextRefusedAt, IsOpened}
 
 -- the end that a slot holds
@@ -61,7 +61,8 @@ IsAnswered answer P = MatchOption answer ⊥ P
 -- as it was.
 pub record GivesInto (old new : SessionEnd) (outcome : Result (Unit {0}) WriterFault) (after : Option End) : Type 0 where
   pub given : OnOk outcome ((writer : WriterEnd) × (after ≡ Some (ends.Writer writer))
-      × (writers_left old ≡ writer ∷ writers_left new) × (is_session_ended old ≡ false) × (is_session_ended new ≡ false))
+      × (writers_left old ≡ writer ∷ writers_left new) × (is_session_ended old ≡ false) × (is_session_ended new ≡ false)
+      × (session_messages new ≡ session_messages old))
   pub none : OnErr outcome ((after ≡ None) × IsSameSession old new)
   pub spent : IsErrOf outcome faults.NoWriter ↔ HasNoneLeft old
 

@@ -11,8 +11,10 @@ mod opening;
 mod pumping;
 mod rooms;
 mod session;
+mod settling;
 mod setup;
 mod slots;
+mod texts;
 mod writer;
 
 pub use argument::{Argument, SIGNED, TEXT, UNSIGNED};
@@ -20,6 +22,9 @@ pub use consumer::{ConsumerEnd, Pumped};
 pub use end::End;
 pub use opening::{OpenFault, open};
 pub use session::{SessionEnd, WriterFault};
+pub use settling::settle;
 pub use setup::Setup;
-pub use slots::{Slot, end_session, finish_writer, give_writer, log_call, open_into, pump_log};
+pub use slots::{
+    Slot, end_session, finish_writer, give_writer, log_call, open_into, pump_log, text_limit_of,
+};
 pub use writer::{LogFault, WriterEnd};

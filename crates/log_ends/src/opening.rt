@@ -99,7 +99,11 @@ fn session_over(
     if roamer.begin(&mut held).is_err() {
         unreachable!();
     }
-    let session = SessionEnd { left, ended: false };
+    let session = SessionEnd {
+        left,
+        ended: false,
+        dictionary,
+    };
     let consumer = ConsumerEnd {
         roamer,
         held,

@@ -1,11 +1,12 @@
 //! Places of ends, and the calls over them.
 
-ghost use Rattle.std.specs.Prelude.{◌≡◌, ◌<◌, ◌^◌, true, false, None, map, MatchOption, IfSome};
+ghost use Rattle.std.specs.Prelude.{◌≡◌, ◌<◌, ◌^◌, true, false, None, map, option_map, MatchOption, IfSome};
 ghost use Rattle.log_ends.specs.Arguments.{argument_given};
 ghost use Rattle.log_ends.specs.Writers.{LogsCall, FinishesWriter};
-ghost use Rattle.log_ends.specs.Sessions.{EndsSession};
+ghost use Rattle.log_ends.specs.Sessions.{session_messages, EndsSession};
+ghost use Rattle.log_ends.specs.Texts.{text_limit};
 ghost use Rattle.log_ends.specs.Consumers.{Pumps, IfGave};
-ghost use Rattle.log_ends.specs.Slots.{end_in, OnWriter, OnSession, OnConsumer, IsAnswered, GivesInto, OpensInto};
+ghost use Rattle.log_ends.specs.Slots.{end_in, session_in, OnWriter, OnSession, OnConsumer, IsAnswered, GivesInto, OpensInto};
 
 use crate::argument::Argument;
 use crate::consumer::Pumped;
@@ -130,6 +131,21 @@ pub fn end_session(session: &mut Slot) -> bool
     };
     session.end();
     true
+}
+
+/// The limit of a text of the session's messages, as [`SessionEnd::text_limit`] has it. There is no answer where there
+/// is no session.
+pub fn text_limit_of(session: &Slot, id: u32, nth: u32) -> Option<Option<u16>>
+    ensures { result ≡ option_map (λ ours. text_limit (session_messages ours) id nth)
+        (session_in (end_in session.now)) }
+{
+    let Some(end) = session.as_ref() else {
+        return None;
+    };
+    let End::Session(session) = &**end else {
+        return None;
+    };
+    Some(session.text_limit(id, nth))
 }
 
 /// Pumps bytes of the log out of the consumer. There is no answer, and nothing is done, where there is none.

@@ -39,9 +39,11 @@ returns c =
       rings = rings_left c.args.setup.ring (plan_of c.args.dictionary.now c.args.setup.clock.tick) left.left.items c.in-Ok.writers.items _ _ left.ensures.writers begun.same_ends started.rings;
       named = left.ensures.messages;
       lasts = refl;
+      known = refl;
       messages_are = begun.same_run.messages ∙ started.run.0;
       clock_is = begun.same_run.clock ∙ started.run.1;
       batch_is = begun.same_run.batch ∙ started.run.2;
       ungiven = stands_after c.in-Ok.roamer c.begin.new.self c.in_ok-held.held c.begin.new.sink c.in_ok-held.ensures.empty begun.wrote [] started.stands;
+      first_is_next = refl;
       goes_on = refl;
     }

@@ -8,7 +8,7 @@ use Rattle.log_ends.proofs.slots.give_writer.Goals as goal
 pub returns-in-Ok-clause-empty : goal.returns-in-Ok-clause-empty
 returns-in-Ok-clause-empty c =
     λ empty. on_end ends.Session session_in _ _ c.in-Session.session c.next_writer.new.self _ _ (ap session_in (held _ c.in-Some.end.now c.deref_mut.result.now _ c.in-Some.ensures.value c.deref_mut.ensures.value c.in-Session.is)) refl record {
-      given = (c.in-Ok.ensures.given.0, ap Some c.in-Ok.ensures.given.1, c.in-Ok.ensures.given.2, c.in-Ok.ensures.given.3, c.in-Ok.ensures.given.4);
+      given = (c.in-Ok.ensures.given.0, ap Some c.in-Ok.ensures.given.1, c.in-Ok.ensures.given.2, c.in-Ok.ensures.given.3, c.in-Ok.ensures.given.4, c.in-Ok.ensures.given.5);
       none = tt;
       spent = (λ is. absurd (cc is), λ spent. absurd (cc (c.in-Ok.ensures.spent.1 spent)));
     }

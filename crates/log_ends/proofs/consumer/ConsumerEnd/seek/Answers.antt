@@ -8,10 +8,10 @@ returns-then-not-is_empty c =
 
 pub returns-then-not-is_empty-2 : goal.returns-then-not-is_empty-2
 returns-then-not-is_empty-2 c =
-    sought_once c.args.self.now c.visit_from.new.self _ c.visit_from.result (c.is_empty.ensures.0 c.if-not-is_empty.false)
+    sought_once c.args.self.now c.visit_from.new.self c.visit_from.result (c.is_empty.ensures.0 c.if-not-is_empty.false)
     (λ none. let told : c.is_empty-2.result ≡ true = c.is_empty-2.ensures.1 none in absurd cc) c.visit_from.ensures
 
 pub returns : goal.returns
 returns c =
-    sought_twice c.args.self.now c.visit_from.new.self c.visit_from-2.new.self _ c.visit_from.result c.visit_from-2.result c.visit_from.ensures c.visit_from-2.ensures
+    sought_twice c.args.self.now c.visit_from.new.self c.visit_from-2.new.self c.visit_from.result c.visit_from-2.result c.visit_from.ensures c.visit_from-2.ensures
     (c.is_empty.ensures.0 c.if-not-is_empty.false) (c.is_empty-2.ensures.0 c.if-not-is_empty-2.false)

@@ -13,13 +13,24 @@ loop-writer-init c = record {
 pub returns-then-not-is_empty : goal.returns-then-not-is_empty
 returns-then-not-is_empty c =
     let some : ¬ (waiting c.visit-visit.new.self ≡ []) = λ none. let told : c.is_empty.result ≡ true = c.is_empty.ensures.1 none in absurd cc in
-    let stops = passing_stops c.args.self.now c.loop-writer.self c.visit-visit.new.self c.args.first c.loop-writer.writer c.loop-writer.all_ended c.visit-visit.result c.loop-writer.invariant.passing c.visit-visit.ensures some in record {
+    let stops = passing_stops c.args.self.now c.loop-writer.self c.visit-visit.new.self c.args.first c.loop-writer.writer c.loop-writer.all_ended c.visit-visit.result c.loop-writer.invariant.passing c.visit-visit.ensures in record {
       ends = stops.ends;
       stands = stops.stands;
       below = stops.below;
-      found = stops.found;
-      over = stops.over;
-      some_open = stops.some_open;
+      found = λ none. absurd (some none);
+      stopped = λ _. (
+        c.loop-writer.writer,
+        record {
+          there = stops.there;
+          ahead = stops.ahead;
+          passed = stops.passed;
+          behind = stops.behind;
+          next = refl;
+        },
+      );
+      same_next = λ none. absurd (some none);
+      over = λ is. absurd cc;
+      some_open = λ is none. absurd (some none);
       same_run = stops.same_run;
       same_over = stops.same_over;
     }

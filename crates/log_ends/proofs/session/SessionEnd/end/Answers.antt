@@ -21,4 +21,5 @@ returns c =
     let written = made.writes_back c.loop-writer.writer-items (c.loop-writer.auto.writer-items ∙ made.len) in record {
       ended = refl;
       finished = subst (λ (pair : List WriterEnd × List WriterEnd). AllZip IsFinishedFrom pair.0 pair.1) (λ i. (made.value i, sym written i)) finished;
+      same_messages = refl;
     }
