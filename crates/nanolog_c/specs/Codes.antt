@@ -8,7 +8,7 @@ use Rattle.log_ends.specs.declared.writer.LogFault.{LogFault}
 use Rattle.log_ends.specs.declared.writer.LogFault.TheVariants as logs
 use Rattle.log_ends.specs.declared.consumer.Pumped.{Pumped}
 use Rattle.log_ends.specs.declared.consumer.Pumped.TheVariants as pumps
-use Rattle.nanolog_c.specs.declared.answers.TheConstants.{DONE, FULL, TOO_LONG, MISFIT, EARLY, FINISHED, WORN_OUT, NO_WRITER, NO_MEMORY, BAD_DICTIONARY, OUT_OF_RANGE, BAD_HANDLE, NOTHING, AT_END, NO_ROOM, NO_CONSUMER}
+use Rattle.nanolog_c.specs.declared.answers.TheConstants.{DONE, FULL, TOO_LONG, MISFIT, EARLY, FINISHED, WORN_OUT, NO_WRITER, NO_MEMORY, BAD_DICTIONARY, OUT_OF_RANGE, BAD_HANDLE, NO_TEXT, NOTHING, AT_END, NO_ROOM, NO_CONSUMER}
 
 -- ---- opening a session, and giving out a writer
 
@@ -29,6 +29,12 @@ writer_code (Some (Ok tt)) = DONE
 writer_code (Some (Err givings.NoWriter)) = NO_WRITER
 writer_code (Some (Err givings.NoMemory)) = NO_MEMORY
 writer_code None = BAD_HANDLE
+
+-- the limit of a text, where there are a session and that text
+abbrev pub limit_code : Option (Option ℕ) → ℤ
+limit_code (Some (Some limit)) = pos limit
+limit_code (Some None) = NO_TEXT
+limit_code None = BAD_HANDLE
 
 -- ---- the calls of a writer
 

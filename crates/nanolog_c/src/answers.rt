@@ -6,6 +6,7 @@ ghost use Rattle.nanolog_c.specs.Codes.{
   open_code,
   line_after,
   writer_code,
+  limit_code,
   log_code,
   need_after,
   room_after,
@@ -41,6 +42,12 @@ pub(crate) const OUT_OF_RANGE: i32 = -3;
 
 pub(crate) const BAD_HANDLE: i32 = -4;
 
+/// What is asked for is no text.
+pub(crate) const NO_TEXT: i32 = -5;
+
+/// The version of the calls.
+pub(crate) const VERSION: i32 = 1;
+
 /// What a pump answers where nothing waits.
 pub(crate) const NOTHING: i64 = 0;
 
@@ -75,6 +82,17 @@ pub(crate) fn writer_answer(outcome: Option<Result<(), WriterFault>>) -> i32
         Some(Ok(())) => DONE,
         Some(Err(WriterFault::NoWriter)) => NO_WRITER,
         Some(Err(WriterFault::NoMemory)) => NO_MEMORY,
+        None => BAD_HANDLE,
+    }
+}
+
+/// What is answered of the limit of a text.
+pub(crate) fn limit_answer(outcome: Option<Option<u16>>) -> i32
+    ensures { result ≡ limit_code outcome }
+{
+    match outcome {
+        Some(Some(limit)) => i32::from(limit),
+        Some(None) => NO_TEXT,
         None => BAD_HANDLE,
     }
 }

@@ -1,20 +1,22 @@
 //! The calls.
 
-ghost use Rattle.std.specs.Prelude.{◌≡◌, ℕ, ℤ, Some, None, Result, map};
+ghost use Rattle.std.specs.Prelude.{◌≡◌, ℕ, ℤ, pos, Some, None, Result, map, option_map};
 ghost use Rattle.log_ends.specs.declared.opening.OpenFault.{OpenFault};
 ghost use Rattle.log_ends.specs.declared.session.WriterFault.{WriterFault};
 ghost use Rattle.log_ends.specs.declared.writer.LogFault.{LogFault};
 ghost use Rattle.log_ends.specs.declared.consumer.Pumped.{Pumped};
 ghost use Rattle.log_ends.specs.Arguments.{argument_given};
 ghost use Rattle.log_ends.specs.Writers.{LogsCall, FinishesWriter};
-ghost use Rattle.log_ends.specs.Sessions.{EndsSession};
+ghost use Rattle.log_ends.specs.Sessions.{session_messages, EndsSession};
+ghost use Rattle.log_ends.specs.Texts.{text_limit};
 ghost use Rattle.log_ends.specs.Consumers.{Pumps};
-ghost use Rattle.log_ends.specs.Slots.{OnWriter, OnSession, OnConsumer, GivesInto, OpensInto};
+ghost use Rattle.log_ends.specs.Slots.{session_in, OnWriter, OnSession, OnConsumer, GivesInto, OpensInto};
 ghost use Rattle.nanolog_c.specs.declared.answers.TheConstants.{DONE, BAD_HANDLE, NO_CONSUMER};
 ghost use Rattle.nanolog_c.specs.Codes.{
   open_code,
   line_after,
   writer_code,
+  limit_code,
   log_code,
   need_after,
   room_after,
@@ -23,14 +25,24 @@ ghost use Rattle.nanolog_c.specs.Codes.{
 };
 
 use crate::answers::{
-    end_answer, finish_answer, log_answer, open_answer, pump_answer, writer_answer,
+    VERSION, end_answer, finish_answer, limit_answer, log_answer, open_answer, pump_answer,
+    writer_answer,
 };
 use crate::handle::Handle;
 use log_dictionary::Clock;
 use log_ends::{
     Argument, Setup, end_session, finish_writer, give_writer, log_call, open_into, pump_log,
+    text_limit_of,
 };
 use std::alloc::Global;
+
+/// Tells the version of the calls. Its name has the version too, so that a header of another one doesn't link.
+#[unsafe(no_mangle)]
+pub extern "C" fn nanolog_version_1() -> i32
+    ensures { result ≡ pos 1 }
+{
+    VERSION
+}
 
 /// Opens a session.
 #[unsafe(no_mangle)]
@@ -91,6 +103,19 @@ pub extern "C" fn nanolog_writer(alloc: Global, session: &mut Handle, writer: &m
     session.put(alloc, ours);
     writer.put(alloc, next);
     writer_answer(outcome)
+}
+
+/// Tells how many bytes of a text a message prints.
+#[unsafe(no_mangle)]
+pub extern "C" fn nanolog_text_limit(alloc: Global, session: &mut Handle, id: u32, nth: u32) -> i32
+    ensures limit { result ≡ limit_code (option_map (λ ours. text_limit (session_messages ours) id nth)
+        (session_in session.old.value)) }
+    ensures same { session.new.value ≡ session.old.value }
+{
+    let end = session.take(alloc);
+    let outcome = text_limit_of(&end, id, nth);
+    session.put(alloc, end);
+    limit_answer(outcome)
 }
 
 /// Logs a call.
