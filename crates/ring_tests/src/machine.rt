@@ -1,5 +1,6 @@
 //! The pure machine of rings, whose schedules are cases.
 
+use crate::expecting::expect;
 use ring_core::StageFault;
 use ring_machine::{Barred, Event, RingView, Rings, Step};
 use std::test::Fail;
@@ -25,15 +26,13 @@ fn make_step(rings: &mut Rings, ring: u32, step: Step) -> Result<Result<(), Barr
 fn rings_apart(rt: HostRuntime) -> Result<(), Fail> {
     let mut rings = Rings::make(rt.alloc(), 2, 1_024)?;
     let store = Step::Store(3);
-    assert_eq!(rt; make_step(&mut rings, 1, store)?, Ok(()));
-    assert_eq!(rt;
-        (view(&rings, 0)?.written, view(&rings, 1)?.written),
-        (0, 1)
-    );
-    assert_eq!(rt; make_step(&mut rings, 2, store)?, Err(Barred::Ring));
+    expect(&rt, &make_step(&mut rings, 1, store)?, &Ok(()));
+    expect(&rt, &view(&rings, 0)?.written, &0);
+    expect(&rt, &view(&rings, 1)?.written, &1);
+    expect(&rt, &make_step(&mut rings, 2, store)?, &Err(Barred::Ring));
     for words in [1_023, 1_048_577] {
         let made = Rings::make(rt.alloc(), 1, words);
-        assert_eq!(rt; made.err(), Some(StageFault::BadSize), "{words} words");
+        expect(&rt, &made.err(), &Some(StageFault::BadSize));
     }
     Ok(())
 }

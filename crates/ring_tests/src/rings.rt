@@ -3,6 +3,7 @@
 ghost use Rattle.std.specs.Prelude.{◌≡◌, ◌≤◌, ◌∷◌, [], ℕ, List, true, IfOk, length, map};
 ghost use Rattle.roaming_consumer.specs.Roamers.{ends_of, is_begun, ArePlanned};
 
+use crate::expecting::expect;
 use crate::feed::{Feed, TICK, clock, one_ring, one_session, three_messages};
 use aggregation::aggregate;
 use log_session::{LogRefusal, settle, start};
@@ -35,9 +36,9 @@ fn sizes(rt: HostRuntime) -> Result<(), Fail> {
         (u64::MAX, Some(StageFault::BadSize)),
     ] {
         let made = WordRing::make(rt.alloc(), words, dictionary.as_slice(), TICK);
-        assert_eq!(rt; made.err(), want, "{words} words");
+        expect(&rt, &(words, made.err()), &(words, want));
         let started = start::<WordRing>(rt.alloc(), words, 2, 1, clock(), &dictionary);
-        assert_eq!(rt; started.err(), want, "{words} words");
+        expect(&rt, &(words, started.err()), &(words, want));
     }
     Ok(())
 }
@@ -47,8 +48,8 @@ fn sizes(rt: HostRuntime) -> Result<(), Fail> {
 fn unused_rings_are_settled(rt: HostRuntime) -> Result<(), Fail> {
     let dictionary = three_messages(rt.alloc())?;
     let (writer, roamer) = WordRing::make(rt.alloc(), 1_024, dictionary.as_slice(), TICK)?;
-    assert_eq!(rt; (writer.at(), writer.words()), (0, 1_024));
-    assert_eq!(rt; WordRing::settle(writer, roamer).frames(), 0);
+    expect(&rt, &(writer.at(), writer.words()), &(0, 1_024));
+    expect(&rt, &WordRing::settle(writer, roamer).frames(), &0);
     Ok(())
 }
 
@@ -60,13 +61,13 @@ fn calls_that_a_writer_takes(rt: HostRuntime) -> Result<(), Fail> {
     let text = [b'x'; 4_000];
     let texts = [Arg::Text(&text), Arg::Text(&text)];
     let too_long = Some(Err(LogRefusal::TooLong));
-    assert_eq!(rt; feed.log_number(1_003, 7), Some(Ok(())));
-    assert_eq!(rt; feed.log_number(1_002, 7), None);
-    assert_eq!(rt; feed.log_args(1_003, 3, &[]), None);
-    assert_eq!(rt; feed.log_args(1_003, 1, &[]), None);
-    assert_eq!(rt; feed.log_args(1_003, 2, &texts), too_long);
+    expect(&rt, &feed.log_number(1_003, 7), &Some(Ok(())));
+    expect(&rt, &feed.log_number(1_002, 7), &None);
+    expect(&rt, &feed.log_args(1_003, 3, &[]), &None);
+    expect(&rt, &feed.log_args(1_003, 1, &[]), &None);
+    expect(&rt, &feed.log_args(1_003, 2, &texts), &too_long);
     assert!(rt; feed.close());
-    assert_eq!(rt; feed.log_number(1_003, 7), None);
+    expect(&rt, &feed.log_number(1_003, 7), &None);
     Ok(())
 }
 
@@ -97,8 +98,10 @@ fn begun_session(
     ensures { IfOk result (λ session. session.1 ≡ session.0.writer.end.pair ∷ []) }
 {
     let (feed, mut roamer) = one_session(alloc, ring, batch)?;
-    roamer.begin(sink).ok().ok_or("the header can be written")?;
-    Ok((feed, Visitor { roamer }))
+    match roamer.begin(sink) {
+        Ok(()) => Ok((feed, Visitor { roamer })),
+        Err(SinkFault) => Err("the header can't be written".into()),
+    }
 }
 
 impl Visitor {
@@ -139,10 +142,10 @@ fn fill(rt: &impl Abort, feed: &mut Feed)
     ensures { feed.new.writer.end.pair ≡ feed.old.writer.end.pair }
 {
     for stamp in TICK..TICK + 341 {
-        assert_eq!(rt; feed.log_number(stamp, 7), Some(Ok(())));
+        expect(rt, &feed.log_number(stamp, 7), &Some(Ok(())));
     }
     let full = LogRefusal::Full(Full { need: 4, room: 1 });
-    assert_eq!(rt; feed.log_number(TICK + 341, 7), Some(Err(full)));
+    expect(rt, &feed.log_number(TICK + 341, 7), &Some(Err(full)));
 }
 
 /// A ring of 1,024 words has room for 341 frames of three words: the next would cross its end. Once a frame was taken
@@ -151,15 +154,16 @@ fn fill(rt: &impl Abort, feed: &mut Feed)
 fn a_full_ring_has_room_again(rt: HostRuntime) -> Result<(), Fail> {
     let mut sink = MemSink::make(rt.alloc(), 65_536, &[])?;
     let (mut feed, mut visitor) = begun_session(rt.alloc(), 1_024, 1, &mut sink)?;
-    assert_eq!(rt; visitor.visit(&mut sink), Ok(Visit::Idle));
+    expect(&rt, &visitor.visit(&mut sink), &Ok(Visit::Idle));
     fill(&rt, &mut feed);
-    assert_eq!(rt;
-        (feed.writer.last_stamp(), feed.writer.asked()),
-        (1_340, 342)
+    expect(
+        &rt,
+        &(feed.writer.last_stamp(), feed.writer.asked()),
+        &(1_340, 342),
     );
-    assert_eq!(rt; visitor.visit(&mut sink), Ok(Visit::Wrote(1)));
-    assert_eq!(rt; feed.log_number(1_341, 7), Some(Ok(())));
-    assert_eq!(rt; settled(rt.alloc(), feed, visitor)?, (342, 1, 1));
+    expect(&rt, &visitor.visit(&mut sink), &Ok(Visit::Wrote(1)));
+    expect(&rt, &feed.log_number(1_341, 7), &Some(Ok(())));
+    expect(&rt, &settled(rt.alloc(), feed, visitor)?, &(342, 1, 1));
     Ok(())
 }
 
@@ -213,15 +217,15 @@ fn calls_between_two_threads(rt: HostRuntime) -> Result<(), Fail> {
     let mut sink = MemSink::make(rt.alloc(), 65_536, &[])?;
     let (feed, visitor) = begun_session(rt.alloc(), MAX_RING, 4_096, &mut sink)?;
     let counts = both(&rt, rt.alloc(), feed, visitor, &mut sink)?;
-    assert_eq!(rt; counts, (MANY, MANY, MANY));
+    expect(&rt, &counts, &(MANY, MANY, MANY));
     let mut source = MemSource::make(rt.alloc(), sink.bytes(), 65_536, &[])?;
-    let totals = aggregate(rt.alloc(), &mut source, 1, 0)
-        .ok()
-        .ok_or("the log is whole")?;
-    let text = format!(in rt.alloc(); "{totals:?}")?;
-    assert_eq!(rt;
-        text.as_str(),
-        "Totals { count: 100000, range: Some((0, 99999)), sum: 4999950000 }"
+    let Ok(totals) = aggregate(rt.alloc(), &mut source, 1, 0) else {
+        return Err("the log is damaged".into());
+    };
+    expect(
+        &rt,
+        &(totals.count, totals.range, totals.sum),
+        &(MANY, Some((0, 99_999)), 4_999_950_000),
     );
     Ok(())
 }

@@ -1,5 +1,6 @@
 //! What is put into a ring and taken from it on one thread.
 
+use crate::expecting::expect;
 use crate::feed::{Feed, TICK, is_frame, one_ring};
 use arg_records::MAX_FRAME_WORDS;
 use log_session::LogRefusal;
@@ -93,6 +94,16 @@ impl Run {
         })
     }
 
+    /// The same word so many times. It answers whether all was as it says.
+    fn repeat(&mut self, count: usize, word: &str) -> Result<bool, Fail> {
+        for _time in 0..count {
+            if !self.step(word)? {
+                return Ok(false);
+            }
+        }
+        Ok(true)
+    }
+
     /// A schedule, whose words one space each stands between. It answers with the first word at which something isn't as
     /// it says.
     fn play<'s>(&mut self, schedule: &'s str) -> Result<Option<&'s str>, Fail> {
@@ -101,10 +112,8 @@ impl Run {
                 Some((count, word)) => (count.parse()?, word),
                 None => (1, unit),
             };
-            for _time in 0..count {
-                if !self.step(word)? {
-                    return Ok(Some(unit));
-                }
+            if !self.repeat(count, word)? {
+                return Ok(Some(unit));
             }
         }
         Ok(None)
@@ -115,7 +124,7 @@ impl Run {
 fn schedules(rt: HostRuntime) -> Result<(), Fail> {
     for schedule in SCHEDULES {
         let mut run = Run::make(rt.alloc())?;
-        assert_eq!(rt; run.play(schedule)?, None, "{schedule}");
+        expect(&rt, &(schedule, run.play(schedule)?), &(schedule, None));
     }
     Ok(())
 }
@@ -126,11 +135,12 @@ fn frames_at_the_edge(rt: HostRuntime) -> Result<(), Fail> {
     for place in 500..1_024 {
         let mut run = Run::make(rt.alloc())?;
         let (odd, twos) = (place % 2, (place - 3 * (place % 2)) / 2);
-        let taken = odd + twos;
-        let schedule = format!(in rt.alloc();
-            "{odd}*3 {twos}*2 {taken}*take at={place} 2 take 512 take none 512 take none"
-        )?;
-        assert_eq!(rt; run.play(&schedule)?, None, "{schedule}");
+        let begun = run.repeat(odd, "3")?
+            && run.repeat(twos, "2")?
+            && run.repeat(odd + twos, "take")?;
+        let at = run.feed.writer.sent();
+        let rest = run.play("2 take 512 take none 512 take none")?;
+        expect(&rt, &(begun, at, rest), &(true, place as u64, None));
     }
     Ok(())
 }

@@ -1,5 +1,6 @@
 //! Frames that go from one thread to another, and rings side by side.
 
+use crate::expecting::expect;
 use crate::feed::{Feed, TICK, is_frame, one_ring};
 use arg_records::MAX_FRAME_WORDS;
 use ring_core::{StageOut, Taken};
@@ -55,7 +56,7 @@ fn both<R: Threads + Wait + Sync>(rt: &R, feed: Feed, end: WordOut) -> (bool, u6
 #[test]
 fn frames_between_two_threads(rt: HostRuntime) -> Result<(), Fail> {
     let (feed, end) = one_ring(rt.alloc())?;
-    assert_eq!(rt; both(&rt, feed, end), (true, MANY));
+    expect(&rt, &both(&rt, feed, end), &(true, MANY));
     Ok(())
 }
 
@@ -65,14 +66,14 @@ fn sixty_four_rings(rt: HostRuntime) -> Result<(), Fail> {
     let mut rings = Vec::new(rt.alloc());
     for number in 0..64_u64 {
         let (mut feed, end) = one_ring(rt.alloc())?;
-        assert_eq!(rt; feed.log(TICK + number, 3), Some(Ok(())));
+        expect(&rt, &feed.log(TICK + number, 3), &Some(Ok(())));
         rings.push((feed, end))?;
     }
     let mut into = [0; MAX_FRAME_WORDS];
     for (number, (_feed, end)) in rings.iter_mut().enumerate() {
-        assert_eq!(rt; end.take(&mut into), Taken::Frame(3));
+        expect(&rt, &end.take(&mut into), &Taken::Frame(3));
         assert!(rt; is_frame(&into[..3], TICK + number as u64, 3));
-        assert_eq!(rt; end.take(&mut into), Taken::Nothing);
+        expect(&rt, &end.take(&mut into), &Taken::Nothing);
     }
     Ok(())
 }

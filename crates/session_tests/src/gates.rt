@@ -2,6 +2,7 @@
 
 ghost use Rattle.std.specs.Prelude.{◌≡◌};
 
+use crate::expecting::expect;
 use crate::late::LateStage;
 use log_dictionary::Severity;
 use nl_io::{MemSink, Sink};
@@ -170,7 +171,7 @@ fn run_over<S: Stage, R: Machine, G: Gate + 'static>(
     requires { options.now.batch ≡ 4_096 }
 {
     let ran = run::<R, S, MemSink, G>(*rt, alloc, trace, options, sink, gate);
-    assert_eq!(rt; sink.starved(), 0);
+    expect(rt, &sink.starved(), &0);
     ran
 }
 
@@ -191,9 +192,9 @@ fn expect_counts<S: Stage>(
     want: (u64, usize, u64, usize),
     frames: u64,
 ) {
-    assert_eq!(rt; counts(outcome), want);
+    expect(rt, &counts(outcome), &want);
     for left in &outcome.settled {
-        assert_eq!(rt; left.frames(), frames);
+        expect(rt, &left.frames(), &frames);
     }
 }
 
@@ -210,8 +211,8 @@ fn writers_meet(rt: HostRuntime) -> Result<(), Fail> {
     let mut sink = MemSink::make(rt.alloc(), PIECE, &[])?;
     let given = options(1_024, Policy::Wait, Severity::Debug);
     let ran = run_over::<WordRing, _, _>(&rt, rt.alloc(), &trace, &given, &mut sink, &gate);
-    assert_eq!(rt; counts(&ran?), (4, 0, 0, 2));
-    assert_eq!(rt; gate.late.load(Ordering::SeqCst), 0);
+    expect(&rt, &counts(&ran?), &(4, 0, 0, 2));
+    expect(&rt, &gate.late.load(Ordering::SeqCst), &0);
     Ok(())
 }
 
@@ -250,7 +251,7 @@ fn expect_no_size(
     let mut sink = MemSink::make(alloc, PIECE, &[0])?;
     let given = options(ring, Policy::Wait, Severity::Debug);
     let ran = run_over::<WordRing, _, _>(rt, alloc, trace, &given, &mut sink, &gate);
-    assert_eq!(rt; ran.err(), Some(RunFault::BadSize), "{ring} words");
+    expect(rt, &(ring, ran.err()), &(ring, Some(RunFault::BadSize)));
     assert!(rt; sink.bytes().is_empty());
     assert!(rt; sink.write(b"x").is_err());
     Ok(())
@@ -277,14 +278,13 @@ fn expect_failure(
     let mut sink = MemSink::make(alloc, PIECE, &failing)?;
     let given = options(1_024, Policy::Wait, Severity::Debug);
     let ran = run_over::<WordRing, _, _>(rt, alloc, trace, &given, &mut sink, &gate);
-    assert_eq!(rt;
-        ran.err(),
-        Some(RunFault::SinkFault),
-        "write {}",
-        failing[0]
+    expect(
+        rt,
+        &(failing[0], ran.err()),
+        &(failing[0], Some(RunFault::SinkFault)),
     );
-    assert_eq!(rt; gate.late.load(Ordering::SeqCst), 0);
-    assert_eq!(rt; gate.answered.load(Ordering::SeqCst), answered);
+    expect(rt, &gate.late.load(Ordering::SeqCst), &0);
+    expect(rt, &gate.answered.load(Ordering::SeqCst), &answered);
     assert!(rt; sink.write(b"x").is_err());
     assert!(rt; sink.write(b"x").is_ok());
     Ok(())
@@ -310,8 +310,8 @@ fn all_writes(rt: HostRuntime) -> Result<(), Fail> {
     let mut sink = MemSink::make(rt.alloc(), PIECE, &[WRITES])?;
     let given = options(1_024, Policy::Wait, Severity::Debug);
     let ran = run_over::<WordRing, _, _>(&rt, rt.alloc(), &trace, &given, &mut sink, &gate);
-    assert_eq!(rt; counts(&ran?), (4, 0, 0, 2));
-    assert_eq!(rt; gate.late.load(Ordering::SeqCst), 0);
+    expect(&rt, &counts(&ran?), &(4, 0, 0, 2));
+    expect(&rt, &gate.late.load(Ordering::SeqCst), &0);
     assert!(rt; sink.write(b"x").is_err());
     Ok(())
 }
@@ -369,7 +369,7 @@ fn a_writer_that_knows_of_no_room(rt: HostRuntime) -> Result<(), Fail> {
     let mut sink = MemSink::make(rt.alloc(), PIECE, &[])?;
     let given = options(1_024, Policy::Shed, Severity::Debug);
     let outcome = run_over::<LateStage, _, _>(&rt, rt.alloc(), &trace, &given, &mut sink, &gate)?;
-    assert_eq!(rt; gate.late.load(Ordering::SeqCst), 0);
+    expect(&rt, &gate.late.load(Ordering::SeqCst), &0);
     expect_counts::<LateStage>(&rt, &outcome, (2, 1, 0, 1), 2);
     let dropped = Dropped {
         writer: 0,
@@ -377,6 +377,6 @@ fn a_writer_that_knows_of_no_room(rt: HostRuntime) -> Result<(), Fail> {
         need: 3,
         room: 0,
     };
-    assert_eq!(rt; outcome.drops.get(0), Some(&dropped));
+    expect(&rt, &outcome.drops.get(0), &Some(&dropped));
     Ok(())
 }

@@ -3,6 +3,7 @@
 ghost use Rattle.std.specs.Prelude.{◌≡◌, ◌≤◌, [], OnOk};
 ghost use Rattle.ring_core.specs.Plans.{plan_of};
 
+use crate::expecting::expect;
 use log_dictionary::{Clock, Dictionary};
 use nl_io::MemSink;
 use printf_grammar::Arg;
@@ -122,8 +123,8 @@ fn expect_log(
 {
     let got = two_calls(alloc, batch, &[], visits)?;
     let log = hexadecimal(alloc, got.sink.bytes())?;
-    assert_eq!(rt; got.answers.as_str(), answers);
-    assert_eq!(rt; log.as_str().strip_prefix(FRONT), Some(behind));
+    expect(rt, &got.answers.as_str(), &answers);
+    expect(rt, &log.as_str().strip_prefix(FRONT), &Some(behind));
     assert!(rt; !got.faulted);
     Ok(())
 }
@@ -148,9 +149,9 @@ fn expect_fault(
     let got = two_calls(alloc, 1, &[write], 4)?;
     let log = hexadecimal(alloc, got.sink.bytes())?;
     assert!(rt; got.answers.as_str() == answers, "write {write}");
-    assert_eq!(rt; got.sink.bytes().len(), len);
+    expect(rt, &got.sink.bytes().len(), &len);
     assert!(rt; want.starts_with(log.as_str()));
-    assert_eq!(rt; got.faulted, write < 7);
+    expect(rt, &got.faulted, &(write < 7));
     Ok(())
 }
 
@@ -214,8 +215,8 @@ fn expect_long(
     len: usize,
 ) -> Result<(), Fail> {
     let got = long_calls(alloc, calls, visits)?;
-    assert_eq!(rt; got.answers.as_str(), answers);
-    assert_eq!(rt; got.sink.bytes().len(), len);
+    expect(rt, &got.answers.as_str(), &answers);
+    expect(rt, &got.sink.bytes().len(), &len);
     Ok(())
 }
 
@@ -254,8 +255,8 @@ fn paused_call(alloc: Global) -> Result<Visited, Fail> {
 fn pauses(rt: HostRuntime) -> Result<(), Fail> {
     let got = paused_call(rt.alloc())?;
     let answers = "Ok(()) Ok(Idle) Ok(Wrote(1)) Ok(Ended) Ok(Ended)";
-    assert_eq!(rt; got.answers.as_str(), answers);
-    assert_eq!(rt; got.sink.bytes().len(), 63);
+    expect(&rt, &got.answers.as_str(), &answers);
+    expect(&rt, &got.sink.bytes().len(), &63);
     Ok(())
 }
 
@@ -302,7 +303,7 @@ fn bytes_at(alloc: Global, log: &[u8], place: usize, len: usize) -> Result<Strin
 fn expect_place(rt: &impl Abort, alloc: Global, log: &[u8], row: &str) -> Result<(), Fail> {
     let (place, want) = row.split_once('|').ok_or("a row without bytes")?;
     let told = bytes_at(alloc, log, place.parse::<usize>()?, want.len() / 3)?;
-    assert_eq!(rt; told.as_str(), want);
+    expect(rt, &told.as_str(), &want);
     Ok(())
 }
 
@@ -311,8 +312,8 @@ fn expect_place(rt: &impl Abort, alloc: Global, log: &[u8], row: &str) -> Result
 #[test]
 fn all_messages_at_once(rt: HostRuntime) -> Result<(), Fail> {
     let got = last_call(rt.alloc())?;
-    assert_eq!(rt; got.answers.as_str(), "Ok(()) Ok(Wrote(1)) Ok(Ended)");
-    assert_eq!(rt; got.sink.bytes().len(), 749_610);
+    expect(&rt, &got.answers.as_str(), &"Ok(()) Ok(Wrote(1)) Ok(Ended)");
+    expect(&rt, &got.sink.bytes().len(), &749_610);
     for row in "30|01 00 00 00 00 10 00 03 00 00 00 00 01 00 66 01 00 78 
 202|03 0f 00 00 00 01 00 66 01 00 78 01 10 00 00 00 10 00 
 749415|01 f0 ff 00 00 10 00 03 f0 ff 00 00 01 00 66 01 00 78 
