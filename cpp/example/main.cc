@@ -3,7 +3,11 @@
 #include "server.h"
 
 int main(int count, char **words) {
-    nanolog::Session log("server.log", "server.dict");
+#ifdef NANOLOG_DICTIONARY  // which the build has, where it takes the statements out
+    nanolog::Session log("server.log", NANOLOG_DICTIONARY);
+#else
+    nanolog::Session log("server.log");
+#endif
     const int port = 8080, threads = 3;
     const int requests = count > 1 ? std::stoi(words[1]) : 1000;
     NANO_LOG(NOTICE, "listening on port %d", port);

@@ -1,4 +1,4 @@
-/* Logging from C: the calls of libnanolog_c.a.
+/* Logging from C: the calls of libnanolog.a.
  *
  * A session has a ring for each writer, and one consumer that makes the log of what the writers logged. Every call
  * returns at once: it takes no lock, waits for nobody and starts nothing. Memory is taken by nanolog_open and
@@ -6,8 +6,8 @@
  *
  * A caller owes this, and all else is answered:
  *  - A pointer points to what it is said to point to. With a count or a length of 0 it may be null.
- *  - A `void *` that is handed in, or pointed to, is null or a handle: what nanolog_open or nanolog_writer put there and
- *    nanolog_free wasn't given. A handle stands in one place: a copy of it isn't used beside it.
+ *  - A `void *` that is handed in, or pointed to, is null or a handle: what nanolog_open or nanolog_writer put there
+ *    and nanolog_free wasn't given. A handle stands in one place: a copy of it isn't used beside it.
  *  - One call at a time is made on a handle. It may go from thread to thread by anything that orders the two calls: a
  *    mutex, a join, a sequentially consistent atomic.
  *  - No call is made in a signal handler, or in the forked child of a process with threads.
@@ -55,6 +55,9 @@ extern "C" {
 /* The handle is null, or of another kind. nanolog_open, nanolog_writer: a handle stands where one is to be put. */
 #define NANOLOG_BAD_HANDLE (-4)
 
+/* nanolog_text_limit: the dictionary has no message with this id, or the message no such argument, or it is no text. */
+#define NANOLOG_NO_TEXT (-5)
+
 /* nanolog_pump: every writer has its close mark, and all bytes of the log were given. */
 #define NANOLOG_AT_END (-1)
 
@@ -87,12 +90,16 @@ typedef struct nanolog_arg {
 
 /* ---- calls ---- */
 
+/* Answers 1. The calls of another version have this one under another name, so that a program doesn't link where the
+ * header and the archive differ. */
+int32_t nanolog_version_1(void);
+
 /* Opens a session, and puts its two handles into `*session` and `*consumer`, which are null before.
  *
  * `dictionary` is the text that `nanolog preprocess` writes, of `len` bytes, which are not needed afterwards. The
  * session has `writers` writers, 1 to 64, with a ring of `ring` words each, 1,024 to 1,048,576. The consumer puts at
- * most `batch` calls, 1 to 65,536, into a block of the log. The clock by which calls are stamped stood at `tick` when it
- * was `nanos` nanoseconds since 1970, and makes `rate` ticks in a second, at least 1.
+ * most `batch` calls, 1 to 65,536, into a block of the log. The clock by which calls are stamped stood at `tick` when
+ * it was `nanos` nanoseconds since 1970, and makes `rate` ticks in a second, at least 1.
  *
  * NANOLOG_OK. Else no handle was made, and nothing is to be freed; the first of these that holds:
  * NANOLOG_BAD_HANDLE where `*session` or `*consumer` isn't null; NANOLOG_OUT_OF_RANGE; NANOLOG_BAD_DICTIONARY, and only
@@ -108,6 +115,15 @@ int32_t nanolog_open(const uint8_t *dictionary, size_t len, uint64_t ring, uint3
  * NANOLOG_OK. Else nothing changed; the first of these that holds: NANOLOG_BAD_HANDLE where `*session` is no session or
  * `*writer` isn't null; NANOLOG_NO_WRITER; NANOLOG_NO_MEMORY. */
 int32_t nanolog_writer(void **session, void **writer);
+
+/* Answers how many bytes of a text are printed at most: of the argument `nth` of the message `id`. Arguments are
+ * counted from 0, and one that a `*` takes is one of them. It is the precision of the `%s` where that is given in
+ * digits, at most 4,000; without one, and where a `*` gives it, it is 4,000. A text that is cut to so many bytes prints
+ * the same.
+ *
+ * NANOLOG_BAD_HANDLE where `*session` is no session; else NANOLOG_NO_TEXT where there is no such text. The answer is
+ * the same for as long as the session is there, also when it has ended. */
+int32_t nanolog_text_limit(void **session, uint32_t id, uint32_t nth);
 
 /* Logs a call with `count` arguments. No stamp of a writer is below its last one; the first is at least the tick.
  *
@@ -131,7 +147,11 @@ int32_t nanolog_end(void **session);
 
 /* Puts the next bytes of the log into the front of `into`, which has `room` bytes, and answers how many: at least one.
  * It gives what it has, which may be less than the room: call it again until it answers 0 or less. The first bytes are
- * the log's header. All bytes that were given, joined, are the front of a log of calls that were logged.
+ * the log's header. All bytes that were given, joined, are the front of a log of calls that were logged: of each writer
+ * the first ones, each once and in their order. At NANOLOG_AT_END they are the whole log, of all calls.
+ *
+ * Bytes are made of one writer's calls at a time. Each search for a writer that has calls begins behind the one that
+ * was served last, so that none is passed over while others are served.
  *
  * 0 where nothing waits now. NANOLOG_AT_END, from then on always. NANOLOG_BAD_HANDLE where `*consumer` is no consumer;
  * else NANOLOG_OUT_OF_RANGE where the room is 0. */

@@ -3,18 +3,15 @@
 
 #include <cstddef>
 #include <cstdint>
-#include <cstring>
 #include <type_traits>
 #include <utility>
 
 #include "nanolog.h"
+#include "nanolog_format.hpp"
 
 namespace nanolog {
+inline namespace version_1 {
 namespace detail {
-
-// A conversion goes by the letter that nanolog_messages.h has for its argument: `i`, `u`, `l` and `m` are the int, the
-// unsigned and the long ones, `w` and `p` the width and the precision of a `*`, and `s` is a text. `m` is also that of
-// a pointer.
 
 template <class Given>
 constexpr bool is_integer() {
@@ -39,10 +36,18 @@ constexpr bool is_string<Given, std::void_t<typename Given::traits_type, decltyp
                                             decltype(std::declval<const Given &>().size())>> =
     is_c_string<std::decay_t<decltype(std::declval<const Given &>().data())>>;
 
-// Whether a conversion takes this type.
+// What printf takes for a conversion of numbers.
+template <char Letter>
+using Word = std::conditional_t<
+    Letter == 'l', std::int64_t,
+    std::conditional_t<Letter == 'm', std::uint64_t, std::conditional_t<Letter == 'u', std::uint32_t, std::int32_t>>>;
+
+// Whether a conversion takes this type, and whether it takes only a part of it.
 template <char Letter, class Given>
 constexpr bool is_taken = Letter == 's' ? is_c_string<Given> || is_string<Given> || std::is_null_pointer_v<Given>
                                         : is_integer<Given>() || (Letter == 'm' && is_pointer<Given>);
+template <char Letter, class Given>
+constexpr bool is_wide = is_integer<Given>() && sizeof(Given) > sizeof(Word<Letter>);
 
 // Has the compiler say which argument doesn't fit.
 template <std::size_t Number, char Letter, class Given>
@@ -74,19 +79,20 @@ constexpr void tell_misfit() {
 #undef NANOLOG_UNFIT
 }
 
-// What printf takes for a conversion of numbers.
-template <char Letter>
-using Word = std::conditional_t<
-    Letter == 'l', std::int64_t,
-    std::conditional_t<Letter == 'm', std::uint64_t, std::conditional_t<Letter == 'u', std::uint32_t, std::int32_t>>>;
-
-// The argument with this number of a statement, from 1. `Before` is the letter of the one in front of it, or 0. It is a
-// number, and is taken by value, as printf takes it: a static const member that is defined nowhere will do.
-template <std::size_t Number, char Letter, char Before>
+// The argument with this number of a statement, from 1, for a conversion. It is a number, and is taken by value, as
+// printf takes it: a static const member that is defined nowhere will do. Each kind of integer has a constructor of its
+// own, so that a compiler warns at the argument itself.
+template <std::size_t Number, char Letter>
 class Argument {
    public:
-    template <class Given, std::enable_if_t<is_integer<Given>() && is_taken<Letter, Given>, int> = 0>
+    template <class Given,
+              std::enable_if_t<is_integer<Given>() && is_taken<Letter, Given> && !is_wide<Letter, Given>, int> = 0>
     constexpr Argument(Given given) : word_(static_cast<Word<Letter>>(given)) {}
+
+    template <class Given, std::enable_if_t<is_taken<Letter, Given> && is_wide<Letter, Given>, int> = 0>
+    [[deprecated("nanolog: this integer is wider than its conversion, which prints only its low bits")]]  //
+    constexpr Argument(Given given)
+        : word_(static_cast<Word<Letter>>(given)) {}
 
     template <class Given, std::enable_if_t<is_pointer<Given> && is_taken<Letter, Given>, int> = 0>
     Argument(Given given) : word_(reinterpret_cast<std::uintptr_t>(given)) {}
@@ -96,24 +102,26 @@ class Argument {
         tell_misfit<Number, Letter, Given>();
     }
 
-    // Puts it at its place among the arguments of a call, and answers whether it was cut.
-    bool put(nanolog_arg *args) const {
+    // Puts it at its place among the arguments of a call.
+    void put(nanolog_arg *args) const {
         nanolog_arg &arg = args[Number - 1];
         arg.tag = std::is_signed_v<Word<Letter>> ? NANOLOG_SIGNED : NANOLOG_UNSIGNED;
         arg.word = static_cast<std::uint64_t>(word_);
         arg.text = nullptr;
         arg.len = 0;
-        return false;
     }
 
    private:
     Word<Letter> word_;
 };
 
-// A text. Where its precision is an argument, no more of it is read than that says. It has two words, so that it goes
-// by registers.
-template <std::size_t Number, char Before>
-class Argument<Number, 's', Before> {
+// A text ends at its NUL, or else after so many bytes, and with kWhole all of these are meant.
+constexpr std::uint64_t kWhole = std::uint64_t{1} << 63;
+constexpr std::uint64_t kUnbound = kWhole - 1;
+
+// A text. It has two words, so that it goes by registers.
+template <std::size_t Number>
+class Argument<Number, 's'> {
    public:
     template <class Given, std::enable_if_t<is_c_string<Given>, int> = 0>
     Argument(Given given) : text_(given != nullptr ? given : "(null)"), bound_(kUnbound) {}
@@ -132,32 +140,20 @@ class Argument<Number, 's', Before> {
         tell_misfit<Number, 's', Given>();
     }
 
-    bool put(nanolog_arg *args) const {
-        std::size_t bound = bound_ & ~kWhole;
-        if constexpr (Before == 'p') {
-            const auto precision = static_cast<std::int64_t>(args[Number - 2].word);
-            if (precision >= 0 && static_cast<std::size_t>(precision) < bound) {
-                bound = static_cast<std::size_t>(precision);
-            }
-        }
-        constexpr std::size_t most = NANOLOG_MAX_TEXT;
-        const std::size_t len = bound == 0 ? 0 : strnlen(text_, bound < most + 1 ? bound : most + 1);
+    // The word says how far the text may be read. It isn't read yet.
+    void put(nanolog_arg *args) const {
         nanolog_arg &arg = args[Number - 1];
         arg.tag = NANOLOG_TEXT;
-        arg.word = 0;
+        arg.word = bound_;
         arg.text = reinterpret_cast<const std::uint8_t *>(text_);
-        arg.len = len < most ? len : most;
-        return len > most || ((bound_ & kWhole) != 0 && len < bound);
+        arg.len = 0;
     }
 
    private:
-    static constexpr std::size_t kWhole = ~(SIZE_MAX >> 1);
-    static constexpr std::size_t kUnbound = SIZE_MAX >> 1;
-
     const char *text_;
-    // It ends at its NUL, or else after so many bytes; with kWhole, all of these are meant.
-    std::size_t bound_;
+    std::uint64_t bound_;
 };
 
 }  // namespace detail
+}  // namespace version_1
 }  // namespace nanolog

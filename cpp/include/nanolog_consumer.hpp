@@ -3,134 +3,141 @@
 
 #include <pthread.h>
 #include <signal.h>
-#include <unistd.h>
 
 #include <atomic>
 #include <cerrno>
 #include <cstddef>
 #include <cstdint>
 #include <cstdlib>
-#include <ctime>
 
 #include "nanolog.h"
+#include "nanolog_file.hpp"
+#include "nanolog_hub.hpp"
+#include "nanolog_waiting.hpp"
 
 namespace nanolog {
+inline namespace version_1 {
 namespace detail {
 
-// A number that one thread at a time changes, while others may read it.
-class Count {
-   public:
-    void add(std::uint64_t number) { set(get() + number); }
-    void set(std::uint64_t number) { number_.store(number, std::memory_order_relaxed); }
-    std::uint64_t get() const { return number_.load(std::memory_order_relaxed); }
-
-   private:
-    std::atomic<std::uint64_t> number_{0};
-};
-
-class Lock {
-   public:
-    explicit Lock(pthread_mutex_t &mutex) : mutex_(mutex) { pthread_mutex_lock(&mutex_); }
-    ~Lock() { pthread_mutex_unlock(&mutex_); }
-    Lock(const Lock &) = delete;
-    Lock &operator=(const Lock &) = delete;
-
-   private:
-    pthread_mutex_t &mutex_;
-};
-
-constexpr std::uint64_t kSecond = 1000000000;
-
-inline std::uint64_t nanos_of(clockid_t clock) {
-    timespec time{};
-    clock_gettime(clock, &time);
-    return static_cast<std::uint64_t>(time.tv_sec) * kSecond + static_cast<std::uint64_t>(time.tv_nsec);
-}
-
 // Pumps the bytes of the log into a buffer, and writes them. Once the file has failed it pumps on and throws away, so
-// that no thread waits for room for ever.
+// that no thread waits for room for ever. Other threads talk with it by atomics and bells alone, so that nothing that
+// holds one of them up, as a fork, a crash or a signal handler may, holds up the others.
 class Consumer {
    public:
     Consumer() = default;
-    ~Consumer() { std::free(buffer_); }
     Consumer(const Consumer &) = delete;
     Consumer &operator=(const Consumer &) = delete;
 
     // Starts the thread for a consumer's handle, and answers an errno. A file below 0 couldn't be made, as the error
-    // says. Where the thread can't be started, handle and file are still the caller's.
-    int start(void *handle, int file, int error) {
+    // says. Where the thread can't be started, the file is closed, and the handle is still the caller's.
+    int start(void *handle, const char *name, bool quiet, int file, int error) {
+        file_.begin(name, quiet, file, error);
         buffer_ = static_cast<std::uint8_t *>(std::malloc(kRoom));
-        if (buffer_ == nullptr) return ENOMEM;
-        handle_ = handle;
-        file_ = file;
-        error_.store(error);
-        pthread_condattr_t attributes;
-        pthread_condattr_init(&attributes);
-        pthread_condattr_setclock(&attributes, CLOCK_MONOTONIC);
-        pthread_cond_init(&waking_, &attributes);
-        pthread_cond_init(&flushed_, &attributes);
-        pthread_condattr_destroy(&attributes);
+        handle_.store(handle);
         // The thread handles no signal of the program's, and none that its own writes raise ends the program.
         sigset_t all, before;
         sigfillset(&all);
         pthread_sigmask(SIG_SETMASK, &all, &before);
-        const int failed = pthread_create(&thread_, nullptr, &Consumer::run, this);
+        const int failed = buffer_ != nullptr ? pthread_create(&thread_, nullptr, &Consumer::run, this) : ENOMEM;
         pthread_sigmask(SIG_SETMASK, &before, nullptr);
+        if (failed == 0) return 0;
+        std::free(buffer_);
+        file_.leave();
         return failed;
     }
 
-    // Wakes the thread where it sleeps, and has no effect where it is about to.
-    void hurry() { pthread_cond_signal(&waking_); }
+    // Goes on with another handle, and answers the old one. Both are of sessions in which nothing was logged, so what
+    // was pumped of the one are the first bytes of the other, too.
+    void *exchange(void *handle) {
+        Patience patience;
+        void *old = nullptr;
+        while ((old = handle_.exchange(nullptr)) == nullptr) patience.wait();
+        std::uint8_t again[64];
+        for (std::uint64_t left = given_; left != 0;) {
+            const std::int64_t answer = nanolog_pump(&handle, again, left < sizeof again ? left : sizeof again);
+            if (answer <= 0) break;
+            left -= static_cast<std::uint64_t>(answer);
+        }
+        handle_.store(handle);
+        return old;
+    }
+
+    // ---- what calls ask of it
+
+    // Wakes the thread where it sleeps.
+    void hurry() {
+        if (is_napping_.load(std::memory_order_relaxed)) bell_.ring();
+    }
+
+    // Whether calls don't wait for room any more.
+    bool is_given_up() const { return is_given_up_.load(std::memory_order_relaxed); }
+    void give_up() { is_given_up_.store(true); }
+
+    // ---- what flushes, ends and crashes ask of it; allowed in signal handlers
 
     // Asks for a flush, and answers its number.
     std::uint64_t ask() {
-        const Lock lock(mutex_);
-        hurry();
-        return ++asked_;
+        const std::uint64_t number = asked_.fetch_add(1) + 1;
+        bell_.ring();
+        return number;
     }
 
-    // Waits for a flush, so many nanoseconds at most, and answers whether it is done.
-    bool is_flushed(std::uint64_t number, std::uint64_t nanos) {
-        const timespec end = time_after(nanos);
-        const Lock lock(mutex_);
-        while (done_ < number) {
-            if (pthread_cond_timedwait(&flushed_, &mutex_, &end) == ETIMEDOUT) return done_ >= number;
+    // Waits for a flush until this time, and answers whether it is done: what was logged before it was asked for is
+    // handed to the system.
+    bool wait(std::uint64_t number, std::uint64_t until) const {
+        for (;;) {
+            const std::uint32_t rings = done_bell_.rings();
+            if (done_.load() >= number) return true;
+            const std::uint64_t now = nanos_of(CLOCK_MONOTONIC);
+            if (now >= until) return false;
+            done_bell_.wait(rings, until - now);
         }
-        return true;
     }
 
-    // How many bytes it has pumped since it last found that nothing waited.
-    std::uint64_t pumped() {
-        const Lock lock(mutex_);
-        return pumped_;
-    }
-
-    // Waits for the end of the thread, which comes when all writers have ended, and closes the file.
-    void join() {
+    // Waits for the end of the thread, which comes when all writers have ended.
+    bool wait_for_end(std::uint64_t until) {
         ask();
-        pthread_join(thread_, nullptr);
-        if (file_ >= 0 && ::close(file_) != 0) error_.store(errno);
-        nanolog_free(handle_);
-        pthread_cond_destroy(&waking_);
-        pthread_cond_destroy(&flushed_);
+        return wait(kEnd, until);
     }
 
-    std::uint64_t written() const { return written_.get(); }
-    std::uint64_t unwritten() const { return unwritten_.get(); }
-    int error() const { return error_.load(); }
+    bool is_this_thread() const { return pthread_equal(thread_, pthread_self()) != 0; }
+
+    // About how many bytes it has pumped since it last found that nothing waited.
+    std::uint64_t pumped() const { return pumped_.get(); }
+
+    std::uint64_t written() const { return file_.written(); }
+    std::uint64_t unwritten() const { return file_.unwritten(); }
+    int error() const { return file_.error(); }
+
+    // ---- its end
+
+    // Gives up all that it has, once its end has come.
+    void join() {
+        pthread_join(thread_, nullptr);
+        nanolog_free(handle_.load());
+        std::free(buffer_);
+    }
+
+    // Leaves the thread alone, with all that it has.
+    void leave() {
+        give_up();
+        pthread_detach(thread_);
+    }
+
+    // In the child of a fork there is no such thread. What calls and flushes are under way are over.
+    void lose() {
+        give_up();
+        file_.leave();
+        done_.store(kEnd);
+    }
 
    private:
     static constexpr std::size_t kRoom = 1 << 20;
-    static constexpr std::uint64_t kLeastNap = 200000;
-    static constexpr std::uint64_t kMostNap = 5000000;
-
-    static timespec time_after(std::uint64_t nanos) {
-        const std::uint64_t end = nanos_of(CLOCK_MONOTONIC) + nanos;
-        timespec time{};
-        time.tv_sec = static_cast<time_t>(end / kSecond);
-        time.tv_nsec = static_cast<long>(end % kSecond);
-        return time;
-    }
+    static constexpr std::uint64_t kEnd = UINT64_MAX;
+    // How long it sleeps where nothing waits: at first, at most, and at most after a second in which nothing came.
+    static constexpr std::uint64_t kLeastNap = kMillisecond / 5;
+    static constexpr std::uint64_t kMostNap = 5 * kMillisecond;
+    static constexpr std::uint64_t kMostDoze = 100 * kMillisecond;
 
     static void *run(void *self) {
         pthread_setname_np(pthread_self(), "nanolog");
@@ -139,87 +146,96 @@ class Consumer {
     }
 
     void consume() {
-        std::uint64_t nap = kLeastNap;
         for (;;) {
-            const std::uint64_t asked = begin_round();
-            const std::int64_t answer = pump();
-            write();
-            if (answer < 0) return;
-            if (filled_ != 0) nap = kLeastNap;
+            const std::uint32_t rings = bell_.rings();
+            const std::uint64_t asked = asked_.load();
+            std::size_t filled = 0;
+            const std::int64_t answer = pump(filled);
+            file_.write(buffer_, filled);
+            pumped_.add(filled);
+            if (answer < 0) {
+                file_.close();
+                return tell(kEnd);
+            }
+            if (filled != 0) wake_up();
             if (answer == 0) {
-                rest(asked, nap);
-                nap = 2 * nap < kMostNap ? 2 * nap : kMostNap;
+                pumped_.set(0);
+                tell(asked);
+                rest(rings);
             }
         }
     }
 
-    // The last flush that was asked for.
-    std::uint64_t begin_round() {
-        const Lock lock(mutex_);
-        pumped_ += filled_;
-        return asked_;
-    }
-
-    // Pumps until the buffer is full or nothing waits, and answers what the last pump did.
-    std::int64_t pump() {
-        filled_ = 0;
-        while (filled_ < kRoom) {
-            const std::int64_t answer = nanolog_pump(&handle_, buffer_ + filled_, kRoom - filled_);
-            if (answer <= 0) return answer;
-            filled_ += static_cast<std::size_t>(answer);
+    // Pumps until the buffer is full or nothing waits, and answers what the last pump did. Who has taken the handle has
+    // it until he puts it back.
+    std::int64_t pump(std::size_t &filled) {
+        Patience patience;
+        void *handle = nullptr;
+        while ((handle = handle_.exchange(nullptr)) == nullptr) patience.wait();
+        std::int64_t answer = 1;
+        while (filled < kRoom) {
+            answer = nanolog_pump(&handle, buffer_ + filled, kRoom - filled);
+            if (answer <= 0) break;
+            filled += static_cast<std::size_t>(answer);
         }
-        return 1;
+        given_ += filled;
+        handle_.store(handle);
+        return answer;
     }
 
-    void write() {
-        std::size_t at = 0;
-        while (file_ >= 0 && at < filled_) {
-            const ssize_t count = ::write(file_, buffer_ + at, filled_ - at);
-            if (count > 0) {
-                at += static_cast<std::size_t>(count);
-            } else if (count == 0 || errno != EINTR) {
-                fail(count == 0 ? EIO : errno);
-            }
+    // Nothing waited since this flush was asked for, and all is written.
+    void tell(std::uint64_t asked) {
+        if (done_.load() == asked) return;
+        done_.store(asked);
+        done_bell_.ring();
+    }
+
+    void wake_up() {
+        nap_ = kLeastNap;
+        came_ = 0;
+        if (is_dozing_) doze(0);
+    }
+
+    // Has who logs know of a doze, of this number, or that there is none.
+    void doze(std::uint32_t number) {
+        is_dozing_ = number != 0;
+        if (is_given_up()) return;
+        std::uint32_t before = hub.attention.load();
+        while (!hub.attention.compare_exchange_weak(before, before % Hub::kDoze + number * Hub::kDoze)) {
         }
-        written_.add(at);
-        unwritten_.add(filled_ - at);
     }
 
-    // From now on nothing is written, since a log with a gap is none. Where the descriptor was closed by somebody else
-    // it may be that of another file by now.
-    void fail(int error) {
-        error_.store(error);
-        if (error != EBADF) ::close(file_);
-        file_ = -1;
+    // Sleeps where it wasn't rung since then. A doze begins a round before its first sleep: who logs has to know of it
+    // before the thread last looks whether something waits.
+    void rest(std::uint32_t rings) {
+        const std::uint64_t now = nanos_of(CLOCK_MONOTONIC);
+        if (came_ == 0) came_ = now;
+        if (nap_ > kMostNap && !is_dozing_) return doze(++dozes_);
+        is_napping_.store(true);
+        bell_.wait(rings, nap_);
+        is_napping_.store(false);
+        const std::uint64_t most = now - came_ < kSecond ? kMostNap : kMostDoze;
+        nap_ = 2 * nap_ < most ? 2 * nap_ : most;
     }
 
-    // Nothing waited since these flushes were asked for: what was logged before is written. Sleeps for so long, or
-    // until it is woken.
-    void rest(std::uint64_t asked, std::uint64_t nap) {
-        const Lock lock(mutex_);
-        filled_ = 0;
-        pumped_ = 0;
-        if (done_ != asked) {
-            done_ = asked;
-            pthread_cond_broadcast(&flushed_);
-        }
-        const timespec end = time_after(nap);
-        if (asked_ == asked) pthread_cond_timedwait(&waking_, &mutex_, &end);
-    }
-
-    void *handle_ = nullptr;
+    std::atomic<void *> handle_{nullptr};
+    std::uint64_t given_ = 0;  // bytes that it gave
     std::uint8_t *buffer_ = nullptr;
-    std::size_t filled_ = 0;
-    int file_ = -1;
+    LogFile file_;
     pthread_t thread_{};
-    Count written_, unwritten_;
-    std::atomic<int> error_{0};
-    pthread_mutex_t mutex_ = PTHREAD_MUTEX_INITIALIZER;
-    pthread_cond_t waking_{}, flushed_{};
+    std::uint64_t nap_ = kLeastNap;
+    std::uint64_t came_ = 0;  // when it found that nothing waits, behind what came last
+    std::uint32_t dozes_ = 0;
+    bool is_dozing_ = false;
+    Count pumped_;
+
     // The number of the last flush that was asked for, and of the last one that was done.
-    std::uint64_t asked_ = 0, done_ = 0;
-    std::uint64_t pumped_ = 0;
+    std::atomic<std::uint64_t> asked_{0}, done_{0};
+    Bell bell_, done_bell_;
+
+    std::atomic<bool> is_napping_{false}, is_given_up_{false};
 };
 
 }  // namespace detail
+}  // namespace version_1
 }  // namespace nanolog

@@ -1,192 +1,24 @@
-// What a rewritten statement is, and sessions. It is part of nanolog.hpp, where there is a nanolog_messages.h.
+// Sessions. It is part of nanolog.hpp.
 #pragma once
 
 #include <fcntl.h>
-#include <unistd.h>
 
+#include <atomic>
 #include <cerrno>
 #include <cstddef>
 #include <cstdint>
 #include <cstdio>
-#include <cstdlib>
 #include <cstring>
-#include <type_traits>
+#include <new>
 #include <utility>
 
+#include "nanolog_attention.hpp"
+#include "nanolog_ends.hpp"
+#include "nanolog_report.hpp"
 #include "nanolog_writers.hpp"
 
-// A dictionary is never freed, which isn't to be reported as a leak of the program's.
-#if defined(__SANITIZE_ADDRESS__)
-#define NANOLOG_LEAKS_ARE_LOOKED_FOR
-#elif defined(__has_feature)
-#if __has_feature(address_sanitizer)
-#define NANOLOG_LEAKS_ARE_LOOKED_FOR
-#endif
-#endif
-#ifdef NANOLOG_LEAKS_ARE_LOOKED_FOR
-extern "C" void __lsan_disable();
-extern "C" void __lsan_enable();
-#endif
-
 namespace nanolog {
-
-// ---- rewritten statements
-
-namespace detail {
-
-[[gnu::noinline, gnu::cold]] inline void count_sessionless() { sessionless.fetch_add(1); }
-
-// Whether a call is made: the level keeps it.
-inline bool keeps(unsigned severity) {
-    const unsigned kept = level.load(std::memory_order_relaxed);
-    if (kept == 0) count_sessionless();
-    return severity <= kept;
-}
-
-constexpr std::size_t length(const char *text) {
-    std::size_t count = 0;
-    while (text[count] != 0) count++;
-    return count;
-}
-
-// The calls whose arguments have these letters.
-template <class Places, char... Letters>
-struct Calls;
-template <std::size_t... Places, char... Letters>
-struct Calls<std::index_sequence<Places...>, Letters...> {
-    static constexpr std::size_t kCount = sizeof...(Letters);
-    // Each letter behind the one in front of it.
-    static constexpr char kBefore[kCount + 1] = {0, Letters...};
-
-    [[gnu::noinline]] static void log(std::uint32_t id, Argument<Places + 1, Letters, kBefore[Places]>... arguments) {
-        if constexpr (kCount == 0) {
-            detail::log(Call{id, nullptr, 0, 0});
-        } else {
-            nanolog_arg args[kCount];
-            std::uint64_t cut = 0;
-            ((cut += arguments.put(args) ? 1u : 0u), ...);
-            detail::log(Call{id, args, kCount, cut});
-        }
-    }
-
-    template <class... Given, std::enable_if_t<sizeof...(Given) != kCount, int> = 0>
-    static void log(std::uint32_t, const Given &...) {
-        static_assert(sizeof...(Given) > kCount, "nanolog: there are fewer arguments than the format takes");
-        static_assert(sizeof...(Given) < kCount, "nanolog: there are more arguments than the format takes");
-    }
-};
-
-}  // namespace detail
-
-// The messages of the program. The tables of the header are made constants for the compiler.
-namespace messages {
-
-// clang-format off
-#define nano_log_types no_pointer [[maybe_unused]] = nullptr; static constexpr const char *const nano_log_types
-#define nano_log_severity no_byte [[maybe_unused]] = 0; static constexpr unsigned char nano_log_severity
-// clang-format on
-#include "nanolog_messages.h"
-#undef nano_log_types
-#undef nano_log_severity
-
-namespace {
-
-constexpr std::uint32_t kCount = NANO_LOG_MESSAGES;
-#undef NANO_LOG_MESSAGES
-
-template <std::uint32_t Id>
-constexpr const char *types() {
-    static_assert(Id < kCount, "nanolog: there is no such message; nanolog_messages.h is that of another dictionary");
-    return Id < kCount ? nano_log_types[Id] : "";
-}
-
-template <std::uint32_t Id, class Places = std::make_index_sequence<detail::length(types<Id>())>>
-struct Message;
-template <std::uint32_t Id, std::size_t... Places>
-struct Message<Id, std::index_sequence<Places...>> {
-    static constexpr unsigned kSeverity = nano_log_severity[Id < kCount ? Id : 0];
-    using Calls = detail::Calls<std::index_sequence<Places...>, types<Id>()[Places]...>;
-};
-
-}  // namespace
-}  // namespace messages
-
-// ---- sessions
-
-// The messages of a program, by which the dictionary of another program is told from its own.
-struct Messages {
-    std::uint32_t count;
-    const unsigned char *severities;
-};
-
-namespace detail {
-
-// What a file holds.
-class Text {
-   public:
-    Text() = default;
-    ~Text() { std::free(bytes_); }
-    Text(const Text &) = delete;
-    Text &operator=(const Text &) = delete;
-
-    // Reads it whole, and answers an errno.
-    int read(const char *name) {
-        std::FILE *const file = std::fopen(name, "re");
-        if (file == nullptr) return errno;
-        std::size_t room = 0, count = 0;
-        int error = 0;
-        do {
-            if (len_ == room) {
-                room = room != 0 ? 2 * room : kLeastRoom;
-                void *const bytes = room <= kMostRoom ? std::realloc(bytes_, room) : nullptr;
-                if (bytes == nullptr) {
-                    error = room <= kMostRoom ? ENOMEM : EFBIG;
-                    break;
-                }
-                bytes_ = static_cast<char *>(bytes);
-            }
-            errno = 0;
-            count = std::fread(bytes_ + len_, 1, room - len_, file);
-            len_ += count;
-        } while (count != 0);
-        if (std::ferror(file)) error = errno;
-        std::fclose(file);
-        return error;
-    }
-
-    const std::uint8_t *bytes() const { return reinterpret_cast<const std::uint8_t *>(bytes_); }
-    std::size_t len() const { return len_; }
-
-    // Whether this text of a dictionary has these messages: so many, of these severities.
-    bool is_of(const Messages &messages) const {
-        const char *at = bytes_;
-        const char *const end = bytes_ + len_;
-        std::uint32_t count = 0;
-        while ((at = behind(at, end, '\n')) != end) {
-            // The severity stands behind the second space.
-            const char *const severity = behind(behind(at, end, ' '), end, ' ');
-            if (count == messages.count || severity == end) return false;
-            if (*severity != "EWND"[messages.severities[count++] - 1]) return false;
-        }
-        return count == messages.count;
-    }
-
-   private:
-    static constexpr std::size_t kLeastRoom = 1 << 16;
-    static constexpr std::size_t kMostRoom = 1 << 27;
-
-    static const char *behind(const char *at, const char *end, char wanted) {
-        const void *const found = at != end ? std::memchr(at, wanted, static_cast<std::size_t>(end - at)) : nullptr;
-        return found != nullptr ? static_cast<const char *>(found) + 1 : end;
-    }
-
-    char *bytes_ = nullptr;
-    std::size_t len_ = 0;
-};
-
-}  // namespace detail
-
-inline namespace logging {
+inline namespace version_1 {
 
 // Logs all calls of the program's threads into a file. There is one at a time.
 class Session {
@@ -194,239 +26,183 @@ class Session {
     using Options = nanolog::Options;
     using Report = nanolog::Report;
 
-    // Reads the dictionary and makes the file, in place of what that held. What fails is said on standard error.
-    Session(const char *log, const char *dictionary, const Options &options = Options(),
-            const Messages &messages = Messages{messages::kCount, messages::nano_log_severity})
-        : is_quiet_(options.quiet) {
-        std::snprintf(name_, sizeof name_, "%s", log);
-        if (!take()) {
-            say(log, "another session is open");
-            is_over_ = true;
-            return;
-        }
-        detail::is_quiet.store(is_quiet_);
-        is_open_ = open(log, dictionary, options, messages);
-        if (!is_open_) give_back();
+    // Makes the file, in place of what that held. What fails is said on standard error. The dictionary is that of the
+    // statements that were taken out of their sources, if there are any; all others are known without.
+    explicit Session(const char *log_name, const Options &options = Options()) : Session(log_name, nullptr, options) {}
+
+    Session(const char *log_name, const char *dictionary, const Options &options = Options())
+        : core_(detail::make_core(log_name, options)) {
+        if (core_ == nullptr || !take()) return;
+        const Turn turn(*core_);
+        open(log_name, dictionary, options);
     }
 
     ~Session() {
         close();
-        if (!is_quiet_) tell();
+        if (core_ != nullptr) detail::tell(*core_);
     }
 
     Session(const Session &) = delete;
     Session &operator=(const Session &) = delete;
 
-    // Whether calls are logged, and the file has all that was written so far.
-    explicit operator bool() const { return is_open_ && consumer_.error() == 0; }
+    // ---- Any thread may call these at any time, several at once; a signal handler may not.
 
-    // Returns once all that was logged before is handed to the system, and answers whether that took it. Where other
-    // threads log so much that their rings don't get empty, their calls wait for it.
-    bool flush() {
-        if (!is_open_) return false;
-        const std::uint64_t number = consumer_.ask();
-        while (!consumer_.is_flushed(number, kPatience)) {
-            if (consumer_.pumped() <= detail::most_bytes()) continue;
-            const detail::Lock lock(detail::slots.mutex);
-            detail::enter_all(detail::slots.free_state + detail::kHeld);
-            while (!consumer_.is_flushed(number, kPatience)) {
-            }
-            detail::leave_all(detail::slots.free_state);
-        }
-        return consumer_.error() == 0;
+    // Whether calls are logged, and the file has all that was written so far.
+    explicit operator bool() const {
+        return core_ != nullptr && core_->stage.load() == detail::Stage::Open && core_->consumer.error() == 0;
+    }
+
+    // From now on less grave calls are left out.
+    void set_level(Severity level) {
+        const detail::Lock lock(detail::hub.mutex);
+        if (core_ != nullptr && core_->stage.load() == detail::Stage::Open) detail::set_level(level);
+    }
+
+    // Returns once all that was logged before is handed to the system, or after so many milliseconds, at first those of
+    // the option; and answers whether that took it. Where other threads log so much that their rings don't get empty,
+    // their calls wait for it.
+    bool flush() { return core_ != nullptr && detail::flush(*core_, core_->limit); }
+    bool flush(std::uint32_t milliseconds) {
+        return core_ != nullptr && detail::flush(*core_, milliseconds * detail::kMillisecond);
     }
 
     // What became of the calls so far.
-    Report report() const {
-        const detail::Lock lock(detail::slots.mutex);
-        return is_over_ ? report_ : counted();
-    }
+    Report report() const { return core_ != nullptr ? detail::report_of(*core_) : Report(); }
 
-    // Does what the destructor does, but for telling what was lost, and answers that. What threads log from then on is
-    // without a session.
+    // Does what the destructor does, but for telling what was lost, and answers that; after so many milliseconds at the
+    // latest. What threads log from then on is without a session.
     Report close() {
-        if (is_over_) return report_;
-        if (is_open_) end();
-        {
-            const detail::Lock lock(detail::slots.mutex);
-            report_ = counted();
-            report_.sessionless = detail::sessionless.exchange(0);
-            is_over_ = true;
-        }
-        if (std::exchange(is_open_, false)) give_back();
-        return report_;
+        if (core_ != nullptr) detail::end(*core_, core_->limit);
+        return report();
+    }
+    Report close(std::uint32_t milliseconds) {
+        if (core_ != nullptr) detail::end(*core_, milliseconds * detail::kMillisecond);
+        return report();
     }
 
    private:
-    // How long a flush waits before it looks whether it has to hold up the calls of other threads.
-    static constexpr std::uint64_t kPatience = 20000000;
+    // Gives the hub back if the session doesn't begin, also where the program's clock throws.
+    class Turn {
+       public:
+        explicit Turn(detail::Core &core) : core_(core) {}
+        ~Turn() {
+            if (core_.has_begun) return;
+            const detail::Lock lock(detail::hub.mutex);
+            delete std::exchange(core_.directory, nullptr);
+            detail::hub.is_taken = false;
+        }
+        Turn(const Turn &) = delete;
+        Turn &operator=(const Turn &) = delete;
 
-    // Takes the slots for this session, if no other has them.
-    static bool take() {
-        const detail::Lock lock(detail::slots.mutex);
-        return !std::exchange(detail::slots.is_taken, true);
+       private:
+        detail::Core &core_;
+    };
+
+    // Takes the hub for this session, if no other has it. From now on no statement prints its line.
+    bool take() {
+        detail::Hub &hub = detail::hub;
+        const detail::Lock lock(hub.mutex);
+        if (std::exchange(hub.is_taken, true)) {
+            core_->stage.store(detail::Stage::Over);
+            return fail(core_->name, "another session is open");
+        }
+        hub.is_quiet.store(core_->is_quiet);
+        if (!hub.has_begun.load()) {
+            hub.functions = {&nanolog_log,         &detail::go_on,         &detail::go_without,
+                             &detail::call_slowly, &detail::make_attended, &detail::end_all};
+            hub.has_begun.store(nanolog_version_1() != 0, std::memory_order_release);
+        }
+        return true;
     }
 
-    static void give_back() {
-        const detail::Lock lock(detail::slots.mutex);
-        detail::slots.is_taken = false;
-    }
-
-    bool open(const char *log, const char *dictionary, const Options &options, const Messages &messages) {
-        detail::Text text;
-        if (const int error = text.read(dictionary)) return fail(dictionary, std::strerror(error));
-        const std::uint64_t tick = options.clock != nullptr ? options.clock() : detail::nanos_of(CLOCK_MONOTONIC);
-        const std::uint64_t nanos = options.nanos != 0 ? options.nanos : detail::nanos_of(CLOCK_REALTIME);
+    bool open(const char *log_name, const char *dictionary, const Options &options) {
+        char found[detail::kMaxPath];
+        core_->directory = new (std::nothrow) detail::Directory;
+        if (core_->directory == nullptr) return fail(log_name, "there is no memory for the dictionary");
+        detail::Directory &directory = *core_->directory;
+        if (const int error = directory.dictionary.begin(detail::find_beside(dictionary, found, sizeof found))) {
+            return fail(dictionary != nullptr ? dictionary : log_name, std::strerror(error));
+        }
+        directory.take_in();
+        const bool has_clock = options.clock != nullptr;
+        const detail::Setup setup = {options.ring,
+                                     options.writers,
+                                     options.batch,
+                                     has_clock ? options.clock() : detail::nanos_of(CLOCK_MONOTONIC),
+                                     options.nanos != 0 ? options.nanos : detail::nanos_of(CLOCK_REALTIME),
+                                     has_clock ? options.rate : detail::kSecond};
         void *session = nullptr, *consumer = nullptr;
         std::uint64_t line = 0;
-#ifdef NANOLOG_LEAKS_ARE_LOOKED_FOR
-        __lsan_disable();
-#endif
-        const std::int32_t answer =
-            nanolog_open(text.bytes(), text.len(), options.ring, options.writers, options.batch, tick, nanos,
-                         options.clock != nullptr ? options.rate : detail::kSecond, &session, &consumer, &line);
-#ifdef NANOLOG_LEAKS_ARE_LOOKED_FOR
-        __lsan_enable();
-#endif
-        if (answer == NANOLOG_OK && text.is_of(messages) && start(log, consumer)) {
-            begin(session, tick, options);
+        const std::int32_t answer = detail::open_session(directory.dictionary, setup, &session, &consumer, &line);
+        if (answer == NANOLOG_OK && make_entries(&session) && start(log_name, consumer)) {
+            begin(session, setup, options);
             return true;
         }
         nanolog_free(session);
         nanolog_free(consumer);
-        if (answer == NANOLOG_BAD_DICTIONARY) {
-            char place[sizeof name_ + 24];
-            std::snprintf(place, sizeof place, "%s:%llu", dictionary, static_cast<unsigned long long>(line));
-            return fail(place, "this is no line of a dictionary");
-        }
-        if (answer == NANOLOG_OUT_OF_RANGE) return fail(log, "an option is out of its range");
-        if (answer != NANOLOG_OK) return fail(log, "there is no memory for the rings");
-        if (!text.is_of(messages)) return fail(dictionary, "this is the dictionary of other sources");
-        return false;
+        return answer != NANOLOG_OK && tell_refusal(answer, log_name, dictionary, line);
+    }
+
+    // Says why there is no session in C, and answers false.
+    bool tell_refusal(std::int32_t answer, const char *log_name, const char *dictionary, std::uint64_t line) const {
+        if (answer == NANOLOG_OUT_OF_RANGE) return fail(log_name, "an option is out of its range");
+        if (answer != NANOLOG_BAD_DICTIONARY) return fail(log_name, "there is no memory for the rings");
+        char place[sizeof core_->name + 24];
+        std::snprintf(place, sizeof place, "%s:%llu", dictionary != nullptr ? dictionary : log_name,
+                      static_cast<unsigned long long>(line));
+        return fail(place, "this is no line of a dictionary");
+    }
+
+    // Finds what there is for each statement.
+    bool make_entries(void **session) {
+        detail::Directory &directory = *core_->directory;
+        return directory.make_entries(session, directory.dictionary.count()) ||
+               fail(core_->name, "there is no memory for the statements");
     }
 
     // Makes the file and starts the consumer.
-    bool start(const char *log, void *consumer) {
-        const int file = ::open(log, O_WRONLY | O_CREAT | O_TRUNC | O_CLOEXEC, 0666);
-        const int error = file < 0 ? errno : 0;
-        if (file < 0) say(log, std::strerror(error));
-        const int failed = consumer_.start(consumer, file, error);
-        if (failed == 0) return true;
-        if (file >= 0) ::close(file);
-        return fail(log, std::strerror(failed));
+    bool start(const char *log_name, void *consumer) {
+        const int file = ::open(log_name, O_WRONLY | O_CREAT | O_TRUNC | O_CLOEXEC, 0666);
+        const int failed = core_->consumer.start(consumer, log_name, core_->is_quiet, file, file < 0 ? errno : 0);
+        return failed == 0 || fail(log_name, std::strerror(failed));
     }
 
-    void begin(void *session, std::uint64_t tick, const Options &options) {
-        detail::Slots &slots = detail::slots;
-        const detail::Lock lock(slots.mutex);
-        slots.session = session;
-        slots.free_state += detail::kStates;
-        slots.ring = options.ring;
-        slots.limit = options.writers;
-        slots.opened = 0;
-        slots.shared = nullptr;
-        slots.spares = 0;
-        slots.unplaced.store(0);
-        slots.consumer = &consumer_;
-        slots.policy = options.policy;
-        slots.clock = options.clock;
-        slots.tick = tick;
-        detail::level.store(static_cast<unsigned>(options.level));
-    }
-
-    // Ends the threads' writers, and waits until all is written.
-    void end() {
-        detail::Slots &slots = detail::slots;
-        void *session = nullptr;
-        {
-            const detail::Lock lock(slots.mutex);
-            detail::level.store(0);
-            session = std::exchange(slots.session, nullptr);
-            detail::enter_all(detail::kClosed);
-        }
-        for (std::uint32_t number = 0; number < slots.opened; number++) nanolog_finish(&slots.slot[number].writer);
-        nanolog_end(&session);
-        consumer_.join();
-        for (std::uint32_t number = 0; number < slots.opened; number++) {
-            nanolog_free(std::exchange(slots.slot[number].writer, nullptr));
-        }
-        nanolog_free(session);
-    }
-
-    // The mutex is had.
-    Report counted() const {
-        const detail::Slots &slots = detail::slots;
-        Report report;
-        report.sessionless = detail::sessionless.load();
-        if (!is_open_) return report;
-        report.writers = slots.opened;
-        for (std::uint32_t number = 0; number < slots.opened; number++) {
-            const detail::Slot &slot = slots.slot[number];
-            Report::Writer &writer = report.writer[number];
-            writer = {slot.logged.get(), slot.dropped.get(), slot.need.get(), slot.room.get()};
-            report.logged += writer.logged;
-            report.dropped += writer.dropped;
-            report.too_long += slot.too_long.get();
-            report.misfit += slot.misfit.get();
-            report.cut += slot.cut.get();
-            report.early += slot.early.get();
-        }
-        if (slots.shared != nullptr) report.shared = slots.shared->logged.get();
-        report.unplaced = slots.unplaced.load();
-        report.written = consumer_.written();
-        report.unwritten = consumer_.unwritten();
-        report.error = consumer_.error();
-        return report;
+    void begin(void *session, const detail::Setup &setup, const Options &options) {
+        detail::watch_process();
+        if (options.on_crash) detail::watch_crashes(core_->consumer);
+        detail::Hub &hub = detail::hub;
+        const detail::Lock lock(hub.mutex);
+        detail::Stage made = detail::Stage::Made;
+        // It doesn't begin where another thread ends the program.
+        if (detail::is_last.load() || !core_->stage.compare_exchange_strong(made, detail::Stage::Open)) return;
+        core_->has_begun = true;
+        hub.session = session;
+        hub.free_state += detail::kStates;
+        hub.setup = setup;
+        hub.directory = core_->directory;
+        detail::show_entries();
+        hub.opened = 0;
+        hub.shared = nullptr;
+        hub.spares = 0;
+        hub.holders = 0;
+        hub.unplaced.store(0);
+        hub.consumer = &core_->consumer;
+        hub.drops = options.policy == Policy::Drop;
+        hub.clock = options.clock;
+        hub.core.store(core_);
+        hub.attention.store(
+            static_cast<std::uint32_t>(options.echo > options.flush_at ? options.echo : options.flush_at));
+        core_->free_state = hub.free_state;
+        detail::set_level(options.level);
     }
 
     bool fail(const char *name, const char *what) const {
-        say(name, what);
+        if (!core_->is_quiet) detail::say("nanolog: %s: %s", name, what);
         return false;
     }
 
-    void say(const char *name, const char *what) const {
-        if (!is_quiet_) std::fprintf(stderr, "nanolog: %s: %s\n", name, what);
-    }
-
-    void tell(const char *what, std::uint64_t number) const {
-        if (number == 0) return;
-        std::fprintf(stderr, "nanolog: %s: %s: %llu\n", name_, what, static_cast<unsigned long long>(number));
-    }
-
-    // Tells all losses.
-    void tell() const {
-        for (std::uint32_t number = 0; number < report_.writers; number++) {
-            const Report::Writer &writer = report_.writer[number];
-            if (writer.dropped == 0) continue;
-            std::fprintf(stderr, "nanolog: %s: calls of writer %u dropped: %llu, the last with need %llu room %llu\n",
-                         name_, number, static_cast<unsigned long long>(writer.dropped),
-                         static_cast<unsigned long long>(writer.need), static_cast<unsigned long long>(writer.room));
-        }
-        tell("calls refused, of more than 512 words", report_.too_long);
-        tell("calls refused, which don't fit the dictionary", report_.misfit);
-        tell("calls refused, for which there was no writer", report_.unplaced);
-        tell("calls without a session", report_.sessionless);
-        tell("texts cut", report_.cut);
-        tell("calls whose stamps would fall", report_.early);
-        if (report_.error != 0) say(name_, std::strerror(report_.error));
-        tell("bytes not written", report_.unwritten);
-    }
-
-    char name_[256];
-    bool is_quiet_;
-    bool is_open_ = false;
-    bool is_over_ = false;  // and the report is the last one
-    detail::Consumer consumer_;
-    Report report_;
+    detail::Core *const core_;
 };
 
-}  // namespace logging
+}  // namespace version_1
 }  // namespace nanolog
-
-#define NANOLOG_MESSAGE(id, ...) ::nanolog::messages::Message<id>
-
-// A statement that was rewritten: the id of its message, and its arguments. It is an expression without a value.
-#define NANO_LOG_CALL(...)                                               \
-    (::nanolog::detail::keeps(NANOLOG_MESSAGE(__VA_ARGS__, )::kSeverity) \
-         ? NANOLOG_MESSAGE(__VA_ARGS__, )::Calls::log(__VA_ARGS__)       \
-         : void())

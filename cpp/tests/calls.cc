@@ -8,14 +8,26 @@
 #include "check.hpp"
 #include "nanolog.h"
 
-// How many pieces of memory the library is still given. The program is linked with --wrap for these two.
+// How many pieces of memory the library is still given, how many it has, and how often it asked for one or gave one
+// back. The program is linked with --wrap for these three.
 static int pieces_left = INT_MAX;
+static long pieces_held = 0, requests = 0;
 extern "C" {
 void *__real_malloc(std::size_t size);
 void *__real_realloc(void *piece, std::size_t size);
-void *__wrap_malloc(std::size_t size) { return pieces_left > 0 ? pieces_left--, __real_malloc(size) : nullptr; }
+void __real_free(void *piece);
+void *__wrap_malloc(std::size_t size) {
+    requests++;
+    return pieces_left > 0 ? pieces_left--, pieces_held++, __real_malloc(size) : nullptr;
+}
 void *__wrap_realloc(void *piece, std::size_t size) {
-    return pieces_left > 0 ? pieces_left--, __real_realloc(piece, size) : nullptr;
+    requests++;
+    return pieces_left > 0 ? pieces_left--, pieces_held += piece == nullptr, __real_realloc(piece, size) : nullptr;
+}
+void __wrap_free(void *piece) {
+    requests++;
+    pieces_held -= piece != nullptr;
+    __real_free(piece);
 }
 }
 
@@ -350,7 +362,7 @@ bool make_in(int pieces, bool &open) {
         CHECK(is_enough || nanolog_writer(&session, &writer) == NANOLOG_OK);
         pieces_left = 0;
         CHECK(log(writer, kTick, 7, {}) == NANOLOG_OK && nanolog_finish(&writer) == NANOLOG_OK);
-        CHECK(nanolog_end(&session) == NANOLOG_OK);
+        CHECK(nanolog_end(&session) == NANOLOG_OK && nanolog_text_limit(&session, 5, 0) == NANOLOG_MAX_TEXT);
         std::uint8_t bytes[4096];
         std::int64_t answer = 1;
         while (answer > 0) answer = nanolog_pump(&consumer, bytes, sizeof bytes);
@@ -373,6 +385,71 @@ void memory() {
     std::printf("%d pieces of memory, and one for a writer\n", opened_in);
 }
 
+// Makes each call, also those that are refused, and the ring full and empty again: none of them asks for memory, or
+// gives any back.
+void use(void *&session, void *&consumer, void *&writer, void *&idle) {
+    const long before = requests;
+    std::int32_t answer = NANOLOG_OK;
+    std::uint8_t bytes[4096];
+    for (int turn = 0; turn < 2; turn++) {
+        while (answer == NANOLOG_OK) answer = log(writer, kTick, 0, {signed_of(turn)});
+        CHECK(answer == NANOLOG_FULL && log(writer, kTick, 0, {}) == NANOLOG_MISFIT);
+        CHECK(log(writer, 0, 7, {}) == NANOLOG_EARLY && log(session, kTick, 7, {}) == NANOLOG_BAD_HANDLE);
+        while (nanolog_pump(&consumer, bytes, sizeof bytes) > 0) answer = NANOLOG_OK;
+    }
+    CHECK(nanolog_pump(&consumer, bytes, 0) == NANOLOG_OUT_OF_RANGE);
+    CHECK(nanolog_finish(&writer) == NANOLOG_OK && nanolog_finish(&writer) == NANOLOG_FINISHED);
+    CHECK(nanolog_finish(&idle) == (idle == nullptr ? NANOLOG_BAD_HANDLE : NANOLOG_OK));
+    CHECK(nanolog_text_limit(&session, 5, 0) == NANOLOG_MAX_TEXT && nanolog_version_1() == 1);
+    CHECK(nanolog_end(&session) == NANOLOG_OK && nanolog_end(&session) == NANOLOG_OK);
+    while (nanolog_pump(&consumer, bytes, sizeof bytes) > 0) {
+    }
+    CHECK(nanolog_pump(&consumer, bytes, sizeof bytes) == NANOLOG_AT_END);
+    nanolog_free(nullptr);
+    CHECK(requests == before);
+}
+
+// Opens a session, uses it or not, and gives up all its handles, in one of two orders. It answers how many pieces of
+// memory are left of it.
+long left_of(std::uint64_t ring, std::uint32_t writers, bool is_used, bool consumer_first) {
+    const long before = pieces_held;
+    {
+        Ends ends(ring, writers);
+        void *first = ends.writer(), *second = writers > 1 ? ends.writer() : nullptr;
+        if (is_used) use(ends.session, ends.consumer, first, second);
+        if (consumer_first) {
+            nanolog_free(ends.consumer);
+            ends.consumer = nullptr;
+        }
+        nanolog_free(second);
+        nanolog_free(first);
+    }
+    return pieces_held - before;
+}
+
+// What is left of a session is its dictionary, whatever it was. What is refused leaves nothing.
+void giving_up() {
+    const long dictionary = left_of(1024, 1, false, false);
+    CHECK(dictionary > 0);
+    for (const std::uint32_t writers : {1u, 2u, 64u}) {
+        for (const bool is_used : {false, true}) {
+            for (const bool consumer_first : {false, true}) {
+                CHECK(left_of(8192, writers, is_used, consumer_first) == dictionary);
+            }
+        }
+    }
+    const long before = pieces_held;
+    for (int turn = 0; turn < 1000; turn++) CHECK(left_of(1024, 2, turn % 2 == 0, turn % 3 == 0) == dictionary);
+    CHECK(pieces_held == before + 1000 * dictionary);
+    std::uint64_t line = 0;
+    for (const std::string &text : {std::string(), kDictionary + "message 8 NOTICE 1 \"f\" \"%f\"\n"}) {
+        CHECK(open(text, 1024, 1, 1, 1, &line) == NANOLOG_BAD_DICTIONARY);
+        CHECK(open(text, 1, 1, 1, 1, &line) == NANOLOG_OUT_OF_RANGE);
+    }
+    CHECK(pieces_held == before + 1000 * dictionary);
+    std::printf("%ld pieces are left of a session, its dictionary\n", dictionary);
+}
+
 }  // namespace
 
 int main() {
@@ -382,5 +459,6 @@ int main() {
     filling();
     pumping();
     memory();
+    giving_up();
     return 0;
 }

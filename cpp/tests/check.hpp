@@ -16,6 +16,14 @@
         }                                                                                  \
     } while (false)
 
+// The dictionary of the program, where its statements were taken out.
+#ifdef DICTIONARY
+constexpr bool kIsInjected = true;
+#else
+#define DICTIONARY nullptr
+constexpr bool kIsInjected = false;
+#endif
+
 // A clock that makes a tick each time when it is read, and the time at which it begins.
 inline std::atomic<std::uint64_t> ticks{0};
 inline std::uint64_t next_tick() { return ++ticks; }

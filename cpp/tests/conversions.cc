@@ -216,15 +216,7 @@ void places(Expected &expected) {
     EXPECT(NOTICE, "%d %d", 7, 10);
 }
 
-}  // namespace
-
-int main() {
-    nanolog::Options options;
-    options.clock = next_tick;
-    options.nanos = kBegin;
-    nanolog::Session log("conversions.log", "conversions.dict", options);
-    CHECK(log);
-    Expected expected("conversions.expected");
+void all(Expected &expected) {
     numbers(expected);
     widths(expected);
     promoted(expected);
@@ -233,9 +225,23 @@ int main() {
     sizes(expected);
     counts(expected);
     places(expected);
+}
+
+}  // namespace
+
+int main() {
+    Expected expected("conversions.expected");
+#ifdef PRINTED
+    all(expected);
+#else
+    nanolog::Options options;
+    options.clock = next_tick;
+    options.nanos = kBegin;
+    nanolog::Session log("conversions.log", DICTIONARY, options);
+    CHECK(log);
+    all(expected);
     const nanolog::Report report = log.close();
     CHECK(report.is_clean());
-#ifdef NANO_LOG_CALL
     CHECK(report.logged == expected.calls() && report.writers == 1 && report.shared == 0);
 #endif
     return 0;

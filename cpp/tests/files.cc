@@ -92,7 +92,7 @@ int main(int count, char **words) {
     nanolog::Options options;
     options.ring = 4096;
     options.quiet = true;
-    nanolog::Session log(words[1], "files.dict", options);
+    nanolog::Session log(words[1], DICTIONARY, options);
     if (way == "between") {
         flush_between(log, words[1]);
         return 0;

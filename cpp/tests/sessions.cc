@@ -17,7 +17,7 @@
 namespace {
 
 constexpr const char *kLog = "sessions.log";
-constexpr const char *kDictionary = "sessions.dict";
+constexpr const char *kDictionary = DICTIONARY;
 
 // So many calls of several threads make no log that is too large to be read.
 constexpr int kMany = 500000;
@@ -51,12 +51,38 @@ void level() {
     CHECK(log.close().logged == 2);
 }
 
-// Calls before a session, between two and behind them are counted, and their arguments aren't evaluated.
+// The level changes while a session is open, and not behind it.
+void set_level() {
+    nanolog::Session log(kLog, kDictionary);
+    std::atomic<bool> is_over{false};
+    std::thread other([&] {
+        for (int number = 0; !is_over && number < 20000; number++) NANO_LOG(ERROR, "error of another thread");
+    });
+    for (int turn = 0; turn < 100; turn++) {
+        log.set_level(nanolog::Severity::Warning);
+        NANO_LOG(NOTICE, "left out %d", evaluate());
+        log.set_level(nanolog::Severity::Notice);
+        NANO_LOG(NOTICE, "kept %d", evaluate());
+        NANO_LOG(DEBUG, "left out %d", evaluate());
+    }
+    is_over = true;
+    other.join();
+    CHECK(evaluated == 100);
+    CHECK(log.close().is_clean());
+    log.set_level(nanolog::Severity::Debug);
+    NANO_LOG(ERROR, "behind %d", evaluate());
+    CHECK(evaluated == 100);
+}
+
+// Calls between two sessions and behind them are counted, and their arguments aren't evaluated. Before the first one
+// statements print their lines, where they have them.
 void without() {
     NANO_LOG(NOTICE, "before %d", evaluate());
+    const int printed = kIsInjected ? 0 : 1;
+    CHECK(evaluated == printed);
     {
         nanolog::Session log(kLog, kDictionary);
-        CHECK(log.report().sessionless == 1);
+        CHECK(log.report().sessionless == (kIsInjected ? 1 : 0));
         NANO_LOG(NOTICE, "within the first %d", evaluate());
     }
     NANO_LOG(NOTICE, "between %d", evaluate());
@@ -70,7 +96,21 @@ void without() {
         CHECK(log.close().sessionless == 2 && log.report().logged == 1);
     }
     NANO_LOG(NOTICE, "behind %d", evaluate());
-    CHECK(evaluated == 2);
+    CHECK(evaluated == printed + 2);
+}
+
+// Calls of many threads without a session are all counted.
+void many_without() {
+    { nanolog::Session log(kLog, kDictionary); }
+    std::vector<std::thread> threads;
+    for (int thread = 0; thread < 100; thread++) {
+        threads.emplace_back([] {
+            for (int number = 0; number < 1000; number++) NANO_LOG(NOTICE, "without a session %d", number);
+        });
+    }
+    for (std::thread &thread : threads) thread.join();
+    nanolog::Session log("sessions2.log", kDictionary);
+    CHECK(log.close().sessionless == 100000);
 }
 
 // A session that can't be: calls are without one.
@@ -84,7 +124,20 @@ void unopened(const char *log_name, const char *dictionary, const nanolog::Optio
 void no_dictionary() { unopened(kLog, "no/such.dict", {}); }
 void a_folder() { unopened(kLog, "/", {}); }
 void bad_dictionary() { unopened(kLog, "bad.dict", {}); }
-void other_dictionary() { unopened(kLog, "other.dict", {}); }
+void torn_dictionary() { unopened(kLog, "torn.dict", {}); }
+
+// The dictionary of other sources: a statement that was taken out with another one is refused, and any other isn't.
+void other_dictionary() {
+    nanolog::Session log(kLog, "other.dict");
+    CHECK(log);
+    NANO_LOG(NOTICE, "of another dictionary %d", 1);
+    NANO_LOG(NOTICE, "of another dictionary %d", 2);
+    const nanolog::Report report = log.close();
+    CHECK(report.stale == (kIsInjected ? 2 : 0) && report.logged == (kIsInjected ? 0 : 2));
+    CHECK(report.units == (kIsInjected ? 1 : 0) && report.is_clean() == !kIsInjected);
+    if (kIsInjected) CHECK(std::strcmp(report.unit[0].file, __FILE__) == 0 && report.unit[0].calls == 2);
+}
+
 void no_ring() {
     nanolog::Options options;
     options.ring = 1023;
@@ -143,28 +196,18 @@ void losses() {
     CHECK(log.flush() == false);
     NANO_LOG(NOTICE, "cut %s, %.*s", std::string_view("a\0b", 3), 4095, long_text.c_str());
     CHECK(log.flush() == false);
-    NANO_LOG(NOTICE, "too long: %s %s", half, half);
+    NANO_LOG(NOTICE, "two are cut: %s %s", half, half);
+    CHECK(log.flush() == false);
     NANO_LOG(NOTICE, "too wide: %*d", 4096, 5);
+    NANO_LOG(NOTICE, "too wide: %*d", -4096, 5);
     NANO_LOG(NOTICE, "too wide: %.*d", 4096, 5);
+    NANO_LOG(NOTICE, "too wide: %*s", 4096, long_text);
     time = 999;
     NANO_LOG(NOTICE, "early");
     const nanolog::Report report = log.close();
-    CHECK(report.logged == 3 && report.cut == 3 && report.too_long == 1 && report.misfit == 2 && report.early == 1);
+    CHECK(report.logged == 4 && report.cut == 4 && report.misfit == 0 && report.sizes == 4 && report.early == 1);
     CHECK(report.dropped == 0 && report.unplaced == 0 && report.sessionless == 0 && report.written == 0);
     CHECK(report.error == ENOSPC && report.unwritten > 8000);
-}
-
-// A text is cut where its type ends, and the rest of the call is there.
-void cut() {
-    nanolog::Session log(kLog, kDictionary);
-    const std::string most(4000, 'm'), more(4001, 'n');
-    const char array[4] = {'a', 'b', 'c', 'd'};
-    NANO_LOG(NOTICE, "cut: %.3s %d", most, 1);
-    NANO_LOG(NOTICE, "cut: %.3s %d", more.c_str(), 2);
-    NANO_LOG(NOTICE, "cut: %.3s %d", std::string_view(more), 3);
-    NANO_LOG(NOTICE, "not cut: %.*s %s %.*s", 3, more, array, 2, std::string_view("x\0y", 3));
-    NANO_LOG(NOTICE, "cut: %s", std::string_view("x\0y", 3));
-    CHECK(log.close().cut == 4);
 }
 
 void signalled(int) { NANO_LOG(NOTICE, "of a handler %d", 1); }
@@ -235,6 +278,8 @@ void late_end() {
 // Sessions begin and end while threads log. Each call is in one of them, or was made without one.
 void abandoned() {
     constexpr int kThreads = 4, kSessions = 40;
+    // From the first session on no call prints its line.
+    { nanolog::Session log(kLog, kDictionary); }
     std::atomic<bool> is_over{false};
     std::atomic<std::uint64_t> calls{0};
     std::vector<std::thread> threads;
@@ -258,7 +303,8 @@ void abandoned() {
         const nanolog::Report report = log.close();
         logged += report.logged + report.dropped;
         sessionless += report.sessionless;
-        CHECK(report.writers <= 3 && report.too_long + report.misfit + report.unplaced + report.unwritten == 0);
+        CHECK(report.writers <= 3 &&
+              report.unknown + report.stale + report.misfit + report.unplaced + report.unwritten == 0);
     }
     is_over = true;
     for (std::thread &thread : threads) thread.join();
@@ -392,10 +438,13 @@ int main(int count, char **words) {
         void (*run)();
     } cases[] = {
         {"level", level},
+        {"set_level", set_level},
         {"without", without},
+        {"many_without", many_without},
         {"no_dictionary", no_dictionary},
         {"a_folder", a_folder},
         {"bad_dictionary", bad_dictionary},
+        {"torn_dictionary", torn_dictionary},
         {"other_dictionary", other_dictionary},
         {"no_ring", no_ring},
         {"no_writers", no_writers},
@@ -404,7 +453,6 @@ int main(int count, char **words) {
         {"quiet", quiet},
         {"second", second},
         {"losses", losses},
-        {"cut", cut},
         {"interrupted", interrupted},
         {"successive", successive},
         {"late_end", late_end},

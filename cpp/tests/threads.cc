@@ -41,7 +41,7 @@ int main(int count, char **words) {
     options.ring = 1024;
     options.policy = way == "drop" ? nanolog::Policy::Drop : nanolog::Policy::Wait;
     options.quiet = true;
-    nanolog::Session log("threads.log", "threads.dict", options);
+    nanolog::Session log("threads.log", DICTIONARY, options);
     CHECK(log);
 
     pthread_barrier_t barrier;

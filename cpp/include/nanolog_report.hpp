@@ -1,0 +1,130 @@
+// What a session is asked for, and what it tells. It is part of nanolog.hpp.
+#pragma once
+
+#include <cstdint>
+
+#include "nanolog.h"
+#include "nanolog_basics.hpp"
+
+namespace nanolog {
+inline namespace version_1 {
+
+// No call has Off: as a level it leaves out all of them.
+enum class Severity : unsigned char { Off, Error, Warning, Notice, Debug };
+
+// What becomes of a call for which its ring has no room: its thread yields until there is some, or it is dropped.
+enum class Policy : unsigned char { Wait, Drop };
+
+struct Options {
+    // The words of each writer's ring, of 8 bytes each, 1,024 to 1,048,576.
+    std::uint64_t ring = 65536;
+    // How many writers there are, 1 to 64, and so many rings. Each but the last belongs to one thread at a time; the
+    // last is shared by all threads for which no other is left.
+    std::uint32_t writers = NANOLOG_MAX_WRITERS;
+    // The most calls of a block of the log, 1 to 65,536.
+    std::uint32_t batch = 4096;
+    // Less grave calls are left out, and their arguments aren't evaluated.
+    Severity level = Severity::Debug;
+    Policy policy = Policy::Wait;
+    // Whether nothing is said on standard error.
+    bool quiet = false;
+    // How many milliseconds a flush, the destructor, close and the end of the program wait at most until all is written.
+    std::uint32_t time_limit = 5000;
+    // Calls that are as grave are printed to standard error, too; and these return once they are handed to the system,
+    // or after the time limit.
+    Severity echo = Severity::Off, flush_at = Severity::Off;
+    // Whether what was logged is written where a fault, or an abort, ends the program.
+    bool on_crash = true;
+    // A clock of the program's own: several threads read it at once, and it doesn't fall. How many ticks it makes in a
+    // second, and how many nanoseconds since 1970 it is when the session begins, where 0 stands for the system's time.
+    std::uint64_t (*clock)() = nullptr;
+    std::uint64_t rate = 1000000000;
+    std::uint64_t nanos = 0;
+};
+
+// What became of the calls of a session, as far as it has come.
+struct Report {
+    struct Writer {
+        std::uint64_t logged = 0;
+        // Dropped for want of room; how many words of its ring the last of these needed, and how many were free.
+        std::uint64_t dropped = 0, need = 0, room = 0;
+    };
+
+    // A file whose statements were taken out with another dictionary, and how many calls it made.
+    struct Unit {
+        char file[256] = "";
+        std::uint64_t calls = 0;
+    };
+    static constexpr std::uint32_t kMostUnits = 8;
+
+    std::uint32_t writers = 0;  // that threads have taken
+    Writer writer[NANOLOG_MAX_WRITERS];
+    std::uint64_t logged = 0;   // by all writers
+    std::uint64_t shared = 0;   // of these by the writer that is shared
+    std::uint64_t written = 0;  // bytes of the log
+
+    // Losses.
+    std::uint64_t dropped = 0;      // by all writers
+    std::uint64_t stale = 0;        // refused: of statements that were taken out with another dictionary
+    std::uint32_t units = 0;        // the files of these, as far as they have room here
+    Unit unit[kMostUnits];
+    std::uint64_t unknown = 0;      // refused: of statements whose message the session's dictionary doesn't have
+    std::uint64_t sizes = 0;        // refused: a width or a precision is out of its range
+    std::uint64_t misfit = 0;       // refused: other arguments than the message takes
+    std::uint64_t unplaced = 0;     // refused: no memory for a writer; or a signal handler's in the midst of another
+    std::uint64_t sessionless = 0;  // made while there was no session
+    std::uint64_t cut = 0;          // texts that were cut, since the call was too long, or at a NUL
+    std::uint64_t early = 0;        // logged with the stamp of the call before, since the program's clock fell
+    std::uint64_t unwritten = 0;    // bytes of the log, since the file failed
+    int error = 0;                  // how it failed, as errno has it
+    bool timed_out = false;         // the session's end came to its time limit before all was written
+
+    bool is_clean() const {
+        const std::uint64_t losses =
+            dropped | stale | unknown | sizes | misfit | unplaced | sessionless | cut | early | unwritten;
+        return losses == 0 && error == 0 && !timed_out;
+    }
+};
+
+namespace detail {
+
+inline void tell_loss(const char *name, const char *what, std::uint64_t number) {
+    if (number == 0) return;
+    say("nanolog: %s: %s: %llu", name, what, static_cast<unsigned long long>(number));
+}
+
+// Tells of the calls that were refused since their statements were taken out with another dictionary.
+inline void tell_stale(const char *name, const Report &report) {
+    std::uint64_t others = report.stale;
+    for (std::uint32_t at = 0; at < report.units; at++) {
+        const Report::Unit &unit = report.unit[at];
+        say("nanolog: %s: calls of %s refused, which has another dictionary: %llu", name, unit.file,
+                     static_cast<unsigned long long>(unit.calls));
+        others -= unit.calls < others ? unit.calls : others;
+    }
+    tell_loss(name, "calls of other files refused, which have another dictionary", others);
+}
+
+inline void tell_losses(const char *name, const Report &report) {
+    for (std::uint32_t number = 0; number < report.writers; number++) {
+        const Report::Writer &writer = report.writer[number];
+        if (writer.dropped == 0) continue;
+        say("nanolog: %s: calls of writer %u dropped: %llu, the last with need %llu room %llu", name,
+                     number, static_cast<unsigned long long>(writer.dropped),
+                     static_cast<unsigned long long>(writer.need), static_cast<unsigned long long>(writer.room));
+    }
+    tell_stale(name, report);
+    tell_loss(name, "calls without a message in the session's dictionary", report.unknown);
+    tell_loss(name, "calls refused, with a width or a precision out of range", report.sizes);
+    tell_loss(name, "calls refused, which don't fit the dictionary", report.misfit);
+    tell_loss(name, "calls refused, for which there was no writer", report.unplaced);
+    tell_loss(name, "calls without a session", report.sessionless);
+    tell_loss(name, "texts cut", report.cut);
+    tell_loss(name, "calls whose stamps would fall", report.early);
+    tell_loss(name, "bytes not written", report.unwritten);
+    if (report.timed_out) say("nanolog: %s: not all was written within the time limit", name);
+}
+
+}  // namespace detail
+}  // namespace version_1
+}  // namespace nanolog

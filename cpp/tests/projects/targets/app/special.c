@@ -1,0 +1,5 @@
+#include <nanolog.hpp>
+
+void special();
+
+void special() { NANO_LOG(NOTICE, "a source of C++ with another name"); }

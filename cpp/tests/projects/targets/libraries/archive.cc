@@ -1,0 +1,8 @@
+#include <both.h>
+
+void archive();
+
+void archive() {
+    NANO_LOG(NOTICE, "an archive says %d", 42);
+    both("the archive");
+}
