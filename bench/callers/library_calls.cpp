@@ -17,7 +17,11 @@ nanolog::Options options_for(unsigned writers) {
 struct Session {
     nanolog::Session log;
 
-    explicit Session(unsigned writers) : log("/dev/null", "library_calls.dict", options_for(writers)) {}
+#ifdef CALLS_DICTIONARY
+    explicit Session(unsigned writers) : log("/dev/null", CALLS_DICTIONARY, options_for(writers)) {}
+#else
+    explicit Session(unsigned writers) : log("/dev/null", options_for(writers)) {}
+#endif
 
     void call(unsigned, unsigned long long number) {
         const unsigned draw = static_cast<unsigned>(number % 32768);
