@@ -15,7 +15,7 @@ use Rattle.printf_grammar.specs.declared.argument.Value.TheVariants as values
 use Rattle.printf_grammar.specs.Types.{IsText, FitsType, Fits, text_of}
 use Rattle.nibble_pack.specs.Bytes.{AreBytes, back_bytes}
 use Rattle.nibble_pack.specs.Packing.{Kind, unsigned, signed, IsCode, Packed}
-use Rattle.nibble_pack.specs.PackingLaws.{Packed-code, IsCode-lt}
+use Rattle.nibble_pack.proofs.lemmas.PackingLaws.{Packed-code, IsCode-lt}
 use Rattle.arg_records.specs.Frames.{argument_words}
 use Rattle.buffer_extent.specs.declared.fault.Cause.{Cause}
 use Rattle.buffer_extent.specs.declared.fault.Cause.TheVariants as causes

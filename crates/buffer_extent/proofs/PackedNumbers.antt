@@ -13,7 +13,7 @@ use Rattle.nibble_pack.specs.Bytes.{AreBytes, number_of_bytes, length-bytes_low_
 use Rattle.nibble_pack.specs.declared.unpack.UnpackFault.{UnpackFault}
 use Rattle.nibble_pack.specs.declared.unpack.UnpackFault.TheVariants as faults
 use Rattle.nibble_pack.specs.Packing.{Kind, unsigned, signed, IsCode, byte_count, IsLeastCount, PacksSigned, small, negative, wide, IsWide, Packed, IsCut, IsNotShortest}
-use Rattle.nibble_pack.specs.PackingLaws.{IsLeastCount-zero, IsLeastCount-suc, wide_number, signed_count-low, signed_count-high, Packed-take}
+use Rattle.nibble_pack.proofs.lemmas.PackingLaws.{IsLeastCount-zero, IsLeastCount-suc, wide_number, signed_count-low, signed_count-high, Packed-take}
 use Rattle.nibble_pack.proofs.lemmas.SignedForms.{no_spelling_low, no_spelling_high, wide_in_range}
 use Rattle.buffer_extent.specs.declared.fault.Cause.{Cause}
 use Rattle.buffer_extent.specs.declared.fault.Cause.TheVariants as causes

@@ -17,7 +17,7 @@ use Rattle.arg_records.specs.Kinds.{HoldsBytes}
 use Rattle.nibble_pack.specs.declared.pack.Packed.{Packed as PackedBytes}
 use Rattle.nibble_pack.specs.Bytes.{AreBytes, number_of_bytes, length-bytes_low_first, low_first-number_of_bytes, from_le_bytes-number}
 use Rattle.nibble_pack.specs.Packing.{Kind, unsigned, signed, byte_count, Packed}
-use Rattle.nibble_pack.specs.PackingLaws.{Packed-length, Packed-bytes}
+use Rattle.nibble_pack.proofs.lemmas.PackingLaws.{Packed-length, Packed-bytes}
 use Rattle.buffer_extent.specs.Records.{PackedNumber, kind_of, packed_value, PacksArguments, code_bytes, codes_of}
 use Rattle.buffer_extent.proofs.PackedNumbers.{numbers_are_as_many}
 use Rattle.buffer_extent.specs.Writing.{BeginsWithWords, HasItsBytes}

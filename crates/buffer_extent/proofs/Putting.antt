@@ -19,7 +19,7 @@ use Rattle.arg_records.proofs.lemmas.Lengths.{length-Frame}
 use Rattle.arg_records.proofs.lemmas.Places.{words_first}
 use Rattle.nibble_pack.specs.Packing.{unsigned, signed, IsWide, PacksSigned, small, negative, wide, Packed}
 use Rattle.nibble_pack.specs.Bytes.{length-bytes_low_first}
-use Rattle.nibble_pack.specs.PackingLaws.{Packed-length, Packed-short}
+use Rattle.nibble_pack.proofs.lemmas.PackingLaws.{Packed-length, Packed-short}
 use Rattle.buffer_extent.specs.Records.{PackedNumber, kind_of, packed_value, PacksArguments, code_bytes, RecordBytes, codes_of, packed_bytes}
 use Rattle.buffer_extent.specs.Writing.{AreWordsOf, IsFrameSince, HeadBytes, number_room, record_room}
 

@@ -9,7 +9,7 @@ use Rattle.printf_grammar.specs.declared.arg_type.ArgType.{ArgType}
 use Rattle.printf_grammar.specs.Types.{Types, Fits, text_of}
 use Rattle.nibble_pack.specs.Bytes.{AreBytes, back_bytes}
 use Rattle.nibble_pack.specs.Packing.{unsigned, Packed}
-use Rattle.nibble_pack.specs.PackingLaws.{Packed-code}
+use Rattle.nibble_pack.proofs.lemmas.PackingLaws.{Packed-code}
 use Rattle.log_dictionary.specs.declared.message.Message.{Message}
 use Rattle.arg_records.specs.declared.frame.TheConstants.{MAX_FRAME_WORDS}
 use Rattle.arg_records.specs.declared.call.Call.{Call}

@@ -4,7 +4,7 @@ use Rattle.std.specs.Prelude.{pos, negsuc}
 use Rattle.printf_grammar.specs.declared.arg_type.ArgType.TheVariants as argument_types
 use Rattle.printf_grammar.specs.declared.argument.Value.TheVariants as values
 use Rattle.nibble_pack.specs.Packing.{unsigned, Packed, IsLeastCount, small, negative}
-use Rattle.nibble_pack.specs.PackingLaws.{IsLeastCount-zero, IsLeastCount-suc}
+use Rattle.nibble_pack.proofs.lemmas.PackingLaws.{IsLeastCount-zero, IsLeastCount-suc}
 use Rattle.buffer_extent.specs.Records.{RecordBytes}
 
 one_byte : (n : ℕ) → 1 ≤ n → n < 256 → IsLeastCount 1 n

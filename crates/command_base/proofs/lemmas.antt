@@ -1,1 +1,5 @@
 pub mod Printings
+pub mod HeldLaws
+pub mod SoundTasks
+pub mod EffectLaws
+pub mod TaskLaws

@@ -8,7 +8,3 @@ pub mod Tasks
 pub mod Readings
 pub mod Effects
 pub mod Soundness
-pub mod HeldLaws
-pub mod SoundTasks
-pub mod EffectLaws
-pub mod TaskLaws

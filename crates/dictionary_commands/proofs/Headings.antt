@@ -8,10 +8,10 @@ use Rattle.log_dictionary.specs.declared.message.Message.{Message}
 use Rattle.trace_text.specs.Dictionaries.{DictionaryText, DictionaryBreak}
 use Rattle.code_inject.specs.Headers.{header_text}
 use Rattle.command_base.specs.Effects.{CommandEffect}
-use Rattle.command_base.specs.EffectLaws.{nothing_came, none_given, saved, unsaved}
+use Rattle.command_base.proofs.lemmas.EffectLaws.{nothing_came, none_given, saved, unsaved}
 use Rattle.command_base.specs.Endings.{Ending, WriteFault, NoMemory}
 use Rattle.command_base.specs.HeldFiles.{IsHeld, HoldsFront}
-use Rattle.command_base.specs.HeldLaws.{such_there}
+use Rattle.command_base.proofs.lemmas.HeldLaws.{such_there}
 use Rattle.command_base.specs.Printing.{Prints}
 use Rattle.command_base.specs.Scenes.{Scene, scene}
 use Rattle.trace_commands.specs.Traces.{IsRefusedBy, GivesNoText, DictionaryRead}

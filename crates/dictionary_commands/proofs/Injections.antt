@@ -6,10 +6,10 @@ use Rattle.nl_io.specs.Content.{Told}
 use Rattle.nl_io.specs.Desk.{Desk, OnlyName, found_in}
 use Rattle.log_dictionary.specs.declared.message.Message.{Message}
 use Rattle.command_base.specs.Effects.{CommandEffect}
-use Rattle.command_base.specs.EffectLaws.{nothing_came, none_given, saved, unsaved}
+use Rattle.command_base.proofs.lemmas.EffectLaws.{nothing_came, none_given, saved, unsaved}
 use Rattle.command_base.specs.Endings.{Ending, Done, RefusedSources, WriteFault, NoMemory}
 use Rattle.command_base.specs.HeldFiles.{IsHeld, HoldsFront}
-use Rattle.command_base.specs.HeldLaws.{held_there}
+use Rattle.command_base.proofs.lemmas.HeldLaws.{held_there}
 use Rattle.command_base.specs.Printing.{Prints}
 use Rattle.command_base.specs.Readings.{never, ReadsFile}
 use Rattle.command_base.specs.Scenes.{Scene, scene}

@@ -16,9 +16,9 @@ use Rattle.decompressor.specs.declared.fault.DecodeFault.TheVariants as faults
 use Rattle.decompressor.specs.Decompressing.{IsTextOfWhole, IsTextOfDamaged, IsTextOfCut, IsTextOfSettled, ReadsText, Decompresses}
 use Rattle.command_base.specs.Endings.{Ending, ReadFault, WriteFault, NoMemory}
 use Rattle.command_base.specs.HeldFiles.{IsThere}
-use Rattle.command_base.specs.HeldLaws.{WasRead, such_read, there_read, same_desk}
+use Rattle.command_base.proofs.lemmas.HeldLaws.{WasRead, such_read, there_read, same_desk}
 use Rattle.command_base.specs.Effects.{IsPrinted, CommandEffect}
-use Rattle.command_base.specs.EffectLaws.{HasRead, put_nothing, cut_off, stopped, only_there}
+use Rattle.command_base.proofs.lemmas.EffectLaws.{HasRead, put_nothing, cut_off, stopped, only_there}
 use Rattle.command_base.specs.Readings.{ReadsFile}
 use Rattle.command_base.specs.Scenes.{Scene, scene}
 use Rattle.command_base.specs.Tasks.{Streaming, text_alone}

@@ -4,7 +4,7 @@ use Rattle.nl_io.specs.Content.{Told, with_end}
 use Rattle.nl_io.specs.Desk.{Desk}
 use Rattle.command_base.specs.Endings.{Ending, Usage, WriteFault, NoMemory}
 use Rattle.command_base.specs.Effects.{CommandEffect}
-use Rattle.command_base.specs.EffectLaws.{put_nothing, completes, has_completed, nothing_came}
+use Rattle.command_base.proofs.lemmas.EffectLaws.{put_nothing, completes, has_completed, nothing_came}
 use Rattle.command_base.specs.Readings.{Form, Begun, ReadsFile, printing_task}
 use Rattle.command_base.specs.Scenes.{Scene, scene}
 use Rattle.command_base.specs.Soundness.{IsSound}

@@ -11,7 +11,7 @@ use Rattle.aggregation.specs.declared.fault.AggregateFault.{AggregateFault}
 use Rattle.aggregation.specs.declared.fault.AggregateFault.TheVariants as faults
 use Rattle.aggregation.specs.Aggregating.{HaveAnswer, AnswersTotals}
 use Rattle.command_base.specs.HeldFiles.{IsThere}
-use Rattle.command_base.specs.HeldLaws.{WasRead, such_read, there_read, same_desk}
+use Rattle.command_base.proofs.lemmas.HeldLaws.{WasRead, such_read, there_read, same_desk}
 use Rattle.command_base.specs.Readings.{never, ReadsFile}
 use Rattle.command_base.specs.Tasks.{text_alone}
 use Rattle.log_commands.specs.Aggregating.{totals_line, totals_text, totals_told, totals_ending, GivesTotals}

@@ -2,7 +2,7 @@
 use Rattle.cli_words.specs.Commands.{Command, Preprocess, Direct, Replay, Decompress, Aggregate, Generate, Selftest, Schedule, Inject, Header}
 use Rattle.command_base.specs.Soundness.{IsSound}
 use Rattle.source_commands.specs.Preprocessing.{GiveDictionary}
-use Rattle.source_commands.specs.SourceLaws.{source_sound}
+use Rattle.source_commands.proofs.lemmas.SourceLaws.{source_sound}
 use Rattle.trace_commands.proofs.lemmas.Soundness.{direct_sound, generate_sound}
 use Rattle.dictionary_commands.proofs.lemmas.Soundness.{header_sound, inject_sound}
 use Rattle.log_commands.proofs.lemmas.Soundness.{decompress_sound, aggregate_sound}

@@ -31,11 +31,11 @@ use Rattle.trace_session.specs.Sessions.{IsWholeLog}
 use Rattle.command_base.specs.Endings.{Ending, Done, StillOpen, Usage, WriteFault, NoMemory, status_of}
 use Rattle.command_base.specs.declared.status.Status.TheVariants as statuses
 use Rattle.command_base.specs.HeldFiles.{Holds}
-use Rattle.command_base.specs.HeldLaws.{such_is}
+use Rattle.command_base.proofs.lemmas.HeldLaws.{such_is}
 use Rattle.command_base.specs.Scenes.{Scene}
 use Rattle.command_base.specs.Tasks.{Product}
 use Rattle.command_base.specs.Effects.{Completes, CommandEffect}
-use Rattle.command_base.specs.TaskLaws.{unfailed}
+use Rattle.command_base.proofs.lemmas.TaskLaws.{unfailed}
 use Rattle.trace_commands.specs.Texts.{direct_text}
 use Rattle.trace_commands.specs.Traces.{TraceRead}
 use Rattle.trace_commands.specs.Tasks.{direct_task}

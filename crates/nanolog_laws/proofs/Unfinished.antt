@@ -22,12 +22,12 @@ use Rattle.cli_words.specs.Commands.{Command, Preprocess, Direct, Replay, Decomp
 use Rattle.cli_words.specs.Usage.{usage_text}
 use Rattle.command_base.specs.Endings.{Ending, Done, StillOpen, Usage, Absent, ReadFault, Refused, RefusedSources, Damaged, WriteFault, NoMemory}
 use Rattle.command_base.specs.Effects.{IsMade, Completes, StopsPrinting, WantsMemory, CommandEffect}
-use Rattle.command_base.specs.EffectLaws.{put_nothing}
+use Rattle.command_base.proofs.lemmas.EffectLaws.{put_nothing}
 use Rattle.command_base.specs.HeldFiles.{IsHeld}
 use Rattle.command_base.specs.Readings.{Form, Begun, never, GivesNoBytes, ReadsFile, file_task, pair_task, ReadsNone, free_task}
 use Rattle.command_base.specs.Scenes.{Scene}
 use Rattle.command_base.specs.Soundness.{IsSound}
-use Rattle.command_base.specs.SoundTasks.{has_first, has_second}
+use Rattle.command_base.proofs.lemmas.SoundTasks.{has_first, has_second}
 use Rattle.command_base.specs.Tasks.{Product, nothing, Course, WhileReading, UntilBegun, WhilePrinting, Streaming, Task}
 use Rattle.command_base.specs.Words.{standard_output}
 use Rattle.source_commands.specs.Sources.{source_name, IsReached, ReadsSources, source_task}

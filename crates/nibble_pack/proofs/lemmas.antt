@@ -3,3 +3,4 @@ pub mod Fronts
 pub mod SignedForms
 pub mod Parsing
 pub mod Steady
+pub mod PackingLaws

@@ -1,4 +1,3 @@
 pub mod Parsing
 pub mod Packing
 pub mod Bytes
-pub mod PackingLaws

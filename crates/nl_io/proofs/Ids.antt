@@ -3,7 +3,7 @@ use Rattle.std.proofs.Common.{◌≡◌, ◌≢◌, ℕ, Option, Some, None, Res
 use Rattle.std.specs.Prelude.{IfOk, OnErr, unwrap_or}
 use Rattle.std.specs.FinMap as map
 use Rattle.nl_io.specs.Content.{Told, without_front}
-use Rattle.nl_io.specs.DeskLaws.{some_told, get-given, get-other}
+use Rattle.nl_io.proofs.lemmas.DeskLaws.{some_told, get-given, get-other}
 use Rattle.nl_io.specs.Desk.{Desk, OnlyReadFaults, TakesBytes, SameButLeft}
 use Rattle.nl_io.specs.declared.failed.Failed.{Failed}
 

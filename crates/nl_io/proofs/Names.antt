@@ -3,7 +3,7 @@ use Rattle.std.proofs.Common.{◌≡◌, ◌≢◌, ℕ, List, [], ◌++◌, Opt
 use Rattle.std.specs.Prelude.{IfOk, OnErr, is_some, option_map, unwrap_or}
 use Rattle.std.specs.FinMap as map
 use Rattle.nl_io.specs.Content.{Told, with_end}
-use Rattle.nl_io.specs.DeskLaws.{held-given, held-other, Puts-made}
+use Rattle.nl_io.proofs.lemmas.DeskLaws.{held-given, held-other, Puts-made}
 use Rattle.nl_io.specs.Desk.{Desk, Held, held_at, held_by, put_by, found_in, OnlyWriteFaults, Puts, SameButHeld}
 use Rattle.nl_io.specs.declared.failed.Failed.{Failed}
 

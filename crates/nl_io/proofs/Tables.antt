@@ -12,7 +12,7 @@ use Rattle.std.specs.BTreeMap.{BTreeMap}
 use Rattle.std.specs.FinMap as map
 use Rattle.std.proofs.lemmas.Result.{IfOk-weaker}
 use Rattle.nl_io.specs.Content.{Told, without_front}
-use Rattle.nl_io.specs.DeskLaws.{same_key}
+use Rattle.nl_io.proofs.lemmas.DeskLaws.{same_key}
 use Rattle.nl_io.specs.Tables.{as_map, by_id}
 use Rattle.nl_io.specs.Untold.{ids_in}
 

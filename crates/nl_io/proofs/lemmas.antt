@@ -1,3 +1,4 @@
 pub mod Contents
 pub mod Outcomes
 pub mod TextWriters
+pub mod DeskLaws

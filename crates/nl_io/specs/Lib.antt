@@ -2,7 +2,7 @@ pub mod Count
 pub mod Content
 pub mod TextWriters
 pub mod Desk
-pub mod DeskLaws
+pub mod SameDesks
 pub mod Scripts
 pub mod MemSinks
 pub mod Tables

@@ -2,7 +2,7 @@ ghost use Rattle.std.specs.Prelude.{◌≡◌, ◌≢◌, None};
 ghost use Rattle.std.specs.FinMap as map;
 ghost use Rattle.std.proofs.Common.{refl, ◌∙◌};
 ghost use Rattle.nl_io.specs.Desk.{put_by, SameButHeld};
-ghost use Rattle.nl_io.specs.DeskLaws.{SameButHeld-same, SameButHeld-then};
+ghost use Rattle.nl_io.specs.SameDesks.{SameButHeld-same, SameButHeld-then};
 
 use crate::failed::Failed;
 use crate::files::Files;

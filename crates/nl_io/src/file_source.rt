@@ -2,7 +2,7 @@ ghost use Rattle.std.specs.Prelude.{◌≡◌, ◌≢◌, None, unwrap_or};
 ghost use Rattle.std.specs.FinMap as map;
 ghost use Rattle.std.proofs.Common.{refl, ◌∙◌};
 ghost use Rattle.nl_io.specs.Desk.{SameButLeft};
-ghost use Rattle.nl_io.specs.DeskLaws.{SameButLeft-same, SameButLeft-then};
+ghost use Rattle.nl_io.specs.SameDesks.{SameButLeft-same, SameButLeft-then};
 
 use crate::failed::Failed;
 use crate::files::Files;

@@ -17,9 +17,9 @@ use Rattle.schedule_text.proofs.lemmas.JudgedLaws.{comes_judged}
 use Rattle.schedule_text.proofs.lemmas.Deciding.{front_decides}
 use Rattle.command_base.specs.Endings.{Ending, Done}
 use Rattle.command_base.specs.Effects.{IsPrinted, CommandEffect}
-use Rattle.command_base.specs.EffectLaws.{HasRead, completes, has_completed, cut_off, stopped, only_there, IsVerdict}
+use Rattle.command_base.proofs.lemmas.EffectLaws.{HasRead, completes, has_completed, cut_off, stopped, only_there, IsVerdict}
 use Rattle.command_base.specs.HeldFiles.{HoldsSuch, IsThere}
-use Rattle.command_base.specs.HeldLaws.{such_there}
+use Rattle.command_base.proofs.lemmas.HeldLaws.{such_there}
 use Rattle.command_base.specs.Readings.{never, ReadsFile}
 use Rattle.command_base.specs.Scenes.{Scene, scene}
 use Rattle.command_base.specs.Tasks.{WhilePrinting, text_alone}

@@ -13,7 +13,7 @@ use Rattle.printf_grammar.specs.declared.arg_type.ArgType.{ArgType}
 use Rattle.printf_grammar.specs.declared.argument.Value.{Value}
 use Rattle.printf_grammar.specs.Types.{text_of}
 use Rattle.nibble_pack.specs.Packing.{unsigned}
-use Rattle.nibble_pack.specs.PackingLaws.{Packed-short}
+use Rattle.nibble_pack.proofs.lemmas.PackingLaws.{Packed-short}
 use Rattle.log_dictionary.specs.declared.message.Message.{Message}
 use Rattle.log_dictionary.specs.declared.clock.Clock.{Clock}
 use Rattle.log_dictionary.specs.BinaryEntries.{text_bytes, SpellsEntry}

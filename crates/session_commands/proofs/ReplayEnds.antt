@@ -5,7 +5,7 @@ use Rattle.std.proofs.lemmas.List.{append-nil}
 use Rattle.nl_io.specs.Count.{Rose}
 use Rattle.nl_io.specs.Content.{Told, with_end}
 use Rattle.nl_io.specs.Desk.{Desk, OnlyName, OnlyWriteFaults, Creates, Finishes, SameButHeld, put_by, found_in}
-use Rattle.nl_io.specs.DeskLaws.{written, written-holds}
+use Rattle.nl_io.proofs.lemmas.DeskLaws.{written, written-holds}
 use Rattle.arg_records.specs.declared.call.Call.{Call}
 use Rattle.checkpoint_io.specs.Logs.{LogOf}
 use Rattle.trace_text.specs.Recordings.{Recording}
@@ -20,9 +20,9 @@ use Rattle.trace_session.specs.Sessions.{AreCounted, IsSession, AreFirstCalls, I
 use Rattle.decompressor.proofs.lemmas.TextLaws.{log_is_text}
 use Rattle.command_base.specs.Endings.{Ending, WriteFault, NoMemory}
 use Rattle.command_base.specs.Effects.{CommandEffect}
-use Rattle.command_base.specs.EffectLaws.{put_nothing, nothing_came, none_given, printed_done, lost}
+use Rattle.command_base.proofs.lemmas.EffectLaws.{put_nothing, nothing_came, none_given, printed_done, lost}
 use Rattle.command_base.specs.HeldFiles.{IsHeld}
-use Rattle.command_base.specs.HeldLaws.{such_there, holds_written}
+use Rattle.command_base.proofs.lemmas.HeldLaws.{such_there, holds_written}
 use Rattle.command_base.specs.Printing.{Prints}
 use Rattle.command_base.specs.Scenes.{Scene, scene}
 use Rattle.command_base.specs.Tasks.{Product}

@@ -25,7 +25,7 @@ use Rattle.trace_generator.specs.Generated.{Generated}
 use Rattle.nl_io.specs.Desk.{Desk}
 use Rattle.command_base.specs.Endings.{Ending, NoMemory}
 use Rattle.command_base.specs.Effects.{CommandEffect}
-use Rattle.command_base.specs.EffectLaws.{nothing_came, printed_done}
+use Rattle.command_base.proofs.lemmas.EffectLaws.{nothing_came, printed_done}
 use Rattle.command_base.specs.Printing.{Prints}
 use Rattle.command_base.specs.Scenes.{Scene, scene}
 use Rattle.command_base.specs.Tasks.{text_alone}

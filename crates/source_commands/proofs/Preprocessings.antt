@@ -12,14 +12,14 @@ use Rattle.log_dictionary.specs.Canonical.{dictionary_text}
 use Rattle.preprocessor.specs.Numbering.{Numbered}
 use Rattle.command_base.specs.declared.refusal.Refusal.{Refusal}
 use Rattle.command_base.specs.Endings.{Ending, Done, StillOpen, Usage, Absent, ReadFault, Refused, RefusedSources, Damaged, WriteFault, NoMemory, ending_of, refusal_ending}
-use Rattle.command_base.specs.EffectLaws.{ended_as, nothing_came, saved, unsaved}
+use Rattle.command_base.proofs.lemmas.EffectLaws.{ended_as, nothing_came, saved, unsaved}
 use Rattle.command_base.specs.Effects.{CommandEffect}
 use Rattle.command_base.specs.HeldFiles.{IsHeld, HoldsFront}
 use Rattle.command_base.specs.Printing.{Prints}
 use Rattle.command_base.specs.Scenes.{Scene, scene}
 use Rattle.command_base.specs.Tasks.{nothing}
 use Rattle.source_commands.specs.Sources.{AreTaken, GiveNothing, ReadsSources}
-use Rattle.source_commands.specs.SourceLaws.{source_sound}
+use Rattle.source_commands.proofs.lemmas.SourceLaws.{source_sound}
 use Rattle.source_commands.specs.Preprocessing.{counts_text, dictionary_of, GiveDictionary, preprocess_task}
 
 -- what gives nothing is no dictionary

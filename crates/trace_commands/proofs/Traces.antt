@@ -16,7 +16,7 @@ use Rattle.trace_text.specs.Dictionaries.{DictionaryText, DictionaryBreak}
 use Rattle.trace_text.specs.TraceReading.{IsAnswerTo}
 use Rattle.command_base.specs.declared.refusal.Refusal.{Refusal}
 use Rattle.command_base.specs.HeldFiles.{IsHeld, HoldsSuch}
-use Rattle.command_base.specs.HeldLaws.{WasRead, such_read, there_read, same_desk, held_there, such_there, held_such}
+use Rattle.command_base.proofs.lemmas.HeldLaws.{WasRead, such_read, there_read, same_desk, held_there, such_there, held_such}
 use Rattle.trace_commands.specs.Traces.{GivesNoText, GivesNoTrace, SaysOfTrace, trace_fault_ending}
 
 -- a call handed this refusal on

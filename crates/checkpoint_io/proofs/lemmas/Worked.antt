@@ -2,7 +2,7 @@
 use Rattle.std.proofs.Common.{ℕ, ◌≤◌, lit<, lit≤, [], ◌∷◌, ◌++◌, refl, inl, arith}
 use Rattle.std.specs.Hash.{le_bytes}
 use Rattle.nibble_pack.specs.Packing.{small}
-use Rattle.nibble_pack.specs.PackingLaws.{IsLeastCount-zero, IsLeastCount-suc}
+use Rattle.nibble_pack.proofs.lemmas.PackingLaws.{IsLeastCount-zero, IsLeastCount-suc}
 use Rattle.log_dictionary.specs.BinaryEntries.{SpellsEntry}
 use Rattle.log_dictionary.proofs.lemmas.BinaryWorked.{formed}
 use Rattle.buffer_extent.specs.Bodies.{SpellsRecord}

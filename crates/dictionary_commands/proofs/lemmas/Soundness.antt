@@ -10,11 +10,11 @@ use Rattle.code_inject.specs.Injected.{RefusesSource}
 use Rattle.code_inject.proofs.lemmas.Unique.{apart}
 use Rattle.command_base.specs.Endings.{ToldCause, Ending, IsDone, Done, Refused, RefusedSources}
 use Rattle.command_base.specs.HeldFiles.{Holds}
-use Rattle.command_base.specs.HeldLaws.{such_is, such_there, holds_there, held_such}
+use Rattle.command_base.proofs.lemmas.HeldLaws.{such_is, such_there, holds_there, held_such}
 use Rattle.command_base.specs.Tasks.{Product, IsFrontMade, WhileReading}
 use Rattle.command_base.specs.Readings.{never}
 use Rattle.command_base.specs.Soundness.{IsSound}
-use Rattle.command_base.specs.SoundTasks.{file_sound, pair_sound}
+use Rattle.command_base.proofs.lemmas.SoundTasks.{file_sound, pair_sound}
 use Rattle.trace_commands.specs.Traces.{IsRefusedBy, IsRefusedText, DictionaryRead}
 use Rattle.dictionary_commands.specs.Heading.{GivesHeader, IsDictionary, header_task}
 use Rattle.dictionary_commands.specs.Injecting.{IsSource, GivesInjected, IsInjectable, AreInjectable, inject_task}

@@ -15,11 +15,11 @@ use Rattle.aggregation.specs.Totals.{argument_totals}
 use Rattle.aggregation.specs.Aggregating.{answer_for, HaveAnswer}
 use Rattle.aggregation.proofs.lemmas.TotalsLaws.{one_answer}
 use Rattle.command_base.specs.Endings.{IsDone}
-use Rattle.command_base.specs.HeldLaws.{such_is}
+use Rattle.command_base.proofs.lemmas.HeldLaws.{such_is}
 use Rattle.command_base.specs.Tasks.{WhileReading, Streaming}
 use Rattle.command_base.specs.Readings.{never}
 use Rattle.command_base.specs.Soundness.{IsSound}
-use Rattle.command_base.specs.SoundTasks.{file_sound}
+use Rattle.command_base.proofs.lemmas.SoundTasks.{file_sound}
 use Rattle.log_commands.specs.Logs.{IsLog, HasNumber}
 use Rattle.log_commands.specs.Decompressing.{whole_ending, log_ending, HaveText, GivesText, BeginsText, decompress_task}
 use Rattle.log_commands.specs.Aggregating.{totals_ending, GivesTotals, aggregate_task}

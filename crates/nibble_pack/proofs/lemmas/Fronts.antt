@@ -7,7 +7,7 @@ use Rattle.std.proofs.lemmas.Nat.{mod-mul-add, shr_high}
 use Rattle.std.specs.Prelude.{All, ℤ, pos}
 use Rattle.std.specs.Int.{w64, to_le_bytes, from_le_bytes, bytes_low_first}
 use Rattle.nibble_pack.specs.Packing.{Kind, unsigned, byte_count, IsLeastCount, Packed}
-use Rattle.nibble_pack.specs.PackingLaws.{same_number, same_value, Packed-length, Packed-take}
+use Rattle.nibble_pack.proofs.lemmas.PackingLaws.{same_number, same_value, Packed-length, Packed-take}
 use Rattle.nibble_pack.specs.Bytes.{AreBytes, number_of_bytes, length-bytes_low_first, number_of_bytes-lt, low_first-number_of_bytes, bytes_low_first-zeros, number_of_bytes-zeros, from_le_bytes-number}
 use Rattle.nibble_pack.proofs.lemmas.Counts.{pow256}
 

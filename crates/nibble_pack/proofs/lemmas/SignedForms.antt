@@ -6,7 +6,7 @@ use Rattle.std.specs.Prelude.{All, ℤ, pos, negsuc, FitsSigned}
 use Rattle.std.specs.Int.{w64, cast_signed, cast_unsigned, bytes_low_first}
 use Rattle.nibble_pack.specs.Bytes.{number_of_bytes}
 use Rattle.nibble_pack.specs.Packing.{unsigned, signed, IsLeastCount, IsWide, small, negative, wide, Packed, byte_count, IsNotShortest}
-use Rattle.nibble_pack.specs.PackingLaws.{same_number, wide_number, signed_count-low, signed_count-high}
+use Rattle.nibble_pack.proofs.lemmas.PackingLaws.{same_number, wide_number, signed_count-low, signed_count-high}
 use Rattle.nibble_pack.proofs.lemmas.Counts.{pow256, pow-mono}
 use Rattle.nibble_pack.proofs.lemmas.Fronts.{read_spells}
 

@@ -6,11 +6,11 @@ use Rattle.schedule_text.specs.Judged.{ScheduleOutcome}
 use Rattle.schedule_text.specs.Schedules.{played_lines, ComesTo}
 use Rattle.schedule_text.proofs.lemmas.JudgedLaws.{only_judged}
 use Rattle.command_base.specs.Endings.{IsDone}
-use Rattle.command_base.specs.HeldLaws.{such_is}
+use Rattle.command_base.proofs.lemmas.HeldLaws.{such_is}
 use Rattle.command_base.specs.Tasks.{WhilePrinting}
 use Rattle.command_base.specs.Readings.{never}
 use Rattle.command_base.specs.Soundness.{IsSound}
-use Rattle.command_base.specs.SoundTasks.{file_sound}
+use Rattle.command_base.proofs.lemmas.SoundTasks.{file_sound}
 use Rattle.schedule_commands.specs.Tasks.{verdict_of, GivesSteps, IsSchedule, schedule_task}
 
 -- in a schedule that is played no line is refused

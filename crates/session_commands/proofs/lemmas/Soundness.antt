@@ -6,10 +6,10 @@ use Rattle.trace_text.specs.Traces.{TraceText}
 use Rattle.session_options.specs.declared.options.Options.{Options}
 use Rattle.command_base.specs.Endings.{Ending, IsDone, Done, Refused}
 use Rattle.command_base.specs.HeldFiles.{Holds}
-use Rattle.command_base.specs.HeldLaws.{such_there}
+use Rattle.command_base.proofs.lemmas.HeldLaws.{such_there}
 use Rattle.command_base.specs.Readings.{never}
 use Rattle.command_base.specs.Soundness.{IsSound}
-use Rattle.command_base.specs.SoundTasks.{file_sound, free_sound}
+use Rattle.command_base.proofs.lemmas.SoundTasks.{file_sound, free_sound}
 use Rattle.command_base.specs.Tasks.{Product, WhileReading, UntilBegun, text_alone}
 use Rattle.trace_commands.specs.Traces.{IsTrace}
 use Rattle.trace_commands.proofs.lemmas.Soundness.{right_trace}

@@ -7,11 +7,11 @@ use Rattle.trace_text.specs.Reading.{TraceBreak}
 use Rattle.trace_text.proofs.lemmas.ToldApart.{not_broken}
 use Rattle.command_base.specs.Endings.{ToldCause, Ending, IsDone, Done, Refused}
 use Rattle.command_base.specs.HeldFiles.{Holds}
-use Rattle.command_base.specs.HeldLaws.{such_is}
+use Rattle.command_base.proofs.lemmas.HeldLaws.{such_is}
 use Rattle.command_base.specs.Tasks.{Product, WhilePrinting, text_alone}
 use Rattle.command_base.specs.Readings.{never}
 use Rattle.command_base.specs.Soundness.{IsSound}
-use Rattle.command_base.specs.SoundTasks.{file_sound, free_sound}
+use Rattle.command_base.proofs.lemmas.SoundTasks.{file_sound, free_sound}
 use Rattle.trace_commands.specs.Traces.{IsTrace, IsRefusedAt}
 use Rattle.trace_commands.specs.Tasks.{GivesLines, direct_task, generate_task}
 

@@ -2,7 +2,7 @@ use Rattle.std.proofs.Common.{◌≡◌, ◌+◌, ◌*◌, ◌<◌, ◌≤◌, �
 use Rattle.std.proofs.lemmas.List.{length-append, length-set}
 use Rattle.std.specs.Prelude.{pos}
 use Rattle.nibble_pack.specs.Packing.{unsigned, Packed}
-use Rattle.nibble_pack.specs.PackingLaws.{Packed-length}
+use Rattle.nibble_pack.proofs.lemmas.PackingLaws.{Packed-length}
 use Rattle.arg_records.specs.Places.{with_words}
 use Rattle.buffer_extent.specs.Writing.{HeadBytes}
 use Rattle.buffer_extent.proofs.Packing.{id_short, has_its_bytes}

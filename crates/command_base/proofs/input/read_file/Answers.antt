@@ -1,6 +1,6 @@
 use Rattle.std.proofs.Common.{refl, rules}
-use Rattle.nl_io.specs.DeskLaws.{visited, visited-whole, Opens-reading}
-use Rattle.command_base.specs.HeldLaws.{all_held, such_held, opened_there}
+use Rattle.nl_io.proofs.lemmas.DeskLaws.{visited, visited-whole, Opens-reading}
+use Rattle.command_base.proofs.lemmas.HeldLaws.{all_held, such_held, opened_there}
 use Rattle.command_base.proofs.input.read_file.Goals as goal
 
 pub read_open-read-requires : goal.read_open-read-requires

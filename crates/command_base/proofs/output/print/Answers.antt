@@ -1,6 +1,6 @@
 use Rattle.std.proofs.Common.{sym, subst, ◌∙◌}
 use Rattle.command_base.specs.Endings.{Ending}
-use Rattle.command_base.specs.EffectLaws.{prints_free}
+use Rattle.command_base.proofs.lemmas.EffectLaws.{prints_free}
 use Rattle.command_base.specs.Printing.{Prints}
 use Rattle.command_base.proofs.lemmas.Printings.{prints_written}
 use Rattle.command_base.proofs.output.print.Goals as goal

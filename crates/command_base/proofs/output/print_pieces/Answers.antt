@@ -1,7 +1,7 @@
 use Rattle.std.proofs.Common.{sym, subst, ◌∙◌}
 use Rattle.nl_io.specs.TextWriters.{text_of_pieces}
 use Rattle.command_base.specs.Endings.{Ending}
-use Rattle.command_base.specs.EffectLaws.{prints_as, prints_free}
+use Rattle.command_base.proofs.lemmas.EffectLaws.{prints_as, prints_free}
 use Rattle.command_base.specs.Printing.{Prints}
 use Rattle.command_base.proofs.output.print_pieces.Goals as goal
 

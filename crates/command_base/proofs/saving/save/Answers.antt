@@ -1,8 +1,8 @@
 use Rattle.std.proofs.Common.{inr}
-use Rattle.nl_io.specs.DeskLaws.{Creates-made, SameButHeld-made, written, written-holds}
+use Rattle.nl_io.proofs.lemmas.DeskLaws.{Creates-made, SameButHeld-made, written, written-holds}
 use Rattle.nl_io.proofs.lemmas.Outcomes.{at_ok, at_err}
 use Rattle.nl_io.proofs.lemmas.Contents.{front-whole}
-use Rattle.command_base.specs.HeldLaws.{holds_written, front_written}
+use Rattle.command_base.proofs.lemmas.HeldLaws.{holds_written, front_written}
 use Rattle.command_base.proofs.saving.save.Goals as goal
 
 pub write_created-written-requires : goal.write_created-written-requires

@@ -1,7 +1,7 @@
 use Rattle.std.proofs.Common.{ℕ, List, ap, sym, subst, ◌∙◌}
 use Rattle.nl_io.specs.Desk.{Desk}
 use Rattle.command_base.specs.Effects.{CommandEffect}
-use Rattle.command_base.specs.EffectLaws.{ended_as}
+use Rattle.command_base.proofs.lemmas.EffectLaws.{ended_as}
 use Rattle.command_base.specs.Endings.{Ending, refusal_ending}
 use Rattle.command_base.specs.Scenes.{Scene, scene}
 use Rattle.code_inject.specs.Injected.{InjectsSource}

@@ -1,4 +1,4 @@
-use Rattle.nl_io.specs.DeskLaws.{Opens-reading}
+use Rattle.nl_io.proofs.lemmas.DeskLaws.{Opens-reading}
 use Rattle.format_tests.proofs.streams.source.Goals as goal
 
 pub make-requires : goal.make-requires

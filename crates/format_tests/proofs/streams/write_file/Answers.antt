@@ -1,4 +1,4 @@
-use Rattle.nl_io.specs.DeskLaws.{Creates-made, SameButHeld-made}
+use Rattle.nl_io.proofs.lemmas.DeskLaws.{Creates-made, SameButHeld-made}
 use Rattle.format_tests.proofs.streams.write_file.Goals as goal
 
 pub put_all-wrote-requires : goal.put_all-wrote-requires

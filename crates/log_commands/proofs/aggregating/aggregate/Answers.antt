@@ -1,7 +1,7 @@
 use Rattle.std.proofs.Common.{refl, sym, subst}
 use Rattle.command_base.specs.Endings.{Ending}
 use Rattle.command_base.specs.Effects.{CommandEffect}
-use Rattle.command_base.specs.EffectLaws.{ended_as, not_done, cut_off}
+use Rattle.command_base.proofs.lemmas.EffectLaws.{ended_as, not_done, cut_off}
 use Rattle.command_base.specs.Readings.{never}
 use Rattle.command_base.specs.Scenes.{Scene, scene}
 use Rattle.command_base.specs.Tasks.{WhileReading, text_alone}

@@ -1,10 +1,10 @@
 use Rattle.std.proofs.Common.{◌≡◌, ℕ, Option, sym, subst}
 use Rattle.nl_io.specs.Count.{Rose}
-use Rattle.nl_io.specs.DeskLaws.{Opens-reading, Opens-content}
+use Rattle.nl_io.proofs.lemmas.DeskLaws.{Opens-reading, Opens-content}
 use Rattle.aggregation.specs.declared.totals.Totals.{Totals}
 use Rattle.command_base.specs.Endings.{Ending, ending_of}
-use Rattle.command_base.specs.EffectLaws.{no_bytes}
-use Rattle.command_base.specs.HeldLaws.{was_read, counts_by}
+use Rattle.command_base.proofs.lemmas.EffectLaws.{no_bytes}
+use Rattle.command_base.proofs.lemmas.HeldLaws.{was_read, counts_by}
 use Rattle.command_base.specs.Readings.{never}
 use Rattle.command_base.specs.Tasks.{text_alone}
 use Rattle.log_commands.specs.Aggregating.{totals_text, totals_told, GivesTotals, aggregate_task}

@@ -1,11 +1,11 @@
 use Rattle.std.proofs.Common.{ℕ, Ok, Err, sym, subst}
-use Rattle.nl_io.specs.DeskLaws.{Opens-reading, Opens-content}
+use Rattle.nl_io.proofs.lemmas.DeskLaws.{Opens-reading, Opens-content}
 use Rattle.nl_io.proofs.lemmas.Contents.{front-whole}
 use Rattle.decompressor.specs.Decompressing.{Decompresses}
 use Rattle.command_base.specs.Endings.{Ending}
 use Rattle.command_base.specs.Effects.{CommandEffect}
-use Rattle.command_base.specs.EffectLaws.{answered_as, no_bytes, nothing_came}
-use Rattle.command_base.specs.HeldLaws.{was_read, counts_by}
+use Rattle.command_base.proofs.lemmas.EffectLaws.{answered_as, no_bytes, nothing_came}
+use Rattle.command_base.proofs.lemmas.HeldLaws.{was_read, counts_by}
 use Rattle.command_base.specs.Scenes.{Scene, scene}
 use Rattle.log_commands.specs.Logs.{left_by}
 use Rattle.log_commands.specs.Decompressing.{GivesText, BeginsText, decompress_task}

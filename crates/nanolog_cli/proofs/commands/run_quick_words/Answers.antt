@@ -1,6 +1,6 @@
 use Rattle.std.proofs.Common.{Some, None, refl, inl}
 use Rattle.command_base.specs.declared.refusal.Refusal.TheVariants.{NoMemory as WantsMemory}
-use Rattle.command_base.specs.EffectLaws.{answered_as}
+use Rattle.command_base.proofs.lemmas.EffectLaws.{answered_as}
 use Rattle.nanolog_cli.specs.Outcomes.{quick_part}
 use Rattle.nanolog_cli.proofs.Dispatch.{none_asked, words_read}
 use Rattle.nanolog_cli.proofs.commands.run_quick_words.Goals as goal

@@ -1,7 +1,7 @@
 use Rattle.std.proofs.Common.{Option, Some, None, refl, inl}
 use Rattle.cli_words.specs.Commands.{Command}
 use Rattle.command_base.specs.declared.refusal.Refusal.TheVariants.{NoMemory as WantsMemory}
-use Rattle.command_base.specs.EffectLaws.{answered_as}
+use Rattle.command_base.proofs.lemmas.EffectLaws.{answered_as}
 use Rattle.nanolog_cli.proofs.Dispatch.{none_asked, words_read}
 use Rattle.nanolog_cli.proofs.commands.run_words.Goals as goal
 

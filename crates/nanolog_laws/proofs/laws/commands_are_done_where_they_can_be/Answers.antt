@@ -1,4 +1,4 @@
-use Rattle.command_base.specs.TaskLaws.{taken, absent}
+use Rattle.command_base.proofs.lemmas.TaskLaws.{taken, absent}
 use Rattle.nanolog_cli.specs.Outcomes.{task_of}
 use Rattle.nanolog_laws.proofs.Commands.{task_sound}
 use Rattle.nanolog_laws.proofs.Right.{done_right}

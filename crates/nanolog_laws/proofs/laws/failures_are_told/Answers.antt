@@ -1,4 +1,4 @@
-use Rattle.command_base.specs.TaskLaws.{reads_counted, writes_counted}
+use Rattle.command_base.proofs.lemmas.TaskLaws.{reads_counted, writes_counted}
 use Rattle.nanolog_cli.specs.Outcomes.{task_of}
 use Rattle.nanolog_laws.proofs.Commands.{task_sound}
 use Rattle.nanolog_laws.proofs.Unfinished.{failing, write_rose}

@@ -1,4 +1,4 @@
-use Rattle.command_base.specs.TaskLaws.{others_held, left_stays, made_stays}
+use Rattle.command_base.proofs.lemmas.TaskLaws.{others_held, left_stays, made_stays}
 use Rattle.nanolog_cli.specs.Outcomes.{task_of}
 use Rattle.nanolog_laws.proofs.Commands.{task_sound}
 use Rattle.nanolog_laws.proofs.laws.other_files_stay.Goals as goal

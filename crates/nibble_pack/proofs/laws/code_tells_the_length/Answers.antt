@@ -1,4 +1,4 @@
-use Rattle.nibble_pack.specs.PackingLaws.{Packed-code, Packed-length, Packed-bytes, IsCode-lt, byte_count-le}
+use Rattle.nibble_pack.proofs.lemmas.PackingLaws.{Packed-code, Packed-length, Packed-bytes, IsCode-lt, byte_count-le}
 use Rattle.nibble_pack.proofs.laws.code_tells_the_length.Goals as goal
 
 pub returns-clause-code : goal.returns-clause-code

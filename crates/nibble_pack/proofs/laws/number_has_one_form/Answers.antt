@@ -1,4 +1,4 @@
-use Rattle.nibble_pack.specs.PackingLaws.{same_pair}
+use Rattle.nibble_pack.proofs.lemmas.PackingLaws.{same_pair}
 use Rattle.nibble_pack.proofs.laws.number_has_one_form.Goals as goal
 
 pub returns : goal.returns

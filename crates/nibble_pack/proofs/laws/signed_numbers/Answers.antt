@@ -1,6 +1,6 @@
 use Rattle.std.proofs.Common.{◌-◌, ◌^◌, refl, arith}
 use Rattle.nibble_pack.specs.Packing.{small, negative, wide}
-use Rattle.nibble_pack.specs.PackingLaws.{IsLeastCount-zero, IsLeastCount-suc}
+use Rattle.nibble_pack.proofs.lemmas.PackingLaws.{IsLeastCount-zero, IsLeastCount-suc}
 use Rattle.nibble_pack.proofs.laws.signed_numbers.Goals as goal
 
 pub returns-clause-minus_one : goal.returns-clause-minus_one

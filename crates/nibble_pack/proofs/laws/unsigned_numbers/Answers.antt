@@ -1,5 +1,5 @@
 use Rattle.std.proofs.Common.{refl, arith}
-use Rattle.nibble_pack.specs.PackingLaws.{IsLeastCount-zero, IsLeastCount-suc}
+use Rattle.nibble_pack.proofs.lemmas.PackingLaws.{IsLeastCount-zero, IsLeastCount-suc}
 use Rattle.nibble_pack.proofs.laws.unsigned_numbers.Goals as goal
 
 pub returns-clause-zero : goal.returns-clause-zero

@@ -5,7 +5,7 @@ use Rattle.std.specs.Prelude.{ℤ, pos, negsuc, ◌-ℤ◌}
 use Rattle.std.specs.Int.{w64, cast_signed, cast_unsigned}
 use Rattle.nibble_pack.specs.declared.unpack.UnpackFault.TheVariants.{NotShortest}
 use Rattle.nibble_pack.specs.Packing.{signed, byte_count, Packed, IsNotShortest}
-use Rattle.nibble_pack.specs.PackingLaws.{Packed-code, signed_count-low, signed_count-high}
+use Rattle.nibble_pack.proofs.lemmas.PackingLaws.{Packed-code, signed_count-low, signed_count-high}
 use Rattle.nibble_pack.proofs.lemmas.Fronts.{only_value}
 use Rattle.nibble_pack.proofs.lemmas.SignedForms.{signed_from_unsigned, unsigned_from_signed, signed_from_count, count_from_signed, no_spelling_low, no_spelling_high}
 use Rattle.nibble_pack.proofs.unpack.unpack_signed.Goals as goal

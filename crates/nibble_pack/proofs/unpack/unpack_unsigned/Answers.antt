@@ -2,7 +2,7 @@ use Rattle.std.proofs.Common.{◌≡◌, ℕ, zero, suc, ◌^◌, ◌<◌, ◌�
 use Rattle.std.proofs.lemmas.List.Elements.{All-from_get_or}
 use Rattle.std.specs.Prelude.{ℤ, pos}
 use Rattle.nibble_pack.specs.Packing.{unsigned, IsLeastCount, Packed}
-use Rattle.nibble_pack.specs.PackingLaws.{Packed-code, IsLeastCount-zero, IsLeastCount-suc}
+use Rattle.nibble_pack.proofs.lemmas.PackingLaws.{Packed-code, IsLeastCount-zero, IsLeastCount-suc}
 use Rattle.nibble_pack.specs.declared.unpack.TheConstants.{LEAST_NUMBERS}
 use Rattle.nibble_pack.proofs.lemmas.Fronts.{read_spells, reads_unsigned, reads_no_unsigned, Packed-stands, Packed-at_front, only_value}
 use Rattle.nibble_pack.proofs.unpack.unpack_unsigned.Goals as goal

@@ -3,7 +3,7 @@ use Rattle.schedule_text.specs.Judged.{judged}
 use Rattle.schedule_text.specs.Playing.{Plays}
 use Rattle.command_base.specs.Endings.{Ending}
 use Rattle.command_base.specs.Effects.{CommandEffect}
-use Rattle.command_base.specs.EffectLaws.{ended_as, nothing_came, no_bytes}
+use Rattle.command_base.proofs.lemmas.EffectLaws.{ended_as, nothing_came, no_bytes}
 use Rattle.command_base.specs.Readings.{never}
 use Rattle.command_base.specs.Scenes.{Scene, scene}
 use Rattle.schedule_commands.specs.Tasks.{GivesSteps, schedule_task}

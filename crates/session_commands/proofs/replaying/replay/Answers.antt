@@ -1,6 +1,6 @@
 use Rattle.std.proofs.Common.{sym, ap, subst, ◌∙◌}
 use Rattle.command_base.specs.Effects.{CommandEffect}
-use Rattle.command_base.specs.EffectLaws.{ended_as}
+use Rattle.command_base.proofs.lemmas.EffectLaws.{ended_as}
 use Rattle.command_base.specs.Endings.{Ending}
 use Rattle.command_base.specs.Scenes.{Scene, scene}
 use Rattle.nl_io.specs.Desk.{Desk}

@@ -1,6 +1,6 @@
 use Rattle.std.proofs.Common.{sym, subst}
 use Rattle.std.specs.Arc.{arc_value}
-use Rattle.nl_io.specs.DeskLaws.{Creates-made, SameButHeld-made, written}
+use Rattle.nl_io.proofs.lemmas.DeskLaws.{Creates-made, SameButHeld-made, written}
 use Rattle.command_base.specs.Endings.{Ending}
 use Rattle.session_commands.specs.Replays.{GivesNoLog}
 use Rattle.session_commands.proofs.ReplayEnds.{created_holds, unless_ok, not_created, has_written, not_finished, not_run}

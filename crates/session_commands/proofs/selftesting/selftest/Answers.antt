@@ -4,7 +4,7 @@ use Rattle.nl_io.specs.MemSinks.{sink_bytes}
 use Rattle.trace_text.specs.Recordings.{Recording}
 use Rattle.trace_generator.specs.Generated.{Generated}
 use Rattle.trace_session.specs.Sessions.{IsWholeLog}
-use Rattle.command_base.specs.EffectLaws.{ended_as}
+use Rattle.command_base.proofs.lemmas.EffectLaws.{ended_as}
 use Rattle.session_commands.specs.Selftests.{summary_of}
 use Rattle.session_commands.proofs.LogLengths.{generated_short}
 use Rattle.session_commands.proofs.SelftestEnds.{selftest_lacked, selftest_told}

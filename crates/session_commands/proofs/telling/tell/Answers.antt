@@ -1,5 +1,5 @@
 use Rattle.std.proofs.Common.{sym, subst, ◌∙◌}
-use Rattle.command_base.specs.EffectLaws.{prints_as, prints_free}
+use Rattle.command_base.proofs.lemmas.EffectLaws.{prints_as, prints_free}
 use Rattle.command_base.specs.Endings.{Ending}
 use Rattle.command_base.specs.Printing.{Prints}
 use Rattle.session_commands.specs.Headline.{outcome_text}

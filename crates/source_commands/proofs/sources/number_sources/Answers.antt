@@ -1,6 +1,6 @@
 use Rattle.std.proofs.Common.{[], ◌∷◌, ◌++◌, refl, ◌∙◌}
 use Rattle.source_scan.specs.declared.statement.TheConstants.{MAX_SOURCE}
-use Rattle.command_base.specs.HeldLaws.{held_there}
+use Rattle.command_base.proofs.lemmas.HeldLaws.{held_there}
 use Rattle.source_commands.proofs.SourceLemmas.{going_on, none_so_far, not_read, name_next, read_all, read_more, held_bytes, lacks_next, lacks_answered, missing_numbered, missing_nothing, stopped_numbered, all_numbered}
 use Rattle.source_commands.proofs.sources.number_sources.Goals as goal
 

@@ -1,8 +1,8 @@
 use Rattle.std.proofs.Common.{refl, sym, subst}
 use Rattle.command_base.specs.Endings.{Ending}
 use Rattle.command_base.specs.Effects.{CommandEffect}
-use Rattle.command_base.specs.EffectLaws.{ended_as, nothing_came, none_given, streamed_done, only_there}
-use Rattle.command_base.specs.HeldLaws.{such_there}
+use Rattle.command_base.proofs.lemmas.EffectLaws.{ended_as, nothing_came, none_given, streamed_done, only_there}
+use Rattle.command_base.proofs.lemmas.HeldLaws.{such_there}
 use Rattle.command_base.specs.Scenes.{Scene, scene}
 use Rattle.command_base.specs.Tasks.{text_alone}
 use Rattle.trace_commands.specs.Traces.{IsRefusedAt}

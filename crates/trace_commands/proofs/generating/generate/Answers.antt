@@ -3,7 +3,7 @@ use Rattle.trace_text.specs.Recordings.{Recording}
 use Rattle.trace_text.specs.Canonical.{Canonical}
 use Rattle.command_base.specs.Endings.{Ending, NoMemory}
 use Rattle.command_base.specs.Effects.{CommandEffect}
-use Rattle.command_base.specs.EffectLaws.{ended_as, nothing_came, streamed_done, none_wanted}
+use Rattle.command_base.proofs.lemmas.EffectLaws.{ended_as, nothing_came, streamed_done, none_wanted}
 use Rattle.command_base.specs.Scenes.{Scene, scene}
 use Rattle.command_base.specs.Tasks.{text_alone}
 use Rattle.trace_commands.specs.Tasks.{generate_task}

@@ -5,7 +5,7 @@ use Rattle.nl_io.specs.TextWriters.{Carries, IsCutOff}
 use Rattle.nl_io.proofs.lemmas.TextWriters.{carries_held, carries_more, carries_all, carries_front, cut_held, cut_more}
 use Rattle.command_base.specs.Endings.{Ending}
 use Rattle.command_base.specs.Printing.{Prints}
-use Rattle.command_base.specs.EffectLaws.{ended_as}
+use Rattle.command_base.proofs.lemmas.EffectLaws.{ended_as}
 use Rattle.trace_commands.specs.Texts.{direct_text}
 use Rattle.trace_commands.proofs.CallLines.{other_lines, call_at_place, line_more, lines_cut, lines_cut_behind, all_lines}
 use Rattle.trace_commands.proofs.lines.print_places.Goals as goal

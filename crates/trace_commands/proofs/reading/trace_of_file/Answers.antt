@@ -1,9 +1,9 @@
 use Rattle.std.proofs.Common.{◌≡◌, ℕ, Err, sym, subst}
-use Rattle.nl_io.specs.DeskLaws.{Opens-reading, Opens-content}
+use Rattle.nl_io.proofs.lemmas.DeskLaws.{Opens-reading, Opens-content}
 use Rattle.command_base.specs.declared.refusal.Refusal.{Refusal}
 use Rattle.command_base.specs.Endings.{Ending, refusal_ending}
-use Rattle.command_base.specs.HeldLaws.{was_read, counts_by, same_desk, such_read}
-use Rattle.command_base.specs.EffectLaws.{no_bytes}
+use Rattle.command_base.proofs.lemmas.HeldLaws.{was_read, counts_by, same_desk, such_read}
+use Rattle.command_base.proofs.lemmas.EffectLaws.{no_bytes}
 use Rattle.command_base.specs.Readings.{never}
 use Rattle.trace_commands.specs.Traces.{IsRefusedTrace, GivesNoTrace, SaysOfTrace}
 use Rattle.trace_commands.proofs.Traces.{handed_on, gives_none}

@@ -19,7 +19,7 @@ use Rattle.command_base.specs.Tasks.{Product, nothing, Course, WhileReading, Unt
 use Rattle.command_base.specs.Readings.{Form, OnlyRefused, Begun, never, GivesNoBytes, ReadsFile}
 use Rattle.command_base.specs.Effects.{IsMade, Completes, StopsReading, StopsPrinting, IsPrinted, WantsMemory, CommandEffect}
 use Rattle.command_base.specs.Soundness.{IsSound}
-use Rattle.command_base.specs.SoundTasks.{the_one}
+use Rattle.command_base.proofs.lemmas.SoundTasks.{the_one}
 
 -- ---- answers
 

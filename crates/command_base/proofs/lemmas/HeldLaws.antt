@@ -5,7 +5,7 @@ use Rattle.std.specs.FinMap as map
 use Rattle.std.proofs.lemmas.Option.{same_Some}
 use Rattle.nl_io.specs.Content.{Told, PutsFront}
 use Rattle.nl_io.specs.Desk.{Desk, Held, OnlyReadFaults, IsAbsent, IsReading, Opens, Leaves, SameButLeft, Creates, Finishes, SameButHeld, put_by}
-use Rattle.nl_io.specs.DeskLaws.{Opens-content, visited, written, written-holds}
+use Rattle.nl_io.proofs.lemmas.DeskLaws.{Opens-content, visited, written, written-holds}
 use Rattle.command_base.specs.HeldFiles.{IsHeld, HoldsFront, IsThere, HoldsSuch, Holds}
 
 -- ---- what a name holds

@@ -5,7 +5,7 @@ use Rattle.std.specs.FinMap as map
 use Rattle.nl_io.specs.Count.{Rose}
 use Rattle.nl_io.specs.Desk.{Desk, Held, OnlyReadFaults, OnlyName, found_in}
 use Rattle.command_base.specs.Endings.{Ending, IsDone, Done, StillOpen, Usage, Absent, ReadFault, Refused, RefusedSources, Damaged, WriteFault, NoMemory}
-use Rattle.command_base.specs.HeldLaws.{none_there}
+use Rattle.command_base.proofs.lemmas.HeldLaws.{none_there}
 use Rattle.command_base.specs.Scenes.{Scene}
 use Rattle.command_base.specs.Tasks.{Product, WhileReading, UntilBegun, WhilePrinting, Streaming, Course, Task}
 use Rattle.command_base.specs.Effects.{IsMade, Completes, FailsToPrint, FailsToMake, StopsReading, StopsBegun, StopsPrinting, WantsMemory, CommandEffect}

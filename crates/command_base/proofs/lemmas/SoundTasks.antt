@@ -6,7 +6,7 @@ use Rattle.nl_io.specs.Count.{Rose}
 use Rattle.nl_io.specs.Desk.{Desk, Held, OnlyReadFaults, IsAbsent}
 use Rattle.command_base.specs.Endings.{Ending, IsDone, Done, StillOpen, Usage, Absent, ReadFault, Refused, RefusedSources, Damaged, WriteFault, NoMemory}
 use Rattle.command_base.specs.HeldFiles.{IsThere}
-use Rattle.command_base.specs.HeldLaws.{none_there, holds_there}
+use Rattle.command_base.proofs.lemmas.HeldLaws.{none_there, holds_there}
 use Rattle.command_base.specs.Tasks.{Product, nothing, Course, WhileReading, UntilBegun, WhilePrinting, Streaming, Task}
 use Rattle.command_base.specs.Effects.{IsPrinted}
 use Rattle.command_base.specs.Readings.{Form, Begun, never, HasBegun, ReadsFile, HidesRead, file_task, IsFormed, pair_task, ArePaired, ReadsNone, free_task}
