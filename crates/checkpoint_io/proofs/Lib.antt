@@ -1,7 +1,6 @@
 pub mod lemmas
 mod ReadingForms
 mod StepLaws
-mod AppendLaws
 mod WorkedBreaks
 mod StartLaws
 mod WriterLaws

@@ -18,7 +18,7 @@ use Rattle.log_dictionary.specs.BinaryEntries.{SpellsEntry}
 use Rattle.log_dictionary.specs.EntryReading.{entry_at}
 use Rattle.log_dictionary.proofs.lemmas.Distinct.{there_from_test, none_from_test, is_new, still_distinct}
 use Rattle.log_dictionary.proofs.lemmas.BinaryLaws.{entry_again, entry_taken, steady_entry}
-use Rattle.session_options.specs.declared.limits.TheConstants.{MAX_WRITERS}
+use Rattle.session_options.specs.declared.limits.TheConstants.{MAX_LOG_WRITERS}
 use Rattle.arg_records.specs.declared.call.Call.{Call}
 use Rattle.buffer_extent.specs.declared.fault.Cause.{Cause as BodyCause}
 use Rattle.buffer_extent.specs.Bodies.{IsBody, body_at}
@@ -46,7 +46,7 @@ steady_version =
     steady_then causes.Cut (first_byte causes.Cut) _ (steady_byte causes.Cut) (λ version.
     steady_then causes.Cut (λ bytes. provided (nat_eq version 1) causes.BadVersion (version, bytes)) _ (steady_provided causes.Cut (nat_eq version 1) causes.BadVersion version) (λ known.
     steady_then causes.Cut (first_byte causes.Cut) _ (steady_byte causes.Cut) (λ writers.
-    steady_then causes.Cut (λ bytes. provided (nat_le 1 writers && nat_le writers MAX_WRITERS) causes.BadHeader (writers, bytes)) _ (steady_provided causes.Cut (nat_le 1 writers && nat_le writers MAX_WRITERS) causes.BadHeader writers) steady_clock)))
+    steady_then causes.Cut (λ bytes. provided (nat_le 1 writers && nat_le writers MAX_LOG_WRITERS) causes.BadHeader (writers, bytes)) _ (steady_provided causes.Cut (nat_le 1 writers && nat_le writers MAX_LOG_WRITERS) causes.BadHeader writers) steady_clock)))
 
 pub steady_header : IsSteady causes.Cut header_at
 steady_header = steady_then causes.Cut (these_bytes causes.BadMagic causes.Cut (codes "NLOG")) (λ magic. header_version_at magic.1) (steady_these causes.Cut causes.BadMagic (codes "NLOG")) (λ magic. steady_version)
@@ -244,9 +244,9 @@ header_taken bytes header rest small e =
     let known = found (provided (nat_eq version.x.0 1) causes.BadVersion version.x) _ (header, rest) version.second in
     let known_test = given (nat_eq version.x.0 1) causes.BadVersion version.x known.x known.first in
     let writers = found (first_byte causes.Cut known.x.1) _ (header, rest) known.second in
-    let some = found (provided (nat_le 1 writers.x.0 && nat_le writers.x.0 MAX_WRITERS) causes.BadHeader writers.x) _ (header, rest) writers.second in
-    let some_test = given (nat_le 1 writers.x.0 && nat_le writers.x.0 MAX_WRITERS) causes.BadHeader writers.x some.x some.first in
-    let within = and_parts (nat_le 1 writers.x.0) (nat_le writers.x.0 MAX_WRITERS) some_test.0 in
+    let some = found (provided (nat_le 1 writers.x.0 && nat_le writers.x.0 MAX_LOG_WRITERS) causes.BadHeader writers.x) _ (header, rest) writers.second in
+    let some_test = given (nat_le 1 writers.x.0 && nat_le writers.x.0 MAX_LOG_WRITERS) causes.BadHeader writers.x some.x some.first in
+    let within = and_parts (nat_le 1 writers.x.0) (nat_le writers.x.0 MAX_LOG_WRITERS) some_test.0 in
     let clock : header_clock_at writers.x.0 writers.x.1 ≡ Ok (header, rest) = ap (λ (p : ℕ × List ℕ). header_clock_at p.0 p.1) some_test.1 ∙ some.second in
     let parts : bytes ≡ codes "NLOG" ++ (1 ∷ writers.x.0 ∷ writers.x.1) =
     letters_taken (codes "NLOG") bytes magic.x.0 magic.x.1 magic.first ∙ ap (λ (b : List ℕ). codes "NLOG" ++ b)

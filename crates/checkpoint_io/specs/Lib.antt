@@ -6,7 +6,6 @@ pub mod Causes
 pub mod Reading
 pub mod Places
 pub mod Entries
-pub mod Appending
 pub mod Writers
 pub mod NextBlocks
 pub mod Readers

@@ -8,7 +8,7 @@ use Rattle.log_dictionary.specs.declared.binary_entry.EntryCause.{EntryCause}
 use Rattle.log_dictionary.specs.declared.binary_entry.EntryCause.TheVariants as entries
 use Rattle.log_dictionary.specs.Messages.{is_same}
 use Rattle.log_dictionary.specs.EntryReading.{entry_at}
-use Rattle.session_options.specs.declared.limits.TheConstants.{MAX_WRITERS}
+use Rattle.session_options.specs.declared.limits.TheConstants.{MAX_LOG_WRITERS}
 use Rattle.arg_records.specs.declared.call.Call.{Call}
 use Rattle.buffer_extent.specs.Bodies.{body_at}
 use Rattle.checkpoint_io.specs.declared.cause.Cause.{Cause}
@@ -41,7 +41,7 @@ header_clock_at writers bytes = low_first 8 causes.Cut bytes >>= (λ tick. heade
 abbrev pub header_writers_at : List ℕ → Parse Cause Header
 header_writers_at bytes = do
   writers ← first_byte causes.Cut bytes
-  few ← provided (nat_le 1 writers.0 && nat_le writers.0 MAX_WRITERS) causes.BadHeader writers
+  few ← provided (nat_le 1 writers.0 && nat_le writers.0 MAX_LOG_WRITERS) causes.BadHeader writers
   header_clock_at few.0 few.1
 
 abbrev pub header_version_at : List ℕ → Parse Cause Header

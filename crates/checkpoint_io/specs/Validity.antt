@@ -7,7 +7,7 @@ use Rattle.arg_records.specs.declared.call.Call.{Call}
 use Rattle.arg_records.specs.Calls.{IsCall, NeverFalls}
 pub use Rattle.arg_records.specs.Calls.{last_stamp}
 use Rattle.log_dictionary.specs.declared.dictionary.TheConstants.{MAX_MESSAGES}
-use Rattle.session_options.specs.declared.limits.TheConstants.{MAX_WRITERS}
+use Rattle.session_options.specs.declared.limits.TheConstants.{MAX_LOG_WRITERS}
 use Rattle.checkpoint_io.specs.declared.header.Header.{Header}
 use Rattle.checkpoint_io.specs.Blocks.{Block, Fragment, Extent, Close, messages_of}
 
@@ -70,7 +70,7 @@ AreRightAfter header before (block ∷ blocks) =
 -- there are 1 to 64 writers, the clock's numbers are below 2^64, and it ticks
 pub record IsHeader (header : Header) : Type 0 where
   pub some_writer : 1 ≤ header.writers
-  pub few_writers : header.writers ≤ MAX_WRITERS
+  pub few_writers : header.writers ≤ MAX_LOG_WRITERS
   pub tick_fits : header.clock.tick < 2 ^ 64
   pub nanos_fits : header.clock.nanos < 2 ^ 64
   pub rate_fits : header.clock.rate < 2 ^ 64

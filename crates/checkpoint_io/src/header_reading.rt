@@ -13,7 +13,7 @@ use crate::pending::Pending;
 use crate::steps::{take_byte, take_number};
 use log_dictionary::Clock;
 use nl_io::Source;
-use session_options::MAX_WRITERS;
+use session_options::MAX_LOG_WRITERS;
 
 fn read_clock<S: Source>(
     pending: &mut Pending,
@@ -52,7 +52,7 @@ fn read_writers<S: Source>(pending: &mut Pending, source: &mut S) -> Result<Head
     ensures others { S.rest source.old source.new }
 {
     let writers = u32::from(take_byte(pending, source)?);
-    if writers == 0 || writers > MAX_WRITERS {
+    if writers == 0 || writers > MAX_LOG_WRITERS {
         return Err(BlockFault::Damaged(Cause::BadHeader));
     }
     read_clock(pending, source, writers)

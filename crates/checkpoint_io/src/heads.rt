@@ -2,7 +2,7 @@
 //! extents, and close marks. Numbers stand with the low byte first.
 
 ghost use Rattle.std.specs.Prelude.{◌≡◌, ◌+◌, ◌<◌, ◌≤◌, ◌++◌, length, drop};
-ghost use Rattle.session_options.specs.declared.limits.TheConstants.{MAX_WRITERS};
+ghost use Rattle.session_options.specs.declared.limits.TheConstants.{MAX_LOG_WRITERS};
 ghost use Rattle.checkpoint_io.specs.Blocks.{header_bytes, fragment_head_bytes, extent_head_bytes, close_bytes};
 
 use crate::header::Header;
@@ -18,16 +18,16 @@ pub const MAX_BODY: u32 = 65_536;
 pub const MAX_LOG: u64 = 134_217_728;
 
 /// The bytes of a header.
-pub(crate) const HEADER_LEN: usize = 30;
+pub const HEADER_LEN: usize = 30;
 
 /// The bytes in front of a fragment's entries.
-pub(crate) const FRAGMENT_HEAD_LEN: usize = 7;
+pub const FRAGMENT_HEAD_LEN: usize = 7;
 
 /// The bytes in front of an extent's body.
-pub(crate) const EXTENT_HEAD_LEN: usize = 6;
+pub const EXTENT_HEAD_LEN: usize = 6;
 
 /// The bytes of a close mark.
-pub(crate) const CLOSE_LEN: usize = 2;
+pub const CLOSE_LEN: usize = 2;
 
 pub(crate) const MAGIC: &[u8] = b"NLOG";
 
@@ -42,7 +42,7 @@ pub(crate) const CLOSE: u8 = 4;
 /// Writes the header of a log to the front, and gives its length, which is 30.
 pub fn put_header(header: &Header, into: &mut [u8]) -> usize
     requires some_writer { 1 ≤ header.now.writers }
-    requires few_writers { header.now.writers ≤ MAX_WRITERS }
+    requires few_writers { header.now.writers ≤ MAX_LOG_WRITERS }
     requires rate { 1 ≤ header.now.clock.rate }
     requires room { 30 ≤ length into.now }
     ensures put { into.new ≡ header_bytes header.now ++ drop 30 into.old }
@@ -72,7 +72,7 @@ pub fn put_fragment_head(first: u32, count: u16, into: &mut [u8]) -> usize
 /// Writes what stands in front of an extent's body to the front, and gives its length, which is 6:
 /// the writer, and the length of the body, from 1 to 65,536.
 pub fn put_extent_head(writer: u32, len: u32, into: &mut [u8]) -> usize
-    requires known { writer < MAX_WRITERS }
+    requires known { writer < MAX_LOG_WRITERS }
     requires some { 1 ≤ len }
     requires short { len ≤ MAX_BODY }
     requires room { 6 ≤ length into.now }
@@ -85,7 +85,7 @@ pub fn put_extent_head(writer: u32, len: u32, into: &mut [u8]) -> usize
 
 /// Writes the close mark of a writer to the front, and gives its length, which is 2.
 pub fn put_close(writer: u32, into: &mut [u8]) -> usize
-    requires known { writer < MAX_WRITERS }
+    requires known { writer < MAX_LOG_WRITERS }
     requires room { 2 ≤ length into.now }
     ensures put { into.new ≡ close_bytes writer ++ drop 2 into.old }
     ensures len { result ≡ 2 }

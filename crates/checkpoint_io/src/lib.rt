@@ -1,7 +1,6 @@
 //! Log files: a header, and blocks behind it.
 #![tactic(auto)]
 
-mod appending;
 mod block;
 mod block_reading;
 mod cause;
@@ -16,13 +15,12 @@ mod reader;
 mod steps;
 mod writers;
 
-pub use appending::{append_close, append_extent, append_fragment, append_header};
 pub use block::Block;
 pub use cause::Cause;
 pub use fault::BlockFault;
 pub use header::Header;
 pub use heads::{
-    MAX_BODY, MAX_FRAGMENT_MESSAGES, MAX_LOG, put_close, put_extent_head, put_fragment_head,
-    put_header,
+    CLOSE_LEN, EXTENT_HEAD_LEN, FRAGMENT_HEAD_LEN, HEADER_LEN, MAX_BODY, MAX_FRAGMENT_MESSAGES,
+    MAX_LOG, put_close, put_extent_head, put_fragment_head, put_header,
 };
 pub use reader::Reader;

@@ -14,7 +14,8 @@ use Rattle.std.proofs.lemmas.Bool.Decides.{nat_tests}
 use Rattle.std.proofs.lemmas.List.{length-map}
 use Rattle.std.proofs.lemmas.List.Folds.{list_all-map}
 use Rattle.session_options.specs.Defaults.{default_options}
-use Rattle.session_options.specs.declared.limits.TheConstants.{MAX_WRITERS, MIN_RING, MAX_RING, MAX_BATCH, MAX_GENERATED}
+use Rattle.session_options.specs.declared.limits.TheConstants.{MIN_RING, MAX_RING, MAX_BATCH}
+use Rattle.session_options.specs.declared.limits.TheConstants.{MAX_GENERATED, MAX_GENERATED_WRITERS}
 use Rattle.session_options.specs.declared.options.Options.{Options}
 use Rattle.cli_words.specs.Commands.{WordBytes, Given, Name, Awaits, Sets, Unknown, word_of, after_dashes, is_equals, is_among}
 use Rattle.cli_words.specs.Commands.{with_name, with_option, given_of, given_from, options_of, said_by}
@@ -202,11 +203,11 @@ sources_told text given sources empty passed is full few all =
 generated_spelled : (seed calls writers : ℕ) → AreGenerated seed calls writers
     → (number_within 0 MAX_SEED (decimal seed) ≡ Some seed)
     × (number_within 0 MAX_GENERATED (decimal calls) ≡ Some calls)
-    × (number_within 1 MAX_WRITERS (decimal writers) ≡ Some writers)
+    × (number_within 1 MAX_GENERATED_WRITERS (decimal writers) ≡ Some writers)
 generated_spelled seed calls writers lawful = (
   number_spelled 0 MAX_SEED seed (omega arith) lawful.0 (omega (arith, lawful.0)),
   number_spelled 0 MAX_GENERATED calls (omega arith) lawful.1 (omega (arith, lawful.1)),
-  number_spelled 1 MAX_WRITERS writers lawful.2 lawful.3 (omega (arith, lawful.3)),
+  number_spelled 1 MAX_GENERATED_WRITERS writers lawful.2 lawful.3 (omega (arith, lawful.3)),
 )
 
 pub line_asks : (command : Command) → IsLawful command → command_of (words_for command) ≡ Some command

@@ -10,7 +10,7 @@ use Rattle.cli_words.specs.declared.numbers.TheConstants.{MAX_ID, MAX_SEED}
 use Rattle.log_dictionary.specs.Severities.{severity_name}
 use Rattle.log_dictionary.specs.declared.severity.Severity.{Severity}
 use Rattle.session_options.specs.Bounds.{AreInBounds}
-use Rattle.session_options.specs.declared.limits.TheConstants.{MAX_WRITERS, MAX_GENERATED}
+use Rattle.session_options.specs.declared.limits.TheConstants.{MAX_GENERATED_WRITERS, MAX_GENERATED}
 use Rattle.session_options.specs.declared.options.Policy.{Policy}
 use Rattle.session_options.specs.declared.options.Policy.TheVariants.{Wait, Shed}
 
@@ -30,7 +30,7 @@ replays ring batch policy level =
 -- the numbers of a generated trace lie in their bounds
 abbrev pub AreGenerated : ℕ → ℕ → ℕ → Type 0
 AreGenerated seed calls writers =
-    (seed ≤ MAX_SEED) × (calls ≤ MAX_GENERATED) × (1 ≤ writers) × (writers ≤ MAX_WRITERS)
+    (seed ≤ MAX_SEED) × (calls ≤ MAX_GENERATED) × (1 ≤ writers) × (writers ≤ MAX_GENERATED_WRITERS)
 
 -- the names of the command aren't empty, what it makes is another name than what it reads, its numbers lie in their
 -- bounds, and there are enough sources and not too many

@@ -1,7 +1,7 @@
 -- The table of the command line: each command with its operands, and the options of a session.
 use Rattle.std.specs.Prelude.{ℕ, Bool, true, false, List, [], ◌∷◌, Option, map, find, codes, if◌then◌else◌}
 use Rattle.std.specs.Str.{bytes_eq}
-use Rattle.session_options.specs.declared.limits.TheConstants.{MAX_WRITERS, MAX_GENERATED}
+use Rattle.session_options.specs.declared.limits.TheConstants.{MAX_GENERATED_WRITERS, MAX_GENERATED}
 use Rattle.cli_words.specs.declared.numbers.TheConstants.{MAX_ID}
 use Rattle.cli_words.specs.declared.table.CommandForm.{CommandForm}
 use Rattle.cli_words.specs.declared.table.CommandForm.TheVariants as form
@@ -32,7 +32,7 @@ called shown kind = record { shown = shown; kind = kind }
 abbrev pub generated_operands : List Operand
 generated_operands =
     called (codes "SEED") Seed ∷ called (codes "CALLS") (Number 0 MAX_GENERATED)
-    ∷ called (codes "WRITERS") (Number 1 MAX_WRITERS) ∷ []
+    ∷ called (codes "WRITERS") (Number 1 MAX_GENERATED_WRITERS) ∷ []
 
 abbrev pub row : CommandForm → List ℕ → List Operand → Bool → CommandRow
 row form word operands has_options =

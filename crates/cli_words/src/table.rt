@@ -5,7 +5,7 @@ ghost use Rattle.cli_words.specs.Table.{rows, row_named, row_options, option_row
 ghost use Rattle.cli_words.specs.TableViews.{row_is, option_is};
 
 use crate::numbers::MAX_ID;
-use session_options::{MAX_GENERATED, MAX_WRITERS};
+use session_options::{MAX_GENERATED, MAX_GENERATED_WRITERS};
 
 /// The command that a row is of.
 #[derive(Clone, Copy, Debug, PartialEq, Eq)]
@@ -121,7 +121,7 @@ const WRITERS: Operand = Operand {
     shown: "WRITERS",
     kind: OperandKind::Number {
         least: 1,
-        most: MAX_WRITERS,
+        most: MAX_GENERATED_WRITERS,
     },
 };
 

@@ -4,9 +4,10 @@ ghost use Rattle.std.specs.Prelude.{None};
 
 use crate::tables::{Told, bytes_of, check_rows, joined};
 use checkpoint_io::{
-    BlockFault, Header, Reader, append_close, append_extent, append_fragment, append_header,
+    BlockFault, CLOSE_LEN, EXTENT_HEAD_LEN, FRAGMENT_HEAD_LEN, HEADER_LEN, Header, Reader,
+    put_close, put_extent_head, put_fragment_head, put_header,
 };
-use log_dictionary::{Clock, Dictionary};
+use log_dictionary::{Clock, Dictionary, MAX_ENTRY, Message, entry_len, put_entry};
 use nl_io::{Failed, MemSource, Source};
 use std::alloc::{AllocError, Global};
 use std::test::Fail;
@@ -27,34 +28,56 @@ const HEADER: Header = Header {
     },
 };
 
-/// Appends the log part by part, if there is one message.
-fn append_log(dictionary: &Dictionary, log: &mut Vec<u8>) -> Result<(), AllocError> {
-    if dictionary.len() != 1 {
-        return Ok(());
-    }
-    append_header(&HEADER, log)?;
-    append_fragment(dictionary, 0, 1, log)?;
-    append_extent(0, &[0x10, 3, 1, 7], log)?;
-    append_close(0, log)
+/// Puts the header behind the log.
+fn push_header(log: &mut Vec<u8>) -> Result<(), AllocError> {
+    let mut head = [0; HEADER_LEN];
+    put_header(&HEADER, &mut head);
+    log.extend_from_slice(&head)
 }
 
-/// The log of one message.
-fn log_appended(alloc: Global, line: &str) -> Result<Vec<u8>, Fail> {
+/// Puts a fragment that has this message alone behind the log.
+fn push_message(message: &Message, log: &mut Vec<u8>) -> Result<(), AllocError> {
+    let mut head = [0; FRAGMENT_HEAD_LEN];
+    put_fragment_head(0, 1, &mut head);
+    log.extend_from_slice(&head)?;
+    let mut room = [0; MAX_ENTRY];
+    let entry = &mut room[..entry_len(message)];
+    put_entry(message, entry);
+    log.extend_from_slice(entry)
+}
+
+/// Puts an extent of the first writer with this body of four bytes, and its close mark, behind the log.
+fn push_records(body: &[u8; 4], log: &mut Vec<u8>) -> Result<(), AllocError> {
+    let mut head = [0; EXTENT_HEAD_LEN];
+    put_extent_head(0, 4, &mut head);
+    log.extend_from_slice(&head)?;
+    log.extend_from_slice(body)?;
+    let mut mark = [0; CLOSE_LEN];
+    put_close(0, &mut mark);
+    log.extend_from_slice(&mark)
+}
+
+/// The log of one message, made part by part.
+fn log_of(alloc: Global, line: &str) -> Result<Vec<u8>, Fail> {
     let mut dictionary = Dictionary::make(alloc);
     dictionary.read_line(line.as_bytes())?;
     let mut log = Vec::new(alloc);
-    append_log(&dictionary, &mut log)?;
+    push_header(&mut log)?;
+    for message in dictionary.iter() {
+        push_message(message, &mut log)?;
+    }
+    push_records(&[0x10, 3, 1, 7], &mut log)?;
     Ok(log)
 }
 
 /// Whether the log of one message is that log.
 fn is_log(alloc: Global, line: &str) -> Result<bool, Fail> {
     let wanted = bytes_of(alloc, LOG)?;
-    Ok(log_appended(alloc, line)? == wanted)
+    Ok(log_of(alloc, line)? == wanted)
 }
 
 #[test]
-fn parts_are_appended(rt: HostRuntime) -> Result<(), Fail> {
+fn parts_make_a_log(rt: HostRuntime) -> Result<(), Fail> {
     assert!(rt; is_log(rt.alloc(), "message 0 NOTICE 12 \"srv.cc\" \"x=%d\"")?);
     Ok(())
 }
@@ -127,7 +150,7 @@ fn push_fragment(log: &mut Vec<u8>, first: u32) -> Result<(), AllocError> {
 /// The bytes of so many such fragments.
 fn full_fragments(alloc: Global, count: u16) -> Result<Vec<u8>, AllocError> {
     let mut log = Vec::new(alloc);
-    append_header(&HEADER, &mut log)?;
+    push_header(&mut log)?;
     for fragment in 0..count {
         push_fragment(&mut log, 16 * u32::from(fragment))?;
     }
@@ -199,7 +222,7 @@ fn bytes_joined(alloc: Global, words: &str) -> Result<Vec<u8>, Fail> {
 /// The header and the message `%s`.
 fn long_front(alloc: Global) -> Result<Vec<u8>, AllocError> {
     let mut front = Vec::new(alloc);
-    append_header(&HEADER, &mut front)?;
+    push_header(&mut front)?;
     front.extend_from_slice(&[
         1, 0, 0, 0, 0, 1, 0, 1, 0, 0, 0, 0, 1, 0, b'f', 2, 0, b'%', b's',
     ])?;

@@ -16,7 +16,7 @@ use std::alloc::Global;
 const FIXED_LEN: usize = 9;
 
 /// The most bytes of an entry.
-pub(crate) const MAX_ENTRY: usize = FIXED_LEN + MAX_FILE_NAME + MAX_FORMAT;
+pub const MAX_ENTRY: usize = FIXED_LEN + MAX_FILE_NAME + MAX_FORMAT;
 
 /// Why bytes begin with no entry.
 #[derive(Clone, Copy, Debug, PartialEq, Eq)]

@@ -15,7 +15,7 @@ mod severity;
 mod text;
 mod writing;
 
-pub use binary_entry::{EntryFault, entry_len, put, put_entry, read_entry};
+pub use binary_entry::{EntryFault, MAX_ENTRY, entry_len, put, put_entry, read_entry};
 pub use clock::Clock;
 pub use dictionary::{AddFault, Added, Dictionary, LineFault, MAX_MESSAGES};
 pub use fields::{ends_field, first_field, split_at_byte};

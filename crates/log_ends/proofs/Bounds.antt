@@ -12,7 +12,7 @@ use Rattle.checkpoint_io.specs.Blocks.{Block, Fragment, Extent, Close, SpellsEnt
 use Rattle.checkpoint_io.specs.Logs.{AreFragments}
 use Rattle.checkpoint_io.proofs.lemmas.BlockLaws.{le_length}
 use Rattle.roaming_consumer.specs.Visits.{AreBytesFor}
-use Rattle.log_ends.specs.declared.rooms.TheConstants.{FRAGMENT_HEAD_LEN, EXTENT_HEAD_LEN}
+use Rattle.checkpoint_io.specs.declared.heads.TheConstants.{FRAGMENT_HEAD_LEN, EXTENT_HEAD_LEN}
 use Rattle.log_ends.specs.Rooms.{definitions_len, visit_len}
 
 sum_at : {A : Type 0} (f : A → ℕ) (xs : List A) (i : ℕ) (x : A) → slice_get xs i ≡ Some x → sum_by f (take (i + 1) xs) ≡ sum_by f (take i xs) + f x

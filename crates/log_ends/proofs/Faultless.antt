@@ -18,7 +18,7 @@ use Rattle.roaming_consumer.specs.Sinks.{Sends}
 use Rattle.roaming_consumer.specs.Visits.{VisitStops}
 use Rattle.log_ends.specs.declared.held.Held.{Held}
 use Rattle.log_ends.specs.Helds.{held_back, room_len, IsSameRoom}
-use Rattle.log_ends.specs.declared.rooms.TheConstants.{HEADER_LEN}
+use Rattle.checkpoint_io.specs.declared.heads.TheConstants.{HEADER_LEN}
 use Rattle.log_ends.specs.Rooms.{visit_len}
 use Rattle.log_ends.proofs.Bounds.{visit_fits}
 use Rattle.log_ends.proofs.Backs.{all_given}

@@ -2,7 +2,7 @@
 use Rattle.std.specs.Prelude.{◌≡◌, ℕ, ◌≤◌, false, List, [], length, All}
 use Rattle.std.specs.List.{AllZip}
 use Rattle.log_dictionary.specs.declared.message.Message.{Message}
-use Rattle.session_options.specs.declared.limits.TheConstants.{MIN_RING, MAX_RING, MAX_WRITERS, MAX_BATCH}
+use Rattle.session_options.specs.declared.limits.TheConstants.{MIN_RING, MAX_RING, MAX_SESSION_WRITERS, MAX_BATCH}
 use Rattle.trace_text.specs.declared.cause.TraceCause.{TraceCause}
 use Rattle.trace_text.specs.declared.reading.TraceFault.{TraceFault}
 use Rattle.trace_text.specs.declared.reading.TraceFault.TheVariants as faults
@@ -27,7 +27,7 @@ pub record IsSetupInRange (setup : Setup) : Type 0 where
   pub least_ring : MIN_RING ≤ setup.ring
   pub most_ring : setup.ring ≤ MAX_RING
   pub some_writer : 1 ≤ setup.writers
-  pub few_writers : setup.writers ≤ MAX_WRITERS
+  pub few_writers : setup.writers ≤ MAX_SESSION_WRITERS
   pub some_batch : 1 ≤ setup.batch
   pub few_in_batch : setup.batch ≤ MAX_BATCH
   pub rate : 1 ≤ setup.clock.rate

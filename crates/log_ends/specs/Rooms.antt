@@ -2,8 +2,7 @@
 use Rattle.std.specs.Prelude.{ℕ, ◌+◌, List, length, sum_by}
 use Rattle.log_dictionary.specs.declared.message.Message.{Message}
 use Rattle.log_dictionary.specs.BinaryEntries.{entry_bytes}
-use Rattle.checkpoint_io.specs.declared.heads.TheConstants.{MAX_BODY}
-use Rattle.log_ends.specs.declared.rooms.TheConstants.{FRAGMENT_HEAD_LEN, EXTENT_HEAD_LEN}
+use Rattle.checkpoint_io.specs.declared.heads.TheConstants.{MAX_BODY, FRAGMENT_HEAD_LEN, EXTENT_HEAD_LEN}
 
 -- the bytes of the messages' entries, each in a fragment of its own
 unfoldable pub definitions_len : List Message → ℕ

@@ -1,19 +1,11 @@
 //! How much room the bytes of a log take that are made at once.
 
 ghost use Rattle.std.specs.Prelude.{◌≡◌, ◌+◌};
+ghost use Rattle.checkpoint_io.specs.declared.heads.TheConstants.{HEADER_LEN};
 ghost use Rattle.log_ends.specs.Rooms.{visit_len};
 
-use checkpoint_io::MAX_BODY;
+use checkpoint_io::{EXTENT_HEAD_LEN, FRAGMENT_HEAD_LEN, HEADER_LEN, MAX_BODY};
 use log_dictionary::{Dictionary, entry_len};
-
-/// The bytes of a log's header.
-pub(crate) const HEADER_LEN: usize = 30;
-
-/// The bytes in front of a fragment's entries.
-pub(crate) const FRAGMENT_HEAD_LEN: usize = 7;
-
-/// The bytes in front of an extent's body.
-pub(crate) const EXTENT_HEAD_LEN: usize = 6;
 
 /// Room for a header, or for all that one visit gives, and for a byte more.
 pub(crate) fn room_of(dictionary: &Dictionary) -> usize

@@ -3,7 +3,7 @@
 ghost use Rattle.std.specs.Prelude.{◌↔◌, IsTrue};
 
 use log_dictionary::Clock;
-use session_options::{MAX_BATCH, MAX_RING, MAX_WRITERS, MIN_RING};
+use session_options::{MAX_BATCH, MAX_RING, MAX_SESSION_WRITERS, MIN_RING};
 
 /// What a session is told when it is opened, beside its messages.
 #[derive(Clone, Copy, Debug, PartialEq, Eq)]
@@ -27,7 +27,7 @@ impl Setup {
         self.ring >= MIN_RING
             && self.ring <= MAX_RING
             && self.writers >= 1
-            && self.writers <= MAX_WRITERS
+            && self.writers <= MAX_SESSION_WRITERS
             && self.batch >= 1
             && self.batch <= MAX_BATCH
             && self.clock.rate >= 1

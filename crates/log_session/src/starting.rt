@@ -3,7 +3,8 @@
 ghost use Rattle.std.specs.Prelude.{◌≡◌, ◌⊎◌, ◌↔◌, ◌<◌, ◌≤◌, [], false, IfOk, OnOk, IsErrOf, length};
 ghost use Rattle.std.specs.List.{AllZip};
 ghost use Rattle.ring_core.specs.Plans.{plan_of};
-ghost use Rattle.session_options.specs.declared.limits.TheConstants.{MAX_WRITERS, MAX_BATCH, MIN_RING, MAX_RING};
+ghost use Rattle.session_options.specs.declared.limits.TheConstants.{MAX_SESSION_WRITERS, MAX_BATCH};
+ghost use Rattle.session_options.specs.declared.limits.TheConstants.{MIN_RING, MAX_RING};
 ghost use Rattle.log_session.specs.Writers.{IsDictionaryPlan};
 ghost use Rattle.roaming_consumer.specs.Roamers.{ends_of, roamer_messages, roamer_clock, roamer_batch, is_begun, is_faulted, ArePlanned, RoamerStandsFor};
 ghost use Rattle.log_session.specs.Starts.{IsNewRing, AllZipMore};
@@ -93,7 +94,7 @@ pub fn start<'d, S: Stage>(
     clock: Clock,
     dictionary: &'d Dictionary,
 ) -> Result<(Vec<Writer<S::In>>, Roamer<'d, S::Out>), StageFault>
-    requires writers { (1 ≤ writers) × (writers ≤ MAX_WRITERS) }
+    requires writers { (1 ≤ writers) × (writers ≤ MAX_SESSION_WRITERS) }
     requires batch { (1 ≤ batch) × (batch ≤ MAX_BATCH) }
     requires rate { 1 ≤ clock.rate }
     ensures bad_size { IsErrOf result StageFault.BadSize ↔ ((ring < MIN_RING) ⊎ (MAX_RING < ring)) }

@@ -1,28 +1,22 @@
 //! The other parts of a log, as they are written to a sink: its header, extents and close marks.
 
 ghost use Rattle.std.specs.Prelude.{◌<◌, ◌≤◌, ◌++◌, length};
-ghost use Rattle.session_options.specs.declared.limits.TheConstants.{MAX_WRITERS};
+ghost use Rattle.session_options.specs.declared.limits.TheConstants.{MAX_LOG_WRITERS};
 ghost use Rattle.checkpoint_io.specs.declared.heads.TheConstants.{MAX_BODY};
 ghost use Rattle.checkpoint_io.specs.Blocks.{header_bytes, extent_head_bytes, close_bytes};
 ghost use Rattle.roaming_consumer.specs.Sinks.{Sends};
 
-use checkpoint_io::{Header, MAX_BODY, put_close, put_extent_head, put_header};
+use checkpoint_io::{
+    CLOSE_LEN, EXTENT_HEAD_LEN, HEADER_LEN, Header, MAX_BODY, put_close, put_extent_head,
+    put_header,
+};
 use nl_io::{Failed, Sink, write_all};
-use session_options::MAX_WRITERS;
-
-/// The bytes of a header.
-const HEADER_LEN: usize = 30;
-
-/// The bytes in front of an extent's body.
-const EXTENT_HEAD_LEN: usize = 6;
-
-/// The bytes of a close mark.
-const CLOSE_LEN: usize = 2;
+use session_options::MAX_LOG_WRITERS;
 
 /// Writes the header of a log.
 pub(crate) fn write_header<K: Sink>(header: &Header, sink: &mut K) -> Result<(), Failed>
     requires some_writer { 1 ≤ header.now.writers }
-    requires few_writers { header.now.writers ≤ MAX_WRITERS }
+    requires few_writers { header.now.writers ≤ MAX_LOG_WRITERS }
     requires rate { 1 ≤ header.now.clock.rate }
     ensures sent { Sends result (header_bytes header.now)
         (K.put sink.old) (K.put sink.new) (K.faults sink.old) (K.faults sink.new) }
@@ -35,7 +29,7 @@ pub(crate) fn write_header<K: Sink>(header: &Header, sink: &mut K) -> Result<(),
 
 /// Writes an extent of the writer with this body.
 pub(crate) fn write_extent<K: Sink>(writer: u32, body: &[u8], sink: &mut K) -> Result<(), Failed>
-    requires known { writer < MAX_WRITERS }
+    requires known { writer < MAX_LOG_WRITERS }
     requires some { 1 ≤ length body.now }
     requires short { length body.now ≤ MAX_BODY }
     ensures sent { Sends result (extent_head_bytes writer (length body.now) ++ body.now)
@@ -50,7 +44,7 @@ pub(crate) fn write_extent<K: Sink>(writer: u32, body: &[u8], sink: &mut K) -> R
 
 /// Writes the close mark of the writer.
 pub(crate) fn write_close<K: Sink>(writer: u32, sink: &mut K) -> Result<(), Failed>
-    requires known { writer < MAX_WRITERS }
+    requires known { writer < MAX_LOG_WRITERS }
     ensures sent { Sends result (close_bytes writer)
         (K.put sink.old) (K.put sink.new) (K.faults sink.old) (K.faults sink.new) }
     ensures others { K.rest sink.old sink.new }

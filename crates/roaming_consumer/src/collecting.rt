@@ -3,7 +3,7 @@
 ghost use Rattle.std.specs.Prelude.{◌≡◌, ◌+◌, ◌-◌, ◌<◌, ◌≤◌, true, length, max, take, OnOk, OnErr};
 ghost use Rattle.log_dictionary.specs.declared.dictionary.TheConstants.{MAX_MESSAGES};
 ghost use Rattle.log_dictionary.specs.Messages.{AreDistinct};
-ghost use Rattle.session_options.specs.declared.limits.TheConstants.{MAX_WRITERS};
+ghost use Rattle.session_options.specs.declared.limits.TheConstants.{MAX_LOG_WRITERS};
 ghost use Rattle.checkpoint_io.specs.declared.heads.TheConstants.{MAX_BODY};
 ghost use Rattle.checkpoint_io.specs.Blocks.{close_bytes};
 ghost use Rattle.roaming_consumer.specs.Gathering.{FramesCame, DraftsFrames, StopsTaking};
@@ -19,7 +19,7 @@ use crate::roamer::Roamer;
 use checkpoint_io::MAX_BODY;
 use nl_io::{Failed, Sink};
 use ring_core::StageOut;
-use session_options::MAX_WRITERS;
+use session_options::MAX_LOG_WRITERS;
 
 impl<'d, S: StageOut> Roamer<'d, S> {
     /// Takes frames of the writer's end, and puts their records into the body.
@@ -70,7 +70,7 @@ impl<'d, S> Roamer<'d, S> {
         draft: Draft,
         sink: &mut K,
     ) -> Result<(), Failed>
-        requires known { writer < MAX_WRITERS }
+        requires known { writer < MAX_LOG_WRITERS }
         requires some { 1 ≤ draft.len }
         requires short { draft.len ≤ MAX_BODY }
         requires ids { draft.ids ≤ length (roamer_messages self.old) }
@@ -106,7 +106,7 @@ impl<'d, S> Roamer<'d, S> {
 
     /// Writes the close mark of the writer.
     pub(crate) fn write_mark<K: Sink>(&mut self, writer: u32, sink: &mut K) -> Result<(), Failed>
-        requires known { writer < MAX_WRITERS }
+        requires known { writer < MAX_LOG_WRITERS }
         ensures sent { Sends result (close_bytes writer)
             (K.put sink.old) (K.put sink.new) (K.faults sink.old) (K.faults sink.new) }
         ensures others { K.rest sink.old sink.new }

@@ -6,19 +6,9 @@ ghost use Rattle.checkpoint_io.specs.declared.heads.TheConstants.{MAX_FRAGMENT_M
 ghost use Rattle.checkpoint_io.specs.Blocks.{SpellsEntries, SpellsFragment};
 ghost use Rattle.roaming_consumer.specs.Sinks.{SendsFragments};
 
-use checkpoint_io::{MAX_FRAGMENT_MESSAGES, put_fragment_head};
-use log_dictionary::{MAX_FILE_NAME, Message, entry_len, put_entry};
+use checkpoint_io::{FRAGMENT_HEAD_LEN, MAX_FRAGMENT_MESSAGES, put_fragment_head};
+use log_dictionary::{MAX_ENTRY, Message, entry_len, put_entry};
 use nl_io::{Failed, Sink, write_all};
-use printf_grammar::MAX_FORMAT;
-
-/// The bytes in front of a fragment's entries.
-const FRAGMENT_HEAD_LEN: usize = 7;
-
-/// The bytes of an entry but its file and its format.
-const ENTRY_HEAD_LEN: usize = 9;
-
-/// The most bytes of an entry.
-const MAX_ENTRY: usize = ENTRY_HEAD_LEN + MAX_FILE_NAME + MAX_FORMAT;
 
 /// The most bytes of a fragment.
 pub(crate) const MAX_FRAGMENT: usize = FRAGMENT_HEAD_LEN

@@ -1,7 +1,7 @@
 //! Making a roamer.
 
 ghost use Rattle.std.specs.Prelude.{◌≡◌, ◌<◌, ◌≤◌, [], false, length, All, IfOk};
-ghost use Rattle.session_options.specs.declared.limits.TheConstants.{MAX_BATCH, MAX_WRITERS};
+ghost use Rattle.session_options.specs.declared.limits.TheConstants.{MAX_BATCH, MAX_LOG_WRITERS};
 ghost use Rattle.ring_core.specs.Plans.{plan_of};
 ghost use Rattle.roaming_consumer.specs.Roamers.{ends_of, roamer_messages, roamer_clock, roamer_batch, is_begun, is_faulted, ArePlanned, RoamerStandsFor};
 
@@ -11,7 +11,7 @@ use arg_records::MAX_FRAME_WORDS;
 use checkpoint_io::MAX_BODY;
 use log_dictionary::{Clock, Dictionary};
 use ring_core::StageOut;
-use session_options::MAX_WRITERS;
+use session_options::MAX_LOG_WRITERS;
 use std::alloc::{AllocError, Global};
 
 impl<'d, S: StageOut + Drop> Roamer<'d, S> {
@@ -25,7 +25,7 @@ impl<'d, S: StageOut + Drop> Roamer<'d, S> {
         batch: u32,
     ) -> Result<Roamer<'d, S>, AllocError>
         requires some_end { 1 ≤ length ends.items }
-        requires few_ends { length ends.items ≤ MAX_WRITERS }
+        requires few_ends { length ends.items ≤ MAX_LOG_WRITERS }
         requires some_batch { 1 ≤ batch }
         requires few_in_batch { batch ≤ MAX_BATCH }
         requires rate { 1 ≤ clock.rate }
@@ -46,7 +46,7 @@ impl<'d, S: StageOut + Drop> Roamer<'d, S> {
             batch,
             ends,
             defined: 0,
-            closed: [false; MAX_WRITERS as usize],
+            closed: [false; MAX_LOG_WRITERS as usize],
             begun: false,
             faulted: false,
             frame: [0; MAX_FRAME_WORDS],

@@ -1,7 +1,7 @@
 //! The roamer: what it keeps between its visits.
 
 ghost use Rattle.std.specs.Prelude.{◌≡◌, ◌<◌, ◌≤◌, ◌^◌, length, vec_len};
-ghost use Rattle.session_options.specs.declared.limits.TheConstants.{MAX_WRITERS};
+ghost use Rattle.session_options.specs.declared.limits.TheConstants.{MAX_LOG_WRITERS};
 ghost use Rattle.checkpoint_io.specs.declared.heads.TheConstants.{MAX_BODY};
 ghost use Rattle.roaming_consumer.specs.declared.fragments.TheConstants.{MAX_FRAGMENT};
 
@@ -9,7 +9,7 @@ use crate::fragments::MAX_FRAGMENT;
 use arg_records::MAX_FRAME_WORDS;
 use checkpoint_io::MAX_BODY;
 use log_dictionary::{Clock, Dictionary};
-use session_options::MAX_WRITERS;
+use session_options::MAX_LOG_WRITERS;
 
 /// Goes from one writer to the next, takes the frames of its calls, and writes the log of the calls.
 ///
@@ -24,14 +24,14 @@ pub struct Roamer<'d, S> {
     /// How many messages the log defines.
     pub(crate) defined: u32,
     /// Whether the close mark of a writer was written, by its number.
-    pub(crate) closed: [bool; MAX_WRITERS as usize],
+    pub(crate) closed: [bool; MAX_LOG_WRITERS as usize],
     pub(crate) begun: bool,
     pub(crate) faulted: bool,
     pub(crate) frame: [u64; MAX_FRAME_WORDS],
     pub(crate) body: Vec<u8>,
     pub(crate) fragment: Vec<u8>,
     ghost some_end: { 1 ≤ length ends.items },
-    ghost few_ends: { length ends.items ≤ MAX_WRITERS },
+    ghost few_ends: { length ends.items ≤ MAX_LOG_WRITERS },
     ghost some_batch: { 1 ≤ batch },
     ghost rate: { 1 ≤ clock.rate },
     ghost tick_fits: { clock.tick < 2 ^ 64 },

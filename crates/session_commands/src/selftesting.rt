@@ -8,7 +8,7 @@ ghost use Rattle.checkpoint_io.specs.declared.heads.TheConstants.{MAX_LOG};
 ghost use Rattle.trace_text.specs.Recordings.{Recording, IsRecording, calls_of};
 ghost use Rattle.trace_session.specs.Sessions.{IsWholeLog};
 ghost use Rattle.session_options.specs.Defaults.{default_options};
-ghost use Rattle.session_options.specs.declared.limits.TheConstants.{MAX_GENERATED, MAX_WRITERS};
+ghost use Rattle.session_options.specs.declared.limits.TheConstants.{MAX_GENERATED, MAX_GENERATED_WRITERS};
 ghost use Rattle.command_base.specs.Effects.{CommandEffect};
 ghost use Rattle.command_base.specs.Endings.{NoMemory as WantsMemory, ending_of};
 ghost use Rattle.command_base.specs.Printing.{Prints};
@@ -191,7 +191,7 @@ where
     G: Gate + 'static,
     requires few_calls { calls ≤ MAX_GENERATED }
     requires some_writer { 1 ≤ writers }
-    requires few_writers { writers ≤ MAX_WRITERS }
+    requires few_writers { writers ≤ MAX_GENERATED_WRITERS }
 
     // It is given no files, so all of them stay as they are.
     ensures ends { (desk : Desk) → CommandEffect (selftest_task seed calls writers)

@@ -5,5 +5,8 @@ pub mod laws;
 mod limits;
 mod options;
 
-pub use limits::{MAX_BATCH, MAX_GENERATED, MAX_RING, MAX_WRITERS, MIN_RING};
+pub use limits::{
+    MAX_BATCH, MAX_GENERATED, MAX_GENERATED_WRITERS, MAX_LOG_WRITERS, MAX_RING,
+    MAX_SESSION_WRITERS, MAX_TRACE_WRITERS, MIN_RING,
+};
 pub use options::{DEFAULT_BATCH, DEFAULT_RING, Options, Policy};

@@ -1,7 +1,16 @@
 //! How great runs and what they are told may be.
 
-/// The most writers of a run, and of a log.
-pub const MAX_WRITERS: u32 = 64;
+/// The most writers of a log.
+pub const MAX_LOG_WRITERS: u32 = 64;
+
+/// The most writers of a trace, and of the session that records it.
+pub const MAX_TRACE_WRITERS: u32 = 64;
+
+/// The most writers of a session that a C program opens.
+pub const MAX_SESSION_WRITERS: u32 = 64;
+
+/// The most writers of a generated trace.
+pub const MAX_GENERATED_WRITERS: u32 = 64;
 
 /// The fewest words of a ring.
 pub const MIN_RING: u64 = 1_024;

@@ -2,7 +2,7 @@
 
 ghost use Rattle.std.specs.Prelude.{◌≤◌};
 ghost use Rattle.nl_io.specs.Desk.{Desk};
-ghost use Rattle.session_options.specs.declared.limits.TheConstants.{MAX_WRITERS};
+ghost use Rattle.session_options.specs.declared.limits.TheConstants.{MAX_GENERATED_WRITERS};
 ghost use Rattle.trace_text.specs.Canonical.{Canonical};
 ghost use Rattle.session_options.specs.declared.limits.TheConstants.{MAX_GENERATED};
 ghost use Rattle.command_base.specs.Endings.{ending_of};
@@ -43,7 +43,7 @@ pub fn generate<O: Sink>(
 ) -> Result<(), Refusal<'static>>
     requires few_calls { calls ≤ MAX_GENERATED }
     requires some_writer { 1 ≤ writers }
-    requires few_writers { writers ≤ MAX_WRITERS }
+    requires few_writers { writers ≤ MAX_GENERATED_WRITERS }
 
     // It is given no files, so all of them stay as they are.
     ensures ends { (desk : Desk) → CommandEffect (generate_task seed calls writers)

@@ -4,7 +4,7 @@ ghost use Rattle.std.specs.Prelude.{◌≡◌, ◌<◌, ◌≤◌, ◌++◌, ◌
 ghost use Rattle.std.specs.List.{AllByRecursion};
 ghost use Rattle.printf_grammar.specs.declared.piece.Piece.{Piece};
 ghost use Rattle.printf_grammar.specs.Spelling.{Spells};
-ghost use Rattle.session_options.specs.declared.limits.TheConstants.{MAX_WRITERS, MAX_GENERATED};
+ghost use Rattle.session_options.specs.declared.limits.TheConstants.{MAX_GENERATED_WRITERS, MAX_GENERATED};
 ghost use Rattle.trace_generator.specs.Generated.{generated_message, generated_messages, Generated};
 
 use crate::generator::{FIRST_TICK, Generator};
@@ -98,7 +98,7 @@ fn messages(alloc: Global) -> Result<Dictionary, AllocError>
 pub fn generate(alloc: Global, seed: u64, calls: u32, writers: u32) -> Result<Trace, AllocError>
     requires few_calls { calls ≤ MAX_GENERATED }
     requires some_writer { 1 ≤ writers }
-    requires few_writers { writers ≤ MAX_WRITERS }
+    requires few_writers { writers ≤ MAX_GENERATED_WRITERS }
     ensures { IfOk result (λ trace. trace ≡ Generated seed calls writers) }
 {
     let mut trace = Trace {

@@ -2,7 +2,7 @@
 
 ghost use Rattle.std.specs.Prelude.{◌≡◌, ◌⊎◌, ◌↔◌, ◌<◌, ◌≤◌, ◌++◌, ◌∷◌, [], false, All, length, map, IfOk, OnOk, IsErrOf};
 ghost use Rattle.std.specs.Arc.{arc_value};
-ghost use Rattle.session_options.specs.declared.limits.TheConstants.{MAX_WRITERS, MIN_RING, MAX_RING, MAX_BATCH};
+ghost use Rattle.session_options.specs.declared.limits.TheConstants.{MAX_TRACE_WRITERS, MIN_RING, MAX_RING, MAX_BATCH};
 ghost use Rattle.ring_core.specs.Plans.{plan_of};
 ghost use Rattle.roaming_consumer.specs.Roamers.{is_begun, RoamerStandsFor};
 ghost use Rattle.trace_session.specs.Workers.{work_of};
@@ -30,7 +30,7 @@ fn add_worker<S: StageIn + Drop, G: Gate>(
     writer: Writer<S>,
     into: &mut Vec<Worker<S, G>>,
 ) -> Result<(), AllocError>
-    requires few { length (arc_value trace.now).writers ≤ MAX_WRITERS }
+    requires few { length (arc_value trace.now).writers ≤ MAX_TRACE_WRITERS }
     requires known { length into.old.items < length (arc_value trace.now).writers }
     requires ring { (MIN_RING ≤ options.now.ring) × (options.now.ring ≤ MAX_RING) }
     requires new { IsNewWriter options.now.ring
@@ -60,7 +60,7 @@ fn make_workers<S: StageIn + Drop, G: Gate>(
     gate: &Arc<G, Global>,
     writers: Vec<Writer<S>>,
 ) -> Result<Vec<Worker<S, G>>, AllocError>
-    requires few { length (arc_value trace.now).writers ≤ MAX_WRITERS }
+    requires few { length (arc_value trace.now).writers ≤ MAX_TRACE_WRITERS }
     requires count { length writers.items ≡ length (arc_value trace.now).writers }
     requires ring { (MIN_RING ≤ options.now.ring) × (options.now.ring ≤ MAX_RING) }
     requires new { All (IsNewWriter options.now.ring

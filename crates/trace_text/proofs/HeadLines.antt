@@ -7,7 +7,7 @@ use Rattle.log_dictionary.specs.declared.clock.Clock.{Clock}
 use Rattle.log_dictionary.specs.Fields.{◌>>=◌, after, split_at_first}
 use Rattle.log_dictionary.proofs.lemmas.Splits.{split_again, split_takes, after_takes, found}
 use Rattle.log_dictionary.proofs.lemmas.Lines.{decimal_none}
-use Rattle.session_options.specs.declared.limits.TheConstants.{MAX_WRITERS}
+use Rattle.session_options.specs.declared.limits.TheConstants.{MAX_TRACE_WRITERS}
 use Rattle.trace_text.specs.Lines.{clock_line, writers_line, FitsLine}
 use Rattle.trace_text.specs.LineFields.{field_number, clock_of, clock_at, writer_count, writers_at}
 use Rattle.trace_text.proofs.NumberFields.{number_read, number_taken}
@@ -85,26 +85,26 @@ clock_taken line clock e =
 
 -- ---- the number of writers
 
-within : (count : ℕ) → 1 ≤ count → count ≤ MAX_WRITERS → cond (leb 1 count && leb count MAX_WRITERS) (Some count) None ≡ Some count
-within count some few = rw (le-leb 1 count some, le-leb count MAX_WRITERS few) refl
+within : (count : ℕ) → 1 ≤ count → count ≤ MAX_TRACE_WRITERS → cond (leb 1 count && leb count MAX_TRACE_WRITERS) (Some count) None ≡ Some count
+within count some few = rw (le-leb 1 count some, le-leb count MAX_TRACE_WRITERS few) refl
 
 -- the line of a number of writers is read as that number
-pub writers_read : (count : ℕ) → 1 ≤ count → count ≤ MAX_WRITERS → writers_at (writers_line count) ≡ Some count
+pub writers_read : (count : ℕ) → 1 ≤ count → count ≤ MAX_TRACE_WRITERS → writers_at (writers_line count) ≡ Some count
 writers_read count some few = rw (number_read count (omega (arith, few))) (within count some few)
 
 -- what a line of a number of writers says
 pub record SaysWriters (line : List ℕ) (count : ℕ) : Type 0 where
   pub spelled : line ≡ writers_line count
   pub some : 1 ≤ count
-  pub few : count ≤ MAX_WRITERS
+  pub few : count ≤ MAX_TRACE_WRITERS
 
 -- the line of which a number of writers is read is that number's
 pub writers_taken : (line : List ℕ) (count : ℕ) → writers_at line ≡ Some count → SaysWriters line count
 writers_taken line count e =
     let number = found (after (codes "writers ") line >>= field_number) writer_count count e in
     let field = found (after (codes "writers ") line) field_number number.x number.first in
-    let last = cond_some (leb 1 number.x && leb number.x MAX_WRITERS) number.x count number.second in
-    let both = and_parts (leb 1 number.x) (leb number.x MAX_WRITERS) last.0 in
+    let last = cond_some (leb 1 number.x && leb number.x MAX_TRACE_WRITERS) number.x count number.second in
+    let both = and_parts (leb 1 number.x) (leb number.x MAX_TRACE_WRITERS) last.0 in
     let is = number_taken field.x number.x field.second in
     let spelled : line ≡ writers_line number.x = after_takes (codes "writers ") line field.x field.first ∙ ap (λ back. codes "writers " ++ back) is.0 in
-    subst (SaysWriters line) last.1 (record { spelled = spelled; some = leb-true 1 number.x both.0; few = leb-true number.x MAX_WRITERS both.1 })
+    subst (SaysWriters line) last.1 (record { spelled = spelled; some = leb-true 1 number.x both.0; few = leb-true number.x MAX_TRACE_WRITERS both.1 })

@@ -19,7 +19,7 @@ use Rattle.log_dictionary.specs.declared.clock.Clock.{Clock}
 use Rattle.log_dictionary.proofs.lemmas.Distinct.{still_distinct}
 use Rattle.printf_grammar.proofs.lemmas.Worked.{all_copies}
 use Rattle.std.proofs.lemmas.List.{length-append}
-use Rattle.session_options.specs.declared.limits.TheConstants.{MAX_WRITERS}
+use Rattle.session_options.specs.declared.limits.TheConstants.{MAX_TRACE_WRITERS}
 use Rattle.trace_text.specs.CallReading.{call_at, with_call}
 use Rattle.trace_text.proofs.lemmas.CallRuns.{all-push, all_after, all_at, recorded_after}
 use Rattle.trace_text.proofs.CallLines.{call_spelled}
@@ -110,7 +110,7 @@ lines_after before after line u have (message, new, room, is) =
     })
 
 -- a run without calls
-pub start_has_text : (dictionary : List Message) (clock : Clock) (count : ℕ) → HaveMessageLines dictionary → FitsLine clock → 1 ≤ clock.rate → 1 ≤ count → count ≤ MAX_WRITERS → HasText (start_of dictionary clock count)
+pub start_has_text : (dictionary : List Message) (clock : Clock) (count : ℕ) → HaveMessageLines dictionary → FitsLine clock → 1 ≤ clock.rate → 1 ≤ count → count ≤ MAX_TRACE_WRITERS → HasText (start_of dictionary clock count)
 start_has_text dictionary clock count have fits rate some few =
     record { recorded = start_recorded dictionary clock count rate some few; messages = have; clock_fits = fits; calls = all_copies (AllByRecursion HasCallLine) [] count tt }
 

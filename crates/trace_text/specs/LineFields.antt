@@ -5,7 +5,7 @@ use Rattle.log_dictionary.specs.declared.clock.Clock.{Clock}
 use Rattle.log_dictionary.specs.Fields.{first_field}
 use Rattle.log_dictionary.specs.Numbers.{natural_of, if_small}
 use Rattle.log_dictionary.specs.Fields.{◌>>=◌, after, split_at_first}
-use Rattle.session_options.specs.declared.limits.TheConstants.{MAX_WRITERS}
+use Rattle.session_options.specs.declared.limits.TheConstants.{MAX_TRACE_WRITERS}
 
 -- the line begins with these bytes
 abbrev pub begins_with : List ℕ → List ℕ → Bool
@@ -38,7 +38,7 @@ clock_at line = after (codes "clock ") line >>= clock_of
 
 -- a number from 1 to 64
 abbrev pub writer_count : ℕ → Option ℕ
-writer_count writers = if nat_le 1 writers && nat_le writers MAX_WRITERS then Some writers else None
+writer_count writers = if nat_le 1 writers && nat_le writers MAX_TRACE_WRITERS then Some writers else None
 
 -- the number of writers of their line
 abbrev pub writers_at : List ℕ → Option ℕ

@@ -4,7 +4,7 @@ use Rattle.std.specs.List.{AllByRecursion}
 use Rattle.log_dictionary.specs.declared.clock.Clock.{Clock}
 use Rattle.log_dictionary.specs.declared.message.Message.{Message}
 use Rattle.log_dictionary.specs.Calls.{LogCall}
-use Rattle.session_options.specs.declared.limits.TheConstants.{MAX_WRITERS}
+use Rattle.session_options.specs.declared.limits.TheConstants.{MAX_TRACE_WRITERS}
 use Rattle.trace_text.specs.declared.trace.TheConstants.{MAX_CALLS}
 use Rattle.arg_records.specs.Calls.{IsCall, NeverFalls, calls_by_writer}
 use Rattle.arg_records.specs.declared.call.Call.{Call}
@@ -18,7 +18,7 @@ pub record Recording : Type 0 where
 -- tick and never fall
 pub record IsRecording (run : Recording) : Type 0 where
   pub some_writer : 1 ≤ length run.writers
-  pub few_writers : length run.writers ≤ MAX_WRITERS
+  pub few_writers : length run.writers ≤ MAX_TRACE_WRITERS
   pub few_calls : sum_by length run.writers ≤ MAX_CALLS
   pub rate : 1 ≤ run.clock.rate
   pub calls : AllByRecursion (AllByRecursion (IsCall run.dictionary)) run.writers

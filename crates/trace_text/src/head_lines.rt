@@ -4,7 +4,7 @@ ghost use Rattle.std.specs.Prelude.{◌≡◌};
 ghost use Rattle.trace_text.specs.LineFields.{clock_of, clock_at, writers_at};
 
 use log_dictionary::{Clock, read_number, split_at_byte};
-use session_options::MAX_WRITERS;
+use session_options::MAX_TRACE_WRITERS;
 
 // The tick, the nanoseconds and the rate of a clock.
 fn clock_of(fields: &[u8]) -> Option<Clock>
@@ -34,7 +34,7 @@ pub(crate) fn read_writers(line: &[u8]) -> Option<u32>
 {
     let field = line.strip_prefix(b"writers ")?;
     let count = read_number(field)?;
-    if count < 1 || count > u64::from(MAX_WRITERS) {
+    if count < 1 || count > u64::from(MAX_TRACE_WRITERS) {
         return None;
     }
     Some(count as u32)

@@ -11,14 +11,14 @@ use Rattle.trace_text.specs.Lines.{WriterCall}
 use Rattle.trace_text.specs.Canonical.{HasText}
 use Rattle.trace_text.specs.CallReading.{with_call_of, with_call}
 use Rattle.printf_grammar.proofs.lemmas.Worked.{all_copies}
-use Rattle.session_options.specs.declared.limits.TheConstants.{MAX_WRITERS}
+use Rattle.session_options.specs.declared.limits.TheConstants.{MAX_TRACE_WRITERS}
 use Rattle.trace_text.proofs.lemmas.RecordingLaws.{sum_of_none}
 
 -- a run of so many writers without calls
 abbrev pub start_of : List Message → Clock → ℕ → Recording
 start_of dictionary clock count = record { dictionary = dictionary; clock = clock; writers = replicate count [] }
 
-pub start_recorded : (dictionary : List Message) (clock : Clock) (count : ℕ) → 1 ≤ clock.rate → 1 ≤ count → count ≤ MAX_WRITERS → IsRecording (start_of dictionary clock count)
+pub start_recorded : (dictionary : List Message) (clock : Clock) (count : ℕ) → 1 ≤ clock.rate → 1 ≤ count → count ≤ MAX_TRACE_WRITERS → IsRecording (start_of dictionary clock count)
 start_recorded dictionary clock count rate some few =
     let none : List Call = [] in
     let long : length (replicate count none) ≡ count = length-replicate count none in

@@ -1,5 +1,5 @@
 use Rattle.std.proofs.Common.{◌≡◌, ◌+◌, ◌*◌, ◌≤◌, take}
-use Rattle.log_ends.specs.declared.rooms.TheConstants.{HEADER_LEN}
+use Rattle.checkpoint_io.specs.declared.heads.TheConstants.{HEADER_LEN}
 use Rattle.log_ends.specs.Rooms.{visit_len}
 use Rattle.log_ends.proofs.rooms.room_of.Given as goal
 

@@ -1,6 +1,6 @@
 use Rattle.std.proofs.Common.{◌*◌, ◌≤◌, take}
 use Rattle.checkpoint_io.specs.Blocks.{SpellsEntries}
-use Rattle.roaming_consumer.specs.declared.fragments.TheConstants.{MAX_ENTRY}
+use Rattle.log_dictionary.specs.declared.binary_entry.TheConstants.{MAX_ENTRY}
 use Rattle.roaming_consumer.proofs.fragments.put_entries.Given as goal
 
 abbrev pub invariant-loop-message : goal.invariant-loop-message
