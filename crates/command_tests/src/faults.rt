@@ -1,6 +1,6 @@
 //! Runs of which one call of the files fails, whichever it is.
 
-use crate::runs::{Machine, expect_lines, run_failing, run_over};
+use crate::runs::{Machine, expect, expect_lines, expect_ran, run_failing, run_over};
 use nanolog_cli::Status;
 use std::alloc::Global;
 use std::test::Fail;
@@ -29,10 +29,9 @@ const MANY_CALLS: u64 = 1_000;
 fn expect_front(rt: &impl Machine, alloc: Global, log: &[u8]) -> Result<(), Fail> {
     let read = run_over(rt, alloc, "decompress l", ("l", log))?;
     let (status, _, err) = read.shown();
-    match status {
-        Status::Done => {}
-        Status::Damaged => assert!(rt; err.ends_with(": damaged: 4 Cut\n"), "{err}"),
-        _ => assert!(rt; false, "{status:?}"),
+    if status != Status::Done {
+        let is_cut = err.ends_with(": damaged: 4 Cut\n");
+        expect(rt, &(status, is_cut), &(Status::Damaged, true));
     }
     Ok(())
 }
@@ -42,22 +41,22 @@ fn a_failed_call_leaves_the_front_of_a_log(rt: HostRuntime) -> Result<(), Fail> 
     let alloc = rt.alloc();
     for number in 0..MANY_CALLS {
         let ran = run_failing(&rt, alloc, "replay t l", ("t", TRACE.as_bytes()), number)?;
-        let (status, out, _) = ran.shown();
-        match status {
-            Status::Done => {
-                assert!(rt; out == "accepted 3 dropped 0 filtered 0\n", "{out}");
-                return expect_lines(&rt, alloc, &ran, LINES);
-            }
-            Status::ReadFault => assert!(rt; ran.log.is_none()),
-            Status::WriteFault => {
-                if let Some(log) = &ran.log {
-                    expect_front(&rt, alloc, log)?;
-                }
-            }
-            _ => assert!(rt; false, "{status:?}"),
+        if ran.status == Status::Done {
+            let told = "accepted 3 dropped 0 filtered 0\n";
+            expect_ran(&rt, &ran, Status::Done, told, "");
+            return expect_lines(&rt, alloc, &ran, LINES);
         }
-        assert!(rt; out.is_empty(), "{out}");
+        expect(&rt, &ran.out.as_str(), &"");
+        match &ran.log {
+            Some(log) => {
+                expect(&rt, &ran.status, &Status::WriteFault);
+                expect_front(&rt, alloc, log)?;
+            }
+            None => {
+                let is_told = ran.status == Status::ReadFault || ran.status == Status::WriteFault;
+                assert!(rt; is_told);
+            }
+        }
     }
-    assert!(rt; false, "each run fails");
-    Ok(())
+    Err("each run fails".into())
 }

@@ -1,6 +1,6 @@
 //! Inputs as large as they can be, and larger.
 
-use crate::runs::{PIECE, TRACE, run_over, words_of};
+use crate::runs::{PIECE, TRACE, expect, expect_ran, run_over, words_of};
 use nanolog_cli::{Status, quick};
 use nl_io::{MemFiles, MemSink};
 use std::alloc::{AllocError, Global};
@@ -29,8 +29,8 @@ fn too_many_messages_are_told(rt: HostRuntime) -> Result<(), Fail> {
     for text in [text.as_str(), wrong.as_str()] {
         for line in ["direct t", "header t l"] {
             let ran = run_over(&rt, alloc, line, ("t", text.as_bytes()))?;
-            assert_eq!(rt; ran.shown(), (Status::Refused, "", told), "{line}");
-            assert!(rt; ran.log.is_none(), "{line}");
+            expect_ran(&rt, &ran, Status::Refused, "", told);
+            assert!(rt; ran.log.is_none());
         }
     }
     Ok(())
@@ -44,8 +44,8 @@ fn too_large_a_trace_is_told(rt: HostRuntime) -> Result<(), Fail> {
     let told = "nanolog: t:0: refused: 18 TooLarge\n";
     for line in ["direct t", "header t l", "inject t none l"] {
         let ran = run_over(&rt, rt.alloc(), line, file)?;
-        assert_eq!(rt; ran.shown(), (Status::Refused, "", told), "{line}");
-        assert!(rt; ran.log.is_none(), "{line}");
+        expect_ran(&rt, &ran, Status::Refused, "", told);
+        assert!(rt; ran.log.is_none());
     }
     Ok(())
 }
@@ -62,17 +62,15 @@ fn too_large_a_source_is_told(rt: HostRuntime) -> Result<(), Fail> {
     let mut source = Vec::from_elem(alloc, b'\n', 16_777_217)?;
     files.put_file("m.cc", &source)?;
     let status = quick(alloc, &words, &mut files, &mut out, &mut err);
-    assert_eq!(rt; status, Status::Refused);
-    assert_eq!(rt;
-        err.bytes(),
-        b"nanolog: m.cc:0: refused: 7 TooLarge\n".as_slice()
-    );
+    expect(&rt, &status, &Status::Refused);
+    let told = b"nanolog: m.cc:0: refused: 7 TooLarge\n".as_slice();
+    expect(&rt, &err.bytes(), &told);
     assert!(rt; out.bytes().is_empty() && files.get_file("l").is_none());
     source.truncate(16_777_216);
     files.put_file("m.cc", &source)?;
     let status = quick(alloc, &words, &mut files, &mut out, &mut err);
-    assert_eq!(rt; status, Status::Done);
-    assert_eq!(rt; out.bytes(), b"injected 0\n".as_slice());
+    expect(&rt, &status, &Status::Done);
+    expect(&rt, &out.bytes(), &b"injected 0\n".as_slice());
     assert!(rt; files.get_file("l") == Some(source.as_slice()));
     Ok(())
 }
@@ -98,11 +96,11 @@ fn made_names_take_no_time(rt: HostRuntime) -> Result<(), Fail> {
     let text = made_names(alloc)?;
     let ran = run_over(&rt, alloc, "replay t l", ("t", text.as_bytes()))?;
     let told = "accepted 1 dropped 0 filtered 0\n";
-    assert_eq!(rt; ran.shown(), (Status::Done, told, ""));
+    expect_ran(&rt, &ran, Status::Done, told, "");
     let log = ran.log.as_deref().unwrap_or(&[]);
     let ran = run_over(&rt, alloc, "aggregate l 65535 0", ("l", log))?;
     let told = "nanolog: l: refused: 2 NoSuchArgument\n";
-    assert_eq!(rt; ran.shown(), (Status::Refused, "", told));
+    expect_ran(&rt, &ran, Status::Refused, "", told);
     Ok(())
 }
 
@@ -114,9 +112,10 @@ fn expect_quick(rt: &impl Abort, alloc: Global, line: &str, want: Status) -> Res
     let mut err = MemSink::make(alloc, PIECE, &[])?;
     let words = words_of(alloc, line)?;
     let status = quick(alloc, &words, &mut files, &mut out, &mut err);
-    assert_eq!(rt; status, want, "{line}");
-    assert_eq!(rt; out.bytes().is_empty(), want != Status::Done);
-    assert_eq!(rt; err.bytes().starts_with(b"usage:\n"), want == Status::Usage);
+    expect(rt, &status, &want);
+    expect(rt, &out.bytes().is_empty(), &(want != Status::Done));
+    let is_usage = err.bytes().starts_with(b"usage:\n");
+    expect(rt, &is_usage, &(want == Status::Usage));
     assert!(rt; files.get_file("l").is_none());
     Ok(())
 }

@@ -1,7 +1,7 @@
 //! What is told of refused memory. With memory enough each command is done: these tests have their point in runs that
 //! refuse memory, in which what they set up may fail.
 
-use crate::runs::{LINE, Machine, PIECE, TRACE, words_of};
+use crate::runs::{LINE, Machine, PIECE, TRACE, expect, words_of};
 use nanolog_cli::{Status, nanolog};
 use nl_io::{MemFiles, MemSink};
 use std::alloc::Global;
@@ -34,11 +34,13 @@ fn expect_told_or_done(
         return Ok(());
     }
     match status {
-        Status::Done => assert_eq!(rt; out.bytes(), text.as_bytes()),
-        Status::NoMemory => assert_eq!(rt; err.bytes(), b"nanolog: want of memory\n".as_slice()),
-        Status::ReadFault => assert_eq!(rt; files.starved(), 1),
+        Status::NoMemory => {
+            let told = b"nanolog: want of memory\n".as_slice();
+            expect(rt, &err.bytes(), &told);
+        }
+        Status::ReadFault => expect(rt, &files.starved(), &1),
         Status::WriteFault => assert!(rt; files.starved() == 1 || out.starved() == 1),
-        _ => assert!(rt; false, "{status:?}"),
+        _ => expect(rt, &(status, out.bytes()), &(Status::Done, text.as_bytes())),
     }
     Ok(())
 }

@@ -3,6 +3,7 @@
 use nanolog_cli::{Status, nanolog};
 use nl_io::{MemFiles, MemSink};
 use std::alloc::{AllocError, Global};
+use std::fmt::Debug;
 use std::process::Abort;
 use std::sync::{Arc, Wait};
 use std::test::Fail;
@@ -46,6 +47,16 @@ impl Ran {
     }
 }
 
+/// Ends the test where the two differ, and shows them.
+pub(crate) fn expect<T: PartialEq + Debug>(rt: &impl Abort, got: &T, wanted: &T) {
+    assert_eq!(rt; got, wanted);
+}
+
+/// Asserts how a run ended, what it printed and what it said.
+pub(crate) fn expect_ran(rt: &impl Abort, ran: &Ran, status: Status, out: &str, err: &str) {
+    expect(rt, &ran.shown(), &(status, out, err));
+}
+
 /// The words of a line, which one space each stands between.
 pub(crate) fn words_of(alloc: Global, line: &str) -> Result<Vec<String>, AllocError> {
     let mut words = Vec::new(alloc);
@@ -71,7 +82,8 @@ fn run_in<G: Gate + 'static>(
     let mut err = MemSink::make(alloc, PIECE, &[])?;
     let words = words_of(alloc, line)?;
     let status = nanolog(*rt, alloc, &words, &mut files, &mut out, &mut err, gate);
-    assert_eq!(rt; (files.starved(), out.starved(), err.starved()), (0, 0, 0));
+    let starved = (files.starved(), out.starved(), err.starved());
+    expect(rt, &starved, &(0, 0, 0));
     let log = match files.get_file("l") {
         Some(bytes) => Some(bytes.to_vec(alloc)?),
         None => None,
@@ -132,8 +144,6 @@ pub(crate) fn expect_lines(
 ) -> Result<(), Fail> {
     let log = ran.log.as_deref().unwrap_or(&[]);
     let read = run_over(rt, alloc, "decompress l", ("l", log))?;
-    let (status, out, err) = read.shown();
-    assert_eq!(rt; (status, err), (Status::Done, ""));
-    assert!(rt; out == lines, "{out}");
+    expect_ran(rt, &read, Status::Done, lines, "");
     Ok(())
 }

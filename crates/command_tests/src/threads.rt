@@ -1,6 +1,6 @@
 //! Replays with gates that say what comes first.
 
-use crate::runs::{LINE, TRACE, expect_lines, run_gated};
+use crate::runs::{LINE, TRACE, expect, expect_lines, expect_ran, run_gated};
 use nanolog_cli::Status;
 use std::alloc::Global;
 use std::hint::spin_loop;
@@ -82,18 +82,12 @@ impl Gate for Meeting {
     fn round(&self, _number: u64) {}
 }
 
-/// [`TRACE`] with these lines in place of that of its call and of the number of its writers.
-fn trace_with(alloc: Global, lines: &str) -> Result<String, Fail> {
-    Ok(TRACE.replacen(alloc, "writers 1\ncall 0 1003 0 7\n", lines, 1)?)
-}
-
 /// A ring of 1,024 words has room for 341 frames of 3 words where none of them is taken: the next would cross its end.
 #[test]
 fn a_full_ring_drops_calls(rt: HostRuntime) -> Result<(), Fail> {
     let alloc = rt.alloc();
     let calls = "call 0 1003 0 7\n".repeat(alloc, 343)?;
-    let lines = format!(in alloc; "writers 1\n{calls}")?;
-    let text = trace_with(alloc, lines.as_str())?;
+    let text = TRACE.replacen(alloc, "call 0 1003 0 7\n", calls.as_str(), 1)?;
     let gate = Arc::new(alloc, HeldRound::make(343))?;
     let line = "replay t l --ring 1024 --full drop";
     let file = ("t", text.as_bytes());
@@ -102,8 +96,8 @@ fn a_full_ring_drops_calls(rt: HostRuntime) -> Result<(), Fail> {
 drop 0 342 need 4 room 1
 accepted 341 dropped 2 filtered 0
 ";
-    assert_eq!(rt; ran.shown(), (Status::Done, told, ""));
-    assert_eq!(rt; gate.late.load(Ordering::SeqCst), 0);
+    expect_ran(&rt, &ran, Status::Done, told, "");
+    expect(&rt, &gate.late.load(Ordering::SeqCst), &0);
     let lines = LINE.repeat(alloc, 341)?;
     expect_lines(&rt, alloc, &ran, lines.as_str())
 }
@@ -118,7 +112,7 @@ call 0 1003 0 2
 call 1 1003 0 3
 call 1 1003 0 4
 ";
-    let text = trace_with(alloc, calls)?;
+    let text = TRACE.replacen(alloc, "writers 1\ncall 0 1003 0 7\n", calls, 1)?;
     let meeting = Meeting {
         first: AtomicU64::new(0),
         second: AtomicU64::new(0),
@@ -128,7 +122,7 @@ call 1 1003 0 4
     let file = ("t", text.as_bytes());
     let ran = run_gated(&rt, alloc, "replay t l", file, &gate)?;
     let told = "accepted 4 dropped 0 filtered 0\n";
-    assert_eq!(rt; ran.shown(), (Status::Done, told, ""));
-    assert_eq!(rt; gate.late.load(Ordering::SeqCst), 0);
+    expect_ran(&rt, &ran, Status::Done, told, "");
+    expect(&rt, &gate.late.load(Ordering::SeqCst), &0);
     Ok(())
 }
