@@ -1,4 +1,4 @@
-ghost use Rattle.std.specs.Prelude.{◌≡◌, ◌⊎◌, ℕ, ◌<◌, List, [], ◌∷◌, length, replicate, codes, pos, negsuc};
+ghost use Rattle.std.specs.Prelude.{◌≡◌, ◌⊎◌, ℕ, ◌<◌, List, [], ◌∷◌, length, replicate, Contains, codes, pos, negsuc};
 ghost use Rattle.printf_grammar.specs.declared.arg_type.ArgType.TheVariants as types;
 ghost use Rattle.printf_grammar.specs.declared.argument.Value.TheVariants.{Signed};
 ghost use Rattle.printf_grammar.specs.declared.piece.Piece.{Piece};
@@ -7,6 +7,7 @@ ghost use Rattle.printf_grammar.specs.declared.fault.FormatCause.{FormatCause};
 ghost use Rattle.printf_grammar.specs.declared.fault.FormatCause.TheVariants.{Float, Wide, Store, BadPercent};
 ghost use Rattle.printf_grammar.specs.declared.fault.FormatCause.TheVariants.{BadLength, Unknown, TooWide, Ends};
 ghost use Rattle.printf_grammar.specs.declared.fault.FormatCause.TheVariants.{Nul, TooManyArgs, Long};
+ghost use Rattle.printf_grammar.specs.Causes.{cause_name};
 ghost use Rattle.printf_grammar.specs.Spelling.{Spells};
 ghost use Rattle.printf_grammar.specs.Breaks.{FormatBreak};
 ghost use Rattle.printf_grammar.specs.Rows.{padded_pieces, starred_pieces, widest_pieces, plain_ds, plain_fields};
@@ -69,6 +70,15 @@ pub fn worked_limits()
     ensures long { FormatBreak (replicate 4096 97) Long 4095 }
     ensures longest_text { IsText (replicate 4000 97) }
     ensures long_text { (bytes : List ℕ) → length bytes ≡ 4001 → ¬ (IsText bytes) }
+{}
+
+/// All causes, each with its name.
+pub fn causes_have_names()
+    ensures { (cause : FormatCause) → Contains {X = FormatCause × List ℕ}
+        ((Float, codes "Float") ∷ (Wide, codes "Wide") ∷ (Store, codes "Store") ∷ (BadPercent, codes "BadPercent")
+        ∷ (BadLength, codes "BadLength") ∷ (Unknown, codes "Unknown") ∷ (TooWide, codes "TooWide")
+        ∷ (Ends, codes "Ends") ∷ (Nul, codes "Nul") ∷ (TooManyArgs, codes "TooManyArgs") ∷ (Long, codes "Long") ∷ [])
+        (cause, cause_name cause) }
 {}
 
 /// The numbers at both ends of what a `*` takes: a width, which may be below 0, and a precision, which is an int of
