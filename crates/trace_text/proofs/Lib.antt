@@ -28,7 +28,6 @@ mod OneOutcome
 mod SomeOutcome
 mod Followed
 mod LongLines
-mod CauseNumbers
 mod Fronts
 mod CallTexts
 mod CanonicalLaws

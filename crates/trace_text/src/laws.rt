@@ -1,7 +1,7 @@
 //! Laws and worked examples of the definitions. The functions do nothing: what they ensure is
 //! proved of the definitions.
 
-ghost use Rattle.std.specs.Prelude.{◌≡◌, ◌≢◌, ◌⊎◌, Result, ℕ, ◌+◌, ◌/◌, ◌<◌, ◌≤◌, List, [], ◌∷◌, ◌++◌, length, replicate, map, sum_by, Some, Ok, codes, negsuc};
+ghost use Rattle.std.specs.Prelude.{◌≡◌, ◌≢◌, ◌⊎◌, Result, ℕ, ◌+◌, ◌/◌, ◌<◌, ◌≤◌, List, [], ◌∷◌, ◌++◌, length, replicate, map, sum_by, Contains, Some, Ok, codes, negsuc};
 ghost use Rattle.std.specs.List.{AllByRecursion};
 ghost use Rattle.log_dictionary.specs.Messages.{AreDistinct};
 ghost use Rattle.arg_records.specs.Rows.{row_call};
@@ -23,7 +23,7 @@ ghost use Rattle.trace_text.specs.Rows.{three_writers_run, three_writers_text, t
 ghost use Rattle.trace_text.specs.CallReading.{call_at};
 ghost use Rattle.trace_text.specs.declared.cause.TraceCause.{TraceCause};
 ghost use Rattle.trace_text.specs.declared.cause.TraceCause.TheVariants.{TooLarge, NoEnd, Header, Message, Clock, Writers, CallForm, Writer, BeforeClock, StampFalls, Id, ArgCount, ArgKind, ArgRange, NulInText, TooLong, AfterEnd, TooMany};
-ghost use Rattle.trace_text.specs.Causes.{cause_number};
+ghost use Rattle.trace_text.specs.Causes.{cause_number, cause_name};
 ghost use Rattle.printf_grammar.specs.declared.argument.Value.TheVariants.{Signed, Text};
 ghost use Rattle.trace_text.specs.declared.trace.TheConstants.{MAX_CALLS, MAX_TRACE};
 
@@ -170,11 +170,16 @@ pub fn texts_end_with_their_last_line()
         → length (bytes ++ rest) ≤ 67108864 → (line : ℕ) × TraceBreak (bytes ++ rest) line AfterEnd }
 {}
 
-/// No two causes have one number, and the numbers are those from 1 to 18.
-pub fn causes_have_numbers()
-    ensures apart { (a b : TraceCause) → cause_number a ≡ cause_number b → a ≡ b }
-    ensures all { (n : ℕ) → 1 ≤ n → n ≤ 18 → (cause : TraceCause) × (cause_number cause ≡ n) }
-    ensures no_other { (cause : TraceCause) → (1 ≤ cause_number cause) × (cause_number cause ≤ 18) }
+/// All causes, each with its number and its name.
+pub fn causes_have_numbers_and_names()
+    ensures { (cause : TraceCause) → Contains {X = TraceCause × ℕ × List ℕ}
+        ((Header, 1, codes "Header") ∷ (Message, 2, codes "Message") ∷ (Clock, 3, codes "Clock")
+        ∷ (Writers, 4, codes "Writers") ∷ (Writer, 5, codes "Writer") ∷ (StampFalls, 6, codes "StampFalls")
+        ∷ (BeforeClock, 7, codes "BeforeClock") ∷ (Id, 8, codes "Id") ∷ (ArgCount, 9, codes "ArgCount")
+        ∷ (ArgKind, 10, codes "ArgKind") ∷ (ArgRange, 11, codes "ArgRange") ∷ (NulInText, 12, codes "NulInText")
+        ∷ (TooLong, 13, codes "TooLong") ∷ (NoEnd, 14, codes "NoEnd") ∷ (TooMany, 15, codes "TooMany")
+        ∷ (AfterEnd, 16, codes "AfterEnd") ∷ (CallForm, 17, codes "CallForm") ∷ (TooLarge, 18, codes "TooLarge") ∷ [])
+        (cause, cause_number cause, cause_name cause) }
 {}
 
 /// The calls at the places in order are all calls in order.
