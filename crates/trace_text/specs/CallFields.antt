@@ -30,20 +30,20 @@ spaced_argument type (space ∷ bytes) = item_argument type bytes
 
 -- ---- keeping arguments, as long as there is memory for them
 
--- those that were kept have room for one more
-abbrev pub HasRoom : Option (List Value) → Type 0
-HasRoom kept = IfSome kept (λ values. length values < MAX_ARGUMENTS)
+-- behind those that were kept there may be one more
+abbrev pub MayKeepMore : Option (List Value) → Type 0
+MayKeepMore kept = IfSome kept (λ values. length values < MAX_ARGUMENTS)
 
 -- the argument stands behind those that were kept, if there was memory for them and for it
-abbrev pub Appends : Value → Option (List Value) → Option (List Value) → Type 0
-Appends value old new =
+abbrev pub KeepsAlso : Value → Option (List Value) → Option (List Value) → Type 0
+KeepsAlso value old new =
     (args : List Value) → IfSome old (λ values. values ≡ args) → IfSome new (λ values. values ≡ args ++ value ∷ [])
 
 -- the argument takes so many words, and stands behind those that were kept
 pub record Keeps (value : Value) (words : ℕ) (old new : Option (List Value)) : Type 0 where
   pub words_are : words ≡ argument_words value
   pub few : words ≤ 501
-  pub appends : Appends value old new
+  pub kept : KeepsAlso value old new
 
 -- so does the argument that the number is
 pub record KeepsNumber (argument : ℤ → Result Value TraceCause) (integer : Integer) (old new : Option (List Value))

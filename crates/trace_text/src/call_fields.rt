@@ -8,7 +8,8 @@ ghost use Rattle.arg_records.specs.Frames.{FrameLen};
 ghost use Rattle.trace_text.specs.declared.cause.TraceCause.TheVariants.{ArgRange};
 ghost use Rattle.trace_text.specs.CallReading.{signed_within, unsigned_below, checked_text, argument_of, arguments_at};
 ghost use Rattle.trace_text.specs.CallReading.Item.{number};
-ghost use Rattle.trace_text.specs.CallFields.{result_as, item_argument, spaced_argument, HasRoom, Appends, KeepsNumber, KeepsRead};
+ghost use Rattle.trace_text.specs.CallFields.{result_as, item_argument, spaced_argument};
+ghost use Rattle.trace_text.specs.CallFields.{MayKeepMore, KeepsAlso, KeepsNumber, KeepsRead};
 
 use crate::cause::TraceCause;
 use arg_records::text_words;
@@ -29,8 +30,8 @@ fn signed_of(integer: Integer) -> Option<i64>
 // Adds an argument to those so far. There are none once memory lacked.
 #[inline(always)]
 fn keep_value(kept: &mut Option<Values>, value: Value)
-    requires { HasRoom kept.old }
-    ensures { Appends value kept.old kept.new }
+    requires { MayKeepMore kept.old }
+    ensures { KeepsAlso value kept.old kept.new }
 {
     let Some(values) = kept else {
         return;
@@ -44,16 +45,16 @@ fn keep_value(kept: &mut Option<Values>, value: Value)
 // with its padding, in halves that overlap, and each copy would wait for the one before.
 #[inline(never)]
 fn keep_signed(kept: &mut Option<Values>, number: i64)
-    requires { HasRoom kept.old }
-    ensures { Appends (SignedValue number) kept.old kept.new }
+    requires { MayKeepMore kept.old }
+    ensures { KeepsAlso (SignedValue number) kept.old kept.new }
 {
     keep_value(kept, Value::Signed(number));
 }
 
 #[inline(never)]
 fn keep_unsigned(kept: &mut Option<Values>, number: u64)
-    requires { HasRoom kept.old }
-    ensures { Appends (UnsignedValue number) kept.old kept.new }
+    requires { MayKeepMore kept.old }
+    ensures { KeepsAlso (UnsignedValue number) kept.old kept.new }
 {
     keep_value(kept, Value::Unsigned(number));
 }
@@ -66,8 +67,8 @@ fn push_text(alloc: Global, values: &mut Values, text: &SpelledText<'_>) -> Resu
 }
 
 fn keep_text(alloc: Global, kept: &mut Option<Values>, text: &SpelledText<'_>)
-    requires { HasRoom kept.old }
-    ensures { Appends (TextValue text.now) kept.old kept.new }
+    requires { MayKeepMore kept.old }
+    ensures { KeepsAlso (TextValue text.now) kept.old kept.new }
 {
     let Some(values) = kept else {
         return;
@@ -108,7 +109,7 @@ fn keep_from(
     most: i64,
     kept: &mut Option<Values>,
 ) -> Result<(), TraceCause>
-    requires { HasRoom kept.old }
+    requires { MayKeepMore kept.old }
     ensures ok { OnOk result (KeepsNumber (signed_within least most) integer kept.old kept.new) }
     ensures err { IfErr result (λ cause. (z : ℤ) → integer ≡ integer_read z → Err cause ≡ signed_within least most z) }
 {
@@ -123,7 +124,7 @@ fn keep_from(
 
 // Keeps an integer from 0 to `most`.
 fn keep_to(integer: Integer, most: u64, kept: &mut Option<Values>) -> Result<(), TraceCause>
-    requires { HasRoom kept.old }
+    requires { MayKeepMore kept.old }
     ensures ok { OnOk result (KeepsNumber (unsigned_below (most + 1)) integer kept.old kept.new) }
     ensures err { IfErr result (λ cause. (z : ℤ) → integer ≡ integer_read z → Err cause ≡ unsigned_below (most + 1) z) }
 {
@@ -137,7 +138,7 @@ fn keep_to(integer: Integer, most: u64, kept: &mut Option<Values>) -> Result<(),
 }
 
 fn keep_number(kind: ArgType, integer: Integer, kept: &mut Option<Values>) -> Result<(), TraceCause>
-    requires { HasRoom kept.old }
+    requires { MayKeepMore kept.old }
     ensures ok { OnOk result (KeepsNumber (λ z. argument_of kind (number z)) integer kept.old kept.new) }
     ensures err { IfErr result (λ cause. (z : ℤ) → integer ≡ integer_read z
         → Err cause ≡ argument_of kind (number z)) }
@@ -174,7 +175,7 @@ fn read_number<'a>(
     bytes: &'a [u8],
     kept: &mut Option<Values>,
 ) -> Result<&'a [u8], TraceCause>
-    requires { HasRoom kept.old }
+    requires { MayKeepMore kept.old }
     ensures ok { kind ≢ ArgType.Text
         → IfOk result (λ rest. KeepsRead (item_argument kind bytes.now) 1 rest.now kept.old kept.new) }
     ensures err { kind ≢ ArgType.Text → IfErr result (λ cause. Err cause ≡ item_argument kind bytes.now) }
@@ -194,7 +195,7 @@ fn read_text<'a>(
     bytes: &'a [u8],
     kept: &mut Option<Values>,
 ) -> Result<(u64, &'a [u8]), TraceCause>
-    requires { HasRoom kept.old }
+    requires { MayKeepMore kept.old }
     ensures ok { IfOk result (λ read. KeepsRead (item_argument ArgType.Text bytes.now) read.0 read.1.now
         kept.old kept.new) }
     ensures err { IfErr result (λ cause. Err cause ≡ item_argument ArgType.Text bytes.now) }
@@ -220,7 +221,7 @@ fn read_item<'a>(
     bytes: &'a [u8],
     kept: &mut Option<Values>,
 ) -> Result<(u64, &'a [u8]), TraceCause>
-    requires { HasRoom kept.old }
+    requires { MayKeepMore kept.old }
     ensures ok { IfOk result (λ read. KeepsRead (item_argument kind bytes.now) read.0 read.1.now kept.old kept.new) }
     ensures err { IfErr result (λ cause. Err cause ≡ item_argument kind bytes.now) }
 {
@@ -240,7 +241,7 @@ fn read_field<'a>(
     bytes: &'a [u8],
     kept: &mut Option<Values>,
 ) -> Result<(u64, &'a [u8]), TraceCause>
-    requires { HasRoom kept.old }
+    requires { MayKeepMore kept.old }
     ensures ok { IfOk result (λ read. KeepsRead (spaced_argument kind bytes.now) read.0 read.1.now kept.old kept.new) }
     ensures err { IfErr result (λ cause. Err cause ≡ spaced_argument kind bytes.now) }
 {

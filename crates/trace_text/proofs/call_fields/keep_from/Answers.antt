@@ -6,5 +6,5 @@ pub returns-in-Some-clause-ok : goal.returns-in-Some-clause-ok
 returns-in-Some-clause-ok c = record {
   value = SignedValue c.in-Some.signed;
   told = let told = c.in-Some.ensures.some in search rules;
-  keeps = record { words_are = refl; few = omega arith; appends = λ args before. let kept = c.keep_signed.ensures args before in search rules };
+  keeps = record { words_are = refl; few = omega arith; kept = λ args before. let kept = c.keep_signed.ensures args before in search rules };
 }

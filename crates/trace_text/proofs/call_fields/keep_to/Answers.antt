@@ -6,5 +6,5 @@ pub returns-in-Some-clause-ok : goal.returns-in-Some-clause-ok
 returns-in-Some-clause-ok c = record {
   value = UnsignedValue c.in-Some.unsigned;
   told = c.in-Some.ensures.some;
-  keeps = record { words_are = refl; few = omega arith; appends = c.keep_unsigned.ensures };
+  keeps = record { words_are = refl; few = omega arith; kept = c.keep_unsigned.ensures };
 }

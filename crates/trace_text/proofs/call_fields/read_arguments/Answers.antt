@@ -15,7 +15,7 @@ loop-kind-preserved c =
     record {
       args = args ++ found.value ∷ [];
       read = one_read c.args.types.now c.args.bytes.now c.loop-kind.kind-index c.loop-kind.rest.now args Int found.value c.in-Ok.after.now c.loop-kind.invariant.read (omega arith) (sym found.is);
-      are_kept = found.keeps.appends args c.loop-kind.invariant.are_kept;
+      are_kept = found.keeps.kept args c.loop-kind.invariant.are_kept;
       words_are = omega (arith, frame_more args found.value, c.loop-kind.invariant.words_are, found.keeps.words_are);
       few = omega (arith, c.loop-kind.invariant.few, found.keeps.few);
     }
