@@ -209,19 +209,22 @@ with_taken : (name fields : List ℕ) (said : NumberedStep) (b : Bool) → bytes
 with_taken name fields said true is e = subst (λ (n : List ℕ). IsNamed n fields said) (sym ((bytes_eq-Decides name (codes "store")).0 is)) (store_taken fields said e)
 with_taken name fields said false is e = plain_taken name fields said e
 
+-- a line that says a step is that of its event
+pub step_spelled : (line : List ℕ) (said : NumberedStep) → step_at line ≡ Some said → (line ≡ step_bytes said) × FitsStep (event_of said)
+step_spelled line said e =
+    let parts = found (split_at_first 32 line) (λ (parts : List ℕ × List ℕ). step_with parts.0 parts.1) said e in
+    let split = split_takes 32 line parts.x.0 parts.x.1 parts.first in
+    let named = with_taken parts.x.0 parts.x.1 said (bytes_eq parts.x.0 (codes "store")) refl parts.second in
+    (split.parts ∙ (λ i. named.name_is i ++ 32 ∷ named.fields_are i), named.fits)
+
 -- bytes of whose first line a step is read begin with the line of its event
 pub step_taken : (bytes : List ℕ) (said : NumberedStep) (rest : List ℕ) → first_line_says step_at bytes ≡ Some (said, rest) → SaysStep bytes said rest
 step_taken bytes said rest e =
     let line = line_taken step_at bytes said rest e in
-    let parts = found (split_at_first 32 line.line) (λ (parts : List ℕ × List ℕ). step_with parts.0 parts.1) said line.says_so in
-    let split = split_takes 32 line.line parts.x.0 parts.x.1 parts.first in
-    let named = with_taken parts.x.0 parts.x.1 said (bytes_eq parts.x.0 (codes "store")) refl parts.second in
+    let spelled = step_spelled line.line said line.says_so in
     record {
-      joined =
-          line.joined
-          ∙ ap (λ (l : List ℕ). l ++ 10 ∷ rest) (split.parts ∙ (λ i. named.name_is i ++ 32 ∷ named.fields_are i))
-          ∙ sym (step_line-bytes said rest);
-      fits = named.fits;
+      joined = line.joined ∙ ap (λ (l : List ℕ). l ++ 10 ∷ rest) spelled.0 ∙ sym (step_line-bytes said rest);
+      fits = spelled.1;
     }
 
 -- ---- the line of the rings
@@ -242,10 +245,11 @@ within_taken rings words sizes e = by_test (leb 1 rings && leb rings MAX_RINGS &
           record { some_ring = leb-true _ _ first.0; few_rings = leb-true _ _ first.1; least = leb-true _ _ third.1; most = leb-true _ _ last.1 },
         )
 
-abbrev rings_bytes : ℕ → ℕ → List ℕ
+-- the line of rings without its line feed
+abbrev pub rings_bytes : ℕ → ℕ → List ℕ
 rings_bytes rings words = codes "rings " ++ (decimal rings ++ 32 ∷ decimal words)
 
-rings_line-bytes : (rings words : ℕ) (rest : List ℕ) → rings_line rings words ++ rest ≡ rings_bytes rings words ++ 10 ∷ rest
+pub rings_line-bytes : (rings words : ℕ) (rest : List ℕ) → rings_line rings words ++ rest ≡ rings_bytes rings words ++ 10 ∷ rest
 rings_line-bytes rings words rest = simp append_assoc
 
 pub sizes_read : (rings words : ℕ) (rest : List ℕ) → AreSizes rings words → first_line_says sizes_at (rings_line rings words ++ rest) ≡ Some ((rings, words), rest)
@@ -265,10 +269,10 @@ pub record SaysSizes (bytes : List ℕ) (sizes : ℕ × ℕ) (rest : List ℕ) :
   pub joined : bytes ≡ rings_line sizes.0 sizes.1 ++ rest
   pub are : AreSizes sizes.0 sizes.1
 
-pub sizes_taken : (bytes : List ℕ) (sizes : ℕ × ℕ) (rest : List ℕ) → first_line_says sizes_at bytes ≡ Some (sizes, rest) → SaysSizes bytes sizes rest
-sizes_taken bytes sizes rest e =
-    let line = line_taken sizes_at bytes sizes rest e in
-    let fields = found (after (codes "rings ") line.line) sizes_of sizes line.says_so in
+-- a line that says sizes is that of rings of these sizes
+pub sizes_spelled : (line : List ℕ) (sizes : ℕ × ℕ) → sizes_at line ≡ Some sizes → (line ≡ rings_bytes sizes.0 sizes.1) × AreSizes sizes.0 sizes.1
+sizes_spelled line sizes e =
+    let fields = found (after (codes "rings ") line) sizes_of sizes e in
     let parts = found (split_at_first 32 fields.x) (λ (parts : List ℕ × List ℕ). number_at parts.0 >>= (λ (count : ℕ). number_at parts.1 >>= (λ (words : ℕ). sizes_within count words))) sizes fields.second in
     let count = found (number_at parts.x.0) (λ (count : ℕ). number_at parts.x.1 >>= (λ (words : ℕ). sizes_within count words)) sizes parts.second in
     let words = found (number_at parts.x.1) (λ (words : ℕ). sizes_within count.x words) sizes count.second in
@@ -276,8 +280,15 @@ sizes_taken bytes sizes rest e =
     let words_is = number_taken parts.x.1 words.x words.first in
     let is = within_taken count.x words.x sizes words.second in
     let split = split_takes 32 fields.x parts.x.0 parts.x.1 parts.first in
-    let whole : bytes ≡ rings_line count.x words.x ++ rest =
-    line.joined
-    ∙ ap (λ (l : List ℕ). l ++ 10 ∷ rest) (after_takes (codes "rings ") line.line fields.x fields.first ∙ ap (λ (f : List ℕ). codes "rings " ++ f) (split.parts ∙ (λ i. count_is.0 i ++ 32 ∷ words_is.0 i)))
-    ∙ sym (rings_line-bytes count.x words.x rest) in
-    subst (λ (s : ℕ × ℕ). SaysSizes bytes s rest) is.0 (record { joined = whole; are = is.1 })
+    let whole : line ≡ rings_bytes count.x words.x =
+    after_takes (codes "rings ") line fields.x fields.first ∙ ap (λ (f : List ℕ). codes "rings " ++ f) (split.parts ∙ (λ i. count_is.0 i ++ 32 ∷ words_is.0 i)) in
+    subst (λ (s : ℕ × ℕ). (line ≡ rings_bytes s.0 s.1) × AreSizes s.0 s.1) is.0 (whole, is.1)
+
+pub sizes_taken : (bytes : List ℕ) (sizes : ℕ × ℕ) (rest : List ℕ) → first_line_says sizes_at bytes ≡ Some (sizes, rest) → SaysSizes bytes sizes rest
+sizes_taken bytes sizes rest e =
+    let line = line_taken sizes_at bytes sizes rest e in
+    let spelled = sizes_spelled line.line sizes line.says_so in
+    record {
+      joined = line.joined ∙ ap (λ (l : List ℕ). l ++ 10 ∷ rest) spelled.0 ∙ sym (rings_line-bytes sizes.0 sizes.1 rest);
+      are = spelled.1;
+    }

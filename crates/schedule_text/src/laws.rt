@@ -1,12 +1,14 @@
 //! Laws and worked examples of the definitions. The functions do nothing: what they ensure is proved of the
 //! definitions.
 
-ghost use Rattle.std.specs.Prelude.{◌≡◌, ◌⊎◌, ◌≤◌, ◌++◌, ℕ, List, [], codes, length};
+ghost use Rattle.std.specs.Prelude.{◌≡◌, ◌⊎◌, ◌<◌, ◌≤◌, ◌∷◌, ◌++◌, ℕ, List, [], codes, length, Contains, None};
 ghost use Rattle.ring_machine.specs.RingStates.{RingState};
 ghost use Rattle.schedule_text.specs.declared.cause.ScheduleCause.{ScheduleCause as CauseValue};
 ghost use Rattle.schedule_text.specs.declared.cause.ScheduleCause.TheVariants as causes;
 ghost use Rattle.schedule_text.specs.declared.playing.TheConstants.{MAX_STEPS, MAX_TEXT};
 ghost use Rattle.schedule_text.specs.declared.head_line.TheConstants.{MAX_WORDS};
+ghost use Rattle.schedule_text.specs.Causes.{cause_number, cause_name};
+ghost use Rattle.schedule_text.specs.Lines.{step_at, sizes_at};
 ghost use Rattle.schedule_text.specs.Judged.{ScheduleOutcome, refused_at, judged};
 ghost use Rattle.schedule_text.specs.Schedules.{Schedule, ScheduleText, ScheduleBreak, ComesTo};
 ghost use Rattle.schedule_text.specs.Rows.{with_ring, one_frame, one_frame_lines, done_with, refused_behind};
@@ -16,6 +18,23 @@ pub fn limits_have_these_numbers()
     ensures steps { MAX_STEPS ≡ 1000000 }
     ensures words { MAX_WORDS ≡ 65536 }
     ensures text { MAX_TEXT ≡ 65000200 }
+{}
+
+/// All causes, each with its number and its name.
+pub fn causes_have_numbers_and_names()
+    ensures { (cause : CauseValue) → Contains {X = CauseValue × ℕ × List ℕ}
+        ((causes.Header, 1, codes "Header") ∷ (causes.Step, 2, codes "Step") ∷ (causes.Ring, 3, codes "Ring")
+        ∷ (causes.Closed, 4, codes "Closed") ∷ (causes.MidFrame, 5, codes "MidFrame")
+        ∷ (causes.BadWord, 6, codes "BadWord") ∷ (causes.AtEdge, 7, codes "AtEdge")
+        ∷ (causes.NoRoom, 8, codes "NoRoom") ∷ (causes.Empty, 9, codes "Empty")
+        ∷ (causes.Nothing, 10, codes "Nothing") ∷ (causes.TooMany, 11, codes "TooMany") ∷ [])
+        (cause, cause_number cause, cause_name cause) }
+{}
+
+/// A line of more than 64 bytes says nothing.
+pub fn long_lines_say_nothing()
+    ensures steps { (line : List ℕ) → 64 < length line → step_at line ≡ None }
+    ensures rings { (line : List ℕ) → 64 < length line → sizes_at line ≡ None }
 {}
 
 /// A frame goes through a ring.

@@ -1,5 +1,5 @@
--- The first bytes of a long text decide what it comes to.
-use Rattle.std.proofs.Common.{◌≡◌, ℕ, ◌+◌, ◌*◌, ◌-◌, ◌<◌, ◌≤◌, ◌^◌, List, [], ◌∷◌, ◌++◌, length, take, drop, codes, refl, sym, ap, ◌∙◌, append_assoc, inl, inr, arith}
+-- Long lines say nothing, and the first bytes of a long text decide what it comes to.
+use Rattle.std.proofs.Common.{◌≡◌, ℕ, ◌+◌, ◌*◌, ◌-◌, ◌<◌, ◌≤◌, ◌^◌, List, [], ◌∷◌, ◌++◌, length, take, drop, codes, Option, Some, None, refl, sym, ap, ◌∙◌, append_assoc, inl, inr, arith}
 use Rattle.std.specs.Prelude.{decimal}
 use Rattle.std.specs.List.{flat_map, AllByRecursion}
 use Rattle.std.proofs.lemmas.Fmt.{length-decimal-le}
@@ -13,8 +13,10 @@ use Rattle.ring_machine.specs.RingStates.{RingState}
 use Rattle.schedule_text.specs.declared.cause.ScheduleCause.{ScheduleCause}
 use Rattle.schedule_text.specs.declared.playing.TheConstants.{MAX_STEPS, MAX_TEXT}
 use Rattle.schedule_text.specs.StepLines.{step_name, step_word, step_line, FitsWord, FitsStep}
-use Rattle.schedule_text.specs.Judged.{ScheduleOutcome, first_line, judged}
+use Rattle.schedule_text.specs.Lines.{NumberedStep, step_at, sizes_at}
+use Rattle.schedule_text.specs.Judged.{ScheduleOutcome, event_of, first_line, judged}
 use Rattle.schedule_text.specs.Schedules.{Schedule, AreSizes, rings_line, schedule_text, IsPlayed, HeadBreak, StepBreak, ComesTo}
+use Rattle.schedule_text.proofs.LineReading.{step_bytes, step_line-bytes, step_spelled, rings_bytes, rings_line-bytes, sizes_spelled}
 use Rattle.schedule_text.proofs.lemmas.JudgedLaws.{comes_judged, only_judged}
 
 -- ---- how long lines are
@@ -83,6 +85,44 @@ text_short s last played = omega (
   steps_short s.events played.fits,
   played.few,
 )
+
+-- ---- lines that are too long
+
+-- a line of more than 64 bytes is that of no step
+pub long_step : (line : List ℕ) → 64 < length line → step_at line ≡ None
+long_step line long = by_said (step_at line) refl
+  where
+    by_said : (o : Option NumberedStep) → step_at line ≡ o → step_at line ≡ None
+    by_said None e = e
+    by_said (Some said) e =
+        let spelled = step_spelled line said e in
+        absurd (omega (
+          arith,
+          long,
+          ap (λ (l : List ℕ). length l) spelled.0,
+          ap (λ (l : List ℕ). length l) (step_line-bytes said []),
+          length-append (step_line (event_of said)) [],
+          length-append (step_bytes said) (10 ∷ []),
+          step_short (event_of said) spelled.1,
+        ))
+
+-- and that of no rings
+pub long_rings : (line : List ℕ) → 64 < length line → sizes_at line ≡ None
+long_rings line long = by_said (sizes_at line) refl
+  where
+    by_said : (o : Option (ℕ × ℕ)) → sizes_at line ≡ o → sizes_at line ≡ None
+    by_said None e = e
+    by_said (Some sizes) e =
+        let spelled = sizes_spelled line sizes e in
+        absurd (omega (
+          arith,
+          long,
+          ap (λ (l : List ℕ). length l) spelled.0,
+          ap (λ (l : List ℕ). length l) (rings_line-bytes sizes.0 sizes.1 []),
+          length-append (rings_line sizes.0 sizes.1) [],
+          length-append (rings_bytes sizes.0 sizes.1) (10 ∷ []),
+          rings_short sizes.0 sizes.1 spelled.1,
+        ))
 
 -- ---- bytes that go on
 
