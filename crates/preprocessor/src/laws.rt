@@ -2,13 +2,15 @@
 
 ghost use Rattle.std.specs.Prelude.{◌≡◌, ℕ, List, [], ◌∷◌, ◌++◌, map, codes};
 ghost use Rattle.std.specs.List.{Contains};
+ghost use Rattle.printf_grammar.specs.declared.fault.FormatCause.{FormatCause};
 ghost use Rattle.printf_grammar.specs.declared.fault.FormatCause.TheVariants.{Float};
 ghost use Rattle.source_scan.specs.declared.found.StatementCause.TheVariants as causes;
 ghost use Rattle.log_dictionary.specs.declared.message.Message.{Message};
 ghost use Rattle.log_dictionary.specs.Messages.{HasMessage, AreDistinct};
 ghost use Rattle.preprocessor.specs.declared.numbering.Numbering.{Numbering};
+ghost use Rattle.preprocessor.specs.declared.refusal.RefusalCause.TheVariants.{Statement, TooLarge, TooMany, NotInDictionary};
 ghost use Rattle.preprocessor.specs.declared.refusal.SourceRefusal.{SourceRefusal};
-ghost use Rattle.preprocessor.specs.Causes.{refusal_line};
+ghost use Rattle.preprocessor.specs.Causes.{cause_words, refusal_line};
 ghost use Rattle.preprocessor.specs.Rows.{refused_in};
 ghost use Rattle.preprocessor.specs.Findings.{SourceFile, Finding, AllHave, sources_of, large_refusal};
 ghost use Rattle.preprocessor.specs.Numbering.{stated_messages, StandFirst, Numbered, Refusals, NumbersSources};
@@ -58,6 +60,19 @@ pub fn each_message_has_one_number()
 pub fn messages_stand_first()
     ensures { (files : List SourceFile) (messages : List Message) (n : ℕ) (findings : List Finding)
         → Numbered files messages n → AllHave files findings → StandFirst (stated_messages findings) 0 messages }
+{}
+
+/// All causes, each with its number and its name. Of a bad format they are the same, whatever is wrong with it.
+pub fn causes_have_numbers_and_names()
+    ensures severity { cause_words (Statement causes.Severity) ≡ codes "1 Severity" }
+    ensures literal { cause_words (Statement causes.FormatNotLiteral) ≡ codes "2 FormatNotLiteral" }
+    ensures format { (why : FormatCause) (place : ℕ) → cause_words (Statement (causes.Format why place)) ≡ codes "3 Format" }
+    ensures few { cause_words (Statement causes.TooFew) ≡ codes "4 TooFew" }
+    ensures unclosed { cause_words (Statement causes.Unclosed) ≡ codes "5 Unclosed" }
+    ensures file { cause_words (Statement causes.FileName) ≡ codes "6 FileName" }
+    ensures large { cause_words TooLarge ≡ codes "7 TooLarge" }
+    ensures many { cause_words TooMany ≡ codes "8 TooMany" }
+    ensures unknown { cause_words NotInDictionary ≡ codes "9 NotInDictionary" }
 {}
 
 /// The words on what is refused.
