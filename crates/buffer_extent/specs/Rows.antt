@@ -1,4 +1,4 @@
--- Worked records that break, and all causes.
+-- Worked records that break.
 use Rattle.std.specs.Prelude.{◌≡◌, ℕ, List, [], ◌∷◌, Err}
 use Rattle.printf_grammar.specs.declared.arg_type.ArgType.{ArgType}
 use Rattle.printf_grammar.specs.Types.{Types}
@@ -12,16 +12,3 @@ use Rattle.buffer_extent.specs.Reading.{record_at}
 abbrev pub BreaksSo : List ArgType → ℕ → List ℕ → Cause → Type 0
 BreaksSo types least bytes cause =
     (message : Message) → Types message.format.pieces ≡ types → record_at (message ∷ []) 1000 least bytes ≡ Err cause
-
--- in the order of their numbers
-abbrev pub all_causes : List Cause
-all_causes =
-    causes.RecordCut
-    ∷ causes.UnknownId
-    ∷ causes.BadNibble
-    ∷ causes.NotShortest
-    ∷ causes.StampRange
-    ∷ causes.StampFalls
-    ∷ causes.ArgRange
-    ∷ causes.NulInText
-    ∷ causes.TooLong ∷ []

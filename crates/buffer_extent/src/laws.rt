@@ -1,7 +1,7 @@
 //! Laws over the definitions of records and bodies. The functions do nothing: what they ensure is proved of the
 //! definitions.
 
-ghost use Rattle.std.specs.Prelude.{◌≡◌, ◌⊎◌, ℕ, ◌<◌, List, [], ◌∷◌, ◌++◌, map, replicate, All, Contains, codes, pos, negsuc, Ok, Err};
+ghost use Rattle.std.specs.Prelude.{◌≡◌, ◌⊎◌, ℕ, ◌<◌, List, [], ◌∷◌, ◌++◌, replicate, All, Contains, codes, pos, negsuc, Ok, Err};
 ghost use Rattle.printf_grammar.specs.declared.arg_type.ArgType.TheVariants.{Int, Text as TextType};
 ghost use Rattle.printf_grammar.specs.declared.argument.Value.TheVariants.{Signed, Text};
 ghost use Rattle.log_dictionary.specs.declared.message.Message.{Message};
@@ -9,7 +9,7 @@ ghost use Rattle.arg_records.specs.declared.call.Call.{Call};
 ghost use Rattle.buffer_extent.specs.Records.{code_bytes, RecordBytes};
 ghost use Rattle.buffer_extent.specs.declared.fault.Cause.{Cause as BodyCause};
 ghost use Rattle.buffer_extent.specs.declared.put.TheConstants.{RECORD_ROOM};
-ghost use Rattle.buffer_extent.specs.Rows.{BreaksSo, all_causes};
+ghost use Rattle.buffer_extent.specs.Rows.{BreaksSo};
 ghost use Rattle.buffer_extent.specs.Causes.{cause_number, cause_name};
 ghost use Rattle.buffer_extent.specs.Bodies.{body_at, SpellsRecord, IsBody, BodyBreak};
 ghost use Rattle.arg_records.specs.Calls.{IsCall};
@@ -37,12 +37,14 @@ pub fn records_have_room()
 {}
 
 /// All causes, each with its number and its name.
-pub fn causes_of_bodies()
-    ensures all { (cause : BodyCause) → Contains all_causes cause }
-    ensures numbers { map cause_number all_causes ≡ 11 ∷ 12 ∷ 13 ∷ 14 ∷ 15 ∷ 16 ∷ 17 ∷ 18 ∷ 19 ∷ [] }
-    ensures names { map cause_name all_causes
-        ≡ codes "RecordCut" ∷ codes "UnknownId" ∷ codes "BadNibble" ∷ codes "NotShortest" ∷ codes "StampRange"
-        ∷ codes "StampFalls" ∷ codes "ArgRange" ∷ codes "NulInText" ∷ codes "TooLong" ∷ [] }
+pub fn causes_have_numbers_and_names()
+    ensures { (cause : BodyCause) → Contains {X = BodyCause × ℕ × List ℕ}
+        ((BodyCause.RecordCut, 11, codes "RecordCut") ∷ (BodyCause.UnknownId, 12, codes "UnknownId")
+        ∷ (BodyCause.BadNibble, 13, codes "BadNibble") ∷ (BodyCause.NotShortest, 14, codes "NotShortest")
+        ∷ (BodyCause.StampRange, 15, codes "StampRange") ∷ (BodyCause.StampFalls, 16, codes "StampFalls")
+        ∷ (BodyCause.ArgRange, 17, codes "ArgRange") ∷ (BodyCause.NulInText, 18, codes "NulInText")
+        ∷ (BodyCause.TooLong, 19, codes "TooLong") ∷ [])
+        (cause, cause_number cause, cause_name cause) }
 {}
 
 /// Records that break by each cause, of messages that take an `int`, a text or two texts. The step counts from 1000.

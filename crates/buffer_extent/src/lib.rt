@@ -16,7 +16,7 @@ pub use body::read_body;
 pub use fault::{BodyFault, Cause};
 pub use laws::{
     a_record_with_a_number, a_record_with_a_text, bodies_are_read, bodies_are_told_apart,
-    body_or_break, causes_of_bodies, no_record_begins_another, records_break_by_these_causes,
-    records_have_room, three_codes_in_two_bytes,
+    body_or_break, causes_have_numbers_and_names, no_record_begins_another,
+    records_break_by_these_causes, records_have_room, three_codes_in_two_bytes,
 };
 pub use put::{RECORD_ROOM, put_record};

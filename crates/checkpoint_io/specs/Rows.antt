@@ -1,11 +1,8 @@
--- A worked log: one message, and one call of it. Blocks of two messages and two writers. And all causes.
+-- A worked log: one message, and one call of it. Blocks of two messages and two writers.
 use Rattle.std.specs.Prelude.{ℕ, List, [], ◌∷◌, ◌++◌}
 use Rattle.arg_records.specs.declared.call.Call.{Call}
 use Rattle.arg_records.specs.Rows.{row_call, full_message, full_call}
 use Rattle.log_dictionary.specs.Rows.{row_message}
-use Rattle.buffer_extent.specs.declared.fault.Cause.TheVariants as body_causes
-use Rattle.checkpoint_io.specs.declared.cause.Cause.{Cause}
-use Rattle.checkpoint_io.specs.declared.cause.Cause.TheVariants as causes
 use Rattle.checkpoint_io.specs.declared.header.Header.{Header}
 use Rattle.checkpoint_io.specs.Blocks.{Block, Fragment, Extent, Close}
 
@@ -63,27 +60,3 @@ row_extent_bytes = 2 ∷ 0 ∷ 4 ∷ 0 ∷ 0 ∷ 0 ∷ [] ++ row_body
 -- the whole file: 68 bytes
 abbrev pub row_bytes : List ℕ
 row_bytes = row_header_bytes ++ row_fragment_bytes ++ row_extent_bytes ++ 4 ∷ 0 ∷ []
-
--- in the order of their numbers
-abbrev pub all_causes : List Cause
-all_causes =
-    causes.BadMagic
-    ∷ causes.BadVersion
-    ∷ causes.BadHeader
-    ∷ causes.Cut
-    ∷ causes.BadBlock
-    ∷ causes.FragmentOrder
-    ∷ causes.BadEntry
-    ∷ causes.UnknownWriter
-    ∷ causes.AfterClose
-    ∷ causes.BadLength
-    ∷ causes.Body body_causes.RecordCut
-    ∷ causes.Body body_causes.UnknownId
-    ∷ causes.Body body_causes.BadNibble
-    ∷ causes.Body body_causes.NotShortest
-    ∷ causes.Body body_causes.StampRange
-    ∷ causes.Body body_causes.StampFalls
-    ∷ causes.Body body_causes.ArgRange
-    ∷ causes.Body body_causes.NulInText
-    ∷ causes.Body body_causes.TooLong
-    ∷ causes.TooLarge ∷ []

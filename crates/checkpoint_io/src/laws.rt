@@ -9,10 +9,11 @@ ghost use Rattle.log_dictionary.specs.declared.message.Message.{Message};
 ghost use Rattle.log_dictionary.specs.Messages.{AreDistinct};
 ghost use Rattle.log_dictionary.specs.BinaryEntries.{SpellsEntry};
 ghost use Rattle.arg_records.specs.declared.call.Call.{Call};
+ghost use Rattle.buffer_extent.specs.declared.fault.Cause.{Cause as BodyCause};
 ghost use Rattle.buffer_extent.specs.Bodies.{SpellsRecords};
 ghost use Rattle.arg_records.specs.Calls.{IsCall, NeverFalls};
 ghost use Rattle.checkpoint_io.specs.declared.cause.Cause.{Cause};
-ghost use Rattle.checkpoint_io.specs.declared.cause.Cause.TheVariants.{BadMagic, BadVersion, BadHeader, Cut, BadBlock, FragmentOrder, BadEntry, UnknownWriter, AfterClose, BadLength};
+ghost use Rattle.checkpoint_io.specs.declared.cause.Cause.TheVariants.{BadMagic, BadVersion, BadHeader, Cut, BadBlock, FragmentOrder, BadEntry, UnknownWriter, AfterClose, BadLength, Body, TooLarge};
 ghost use Rattle.checkpoint_io.specs.declared.header.Header.{Header};
 ghost use Rattle.checkpoint_io.specs.declared.heads.TheConstants.{MAX_FRAGMENT_MESSAGES, MAX_BODY, MAX_LOG};
 ghost use Rattle.checkpoint_io.specs.Blocks.{Block, Fragment, Extent, Close, IsFragment, messages_of, header_bytes, fragment_head_bytes, extent_head_bytes, close_bytes, SpellsEntries, SpellsFragment, SpellsExtent, SpellsClose, SpellsBlock, FileOf};
@@ -20,7 +21,7 @@ ghost use Rattle.checkpoint_io.specs.Causes.{cause_number, cause_name};
 ghost use Rattle.checkpoint_io.specs.Fronts.{BeginsWithLog, Front, HasNoHeader, Break, BreaksByCutAlone, IsCutAt};
 ghost use Rattle.checkpoint_io.specs.Logs.{ids_used, new_messages, AreFragments, HasAtMost, IsLaidOut, LogOf};
 ghost use Rattle.checkpoint_io.specs.Reading.{header_at, block_at};
-ghost use Rattle.checkpoint_io.specs.Rows.{all_causes, row_header, row_blocks, row_bytes, row_record, full_record, late_fragments};
+ghost use Rattle.checkpoint_io.specs.Rows.{row_header, row_blocks, row_bytes, row_record, full_record, late_fragments};
 ghost use Rattle.arg_records.specs.Rows.{full_message};
 ghost use Rattle.log_dictionary.specs.Rows.{row_message};
 ghost use Rattle.checkpoint_io.specs.Validity.{records_of, last_stamp, IsClosed, IsOf, IsRightAfter, IsHeader, Valid};
@@ -467,15 +468,19 @@ pub fn worked_orders()
 
 /// All causes, each with its number and its name.
 pub fn causes_have_numbers_and_names()
-    ensures all { (cause : Cause) → Contains all_causes cause }
-    ensures numbers { map cause_number all_causes
-        ≡ 1 ∷ 2 ∷ 3 ∷ 4 ∷ 5 ∷ 6 ∷ 7 ∷ 8 ∷ 9 ∷ 10 ∷ 11 ∷ 12 ∷ 13 ∷ 14 ∷ 15 ∷ 16 ∷ 17 ∷ 18 ∷ 19 ∷ 20 ∷ [] }
-    ensures names { map cause_name all_causes
-        ≡ codes "BadMagic" ∷ codes "BadVersion" ∷ codes "BadHeader" ∷ codes "Cut" ∷ codes "BadBlock"
-        ∷ codes "FragmentOrder" ∷ codes "BadEntry" ∷ codes "UnknownWriter" ∷ codes "AfterClose"
-        ∷ codes "BadLength" ∷ codes "RecordCut" ∷ codes "UnknownId" ∷ codes "BadNibble" ∷ codes "NotShortest"
-        ∷ codes "StampRange" ∷ codes "StampFalls" ∷ codes "ArgRange" ∷ codes "NulInText" ∷ codes "TooLong"
-        ∷ codes "TooLarge" ∷ [] }
+    ensures { (cause : Cause) → Contains {X = Cause × ℕ × List ℕ}
+        ((BadMagic, 1, codes "BadMagic") ∷ (BadVersion, 2, codes "BadVersion")
+        ∷ (BadHeader, 3, codes "BadHeader") ∷ (Cut, 4, codes "Cut") ∷ (BadBlock, 5, codes "BadBlock")
+        ∷ (FragmentOrder, 6, codes "FragmentOrder") ∷ (BadEntry, 7, codes "BadEntry")
+        ∷ (UnknownWriter, 8, codes "UnknownWriter") ∷ (AfterClose, 9, codes "AfterClose")
+        ∷ (BadLength, 10, codes "BadLength") ∷ (Body BodyCause.RecordCut, 11, codes "RecordCut")
+        ∷ (Body BodyCause.UnknownId, 12, codes "UnknownId") ∷ (Body BodyCause.BadNibble, 13, codes "BadNibble")
+        ∷ (Body BodyCause.NotShortest, 14, codes "NotShortest")
+        ∷ (Body BodyCause.StampRange, 15, codes "StampRange")
+        ∷ (Body BodyCause.StampFalls, 16, codes "StampFalls") ∷ (Body BodyCause.ArgRange, 17, codes "ArgRange")
+        ∷ (Body BodyCause.NulInText, 18, codes "NulInText") ∷ (Body BodyCause.TooLong, 19, codes "TooLong")
+        ∷ (TooLarge, 20, codes "TooLarge") ∷ [])
+        (cause, cause_number cause, cause_name cause) }
 {}
 
 /// A header has 30 bytes, with `NLOG`, the version 1 and the number of writers in front. A fragment's head has 7 with the
