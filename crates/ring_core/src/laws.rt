@@ -11,9 +11,16 @@ ghost use Rattle.arg_records.specs.declared.frame.TheConstants.{MAX_FRAME_WORDS}
 ghost use Rattle.arg_records.specs.Calls.{IsCall, last_stamp};
 ghost use Rattle.arg_records.specs.Frames.{AreArguments, Frame, FrameLen, IsFrame};
 ghost use Rattle.arg_records.specs.Kinds.{HoldsBytes};
+ghost use Rattle.ring_core.specs.declared.limits.TheConstants.{MAX_POSITION, OFFER_ROOM};
 ghost use Rattle.ring_core.specs.Positions.{Need, Position};
 ghost use Rattle.ring_core.specs.Plans.{Plan, types_by_id, frame_of, IsPlanned, AreFramesOf, BeginsWith, Lawful, MayFollow};
 ghost use Rattle.ring_core.specs.Rows.{short_call, rows, mixed_rows};
+
+/// The limits of positions, as numbers.
+pub fn limits_have_these_numbers()
+    ensures position { MAX_POSITION ≡ 2 ^ 62 }
+    ensures offer { OFFER_ROOM ≡ 1024 }
+{}
 
 /// Worked frames in a ring of 1,024 words. One of three words at place 1,022 takes five places, and the same at place
 /// 1,023 four; the greatest frame takes 1,023 at worst.

@@ -13,7 +13,7 @@ mod stored_out;
 
 pub use answers::{Full, StageFault, Taken};
 pub use limits::{MAX_POSITION, OFFER_ROOM};
-pub use places::need;
+pub use places::{need, need_from_place};
 pub use stage::{Stage, StageDone};
 pub use stage_in::StageIn;
 pub use stage_out::StageOut;

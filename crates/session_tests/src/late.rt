@@ -6,7 +6,7 @@ ghost use Rattle.ring_core.specs.Answers.{IsFull};
 
 use arg_records::MAX_FRAME_WORDS;
 use log_dictionary::Message;
-use ring_core::{Full, Stage, StageFault, StageIn, need};
+use ring_core::{Full, Stage, StageFault, StageIn, need_from_place};
 use session_options::{MAX_RING, MIN_RING};
 use std::alloc::Global;
 use word_ring::{WordDone, WordIn, WordOut, WordRing};
@@ -44,7 +44,7 @@ impl LateIn {
         if self.offers != 3 || !is_lawful {
             return None;
         }
-        let need = need(at % words, frame as u64, words);
+        let need = need_from_place(at % words, frame as u64, words);
         let room = words.checked_sub(at - self.known)?;
         if room < need {
             Some(Full { need, room })
