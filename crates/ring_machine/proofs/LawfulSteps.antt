@@ -8,7 +8,7 @@ use Rattle.ring_machine.specs.Streams.{Walk, is_whole_frame, is_wrap_mark, onwar
 use Rattle.ring_machine.specs.RingStates.{RingState, written, RingOk, RingLawful}
 use Rattle.ring_machine.specs.Steps.{barred, after_step, stored, is_store}
 use Rattle.ring_machine.proofs.lemmas.Walks.{onward_cases, onward-skipped, walk-push}
-use Rattle.ring_machine.proofs.Tests.{skip_open}
+use Rattle.ring_machine.proofs.lemmas.Bars.{skip_open}
 use Rattle.ring_machine.proofs.lemmas.Schedules.{RingOk-after, lawful_read}
 
 pub lawful_stored : (plan : Plan) (s : RingState) (word : ℕ) → RingLawful plan s

@@ -1,5 +1,4 @@
 pub mod lemmas
 mod Places
-mod Tests
 mod LawfulSteps
 mod Reaching

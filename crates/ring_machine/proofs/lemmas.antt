@@ -1,3 +1,4 @@
+pub mod Bars
 pub mod Schedules
 pub mod StepLaws
 pub mod Walks

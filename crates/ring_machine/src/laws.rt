@@ -4,6 +4,7 @@
 
 ghost use Rattle.std.specs.Prelude.{◌≡◌, ◌≢◌, ◌≤◌, ◌++◌, ◌∷◌, [], ℕ, true, false, List, None, Some, length, replicate, slice_get, All};
 ghost use Rattle.ring_core.specs.Plans.{Plan, BeginsWith, Lawful};
+ghost use Rattle.ring_machine.specs.declared.rings.TheConstants.{MAX_RINGS};
 ghost use Rattle.ring_machine.specs.declared.steps.Step.{Step as StepKind};
 ghost use Rattle.ring_machine.specs.declared.steps.Step.TheVariants as steps;
 ghost use Rattle.ring_machine.specs.declared.steps.Event.{Event};
@@ -13,6 +14,11 @@ ghost use Rattle.ring_machine.specs.RingStates.{RingState, new_ring, written, se
 ghost use Rattle.ring_machine.specs.Steps.{barred, after_step, is_store, IsEvent, Run};
 ghost use Rattle.ring_machine.specs.Rings.{new_rings};
 ghost use Rattle.ring_machine.specs.Rows.{row_ring, row_steps, positions_after, bars_after, after_all};
+
+/// The limit of rings, as a number.
+pub fn limits_have_these_numbers()
+    ensures rings { MAX_RINGS ≡ 64 }
+{}
 
 /// A worked schedule in a ring of 1,024 words: the positions written, published, released, seen, loaded and read after
 /// each of ten steps, none of which is barred.

@@ -15,7 +15,7 @@ use Rattle.ring_machine.specs.RingStates.{RingState, new_ring, written, taken, s
 use Rattle.ring_machine.specs.Steps.{barred, barred_in, stored, after_step, rings_after, IsEvent, Run}
 use Rattle.ring_machine.specs.Rings.{new_rings}
 use Rattle.ring_machine.proofs.lemmas.Walks.{walk_from-append, walk_from-frames, front_before, front_same, frames_up_to-front, AllMayCome-front}
-use Rattle.ring_machine.proofs.Tests.{store_open, skip_open, publish_open, close_open, read_open, release_open}
+use Rattle.ring_machine.proofs.lemmas.Bars.{store_open, skip_open, publish_open, close_open, read_open, release_open}
 use Rattle.ring_machine.proofs.lemmas.StepLaws.{RingOk-new, RingOk-look, RingOk-stored, RingOk-publish, RingOk-close, RingOk-load, RingOk-read, RingOk-release}
 
 -- each step that isn't barred keeps what holds of a ring
