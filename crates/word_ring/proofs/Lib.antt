@@ -1,5 +1,7 @@
 pub mod Counting
 pub mod Laying
+pub mod Puts
+pub mod Events
 pub mod SeatSteps
 pub mod SameSeats
 pub mod FrameWords

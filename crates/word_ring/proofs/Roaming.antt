@@ -1,16 +1,18 @@
 -- What a roamer's end is once it has gone on to the next frame, or over a wrap mark.
 use Rattle.std.proofs.Common.{◌≡◌, ◌≢◌, ℕ, ◌+◌, ◌-◌, ◌%◌, ◌≤◌, true, false, true≢false, List, [], ◌∷◌, ◌++◌, length, take, refl, sym, ap, ◌∙◌, subst, length-append, length-take-le, arith}
-use Rattle.std.specs.Prelude.{◌⊎◌}
+use Rattle.std.specs.Prelude.{◌⊎◌, None}
 use Rattle.arg_records.specs.declared.frame.TheConstants.{MAX_FRAME_WORDS}
 use Rattle.nl_io.specs.Count.{counted}
 use Rattle.ring_core.specs.Plans.{Plan, Lawful}
+use Rattle.ring_machine.specs.declared.steps.Step.TheVariants as steps
 use Rattle.ring_machine.specs.Streams.{Walk, next_lap, Begins, Wraps}
+use Rattle.ring_machine.proofs.lemmas.Bars.{may_release}
 use Rattle.word_ring.specs.declared.known.Known.{Known}
 use Rattle.word_ring.specs.declared.word_out.WordOut.TheInside.{Inside}
 use Rattle.ring_core.specs.Counts.{RisesBy}
 use Rattle.word_ring.specs.Counts.{CountsSteps}
 use Rattle.word_ring.specs.Ends.{WordRoamerEnd, numbers_of}
-use Rattle.word_ring.specs.Plays.{read_by, having_read, having_released}
+use Rattle.word_ring.specs.Plays.{read_by, roamer_barred, having_read, having_released}
 use Rattle.word_ring.specs.RoamerInside.{roamer_knows, roamer_end_of, IsWordRoamer}
 use Rattle.word_ring.specs.Rule.{plan_in}
 use Rattle.word_ring.specs.Seats.{RingSeat, view, IsSameSeat}
@@ -54,6 +56,7 @@ module _ (s : Inside) (h : IsWordRoamer s) (word : ℕ)
       whole = ap (λ (w : Walk). w.part) walk_is ∙ h.whole;
       at = ap (λ (w : Walk). w.at) walk_is ∙ lap_at s h word fits zero;
       place = sym begins_lap;
+      released = omega (arith, ap (λ (v : Known). v.roamer.released) knows, h.released);
       loaded = ap (λ (v : Known). v.roamer.loaded) knows ∙ h.loaded;
       learnt = ap (λ (v : Known). v.roamer.learnt) knows ∙ h.learnt;
       within = lap_within s h word fits zero;
@@ -101,6 +104,16 @@ module _ (s : Inside) (h : IsWordRoamer s) (word : ℕ)
         → s.at + len ≡ (read_by (view frame_seat)).at
     frame_at into frame_seat read = omega (arith, ap (λ (w : Walk). w.at) read, now_at s h word fits some (view seat) knows, least)
 
+    -- nothing of the frame is released
+    pub unreleased : (into : List ℕ) (frame_seat : RingSeat) → view frame_seat ≡ having_gone_on (view seat) (view frame_seat).roamer.stream (view frame_seat).roamer.steps
+        → read_by (view frame_seat) ≡ record { at = (read_by (view seat)).at + (len - 1); frames = (read_by (view seat)).frames ++ take len into ∷ []; part = [] }
+        → roamer_barred (view frame_seat) steps.Release ≡ None
+    unreleased into frame_seat others read =
+        let v : Known = view frame_seat in
+        let was : v.roamer.released ≡ (roamer_knows s).roamer.released = ap (λ (k : Known). k.roamer.released) others ∙ ap (λ (k : Known). k.roamer.released) knows in
+        let new : v.roamer.released ≢ (read_by v).at = λ e. omega (arith, e, was, h.released, frame_at into frame_seat read, least) in
+        may_release v.size v.roamer (ap (λ (w : Walk). w.part) read) new
+
     module _ (into : List ℕ) (frame_seat last_seat : RingSeat) (long : length into ≡ MAX_FRAME_WORDS)
         (frame_same : IsSameSeat seat frame_seat) (last_same : IsSameSeat frame_seat last_seat)
         (others : view frame_seat ≡ having_gone_on (view seat) (view frame_seat).roamer.stream (view frame_seat).roamer.steps)
@@ -134,6 +147,7 @@ module _ (s : Inside) (h : IsWordRoamer s) (word : ℕ)
             whole = ap (λ (v : Known). (read_by v).part) released ∙ ap (λ (w : Walk). w.part) read;
             at = ap (λ (v : Known). (read_by v).at) released ∙ sym (frame_at into frame_seat read);
             place = place_is;
+            released = omega (arith, ap (λ (v : Known). v.roamer.released) released, frame_at into frame_seat read);
             loaded = ap (λ (v : Known). v.roamer.loaded) released ∙ ap (λ (v : Known). v.roamer.loaded) others ∙ ap (λ (v : Known). v.roamer.loaded) knows ∙ h.loaded;
             learnt = ap (λ (v : Known). v.roamer.learnt) released ∙ ap (λ (v : Known). v.roamer.learnt) others ∙ ap (λ (v : Known). v.roamer.learnt) knows ∙ h.learnt;
             within = omega (arith, reach, len_is, h.at, h.loaded);

@@ -1,5 +1,6 @@
 -- A frame that the writer stores, word by word.
-use Rattle.std.proofs.Common.{◌≡◌, ℕ, suc, ◌+◌, ◌%◌, ◌<◌, ◌≤◌, List, [], ◌∷◌, ◌++◌, length, get_or, take, refl, sym, ap, ◌∙◌, subst, ⊎_elim, append_assoc, length-take-le, take-suc, take_all, arith}
+use Rattle.std.proofs.Common.{◌≡◌, ℕ, suc, ◌+◌, ◌%◌, ◌<◌, ◌≤◌, List, [], ◌∷◌, ◌++◌, length, get_or, take, false, refl, sym, ap, ◌∙◌, subst, ⊎_elim, append_assoc, length-take-le, take-suc, take_all, arith}
+use Rattle.std.specs.Prelude.{None}
 use Rattle.std.proofs.lemmas.Bool.{cases_lt, cond_both}
 use Rattle.nl_io.specs.Count.{counted}
 use Rattle.ring_core.specs.Plans.{Lawful}
@@ -11,8 +12,9 @@ use Rattle.word_ring.specs.Counts.{CountsSteps}
 use Rattle.word_ring.specs.Ends.{IsTableSize}
 use Rattle.word_ring.proofs.Counting.{one_step, steps_then}
 use Rattle.word_ring.specs.Frames.{with_frame, with_part, with_words, having_stored, MayStore}
-use Rattle.word_ring.specs.Plays.{written_by, having_put}
+use Rattle.word_ring.specs.Plays.{written_by, writer_barred, put_step, having_put}
 use Rattle.word_ring.specs.Rule.{plan_in}
+use Rattle.word_ring.proofs.Puts.{may_put}
 use Rattle.word_ring.proofs.FrameWords.{HasHead, lawful_head, frame_begins, frame_goes_on, next_words, next_fits, place_further, all_words, parted_words}
 
 -- so many of the frame's words are stored
@@ -57,7 +59,7 @@ module _ (before : Known) (frame : List ℕ) (may : MayStore before frame) where
         ap (λ (n : ℕ). n + i) is ∙ sym further ∙ ap (λ (n : ℕ). n % before.size) (sym position) ∙ ap (λ (v : Known). (written_by now).at % v.size) (sym h.same)
 
     -- it may come next
-    pub next_may : FitsWithin now.size (now.writer.seen + now.size) (written_by now) (get_or frame i 0)
+    next_may : FitsWithin now.size (now.writer.seen + now.size) (written_by now) (get_or frame i 0)
     next_may =
         let begins = frame_begins before.size (written_by before).at frame head_of may.inside in
         let first : take i frame ≡ [] → i ≡ 0 = λ none. omega (arith, ap (λ (ws : List ℕ). length ws) none, length-take-le i frame h.within) in
@@ -68,6 +70,9 @@ module _ (before : Known) (frame : List ℕ) (may : MayStore before frame) where
         in
         subst (λ (v : Known). FitsWithin v.size (v.writer.seen + v.size) (written_by now) (get_or frame i 0)) (sym h.same)
         (subst (λ (w : Walk). FitsWithin before.size (before.writer.seen + before.size) w (get_or frame i 0)) (sym h.written) fits)
+
+    pub next_open : before.writer.closed ≡ false → writer_barred now (put_step now (get_or frame i 0)) ≡ None
+    next_open unclosed = may_put now (get_or frame i 0) (ap (λ (v : Known). v.writer.closed) h.same ∙ unclosed) next_may
 
     written_next : written_by (having_put now (get_or frame i 0)) ≡ with_words (written_by before) (take (suc i) frame)
     written_next =

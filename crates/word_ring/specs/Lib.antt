@@ -1,6 +1,7 @@
 pub mod Counts
 pub mod Rule
 pub mod Plays
+pub mod Events
 pub mod Frames
 pub mod Ends
 pub mod Seats

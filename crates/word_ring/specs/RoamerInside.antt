@@ -38,6 +38,7 @@ pub record IsWordRoamer (s : Inside) : Type 0 where
   pub whole : (read_by (roamer_knows s)).part ≡ []
   pub at : (read_by (roamer_knows s)).at ≡ s.at
   pub place : s.place ≡ s.at % s.size
+  pub released : (roamer_knows s).roamer.released ≤ s.at
   pub loaded : (roamer_knows s).roamer.loaded ≡ s.loaded
   pub learnt : (roamer_knows s).roamer.learnt ≡ s.learnt
   pub within : s.at ≤ s.loaded

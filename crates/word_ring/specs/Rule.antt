@@ -73,7 +73,11 @@ pub record SeatKnows (size : ℕ) (plan : Plan) (ring : RingState) (writer roame
   pub writes : v.writes ≡ true → IsEnd size plan writer seat v × (v.writer ≡ ring.writer)
   pub reads : v.reads ≡ true → IsEnd size plan roamer seat v × (v.roamer ≡ ring.roamer)
 
-pub record IsRingTable (size : ℕ) (table : State (Unit {0}) Known) : Type 0 where
+-- a table whose seats know of a ring
+abbrev pub RingTable : Type 0
+RingTable = State (Unit {0}) Known
+
+pub record IsRingTable (size : ℕ) (table : RingTable) : Type 0 where
   pub plan : Plan
   pub ring : RingState
   pub writer : ℕ

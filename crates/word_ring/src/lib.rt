@@ -3,6 +3,7 @@
 
 mod frames;
 mod known;
+pub mod laws;
 mod places;
 mod steps;
 mod word_done;

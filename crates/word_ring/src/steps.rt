@@ -1,11 +1,14 @@
-//! The steps of a ring's ends, each on one word of the table.
+//! The steps of a ring's ends, each on one word of the table. Each is a step of the machine, and is to be one that the
+//! machine doesn't bar.
 
-ghost use Rattle.std.specs.Prelude.{◌≡◌, ◌≢◌, ◌+◌, ◌/◌, ◌%◌, ◌≤◌, ◌<◌, [], true, false};
+ghost use Rattle.std.specs.Prelude.{◌≡◌, ◌+◌, ◌/◌, ◌%◌, ◌≤◌, ◌<◌, true, None};
 ghost use Rattle.ring_core.specs.declared.limits.TheConstants.{MAX_POSITION};
 ghost use Rattle.ring_core.specs.Plans.{Lawful};
+ghost use Rattle.ring_machine.specs.declared.steps.Step.TheVariants as steps;
 ghost use Rattle.ring_machine.specs.Streams.{FitsWithin};
 ghost use Rattle.word_ring.specs.Ends.{IsTableSize};
 ghost use Rattle.word_ring.specs.Plays.{written_by, read_by, HasReadFront};
+ghost use Rattle.word_ring.specs.Plays.{writer_barred, roamer_barred, put_step};
 ghost use Rattle.word_ring.specs.Plays.{having_looked, having_put, having_published, having_closed};
 ghost use Rattle.word_ring.specs.Plays.{having_loaded, having_read, having_released};
 ghost use Rattle.word_ring.specs.Rule.{plan_in};
@@ -26,6 +29,7 @@ pub type WordSeat = Seat<(), Known>;
 pub fn look(table: &WordTable, seat: &mut WordSeat) -> u64
     requires seat { IsSeatOf (view seat.old).size table.now seat.old }
     requires writes { (view seat.old).writes ≡ true }
+    requires not_barred { writer_barred (view seat.old) steps.Look ≡ None }
     ensures same { IsSameSeat seat.old seat.new }
     ensures knows { view seat.new ≡ having_looked (view seat.old) result }
     ensures further { (view seat.old).writer.seen ≤ result }
@@ -39,11 +43,9 @@ pub fn look(table: &WordTable, seat: &mut WordSeat) -> u64
 pub fn put(table: &WordTable, seat: &mut WordSeat, place: usize, word: u64)
     requires seat { IsSeatOf (view seat.old).size table.now seat.old }
     requires writes { (view seat.old).writes ≡ true }
-    requires not_closed { (view seat.old).writer.closed ≡ false }
+    requires not_barred { writer_barred (view seat.old) (put_step (view seat.old) word) ≡ None }
     requires place { place ≡ (written_by (view seat.old)).at % (view seat.old).size }
     requires size { IsTableSize (view seat.old).size }
-    requires fits { FitsWithin (view seat.old).size ((view seat.old).writer.seen + (view seat.old).size)
-        (written_by (view seat.old)) word }
     requires lawful { Lawful (plan_in (view seat.old)) (written_by (having_put (view seat.old) word)).frames }
     ensures same { IsSameSeat seat.old seat.new }
     ensures knows { view seat.new ≡ having_put (view seat.old) word }
@@ -55,9 +57,8 @@ pub fn put(table: &WordTable, seat: &mut WordSeat, place: usize, word: u64)
 pub fn publish(table: &WordTable, seat: &mut WordSeat, at: u64)
     requires seat { IsSeatOf (view seat.old).size table.now seat.old }
     requires writes { (view seat.old).writes ≡ true }
-    requires not_closed { (view seat.old).writer.closed ≡ false }
+    requires not_barred { writer_barred (view seat.old) steps.Publish ≡ None }
     requires at { (at ≡ (written_by (view seat.old)).at) × (at ≤ MAX_POSITION) }
-    requires whole { (written_by (view seat.old)).part ≡ [] }
     ensures same { IsSameSeat seat.old seat.new }
     ensures knows { view seat.new ≡ having_published (view seat.old) }
 {
@@ -68,9 +69,8 @@ pub fn publish(table: &WordTable, seat: &mut WordSeat, at: u64)
 pub fn close(table: &WordTable, seat: &mut WordSeat, at: u64)
     requires seat { IsSeatOf (view seat.old).size table.now seat.old }
     requires writes { (view seat.old).writes ≡ true }
-    requires not_closed { (view seat.old).writer.closed ≡ false }
+    requires not_barred { writer_barred (view seat.old) steps.Close ≡ None }
     requires at { (at ≡ (written_by (view seat.old)).at) × (at ≤ MAX_POSITION) }
-    requires published { (view seat.old).writer.published ≡ at }
     ensures same { IsSameSeat seat.old seat.new }
     ensures knows { view seat.new ≡ having_closed (view seat.old) }
 {
@@ -92,9 +92,9 @@ pub fn load(table: &WordTable, seat: &mut WordSeat) -> u64
 pub fn read(table: &WordTable, seat: &mut WordSeat, place: usize) -> u64
     requires seat { IsSeatOf (view seat.old).size table.now seat.old }
     requires reads { (view seat.old).reads ≡ true }
+    requires not_barred { roamer_barred (view seat.old) steps.Read ≡ None }
     requires place { place ≡ (read_by (view seat.old)).at % (view seat.old).size }
     requires size { IsTableSize (view seat.old).size }
-    requires left { (view seat.old).roamer.loaded ≢ (read_by (view seat.old)).at }
     ensures same { IsSameSeat seat.old seat.new }
     ensures knows { view seat.new ≡ having_read (view seat.old) result }
     ensures fits { FitsWithin (view seat.old).size (view seat.old).roamer.loaded (read_by (view seat.old)) result }
@@ -107,8 +107,8 @@ pub fn read(table: &WordTable, seat: &mut WordSeat, place: usize) -> u64
 pub fn release(table: &WordTable, seat: &mut WordSeat, at: u64)
     requires seat { IsSeatOf (view seat.old).size table.now seat.old }
     requires reads { (view seat.old).reads ≡ true }
+    requires not_barred { roamer_barred (view seat.old) steps.Release ≡ None }
     requires at { at ≡ (read_by (view seat.old)).at }
-    requires whole { (read_by (view seat.old)).part ≡ [] }
     ensures same { IsSameSeat seat.old seat.new }
     ensures knows { view seat.new ≡ having_released (view seat.old) }
 {

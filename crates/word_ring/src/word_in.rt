@@ -15,7 +15,7 @@ ghost use Rattle.word_ring.specs.Seats.{view, IsSeatOf};
 use crate::frames::put_next;
 use crate::places::places_on;
 use crate::steps::{WordSeat, WordTable, close, look, publish};
-use ring_core::{Full, StageIn, need};
+use ring_core::{Full, StageIn, need_from_place};
 use std::alloc::Global;
 use std::marker::Model;
 use std::sync::Arc;
@@ -85,7 +85,7 @@ impl WordIn {
         ensures within { seen_by self.new ≤ self.old.at }
     {
         let table: &WordTable = &self.ring;
-        let need = need(self.place, frame.len() as u64, self.size);
+        let need = need_from_place(self.place, frame.len() as u64, self.size);
         let released = look(table, &mut self.seat);
         let room = self.size - (self.at - released);
         if need > room {

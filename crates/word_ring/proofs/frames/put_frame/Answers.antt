@@ -6,7 +6,7 @@ use Rattle.word_ring.specs.Rule.{plan_in}
 use Rattle.word_ring.specs.Seats.{view}
 use Rattle.word_ring.proofs.SameSeats.{still_seat, same_then}
 use Rattle.word_ring.proofs.FrameWords.{all_words, lawful_head}
-use Rattle.word_ring.proofs.Storing.{next_place, next_may, next_lawful, next_stored}
+use Rattle.word_ring.proofs.Storing.{next_place, next_open, next_lawful, next_stored}
 use Rattle.word_ring.proofs.frames.put_frame.Goals as goal
 
 pub put-requires-clause-place : goal.put-requires-clause-place
@@ -14,8 +14,9 @@ put-requires-clause-place c =
     next_place (view c.args.seat.now) c.args.frame.now c.requires.may (view c.loop-i.seat) c.loop-i.i c.loop-i.invariant.stored c.loop-i-test.true
     c.args.place c.requires.size c.requires.place
 
-pub put-requires-clause-fits : goal.put-requires-clause-fits
-put-requires-clause-fits c = next_may (view c.args.seat.now) c.args.frame.now c.requires.may (view c.loop-i.seat) c.loop-i.i c.loop-i.invariant.stored c.loop-i-test.true
+pub put-requires-clause-not_barred : goal.put-requires-clause-not_barred
+put-requires-clause-not_barred c =
+    next_open (view c.args.seat.now) c.args.frame.now c.requires.may (view c.loop-i.seat) c.loop-i.i c.loop-i.invariant.stored c.loop-i-test.true c.requires.not_closed
 
 pub put-requires-clause-lawful : goal.put-requires-clause-lawful
 put-requires-clause-lawful c = next_lawful (view c.args.seat.now) c.args.frame.now c.requires.may (view c.loop-i.seat) c.loop-i.i c.loop-i.invariant.stored c.loop-i-test.true

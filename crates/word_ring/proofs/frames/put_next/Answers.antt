@@ -4,6 +4,7 @@ use Rattle.word_ring.specs.Ends.{IsTableSize}
 use Rattle.word_ring.specs.Frames.{with_next}
 use Rattle.word_ring.specs.Plays.{written_by}
 use Rattle.word_ring.specs.Seats.{view}
+use Rattle.word_ring.proofs.Puts.{may_put}
 use Rattle.word_ring.proofs.Putting.{mark_fits, mark_lawful, place_begins, may_store_behind, stored_behind}
 use Rattle.word_ring.proofs.frames.put_next.Goals as goal
 
@@ -14,11 +15,12 @@ beyond v place size n told test = subst (λ (x : ℕ × ℕ). x.0 < x.1 + n) (λ
 size_of : (v : Known) (size : ℕ) → size ≡ v.size → IsTableSize size → IsTableSize v.size
 size_of v size is h = subst IsTableSize is h
 
-pub put-requires-clause-fits : goal.put-requires-clause-fits
-put-requires-clause-fits c =
+pub put-requires-clause-not_barred : goal.put-requires-clause-not_barred
+put-requires-clause-not_barred c =
     let v = view c.args.seat.now in
     let r = c.requires in
-    mark_fits v c.args.frame.now (size_of v c.args.size r.told.0 r.size) r.may (beyond v c.args.place c.args.size (length c.args.frame.now) r.told c.if-place-frame.false)
+    may_put v 0 r.not_closed
+    (mark_fits v c.args.frame.now (size_of v c.args.size r.told.0 r.size) r.may (beyond v c.args.place c.args.size (length c.args.frame.now) r.told c.if-place-frame.false))
 
 pub put-requires-clause-lawful : goal.put-requires-clause-lawful
 put-requires-clause-lawful c =

@@ -1,5 +1,6 @@
 use Rattle.std.proofs.Common.{◌≡◌, ℕ, ◌+◌, ◌-◌, ◌%◌, ◌≤◌, List, [], ◌∷◌, ◌++◌, length, take, refl, ap, ◌∙◌, arith}
 use Rattle.ring_machine.specs.Streams.{frame_len}
+use Rattle.ring_machine.proofs.lemmas.Bars.{may_read}
 use Rattle.word_ring.specs.declared.known.Known.{Known}
 use Rattle.word_ring.specs.Plays.{read_by}
 use Rattle.word_ring.specs.Seats.{view}
@@ -18,9 +19,11 @@ pub read-requires-clause-place : goal.read-requires-clause-place
 read-requires-clause-place c =
     next_place (view c.args.seat.now) c.args.head c.requires.begun c.requires.head (view c.loop-i.seat) c.loop-i.into c.loop-i.i c.loop-i.invariant.read c.loop-i-test.true c.requires.most c.args.place c.requires.size c.requires.place
 
-pub read-requires-clause-left : goal.read-requires-clause-left
-read-requires-clause-left c =
-    next_left (view c.args.seat.now) c.args.head c.requires.begun c.requires.head (view c.loop-i.seat) c.loop-i.into c.loop-i.i c.loop-i.invariant.read c.loop-i-test.true c.requires.most
+pub read-requires-clause-not_barred : goal.read-requires-clause-not_barred
+read-requires-clause-not_barred c =
+    let v = view c.loop-i.seat in
+    may_read v.size v.roamer
+    (next_left (view c.args.seat.now) c.args.head c.requires.begun c.requires.head v c.loop-i.into c.loop-i.i c.loop-i.invariant.read c.loop-i-test.true c.requires.most)
 
 pub loop-i-preserved : goal.loop-i-preserved
 loop-i-preserved c =

@@ -5,4 +5,4 @@ use Rattle.word_ring.proofs.steps.publish.Goals as goal
 pub store-requires : goal.store-requires
 store-requires c =
     let r = c.requires in
-    (r.seat.one, omega (arith, r.seat.words), publishes _ _ _ _ c.args.seat.now.me r.writes r.not_closed r.whole (omega (arith, r.at.0)))
+    (r.seat.one, omega (arith, r.seat.words), publishes _ _ _ _ c.args.seat.now.me r.writes r.not_barred (omega (arith, r.at.0)))

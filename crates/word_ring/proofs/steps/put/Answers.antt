@@ -15,4 +15,4 @@ store-requires c =
     let v = c.args.seat.now.me.0 in
     let r = c.requires in
     let inside : c.args.place < v.size = omega (arith, r.place, mod-lt (written_by v).at {m = v.size} (omega (arith, r.size.least))) in
-    (r.seat.one, omega (arith, r.seat.words, inside), puts _ _ _ c.args.place c.args.word c.args.seat.now.me r.writes r.place (omega (arith, r.size.least)) (record { not_closed = r.not_closed; fits = r.fits; lawful = r.lawful }))
+    (r.seat.one, omega (arith, r.seat.words, inside), puts _ _ _ c.args.place c.args.word c.args.seat.now.me r.writes r.place r.not_barred r.lawful)

@@ -15,4 +15,4 @@ load-requires c =
     let v = c.args.seat.now.me.0 in
     let r = c.requires in
     let inside : c.args.place < v.size = omega (arith, r.place, mod-lt (read_by v).at {m = v.size} (omega (arith, r.size.least))) in
-    (r.seat.one, omega (arith, r.seat.words, inside), reads _ _ _ c.args.place c.args.seat.now.me r.reads r.place (omega (arith, r.size.least)) r.left)
+    (r.seat.one, omega (arith, r.seat.words, inside), reads _ _ _ c.args.place c.args.seat.now.me r.reads r.place r.not_barred)
