@@ -64,7 +64,7 @@ HoldsUnreleased s =
     → slice_index s.words ((walk s.size front).at % s.size) ≡ word
 
 -- Positions follow one another: up to which the writer has seen places released, released, read, loaded by the roamer,
--- published and written. The writer is less than a lap ahead.
+-- published and written. The writer is at most a lap ahead of what it has seen.
 pub record PositionsInOrder (size seen released read loaded published written : ℕ) : Type 0 where
   pub seen_released : seen ≤ released
   pub released_read : released ≤ read
