@@ -66,7 +66,8 @@ pub fn messages_stand_first()
 pub fn causes_have_numbers_and_names()
     ensures severity { cause_words (Statement causes.Severity) ≡ codes "1 Severity" }
     ensures literal { cause_words (Statement causes.FormatNotLiteral) ≡ codes "2 FormatNotLiteral" }
-    ensures format { (why : FormatCause) (place : ℕ) → cause_words (Statement (causes.Format why place)) ≡ codes "3 Format" }
+    ensures format { (why : FormatCause) (place : ℕ) → cause_words (Statement (causes.Format why place))
+        ≡ codes "3 Format" }
     ensures few { cause_words (Statement causes.TooFew) ≡ codes "4 TooFew" }
     ensures unclosed { cause_words (Statement causes.Unclosed) ≡ codes "5 Unclosed" }
     ensures file { cause_words (Statement causes.FileName) ≡ codes "6 FileName" }
