@@ -1,12 +1,12 @@
 -- What `decompress` gives of a log that `replay` wrote.
 use Rattle.std.proofs.Common.{◌≡◌, ◌≢◌, ℕ, zero, suc, ◌+◌, ◌<◌, ◌≤◌, Bool, false, cond, List, [], ◌∷◌, length, Option, Some, None, Result, Ok, Err, refl, sym, ap, subst, ◌∙◌, inl, inr, arith}
-use Rattle.std.specs.Prelude.{◌⊎◌, not, filter, is_some, ⊤}
+use Rattle.std.specs.Prelude.{◌⊎◌, not, filter, IfSome, is_some, option_map, ⊤}
 use Rattle.std.specs.List.{list_any, range_with_len}
 use Rattle.std.specs.FinMap as map
 use Rattle.std.proofs.lemmas.Option.{MatchOption-at_some, same_Some}
 use Rattle.nl_io.specs.Count.{Rose}
 use Rattle.nl_io.specs.Content.{with_end}
-use Rattle.nl_io.specs.Desk.{Desk, Held}
+use Rattle.nl_io.specs.Desk.{Desk, Held, found_in}
 use Rattle.log_dictionary.specs.declared.severity.Severity.TheVariants as severities
 use Rattle.arg_records.specs.declared.call.Call.{Call}
 use Rattle.checkpoint_io.specs.declared.heads.TheConstants.{MAX_LOG}
@@ -168,47 +168,62 @@ told_too : (told : Option Held) (other : Option Held) (held : Held) → is_some 
 told_too None other held same is = absurd (let none : is_some (Some held) ≡ false = sym (ap is_some is) ∙ same in cc)
 told_too (Some names) other held same is = (names, refl)
 
--- two runs that one name gave are one
-same_run : (old other : Desk) (trace : List ℕ) (held : Held) (a b : Recording) → old.held ≡ Some held → other ≡ old
-    → TraceRead old trace a → TraceRead other trace b → (a ≡ b) × IsRecording a
+-- what is told of a name
+told_in : (told : Option Held) (name : List ℕ) (found : Option (List ℕ))
+    → option_map (λ (names : Held). map.get names name) told ≡ Some found
+    → (held : Held) × (told ≡ Some held) × (map.get held name ≡ found)
+told_in None name found is = absurd cc
+told_in (Some held) name found is = (held, refl, same_Some (map.get held name) found is)
+
+-- two runs that one name gave, which held the same, are one
+same_run : (old other : Desk) (trace : List ℕ) (held : Held) (a b : Recording) → old.held ≡ Some held
+    → found_in other trace ≡ found_in old trace → TraceRead old trace a → TraceRead other trace b
+    → (a ≡ b) × IsRecording a
 same_run old other trace held a b told same read again =
     let first = MatchOption-at_some ⊤ (λ (names : Held). (bytes : List ℕ) × (map.get names trace ≡ Some bytes) × TraceText bytes a) held told read in
-    let second = MatchOption-at_some ⊤ (λ (names : Held). (bytes : List ℕ) × (map.get names trace ≡ Some bytes) × TraceText bytes b) held (ap (λ (d : Desk). d.held) same ∙ told) again in
-    let bytes_are : second.0 ≡ first.0 = same_Some second.0 first.0 (sym second.1 ∙ first.1) in
+    let there : found_in other trace ≡ Some (Some first.0) =
+    same ∙ ap (option_map (λ (names : Held). map.get names trace)) told ∙ ap Some first.1 in
+    let found = told_in other.held trace (Some first.0) there in
+    let second = MatchOption-at_some ⊤ (λ (names : Held). (bytes : List ℕ) × (map.get names trace ≡ Some bytes) × TraceText bytes b) found.0 found.1 again in
+    let bytes_are : second.0 ≡ first.0 = same_Some second.0 first.0 (sym second.1 ∙ found.2) in
     (one_run first.0 a b first.2 (subst (λ (bytes : List ℕ). TraceText bytes b) bytes_are second.2), first.2.recorded)
 
 -- decompressing the log prints what `direct` prints
 pub as_direct : (trace log : List ℕ) (options : Options) (before after : Scene)
     → CommandEffect (replay_task trace log options) before after Done → options.policy ≡ policies.Wait
     → options.level ≡ severities.Debug
-    → (held : Held) (bytes : List ℕ) → after.desk.held ≡ Some held → map.get held log ≡ Some bytes
-    → length bytes ≤ MAX_LOG
-    → (direct_old direct_new : Scene) → direct_old.desk ≡ before.desk
+    → (bytes : List ℕ) → found_in after.desk log ≡ Some (Some bytes) → length bytes ≤ MAX_LOG
+    → (direct_old direct_new : Scene) → found_in direct_old.desk trace ≡ found_in before.desk trace
     → CommandEffect (direct_task trace) direct_old direct_new Done
-    → (old new : Scene) (ending : Ending) → old.desk ≡ after.desk → CommandEffect (decompress_task log) old new ending
+    → (old new : Scene) (ending : Ending) → found_in old.desk log ≡ found_in after.desk log
+    → CommandEffect (decompress_task log) old new ending
     → ¬ (Rose old.desk.read_faults new.desk.read_faults) → ¬ (Rose old.faults new.faults)
     → (text : List ℕ) × (direct_new.put ≡ with_end text direct_old.put)
     × (((ending ≡ Done) × (new.put ≡ with_end text old.put)) ⊎ (ending ≡ NoMemory))
-as_direct trace log options before after whole waits all held bytes told there within direct_old direct_new direct_desk direct old new ending desk effect r o =
+as_direct trace log options before after whole waits all bytes there within direct_old direct_new same_trace direct old new ending same_log effect r o =
     let given = whole.reading.2 in
     let run = given.run in
     let drops = given.drops in
     let made = only_log trace log options before after whole in
     let lines = direct.reading.2 in
-    let earlier = told_too before.desk.held after.desk.held held made.1.told told in
-    let same = same_run before.desk direct_old.desk trace earlier.0 run lines.0 earlier.1 direct_desk given.trace_read lines.1 in
+    let left = told_in after.desk.held log (Some bytes) there in
+    let earlier = told_too before.desk.held after.desk.held left.0 made.1.told left.1 in
+    let same = same_run before.desk direct_old.desk trace earlier.0 run lines.0 earlier.1 same_trace given.trace_read lines.1 in
     let text = direct_text lines.0 in
     let text_is : text ≡ taken_text run options.level drops =
     ap direct_text (sym same.0) ∙ sym (whole_text run options.level drops same.1 all (given.session.waits waits)) in
-    let lawful : LogLawful old.desk log run options drops given.bytes =
-    subst (λ (d : Desk). LogLawful d log run options drops given.bytes) (sym desk)
-    (record { held = made.0; whole = given.session.whole }) in
     let bytes_are : given.bytes ≡ bytes =
-    same_Some given.bytes bytes (sym (MatchOption-at_some ⊤ (λ (names : Held). map.get names log ≡ Some given.bytes) held told made.0) ∙ there) in
+    same_Some given.bytes bytes (sym (MatchOption-at_some ⊤ (λ (names : Held). map.get names log ≡ Some given.bytes) left.0 left.1 made.0) ∙ left.2) in
     let short : length given.bytes ≤ MAX_LOG = omega (arith, ap length bytes_are, within) in
-    let told_old = ap (λ (d : Desk). d.held) desk ∙ told in (
+    let found = told_in old.desk.held log (Some bytes) (same_log ∙ there) in
+    let lawful : LogLawful old.desk log run options drops given.bytes =
+    record {
+      held = subst (λ (told : Option Held). IfSome told (λ names. map.get names log ≡ Some given.bytes)) (sym found.1)
+          (found.2 ∙ ap Some (sym bytes_are));
+      whole = given.session.whole;
+    } in (
       text,
       direct.printed ∙ ap (λ (p : Product). with_end p.text direct_old.put) lines.2,
       subst (λ (t : List ℕ). ((ending ≡ Done) × (new.put ≡ with_end t old.put)) ⊎ (ending ≡ NoMemory)) (sym text_is)
-          (replayed log options run drops given.bytes old new ending held lawful short told_old effect r o),
+          (replayed log options run drops given.bytes old new ending found.0 lawful short found.1 effect r o),
     )

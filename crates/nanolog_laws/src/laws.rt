@@ -57,15 +57,17 @@ pub fn replayed_logs_decompress()
 {}
 
 /// Where writers wait and each level is kept, `decompress` of the log that `replay` wrote prints what `direct` prints
-/// of the same trace, where the log isn't too long, no call fails and memory suffices.
+/// of the same trace, where the log isn't too long, no call fails and memory suffices. Of the files it is asked only
+/// that the trace's name holds for `direct` what it held for `replay`, and the log's name for `decompress` what
+/// `replay` left there. All others may have changed.
 pub fn replayed_traces_print_as_direct()
     ensures { (trace log : List ℕ) (options : Options) (before after : Scene)
         → Ends (Replay trace log options) before after Done → options.policy ≡ Wait → options.level ≡ Debug
-        → (held : Held) (bytes : List ℕ) → after.desk.held ≡ Some held → map.get held log ≡ Some bytes
-        → length bytes ≤ MAX_LOG
-        → (direct_old direct_new : Scene) → direct_old.desk ≡ before.desk
+        → (bytes : List ℕ) → found_in after.desk log ≡ Some (Some bytes) → length bytes ≤ MAX_LOG
+        → (direct_old direct_new : Scene) → found_in direct_old.desk trace ≡ found_in before.desk trace
         → Ends (Direct trace) direct_old direct_new Done
-        → (old new : Scene) (ending : Ending) → old.desk ≡ after.desk → Ends (Decompress log) old new ending
+        → (old new : Scene) (ending : Ending) → found_in old.desk log ≡ found_in after.desk log
+        → Ends (Decompress log) old new ending
         → ¬ (Rose old.desk.read_faults new.desk.read_faults) → ¬ (Rose old.faults new.faults)
         → (text : List ℕ) × (direct_new.put ≡ with_end text direct_old.put)
         × (((ending ≡ Done) × (new.put ≡ with_end text old.put)) ⊎ (ending ≡ NoMemory)) }
