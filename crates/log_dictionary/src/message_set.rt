@@ -1,62 +1,87 @@
 //! Messages that are found by what they say.
 
-ghost use Rattle.std.specs.Prelude.{◌≡◌, ◌<◌, [], length, IfOk, OnErr};
+ghost use Rattle.std.specs.Prelude.{◌≡◌, ◌<◌, ◌≤◌, [], length, IfOk, IfErr, OnErr};
+ghost use Rattle.indexmap.specs.IndexMap.{keys, values};
 ghost use Rattle.log_dictionary.specs.declared.dictionary.TheConstants.{MAX_MESSAGES};
 ghost use Rattle.log_dictionary.specs.Additions.{IsAdded};
 ghost use Rattle.log_dictionary.specs.BinaryEntries.{SpellsEntry, entry_bytes};
-ghost use Rattle.log_dictionary.specs.Messages.{HasMessage, AreDistinct, AreFormed};
-ghost use Rattle.log_dictionary.specs.Places.{place_at, IsPlace};
+ghost use Rattle.log_dictionary.specs.Messages.{HasMessage, HasId, AreDistinct, AreFormed};
+ghost use Rattle.log_dictionary.specs.Places.{hash_of, IsPlace, IsFree, AreKeys};
 
 use crate::binary_entry::{MAX_ENTRY, entry_len, put_entry};
 use crate::dictionary::{Added, MAX_MESSAGES};
 use crate::message::Message;
+use indexmap::IndexMap;
 use std::alloc::{AllocError, Global};
-use std::collections::BTreeMap;
+use std::hash::{BuildHasherDefault, DefaultHasher, Hasher};
 use std::marker::Model;
+
+/// What a message is found by: the hash of its entry, and how many messages with this hash came before it.
+#[derive(Clone, Copy, Debug, PartialEq, Eq, Hash)]
+pub(crate) struct Key {
+    hash: u64,
+    nth: usize,
+}
+
+// Who hands in a log or a trace picks its messages, and knows what they hash to. So the table has keys, which are
+// numbers, and a message is compared with those of its own hash alone.
+type Messages = IndexMap<Key, Message, BuildHasherDefault<DefaultHasher>>;
 
 /// Messages, no two of them equal, in the order in which they came.
 #[derive(Debug, Drop)]
 pub(crate) struct MessageSet {
-    messages: Vec<Message>,
-    // By the entries of the messages, in their order: a table of hashes is slow where somebody picks messages that share
-    // a slot, and who hands in a log or a trace picks its messages.
-    places: BTreeMap<Vec<u8>, u32>,
+    messages: Messages,
 }
 
 impl Model for MessageSet {
     ghost use Rattle.std.specs.Prelude.{List};
+    ghost use Rattle.indexmap.specs.IndexMap.{keys, values};
     ghost use Rattle.log_dictionary.specs.declared.message.Message.{Message};
     ghost use Rattle.log_dictionary.specs.Messages.{AreDistinct, AreFormed};
-    ghost use Rattle.log_dictionary.specs.Places.{ArePlaces};
+    ghost use Rattle.log_dictionary.specs.Places.{AreKeys};
 
     ghost Value = { List Message };
 
-    ghost view = { λ set. set.messages.items };
+    ghost view = { λ set. values set.messages };
 
-    ghost invariant = { λ set. AreDistinct set.messages.items × ArePlaces set.places set.messages.items
-        × AreFormed set.messages.items };
+    ghost invariant = { λ set. AreDistinct (values set.messages) × AreKeys (keys set.messages) (values set.messages)
+        × AreFormed (values set.messages) };
 }
 
-// The message's entry, which is the key of its place.
-fn key_of(alloc: Global, message: &Message) -> Result<Vec<u8>, AllocError>
-    ensures entry { IfOk result (λ key. key.items ≡ entry_bytes message.now) }
+// The hash of the message's entry.
+fn hash_of(message: &Message) -> u64
+    ensures value { result ≡ hash_of message.now }
     ensures spelled { SpellsEntry (entry_bytes message.now) message.now }
 {
-    let mut buffer = [0; MAX_ENTRY];
+    let mut entry = [0; MAX_ENTRY];
     let len = entry_len(message);
-    put_entry(message, &mut buffer);
-    Vec::from_slice(alloc, &buffer[..len])
+    put_entry(message, &mut entry);
+    let mut hasher = DefaultHasher::new();
+    hasher.write(&entry[..len]);
+    hasher.finish()
 }
 
-// The place that the message's entry leads to.
-fn place_at(places: &BTreeMap<Vec<u8>, u32>, message: &Message) -> Option<u32>
-    ensures value { result ≡ place_at places.now (entry_bytes message.now) }
+// The place of the message that equals this one, or else the key that this one is to have.
+fn find(messages: &Messages, message: &Message) -> Result<usize, Key>
+    requires { AreKeys (keys messages.now) (values messages.now) }
+    ensures found { IfOk result (HasId (values messages.now) message.now) }
+    ensures none { OnErr result (¬ (HasMessage (values messages.now) message.now)) }
+    ensures free { IfErr result (IsFree (keys messages.now) message.now) }
     ensures spelled { SpellsEntry (entry_bytes message.now) message.now }
 {
-    let mut buffer = [0; MAX_ENTRY];
-    let len = entry_len(message);
-    put_entry(message, &mut buffer);
-    places.get(&buffer[..len]).copied()
+    let hash = hash_of(message);
+    let others = messages.values().as_slice();
+    for nth in 0..others.len() {
+        let key = Key { hash, nth };
+        let Some(place) = messages.get_index_of(&key) else {
+            return Err(key);
+        };
+        if *message == others[place] {
+            return Ok(place);
+        }
+    }
+    let nth = others.len();
+    Err(Key { hash, nth })
 }
 
 impl MessageSet {
@@ -64,8 +89,7 @@ impl MessageSet {
         ensures { result ≡ [] }
     {
         MessageSet {
-            messages: Vec::new(alloc),
-            places: BTreeMap::new(alloc),
+            messages: IndexMap::with_hasher(alloc, BuildHasherDefault::new()),
         }
     }
 
@@ -84,14 +108,18 @@ impl MessageSet {
         ensures distinct { AreDistinct self.now }
         ensures formed { AreFormed self.now }
     {
-        self.messages.as_slice()
+        self.messages.values().as_slice()
     }
 
     /// The place of the message that equals this one.
     pub(crate) fn place_of(&self, message: &Message) -> Option<u32>
+        requires { length self.now ≤ MAX_MESSAGES }
         ensures { IsPlace self.now message.now result }
     {
-        place_at(&self.places, message)
+        match find(&self.messages, message) {
+            Ok(place) => Some(place as u32),
+            Err(_) => None,
+        }
     }
 
     /// Adds the message, unless an equal one is there.
@@ -101,18 +129,12 @@ impl MessageSet {
         ensures err { OnErr result (self.new ≡ self.old) }
         ensures new { OnErr result (¬ (HasMessage self.old message)) }
     {
-        if let Some(place) = place_at(&self.places, &message) {
-            return Ok(Added::Old(place));
-        }
-        let Ok(key) = key_of(self.allocator(), &message) else {
-            return Err(AllocError);
+        let key = match find(&self.messages, &message) {
+            Ok(place) => return Ok(Added::Old(place as u32)),
+            Err(key) => key,
         };
         let place = self.messages.len() as u32;
-        let Ok(()) = self.messages.push(message) else {
-            return Err(AllocError);
-        };
-        let Ok(_) = self.places.insert(key, place) else {
-            self.messages.pop();
+        let Ok(_) = self.messages.insert(key, message) else {
             return Err(AllocError);
         };
         Ok(Added::New(place))

@@ -1,5 +1,10 @@
-use Rattle.log_dictionary.proofs.Places.{place_is}
+use Rattle.std.proofs.Common.{List, subst}
+use Rattle.log_dictionary.specs.declared.message.Message.{Message}
+use Rattle.log_dictionary.specs.Messages.{HasMessage, HasId}
 use Rattle.log_dictionary.proofs.message_set.MessageSet.place_of.Goals as goal
 
-pub returns : goal.returns
-returns c = place_is _ _ c.self.inside.places c.args.message.now c.place_at.result c.self.invariant.1 c.place_at.ensures.spelled c.place_at.ensures.value c.self.view_is
+pub returns-in-Ok : goal.returns-in-Ok
+returns-in-Ok c = subst (λ (m : List Message). HasId m c.args.message.now c.in-Ok.place) c.self.view_is c.in-Ok.ensures.found
+
+pub returns-in-Err : goal.returns-in-Err
+returns-in-Err c = subst (λ (m : List Message). ¬ (HasMessage m c.args.message.now)) c.self.view_is c.in-Err.ensures.none
