@@ -3,6 +3,7 @@ mod Endings
 mod RecordCalls
 mod Unclosed
 mod LeftFrom
+mod NextRead
 mod Outcomes
 mod Worked
 mod SomeText

@@ -20,8 +20,9 @@ use Rattle.decompressor.specs.declared.fault.DecodeFault.TheVariants.{WriteFault
 use Rattle.decompressor.specs.declared.report.Report.{Report}
 use Rattle.decompressor.specs.declared.step.Step.TheVariants.{End}
 use Rattle.decompressor.specs.Decompressing.{IsTextOfDamaged, ReadsText, CutOff, header_fault, Decompresses}
-use Rattle.decompressor.specs.Decompressors.{PrinterState, HasPrinted, Advances, PrintsWhole, IsCutBehind, Steps}
+use Rattle.decompressor.specs.Decompressors.{PrinterState, HasPrinted, Advances, ReadsNext, PrintsWhole, IsCutBehind, Steps}
 use Rattle.decompressor.proofs.Endings.{text_of_damaged, text_of_cut}
+use Rattle.decompressor.proofs.NextRead.{reads_text}
 
 -- ---- no header
 
@@ -90,21 +91,24 @@ module _ (file was : Told) (old : PrinterState) (left put : Told) (on : IsOn fil
 
   module _ (before after : ℕ) where
     abbrev Stepped : Result Report DecodeFault → Type 0
-    Stepped answer = PrintsWhole (with_front (taken ++ old.reader.waiting.bytes) left) behind before after on.text put is answer
+    Stepped answer = PrintsWhole old new taken on.text on.printed left behind before after put is answer
+
+    whole_file : (text : List ℕ) (answer : Result Report DecodeFault) → ReadsNext old.reader new.reader taken on.printed.read left behind before after text answer → ReadsText file behind before after text answer
+    whole_file text answer reads = subst (λ (told : Told). ReadsText told behind before after text answer) (sym on.file_is) (reads_text old.reader new.reader taken on.printed.read left behind before after text answer reads)
 
     ends : (answer : Result Report DecodeFault) → Stepped answer → (text : List ℕ) × (is ≡ with_end text was) × ReadsText file behind before after text answer
     ends answer (more, more_put, reads) = (
       on.text ++ more,
       more_put ∙ ap (with_end more) on.put_is ∙ with_end-both on.text more was,
-      subst (λ (told : Told). ReadsText told behind before after (on.text ++ more) answer) (sym on.file_is) reads,
+      whole_file (on.text ++ more) answer reads,
     )
 
-    abbrev is_cut : IsCutBehind (with_front (taken ++ old.reader.waiting.bytes) left) behind before after on.text put is → CutOff file behind before after was is
+    abbrev is_cut : IsCutBehind old new taken on.text on.printed left behind before after put is → CutOff file behind before after was is
     is_cut cut = record {
       text = on.text ++ cut.rest;
       read = cut.read;
       put = front-second on.text cut.rest was put is on.put_is cut.put;
-      reads = subst (λ (told : Told). ReadsText told behind before after (on.text ++ cut.rest) cut.read) (sym on.file_is) cut.reads;
+      reads = whole_file (on.text ++ cut.rest) cut.read cut.reads;
     }
 
     pub ended : (report : Report) → Steps old new on.taken on.text on.printed left behind before after put is (Ok (End report)) → Decompresses file behind before after was is (Ok report)

@@ -45,7 +45,6 @@ module _ (ended : Bool) (state : PrinterState) (first all : List Block) (counted
       lines = ap (λ (n : ℕ). n + lines) counted ∙ more.lines_are;
       are_waiting = subst (AreWaiting state.reader.header all (in_order (ready_calls ended state.reader.header all))) (sym same) more.are_waiting;
       heads = subst (HasHeads (no_more_come ended all) lists) (sym same) more.heads;
-      same = refl;
     },
     faults,
   )

@@ -1,5 +1,5 @@
 -- What a step says, by what was read and printed in it.
-use Rattle.std.proofs.Common.{◌≡◌, ℕ, ◌≤◌, true, false, Some, List, [], ◌∷◌, ◌++◌, length, take, drop, Result, Ok, Err, refl, ap, sym, subst, ◌∙◌, arith}
+use Rattle.std.proofs.Common.{◌≡◌, ℕ, ◌≤◌, true, false, Some, List, [], ◌∷◌, ◌++◌, length, take, drop, Result, Ok, Err, refl, ap, sym, subst, ◌∙◌, inl, inr, arith}
 use Rattle.std.specs.Prelude.{IfSome}
 use Rattle.std.specs.Result.{IsErrAnd}
 use Rattle.std.specs.List.{list_any}
@@ -16,19 +16,19 @@ use Rattle.checkpoint_io.specs.Fronts.{IsCutAt}
 use Rattle.checkpoint_io.specs.Places.{with_front, TookSuch}
 use Rattle.checkpoint_io.specs.Readers.{ReaderState, StandsFor}
 use Rattle.checkpoint_io.specs.NextBlocks.{TakesNext, StopsAt}
-use Rattle.checkpoint_io.proofs.lemmas.FileLaws.{file_behind, file_on, file_begins, file_ends}
+use Rattle.checkpoint_io.proofs.lemmas.FileLaws.{file_behind, file_begins, file_ends}
 use Rattle.log_scan.specs.Parts.{LogPart}
-use Rattle.log_scan.proofs.lemmas.Ends.{some_of, some_of_both, is_whole_scan, begins_within, is_cut_scan, is_damaged_scan}
+use Rattle.log_scan.proofs.lemmas.Ends.{some_of, some_of_both, is_whole_scan, is_cut_scan, is_damaged_scan}
 use Rattle.direct_printf.specs.Lines.{in_order, Direct}
 use Rattle.decompressor.specs.declared.fault.DecodeFault.{DecodeFault}
 use Rattle.decompressor.specs.declared.fault.DecodeFault.TheVariants.{WriteFault, Damaged, ReadFault, NoMemory}
 use Rattle.decompressor.specs.declared.step.Step.{Step}
 use Rattle.decompressor.specs.declared.report.Report.{Report}
 use Rattle.decompressor.specs.Decompression.{all_calls}
-use Rattle.decompressor.specs.Decompressing.{IsTextOfWhole, IsTextOfDamaged, IsTextOfSettled, ReadsText}
+use Rattle.decompressor.specs.Decompressing.{IsTextOfWhole, IsTextOfDamaged}
 use Rattle.decompressor.specs.Settling.{closed_by, open_writers, settled_calls}
 use Rattle.decompressor.specs.Waiting.{HasHeads}
-use Rattle.decompressor.specs.Decompressors.{PrinterState, AreWaiting, HasPrinted, CutsMore, HasTaken, HasLast, PrintsOn, Advances, PrintsWhole, IsCutBehind, Steps}
+use Rattle.decompressor.specs.Decompressors.{PrinterState, AreWaiting, HasPrinted, CutsMore, HasTaken, HasLast, PrintsOn, Advances, SettlesNext, ReadsNext, PrintsWhole, IsCutBehind, Steps}
 use Rattle.nl_io.proofs.lemmas.Contents.{with_end-none, front-whole}
 use Rattle.decompressor.proofs.Counts.{few_calls}
 use Rattle.decompressor.proofs.Endings.{text_of_whole, text_of_damaged, text_of_cut}
@@ -83,9 +83,9 @@ module _ (old : PrinterState) (taken text : List ℕ) (printed : HasPrinted old 
       }
 
       -- the decompressor stands behind the block
-      pub advances : (state : PrinterState) (was is : Told) → new.failed ≡ false → PrintsOn false (at_reader new) state blocks all was is → Advances old state taken text printed left behind was is
-      advances state was is right p =
-          subst (λ (r : ReaderState). Advances old (record state { reader = r }) taken text printed left behind was is) (sym p.same) (record {
+      pub advances : (state : PrinterState) (was is : Told) → state.reader ≡ new → new.failed ≡ false → PrintsOn false (at_reader new) state blocks all was is → Advances old state taken text printed left behind was is
+      advances state was is kept right p =
+          subst (λ (r : ReaderState). Advances old (record state { reader = r }) taken text printed left behind was is) (sym kept) (record {
             block = block;
             front = next.front;
             more = p.text;
@@ -105,25 +105,17 @@ module _ (old : PrinterState) (taken text : List ℕ) (printed : HasPrinted old 
             blocks = next.blocks;
           })
 
-      file_then : with_front (taken ++ old.reader.waiting.bytes) left ≡ with_front ((taken ++ next.front) ++ new.waiting.bytes) behind
-      file_then = file_on taken next.front old.reader.waiting.bytes new.waiting.bytes left behind next.joined
-
-      -- behind the text the file goes on with what its blocks settle
-      pub settled_behind : (rest : List ℕ) → Direct new.header.clock (settled_calls new.header all) ≡ Direct new.header.clock (settled_calls new.header blocks) ++ rest → IfSome (with_front (taken ++ old.reader.waiting.bytes) left) (λ bytes. IsTextOfSettled bytes (text ++ rest))
-      settled_behind rest joined =
-          let part : LogPart = record { header = new.header; blocks = all } in
-          let Settles = λ (bytes : List ℕ). IsTextOfSettled bytes (text ++ rest) in
-          let whole : text ++ rest ≡ Direct new.header.clock (settled_calls new.header all) =
-          ap (λ (bytes : List ℕ). bytes ++ rest) (printed.text_is ∙ ap (λ (h : Header). Direct h.clock (settled_calls h blocks)) (sym same)) ∙ sym joined in
-          subst (λ (told_bytes : Told). IfSome told_bytes Settles) (sym file_then)
-          (some_of (with_front ((taken ++ next.front) ++ new.waiting.bytes) behind) (λ bytes. (more : List ℕ) × (bytes ≡ (taken ++ next.front) ++ more)) Settles
-          (λ bytes begins. record {
-            part = part;
-            offset = length (taken ++ next.front);
-            begins = begins_within bytes part (taken ++ next.front) (length (taken ++ next.front)) file_all valid_all next.stands.within refl begins;
-            text_is = whole;
-          })
-          (file_begins (taken ++ next.front) new.waiting.bytes behind))
+      -- the text is what is settled by all blocks, for which the reader stands too
+      pub settles_next : (state : PrinterState) (rest : List ℕ) → state.reader ≡ new → Direct new.header.clock (settled_calls new.header all) ≡ Direct new.header.clock (settled_calls new.header blocks) ++ rest → SettlesNext old.reader state.reader taken read left behind (text ++ rest)
+      settles_next state rest kept joined =
+          subst (λ (r : ReaderState). SettlesNext old.reader r taken read left behind (text ++ rest)) (sym kept)
+          (inr (
+            told,
+            next,
+            ap (λ (bytes : List ℕ). bytes ++ rest) (printed.text_is ∙ ap (λ (h : Header). Direct h.clock (settled_calls h blocks)) (sym same))
+                ∙ sym joined
+                ∙ ap (λ (bs : List Block). Direct new.header.clock (settled_calls new.header bs)) (sym next.blocks),
+          ))
 
     -- ---- nothing more was read
 
@@ -143,34 +135,45 @@ module _ (old : PrinterState) (taken text : List ℕ) (printed : HasPrinted old 
       abbrev whole_text : List ℕ
       whole_text = Direct header.clock (all_calls header blocks)
 
-      -- how reading ends there, and that the text is whole then
-      pub whole_reads : (behind : Told) (before after : ℕ) (report : Report) → IsAtEnd (with_front old.reader.waiting.bytes left) → after ≡ before → report.lines ≡ length (all_calls header blocks) → report.unclosed ≡ open_writers header blocks
-          → ReadsText file behind before after (Direct header.clock (all_calls header blocks)) (Ok report)
-      whole_reads behind before after report ended counted lines unclosed = (
-        counted,
-        some_of file (λ bytes. bytes ≡ taken) (λ bytes. IsTextOfWhole bytes whole_text report)
-            (λ bytes whole. text_of_whole bytes part report (is_whole_scan bytes part taken old.reader.offset read.file read.valid read.within read.offset whole) lines unclosed) (file_ends taken old.reader.waiting.bytes left ended),
+      -- how reading ended there, as it is answered where the text goes out whole
+      abbrev pub EndsSo : PrinterState → Told → ℕ → ℕ → Result Report DecodeFault → Type 0
+      EndsSo state behind before after answer = ReadsNext old.reader state.reader taken read left behind before after (Direct header.clock (all_calls header blocks)) answer
+
+      pub whole_reads : (state : PrinterState) (behind : Told) (before after : ℕ) (report : Report) → IsAtEnd (with_front old.reader.waiting.bytes left) → after ≡ before → report.lines ≡ length (all_calls header blocks) → report.unclosed ≡ open_writers header blocks → EndsSo state behind before after (Ok report)
+      whole_reads state behind before after report ended counted lines unclosed = (
+        ended,
+        (
+          counted,
+          some_of file (λ bytes. bytes ≡ taken) (λ bytes. IsTextOfWhole bytes whole_text report)
+              (λ bytes whole. text_of_whole bytes part report (is_whole_scan bytes part taken old.reader.offset read.file read.valid read.within read.offset whole) lines unclosed) (file_ends taken old.reader.waiting.bytes left ended),
+        ),
       )
 
-      pub damaged_reads : (behind : Told) (before after offset : ℕ) (cause : Cause) → offset ≡ old.reader.offset → IfSome file (λ bytes. StopsAt bytes old.reader.offset cause) → after ≡ before → ReadsText file behind before after (Direct header.clock (all_calls header blocks)) (Err (Damaged offset cause))
-      damaged_reads behind before after offset cause at stops counted = (
-        counted,
-        some_of_both file Begins (λ bytes. StopsAt bytes old.reader.offset cause) (λ bytes. IsTextOfDamaged bytes whole_text offset cause)
-            (λ bytes front stop. text_of_damaged bytes (Some part) offset cause
-            (is_damaged_scan bytes part taken offset read.file read.valid read.within (at ∙ read.offset) front cause (subst (λ (n : ℕ). StopsAt bytes n cause) (sym at) stop))) begins stops,
+      pub damaged_reads : (state : PrinterState) (behind : Told) (before after offset : ℕ) (cause : Cause) → offset ≡ old.reader.offset → IfSome file (λ bytes. StopsAt bytes old.reader.offset cause) → after ≡ before → EndsSo state behind before after (Err (Damaged offset cause))
+      damaged_reads state behind before after offset cause at stops counted = (
+        at ∙ read.offset,
+        (
+          counted,
+          some_of_both file Begins (λ bytes. StopsAt bytes old.reader.offset cause) (λ bytes. IsTextOfDamaged bytes whole_text offset cause)
+              (λ bytes front stop. text_of_damaged bytes (Some part) offset cause
+              (is_damaged_scan bytes part taken offset read.file read.valid read.within (at ∙ read.offset) front cause (subst (λ (n : ℕ). StopsAt bytes n cause) (sym at) stop))) begins stops,
+        ),
       )
 
       -- with these bytes the file is cut off where the reader stands
       abbrev pub CutThere : Told → Type 0
       CutThere behind = TookSuch (λ bytes. IsCutAt (taken ++ bytes) old.reader.offset) (with_front old.reader.waiting.bytes left) behind
 
-      pub failed_reads : (behind : Told) (before after : ℕ) → CutThere behind → Rose before after → ReadsText file behind before after (Direct header.clock (all_calls header blocks)) (Err ReadFault)
-      failed_reads behind before after (bytes, parted, cut) rose = (
-        rose,
+      pub failed_reads : (state : PrinterState) (behind : Told) (before after : ℕ) → CutThere behind → Rose before after → EndsSo state behind before after (Err ReadFault)
+      failed_reads state behind before after (bytes, parted, cut) rose = (
+        (bytes, parted, subst (IsCutAt (taken ++ bytes)) read.offset cut),
         (
-          taken ++ bytes,
-          file_behind taken old.reader.waiting.bytes bytes left behind parted,
-          text_of_cut (taken ++ bytes) (Some part) (is_cut_scan (taken ++ bytes) part taken old.reader.offset read.file read.valid read.within read.offset (bytes, refl) cut),
+          rose,
+          (
+            taken ++ bytes,
+            file_behind taken old.reader.waiting.bytes bytes left behind parted,
+            text_of_cut (taken ++ bytes) (Some part) (is_cut_scan (taken ++ bytes) part taken old.reader.offset read.file read.valid read.within read.offset (bytes, refl) cut),
+          ),
         ),
       )
 
@@ -198,34 +201,21 @@ module _ (old : PrinterState) (taken text : List ℕ) (printed : HasPrinted old 
           ∙ ap (λ (bytes : List ℕ). bytes ++ more) (sym printed.text_is)
 
       -- it is printed whole, as reading ended
-      pub completes : (behind : Told) (before after : ℕ) (was is : Told) (state : PrinterState) (answer : Result Report DecodeFault) → PrintsOn true (at_reader new) state blocks blocks was is → ReadsText file behind before after (Direct header.clock (all_calls header blocks)) answer → PrintsWhole file behind before after text was is answer
-      completes behind before after was is state answer p reads = (p.text, p.put, subst (λ (whole : List ℕ). ReadsText file behind before after whole answer) (text_whole p.text p.joined) reads)
+      pub completes : (behind : Told) (before after : ℕ) (was is : Told) (state : PrinterState) (answer : Result Report DecodeFault) → PrintsOn true (at_reader new) state blocks blocks was is → EndsSo state behind before after answer → PrintsWhole old state taken text printed left behind before after was is answer
+      completes behind before after was is state answer p reads =
+          (p.text, p.put, subst (λ (whole : List ℕ). ReadsNext old.reader state.reader taken read left behind before after whole answer) (text_whole p.text p.joined) reads)
 
       -- nothing was put
-      pub nothing_put : (behind : Told) (before after : ℕ) (was : Told) → after ≡ before → IsCutBehind file behind before after text was was
-      nothing_put behind before after was counted = record {
-        rest = [];
-        read = Err NoMemory;
-        put = (0, omega arith, with_end-none [] was);
-        reads = (
-          counted,
-          some_of file Begins (λ bytes. IsTextOfSettled bytes (text ++ []))
-              (λ bytes front. record {
-                part = part;
-                offset = old.reader.offset;
-                begins = begins_within bytes part taken old.reader.offset read.file read.valid read.within read.offset front;
-                text_is = append-nil text ∙ printed.text_is;
-              }) begins,
-        );
-      }
+      pub nothing_put : (behind : Told) (before after : ℕ) (was : Told) → new.offset ≡ old.reader.offset → after ≡ before → IsCutBehind old (at_reader new) taken text printed left behind before after was was
+      nothing_put behind before after was still counted = record { rest = []; read = Err NoMemory; put = (0, omega arith, with_end-none [] was); reads = (counted, inl (still, append-nil text ∙ printed.text_is)) }
 
       -- all of the text was put, and then memory was wanting
-      pub all_put : (behind : Told) (before after : ℕ) (was is : Told) (state : PrinterState) (answer : Result Report DecodeFault) → PrintsOn true (at_reader new) state blocks blocks was is → ReadsText file behind before after (Direct header.clock (all_calls header blocks)) answer → IsCutBehind file behind before after text was is
+      pub all_put : (behind : Told) (before after : ℕ) (was is : Told) (state : PrinterState) (answer : Result Report DecodeFault) → PrintsOn true (at_reader new) state blocks blocks was is → EndsSo state behind before after answer → IsCutBehind old state taken text printed left behind before after was is
       all_put behind before after was is state answer p reads = record {
         rest = p.text;
         read = answer;
         put = front-whole p.text was is p.put;
-        reads = subst (λ (whole : List ℕ). ReadsText file behind before after whole answer) (text_whole p.text p.joined) reads;
+        reads = subst (λ (whole : List ℕ). ReadsNext old.reader state.reader taken read left behind before after whole answer) (text_whole p.text p.joined) reads;
       }
 
       -- ---- the answers
@@ -234,13 +224,13 @@ module _ (old : PrinterState) (taken text : List ℕ) (printed : HasPrinted old 
       Answer state behind before after was is result = Steps old state taken text printed left behind before after was is result
 
       -- the printing of the rest was cut off, once reading ended so
-      pub rest_stops : (state : PrinterState) (behind : Told) (before after : ℕ) (was is : Told) (low high : ℕ) (fault : DecodeFault) (result : Result Step DecodeFault) (answer : Result Report DecodeFault) → IsErrAnd result (λ e. e ≡ fault) → CutsMore true new.header blocks blocks was is low high fault
-          → ReadsText file behind before after (Direct header.clock (all_calls header blocks)) answer → Answer state behind before after was is result
+      pub rest_stops : (state : PrinterState) (behind : Told) (before after : ℕ) (was is : Told) (low high : ℕ) (fault : DecodeFault) (result : Result Step DecodeFault) (answer : Result Report DecodeFault) → IsErrAnd result (λ e. e ≡ fault) → CutsMore true new.header blocks blocks was is low high fault → EndsSo state behind before after answer
+          → Answer state behind before after was is result
       rest_stops state behind before after was is low high fault (Ok step) answer same more reads = absurd same
       rest_stops state behind before after was is low high fault (Err e) answer same more reads = subst (λ (f : DecodeFault). Answer state behind before after was is (Err f)) (sym same) (by fault more)
         where
-          reads_on : (f : DecodeFault) → (m : CutsMore true new.header blocks blocks was is low high f) → ReadsText file behind before after (text ++ m.rest) answer
-          reads_on f m = subst (λ (whole : List ℕ). ReadsText file behind before after whole answer) (text_whole m.rest m.joined) reads
+          reads_on : (f : DecodeFault) → (m : CutsMore true new.header blocks blocks was is low high f) → ReadsNext old.reader state.reader taken read left behind before after (text ++ m.rest) answer
+          reads_on f m = subst (λ (whole : List ℕ). ReadsNext old.reader state.reader taken read left behind before after whole answer) (text_whole m.rest m.joined) reads
 
           by : (f : DecodeFault) → CutsMore true new.header blocks blocks was is low high f → Answer state behind before after was is (Err f)
           by WriteFault m = (record { rest = m.rest; read = answer; put = m.cut.put; reads = reads_on WriteFault m }, m.cut.some)
@@ -248,19 +238,19 @@ module _ (old : PrinterState) (taken text : List ℕ) (printed : HasPrinted old 
           by ReadFault m = absurd m.cut
           by (Damaged offset cause) m = absurd m.cut
 
-      pub lacks : (state : PrinterState) (behind : Told) (before after : ℕ) (was is : Told) (result : Result Step DecodeFault) → IsErrAnd result (λ e. e ≡ NoMemory) → IsCutBehind file behind before after text was is → Answer state behind before after was is result
+      pub lacks : (state : PrinterState) (behind : Told) (before after : ℕ) (was is : Told) (result : Result Step DecodeFault) → IsErrAnd result (λ e. e ≡ NoMemory) → IsCutBehind old state taken text printed left behind before after was is → Answer state behind before after was is result
       lacks state behind before after was is (Ok step) same cut = absurd same
       lacks state behind before after was is (Err e) same cut = subst (λ (f : DecodeFault). Answer state behind before after was is (Err f)) (sym same) cut
 
     -- the printing behind a block was cut off
     module _ (told : ReadBlock) (left behind : Told) (next : TakesNext old.reader new taken read told left behind) where
-      pub block_stops : (state : PrinterState) (before after : ℕ) (was is : Told) (low high : ℕ) (fault : DecodeFault) (result : Result Step DecodeFault) → IsErrAnd result (λ e. e ≡ fault) → CutsMore false new.header blocks (blocks ++ next.block ∷ []) was is low high fault
+      pub block_stops : (state : PrinterState) (before after : ℕ) (was is : Told) (low high : ℕ) (fault : DecodeFault) (result : Result Step DecodeFault) → state.reader ≡ new → IsErrAnd result (λ e. e ≡ fault) → CutsMore false new.header blocks (blocks ++ next.block ∷ []) was is low high fault
           → after ≡ before → Steps old state taken text printed left behind before after was is result
-      block_stops state before after was is low high fault (Ok step) same more counted = absurd same
-      block_stops state before after was is low high fault (Err e) same more counted = subst (λ (f : DecodeFault). Steps old state taken text printed left behind before after was is (Err f)) (sym same) (by fault more)
+      block_stops state before after was is low high fault (Ok step) kept same more counted = absurd same
+      block_stops state before after was is low high fault (Err e) kept same more counted = subst (λ (f : DecodeFault). Steps old state taken text printed left behind before after was is (Err f)) (sym same) (by fault more)
         where
           by : (f : DecodeFault) → CutsMore false new.header blocks (blocks ++ next.block ∷ []) was is low high f → Steps old state taken text printed left behind before after was is (Err f)
-          by WriteFault m = (record { rest = m.rest; read = Err WriteFault; put = m.cut.put; reads = (counted, settled_behind told left behind next m.rest m.joined) }, m.cut.some)
-          by NoMemory m = record { rest = m.rest; read = Err NoMemory; put = m.cut.0; reads = (counted, settled_behind told left behind next m.rest m.joined) }
+          by WriteFault m = (record { rest = m.rest; read = Err WriteFault; put = m.cut.put; reads = (counted, settles_next told left behind next state m.rest kept m.joined) }, m.cut.some)
+          by NoMemory m = record { rest = m.rest; read = Err NoMemory; put = m.cut.0; reads = (counted, settles_next told left behind next state m.rest kept m.joined) }
           by ReadFault m = absurd m.cut
           by (Damaged offset cause) m = absurd m.cut

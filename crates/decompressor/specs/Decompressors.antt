@@ -1,14 +1,17 @@
 -- What is kept between the steps of a decompressor, the bytes and the text for which it stands, and what a step says.
-use Rattle.std.specs.Prelude.{◌≡◌, ◌≢◌, ℕ, ◌+◌, ◌<◌, ◌≤◌, Bool, true, false, ◌||◌, ◌==◌, List, [], ◌∷◌, ◌++◌, length, drop, filter, get_or, Result, Ok, Err, ⊤}
-use Rattle.nl_io.specs.Content.{Told, with_end, PutsFront}
+use Rattle.std.specs.Prelude.{◌≡◌, ◌≢◌, ◌⊎◌, ℕ, ◌+◌, ◌<◌, ◌≤◌, Bool, true, false, ◌||◌, ◌==◌, List, [], ◌∷◌, ◌++◌, length, drop, filter, get_or, Result, Ok, Err, ⊤}
+use Rattle.nl_io.specs.Content.{Told, IsAtEnd, with_end, PutsFront}
 use Rattle.log_dictionary.specs.declared.message.Message.{Message}
 use Rattle.log_dictionary.specs.Calls.{LogCall}
 use Rattle.arg_records.specs.declared.call.Call.{Call}
 use Rattle.checkpoint_io.specs.declared.heads.TheConstants.{MAX_LOG}
+use Rattle.checkpoint_io.specs.declared.block.Block.{Block as ReadBlock}
 use Rattle.checkpoint_io.specs.declared.header.Header.{Header}
 use Rattle.checkpoint_io.specs.Blocks.{Block, messages_of}
 use Rattle.checkpoint_io.specs.Validity.{records_of, Valid}
-use Rattle.checkpoint_io.specs.Places.{with_front}
+use Rattle.checkpoint_io.specs.Fronts.{IsCutAt}
+use Rattle.checkpoint_io.specs.NextBlocks.{TakesNext}
+use Rattle.checkpoint_io.specs.Places.{with_front, TookSuch}
 use Rattle.checkpoint_io.specs.Readers.{ReaderState, StandsFor}
 use Rattle.stamp_merge.specs.declared.merger.ListState.{ListState}
 use Rattle.direct_printf.specs.Lines.{in_order, Direct}
@@ -144,7 +147,6 @@ pub record PrintsOn (ended : Bool) (old new : PrinterState) (first all : List Bl
   pub lines : new.lines ≡ length (ready_calls ended old.reader.header all)
   pub are_waiting : AreWaiting old.reader.header all (in_order (ready_calls ended old.reader.header all)) new.waiting
   pub heads : HasHeads (no_more_come ended all) new.lists new.waiting
-  pub same : new.reader ≡ old.reader
 
 abbrev pub PrintsTo : Bool → (old new : PrinterState) → (first all : List Block) → (was is : Told) → ℕ → ℕ
     → Result ⊤ DecodeFault → Type 0
@@ -172,17 +174,51 @@ abbrev pub IsLastStep : Step → Type 0
 IsLastStep More = ⊥
 IsLastStep (End report) = ⊤
 
--- the text was printed whole, and this is said of the file
-abbrev pub PrintsWhole : Told → Told → ℕ → ℕ → List ℕ → Told → Told → Result Report DecodeFault → Type 0
-PrintsWhole file behind before after text was is answer =
-    (more : List ℕ) × (is ≡ with_end more was) × ReadsText file behind before after (text ++ more) answer
+-- ---- one block at most
 
--- Behind the text a front went out of the rest of the text of what was read, however far the reading came.
-pub record IsCutBehind (file behind : Told) (before after : ℕ) (text : List ℕ) (was is : Told) : Type 0 where
+-- The text is the lines that are settled by the blocks that were read, and the reader stands where it stood; or by
+-- these and the block behind them, for which it stands too.
+abbrev pub SettlesNext : (old new : ReaderState) (taken : List ℕ) → StandsFor old taken → (left behind : Told) → List ℕ
+    → Type 0
+SettlesNext old new taken read left behind text =
+    ((new.offset ≡ old.offset) × (text ≡ Direct old.header.clock (settled_calls old.header read.blocks)))
+    ⊎ ((told : ReadBlock) × (next : TakesNext old new taken read told left behind)
+    × (text ≡ Direct new.header.clock (settled_calls new.header next.stands.blocks)))
+
+-- How reading ended where no more is read than the block behind the bytes that were taken, as it is answered where all
+-- of the text goes out: nothing stands there; the block breaks, and none that follows it; or it is cut off by the end
+-- of the bytes that came before a read failed. A failed write and want of memory end the reading behind that block, or
+-- in front of it.
+abbrev pub ReadsNext : (old new : ReaderState) (taken : List ℕ) → StandsFor old taken → (left behind : Told) → ℕ → ℕ
+    → List ℕ → Result Report DecodeFault → Type 0
+ReadsNext old new taken read left behind before after text (Ok report) =
+    IsAtEnd (with_front old.waiting.bytes left)
+    × ReadsText (with_front (taken ++ old.waiting.bytes) left) behind before after text (Ok report)
+ReadsNext old new taken read left behind before after text (Err (Damaged offset cause)) =
+    (offset ≡ length taken)
+    × ReadsText (with_front (taken ++ old.waiting.bytes) left) behind before after text (Err (Damaged offset cause))
+ReadsNext old new taken read left behind before after text (Err ReadFault) =
+    TookSuch (λ bytes. IsCutAt (taken ++ bytes) (length taken)) (with_front old.waiting.bytes left) behind
+    × ReadsText (with_front (taken ++ old.waiting.bytes) left) behind before after text (Err ReadFault)
+ReadsNext old new taken read left behind before after text (Err WriteFault) =
+    (after ≡ before) × SettlesNext old new taken read left behind text
+ReadsNext old new taken read left behind before after text (Err NoMemory) =
+    (after ≡ before) × SettlesNext old new taken read left behind text
+
+-- the text was printed whole, and so reading ended
+abbrev pub PrintsWhole : (old new : PrinterState) (taken text : List ℕ) → HasPrinted old taken text
+    → (left behind : Told) → ℕ → ℕ → (was is : Told) → Result Report DecodeFault → Type 0
+PrintsWhole old new taken text printed left behind before after was is answer =
+    (more : List ℕ) × (is ≡ with_end more was)
+    × ReadsNext old.reader new.reader taken printed.read left behind before after (text ++ more) answer
+
+-- Behind the text a front went out of the rest of the text, wherever reading ended.
+pub record IsCutBehind (old new : PrinterState) (taken text : List ℕ) (printed : HasPrinted old taken text)
+    (left behind : Told) (before after : ℕ) (was is : Told) : Type 0 where
   pub rest : List ℕ
   pub read : Result Report DecodeFault
   pub put : PutsFront rest was is
-  pub reads : ReadsText file behind before after (text ++ rest) read
+  pub reads : ReadsNext old.reader new.reader taken printed.read left behind before after (text ++ rest) read
 
 -- What the answer of a step says. A write fails only where there is something to print.
 abbrev pub Steps : (old new : PrinterState) (taken text : List ℕ) → HasPrinted old taken text → (left behind : Told)
@@ -190,14 +226,19 @@ abbrev pub Steps : (old new : PrinterState) (taken text : List ℕ) → HasPrint
 Steps old new taken text printed left behind before after was is (Ok More) =
     Advances old new taken text printed left behind was is × (after ≡ before)
 Steps old new taken text printed left behind before after was is (Ok (End report)) =
-    PrintsWhole (with_front (taken ++ old.reader.waiting.bytes) left) behind before after text was is (Ok report)
+    PrintsWhole old new taken text printed left behind before after was is (Ok report)
 Steps old new taken text printed left behind before after was is (Err WriteFault) =
-    (cut : IsCutBehind (with_front (taken ++ old.reader.waiting.bytes) left) behind before after text was is)
-    × (cut.rest ≢ [])
+    (cut : IsCutBehind old new taken text printed left behind before after was is) × (cut.rest ≢ [])
 Steps old new taken text printed left behind before after was is (Err NoMemory) =
-    IsCutBehind (with_front (taken ++ old.reader.waiting.bytes) left) behind before after text was is
+    IsCutBehind old new taken text printed left behind before after was is
 Steps old new taken text printed left behind before after was is (Err (Damaged offset cause)) =
-    PrintsWhole (with_front (taken ++ old.reader.waiting.bytes) left) behind before after text was is
-    (Err (Damaged offset cause))
+    PrintsWhole old new taken text printed left behind before after was is (Err (Damaged offset cause))
 Steps old new taken text printed left behind before after was is (Err ReadFault) =
-    PrintsWhole (with_front (taken ++ old.reader.waiting.bytes) left) behind before after text was is (Err ReadFault)
+    PrintsWhole old new taken text printed left behind before after was is (Err ReadFault)
+
+-- so it is of any bytes and any text for which the printer stood
+abbrev pub StepsFrom : (old new : PrinterState) (left behind : Told) → ℕ → ℕ → (was is : Told) → Result Step DecodeFault
+    → Type 0
+StepsFrom old new left behind before after was is answer =
+    (taken text : List ℕ) (printed : HasPrinted old taken text)
+    → Steps old new taken text printed left behind before after was is answer

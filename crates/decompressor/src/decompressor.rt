@@ -7,7 +7,7 @@ ghost use Rattle.checkpoint_io.specs.declared.cause.Cause.{Cause as LogCause};
 ghost use Rattle.checkpoint_io.specs.declared.cause.Cause.TheVariants.{Cut};
 ghost use Rattle.checkpoint_io.specs.Fronts.{Break};
 ghost use Rattle.checkpoint_io.specs.Places.{with_front, TookSuch};
-ghost use Rattle.decompressor.specs.Decompressors.{HasPrinted, Steps, IsLastStep};
+ghost use Rattle.decompressor.specs.Decompressors.{HasPrinted, StepsFrom, IsLastStep};
 
 use crate::fault::DecodeFault;
 use crate::log_printer::LogPrinter;
@@ -71,23 +71,24 @@ impl Decompressor {
         })
     }
 
-    /// Reads the next block, and prints all lines before which no later one can stand. Where the log has ended these
-    /// are all lines that are left.
+    /// Reads the next block, and prints all lines before which no later one can stand. Where none stands there, the log
+    /// has ended, and these are all lines that are left.
     ///
     /// # Errors
     ///
-    /// `Damaged` comes after the lines of all whole blocks in front of the damage, and `ReadFault` after those of the
-    /// whole blocks that were read. Where a write fails that is answered, also of a damaged file or after a failed
-    /// read: a front of these lines went out. So it is where there is no memory. The decompressor has ended then.
+    /// `Damaged` comes after the lines of all whole blocks in front of the damage, which begins where the next block
+    /// does, and `ReadFault` after those of the whole blocks that were read. Where a write fails that is answered, also
+    /// of a damaged file or after a failed read: a front of these lines went out. So it is where there is no memory.
+    /// The decompressor has ended then.
     pub fn step<S: Source, K: Sink>(
         &mut self,
         source: &mut S,
         out: &mut K,
     ) -> Result<Step, DecodeFault>
         requires { self.old.ended ≡ false }
-        // What was printed, and what the answer says of the bytes that stand behind those that were taken.
-        ensures step { (taken text : List ℕ) (printed : HasPrinted self.old.printer taken text)
-            → Steps self.old.printer self.new.printer taken text printed (S.left source.old) (S.left source.new)
+        // What was printed, and what the answer says of the bytes that stand behind those that were taken. No more than
+        // one block of them is read.
+        ensures step { StepsFrom self.old.printer self.new.printer (S.left source.old) (S.left source.new)
             (S.faults source.old) (S.faults source.new) (K.put out.old) (K.put out.new) result }
         ensures more { result ≡ Ok Step.More → self.new.ended ≡ false }
         ensures ended { ¬ (result ≡ Ok Step.More) → self.new.ended ≡ true }

@@ -10,7 +10,7 @@ ghost use Rattle.checkpoint_io.specs.Fronts.{Break};
 ghost use Rattle.checkpoint_io.specs.NextBlocks.{Describes};
 ghost use Rattle.checkpoint_io.specs.Places.{with_front, TookSuch};
 ghost use Rattle.stamp_merge.specs.Mergers.{fresh_list};
-ghost use Rattle.decompressor.specs.Decompressors.{HasPrinted, HasTaken, HasLast, PrintsTo, Steps, IsLastStep};
+ghost use Rattle.decompressor.specs.Decompressors.{HasPrinted, HasTaken, HasLast, PrintsTo, StepsFrom, IsLastStep};
 
 use crate::decompressing::open_writers;
 use crate::fault::DecodeFault;
@@ -123,6 +123,7 @@ impl LogPrinter {
         ensures count { K.faults out.old ≤ K.faults out.new }
         ensures fault { OnErr result (IsErrOf result DecodeFault.WriteFault ⊎ IsErrOf result DecodeFault.NoMemory) }
         ensures held { OnOk result (text_writer.new ≡ []) }
+        ensures reader { self.new.reader ≡ self.old.reader }
         ensures others { K.rest out.old out.new }
     {
         add_block(&mut self.merger, &mut self.waiting, block)?;
@@ -154,6 +155,7 @@ impl LogPrinter {
         ensures written { ¬ (IsErrOf result DecodeFault.WriteFault) → K.faults out.new ≡ K.faults out.old }
         ensures count { K.faults out.old ≤ K.faults out.new }
         ensures fault { OnErr result (IsErrOf result DecodeFault.WriteFault ⊎ IsErrOf result DecodeFault.NoMemory) }
+        ensures reader { self.new.reader ≡ self.old.reader }
         ensures others { K.rest out.old out.new }
     {
         close_all(&mut self.merger, &self.waiting);
@@ -185,9 +187,9 @@ impl LogPrinter {
     ) -> Result<Step, DecodeFault>
         requires printed { (taken text : List ℕ) × HasPrinted self.old taken text }
         requires held { text_writer.old ≡ [] }
-        // What was printed, and what the answer says of the bytes that stand behind those that were taken.
-        ensures step { (taken text : List ℕ) (printed : HasPrinted self.old taken text)
-            → Steps self.old self.new taken text printed (S.left source.old) (S.left source.new)
+        // What was printed, and what the answer says of the bytes that stand behind those that were taken. No more than
+        // one block of them is read.
+        ensures step { StepsFrom self.old self.new (S.left source.old) (S.left source.new)
             (S.faults source.old) (S.faults source.new) (K.put out.old) (K.put out.new) result }
         ensures end { IsOkAnd result IsLastStep → IsAtEnd (S.left source.new) }
 

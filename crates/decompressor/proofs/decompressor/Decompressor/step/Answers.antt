@@ -1,7 +1,7 @@
 use Rattle.std.proofs.Common.{ℕ, List, ◌++◌, Ok, Err, ap, subst, ◌∙◌}
 use Rattle.decompressor.specs.declared.step.Step.{Step}
 use Rattle.decompressor.specs.declared.step.Step.TheVariants.{More, End}
-use Rattle.decompressor.specs.Decompressors.{DecompressorState, HasPrinted, Steps}
+use Rattle.decompressor.specs.Decompressors.{DecompressorState, Steps, StepsFrom}
 use Rattle.decompressor.proofs.decompressor.Decompressor.step.Goals as goal
 
 pub step-requires-clause-printed : goal.step-requires-clause-printed
@@ -24,8 +24,8 @@ returns-in-Ok-More-clause-step g c =
     let was = g.K.Sink.put c.args.out.now in
     let is = g.K.Sink.put c.step.new.out in
     let old = c.self.inside.printer in
-    subst (λ (s : DecompressorState). (taken text : List ℕ) (printed : HasPrinted s.printer taken text) → Steps s.printer new taken text printed left behind before after was is (Ok More)) c.self.view_is
-    (subst (λ (step : Step). (taken text : List ℕ) (printed : HasPrinted old taken text) → Steps old new taken text printed left behind before after was is (Ok step)) c.in-Ok-More.field-0-is c.in-Ok-More.ensures.step)
+    subst (λ (s : DecompressorState). StepsFrom s.printer new left behind before after was is (Ok More)) c.self.view_is
+    (subst (λ (step : Step). StepsFrom old new left behind before after was is (Ok step)) c.in-Ok-More.field-0-is c.in-Ok-More.ensures.step)
 
 pub returns-in-Ok-More-clause-more : goal.returns-in-Ok-More-clause-more
 returns-in-Ok-More-clause-more g c same = ap (λ (s : DecompressorState). s.ended) c.self.view_is ∙ c.requires
@@ -40,8 +40,8 @@ returns-in-Ok-End-clause-step g c =
     let was = g.K.Sink.put c.args.out.now in
     let is = g.K.Sink.put c.step.new.out in
     let old = c.self.inside.printer in
-    subst (λ (s : DecompressorState). (taken text : List ℕ) (printed : HasPrinted s.printer taken text) → Steps s.printer new taken text printed left behind before after was is (Ok (End c.in-Ok-End.report))) c.self.view_is
-    (subst (λ (step : Step). (taken text : List ℕ) (printed : HasPrinted old taken text) → Steps old new taken text printed left behind before after was is (Ok step)) c.in-Ok-End.field-0-is c.in-Ok-End.ensures.step)
+    subst (λ (s : DecompressorState). StepsFrom s.printer new left behind before after was is (Ok (End c.in-Ok-End.report))) c.self.view_is
+    (subst (λ (step : Step). StepsFrom old new left behind before after was is (Ok step)) c.in-Ok-End.field-0-is c.in-Ok-End.ensures.step)
 
 pub returns-in-Err-clause-step : goal.returns-in-Err-clause-step
 returns-in-Err-clause-step g c =
@@ -52,4 +52,4 @@ returns-in-Err-clause-step g c =
     let after = g.S.Source.faults c.step.new.source in
     let was = g.K.Sink.put c.args.out.now in
     let is = g.K.Sink.put c.step.new.out in
-    subst (λ (s : DecompressorState). (taken text : List ℕ) (printed : HasPrinted s.printer taken text) → Steps s.printer new taken text printed left behind before after was is (Err c.in-Err.fault)) c.self.view_is c.in-Err.ensures.step
+    subst (λ (s : DecompressorState). StepsFrom s.printer new left behind before after was is (Err c.in-Err.fault)) c.self.view_is c.in-Err.ensures.step
