@@ -1,13 +1,10 @@
 use Rattle.std.proofs.Common.{None, refl, inl}
 use Rattle.cli_words.specs.Commands.{command_of, texts_of}
 use Rattle.command_base.specs.Endings.{NoMemory as WantsMemory}
-use Rattle.nanolog_main.proofs.run_words.Goals as goal
+use Rattle.nanolog_main.proofs.ended.run_words.Goals as goal
 
 pub returns-in_default : goal.returns-in_default
 returns-in_default g c = record { ends = (None, WantsMemory, c.want_memory.ensures.status, inl (refl, refl), c.want_memory.ensures.told) }
-
-pub returns-in_default-new : goal.returns-in_default-new
-returns-in_default-new g c = record { ends = (None, WantsMemory, c.want_memory-in_default-new.ensures.status, inl (refl, refl), c.want_memory-in_default-new.ensures.told) }
 
 pub returns : goal.returns
 returns g c =
