@@ -1,9 +1,8 @@
 -- Lists of the ends of rings.
 use Rattle.std.proofs.Common.{◌≡◌, ℕ, ◌+◌, List, [], ◌∷◌, ◌++◌, ◌<◌, ◌≤◌, length, refl, sym, ap, subst, ◌∙◌, arith}
-use Rattle.std.specs.Prelude.{All, sum_by}
+use Rattle.std.specs.Prelude.{sum_by}
 use Rattle.std.specs.List.{AllZip}
 use Rattle.std.proofs.lemmas.List.{length-append}
-use Rattle.std.proofs.lemmas.List.Elements.{All-nil, All-cons}
 use Rattle.std.proofs.lemmas.List.Sums.{sum_by_push, sum_by-cons}
 use Rattle.std.proofs.lemmas.Slice.Zip.{all_zipped_more}
 use Rattle.log_session.specs.Starts.{AllZipMore}
@@ -16,13 +15,6 @@ zip_more {A} {B} R xs ys more_xs more_ys all more =
 
 pub one_longer : {A B : Type 0} (R : A → B → Type 0) (xs : List A) (ys : List B) (more_xs : List A) (more_ys : List B) (n : ℕ) → length xs ≡ n → AllZipMore R xs ys more_xs more_ys → length more_xs ≡ n + 1
 one_longer R xs ys more_xs more_ys n count more = ap length more.ours_are ∙ omega (arith, length-append xs (more.one ∷ []), count)
-
--- what follows for each of the second list
-pub zip_second : {A B : Type 0} (R : A → B → Type 0) (P : B → Type 0) → ((x : A) (y : B) → R x y → P y) → (xs : List A) (ys : List B) → AllZip R xs ys → All P ys
-zip_second R P then [] [] all = All-nil P
-zip_second R P then [] (b ∷ ys) all = absurd all
-zip_second R P then (a ∷ xs) [] all = absurd all
-zip_second R P then (a ∷ xs) (b ∷ ys) all = All-cons P b ys (then a b all.0) (zip_second R P then xs ys all.1)
 
 -- ---- three lists
 

@@ -1,7 +1,8 @@
 -- A list of which one item is set.
 use Rattle.std.proofs.Common.{◌≡◌, ◌≢◌, ℕ, zero, suc, List, [], ◌∷◌, get_or, refl, ap, subst}
-use Rattle.std.specs.Prelude.{Some, slice_get, slice_set}
+use Rattle.std.specs.Prelude.{All, Some, slice_get, slice_set}
 use Rattle.std.specs.List.{AllZip}
+use Rattle.std.proofs.lemmas.List.Elements.{All-nil, All-cons}
 use Rattle.std.proofs.lemmas.Option.{same_Some}
 
 -- the others stay
@@ -47,3 +48,10 @@ zip_weaker R Q [] [] weaker all = tt
 zip_weaker R Q [] (y ∷ others) weaker all = absurd all
 zip_weaker R Q (x ∷ items) [] weaker all = absurd all
 zip_weaker R Q (x ∷ items) (y ∷ others) weaker all = (weaker x y all.0, zip_weaker R Q items others weaker all.1)
+
+-- what follows for each of the second list
+pub zip_second : {A B : Type 0} (R : A → B → Type 0) (P : B → Type 0) → ((x : A) (y : B) → R x y → P y) → (xs : List A) (ys : List B) → AllZip R xs ys → All P ys
+zip_second R P then [] [] all = All-nil P
+zip_second R P then [] (b ∷ ys) all = absurd all
+zip_second R P then (a ∷ xs) [] all = absurd all
+zip_second R P then (a ∷ xs) (b ∷ ys) all = All-cons P b ys (then a b all.0) (zip_second R P then xs ys all.1)

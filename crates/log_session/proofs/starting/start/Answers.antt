@@ -4,7 +4,7 @@ use Rattle.log_dictionary.specs.declared.message.Message.{Message}
 use Rattle.ring_core.specs.Plans.{plan_of}
 use Rattle.log_session.specs.Writers.{IsDictionaryPlan}
 use Rattle.log_session.proofs.Logging.{dictionary_plan}
-use Rattle.log_session.proofs.Rings.{zip_second}
+use Rattle.roaming_consumer.proofs.lemmas.OnePlace.{zip_second}
 use Rattle.log_session.proofs.starting.start.Goals as goal
 
 pub open_rings-requires-clause-plan : goal.open_rings-requires-clause-plan
