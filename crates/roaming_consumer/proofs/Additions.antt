@@ -1,19 +1,17 @@
 -- What a visit adds to the log for which a roamer stands, and where it stops.
 use Rattle.std.proofs.Common.{◌≡◌, ℕ, ◌-◌, ◌≤◌, Bool, true, false, List, [], ◌++◌, length, get_or, Some, refl, sym, ap, subst, ◌∙◌, append-nil, append_assoc, arith}
 use Rattle.std.specs.Prelude.{slice_get, max, take, drop, Result, is_err}
-use Rattle.std.proofs.lemmas.List.{length-take-le}
+use Rattle.std.proofs.lemmas.List.{length-take-le, nil_from_length}
 use Rattle.std.proofs.lemmas.Option.{slice_get_within}
 use Rattle.nl_io.specs.Content.{Told, with_end, PutsFront}
 use Rattle.nl_io.proofs.lemmas.Contents.{with_end-none}
-use Rattle.log_dictionary.specs.declared.clock.Clock.{Clock}
 use Rattle.log_dictionary.specs.declared.message.Message.{Message}
 use Rattle.log_dictionary.specs.Messages.{AreDistinct}
 use Rattle.arg_records.specs.declared.call.Call.{Call}
 use Rattle.checkpoint_io.specs.declared.heads.TheConstants.{MAX_BODY}
 use Rattle.checkpoint_io.specs.Blocks.{extent_head_bytes, close_bytes}
 use Rattle.checkpoint_io.specs.Validity.{IsClosed}
-use Rattle.checkpoint_io.specs.Logs.{LogOf}
-use Rattle.ring_core.specs.Plans.{Plan}
+use Rattle.ring_core.specs.Plans.{Plan, AreFramesOf}
 use Rattle.roaming_consumer.specs.declared.draft.Draft.{Draft}
 use Rattle.roaming_consumer.specs.declared.roamer.Roamer.{Roamer}
 use Rattle.roaming_consumer.specs.Growth.{LogProgress, FragmentsFor, progress_closing}
@@ -23,7 +21,8 @@ use Rattle.roaming_consumer.specs.Sinks.{SendsExtent}
 use Rattle.roaming_consumer.specs.Visits.{WritesExtent}
 use Rattle.roaming_consumer.proofs.lemmas.OnePlace.{zip_step}
 use Rattle.roaming_consumer.proofs.lemmas.Sending.{extent_sent, err_of}
-use Rattle.roaming_consumer.proofs.Standing.{wanted_new, spells_extent, Moved, move_ends, behind_draft, extent_stands, idle_stands, mark_stands, still_ended, stands_cut, appended, cut_short, nothing_more}
+use Rattle.roaming_consumer.proofs.lemmas.Marking.{same_marked_log}
+use Rattle.roaming_consumer.proofs.Standing.{wanted_new, spells_extent, Moved, move_ends, behind_draft, extent_stands, idle_stands, mark_stands, still_said, still_ended, same_plan, stands_cut, appended, cut_short, nothing_more}
 
 -- what was collected
 abbrev pub Collected : {S : Type 0} → (S → List (List ℕ)) → (S → Bool) → (S → ℕ) → (S → List ℕ) → (S → Plan) → Roamer S → Draft → Bool → List ℕ → S → S → Type 0
@@ -124,11 +123,6 @@ module _ {S : Type 0} (got : S → List (List ℕ)) (ended : S → Bool) (loads 
 
 -- ---- after a fault
 
--- the bytes are a log of these messages, of this clock and batch, in which closed writers have ended
-abbrev LogEnding : {S : Type 0} → (S → Bool) → List S → List ℕ → List (List Call) → List Message × Clock × ℕ → Type 0
-LogEnding ended ends bytes taken (messages, clock, batch) =
-    (log : LogOf bytes taken messages clock batch) × ((writer : ℕ) (end : _) → slice_get ends writer ≡ Some end → IsClosed writer log.blocks → ended end ≡ true)
-
 -- frames were thrown away
 pub threw : {S : Type 0} (got : S → List (List ℕ)) (ended : S → Bool) (loads : S → ℕ) (pair : S → List ℕ) (plan : S → Plan) (old new : Roamer S) (writer frames : ℕ) (all : Bool) (p : Told) → is_begun old ≡ true → is_faulted old ≡ true
     → ChangesOne (ends_of old) (ends_of new) writer (λ before after. FramesCame (got before) (got after) frames × EndAfterTaking ended loads pair plan frames all before after × StopsTaking got ended loads (roamer_batch old) frames MAX_BODY before after) → KeepsLog old new → AppendsToLog got ended old new p p
@@ -141,9 +135,20 @@ threw {S} got ended loads pair plan old new writer frames all p now faulted one 
       let more : (calls : List Call) → BeginWithFramesOf (plan_of_roamer old) (got one.before) calls → BeginWithFramesOf (plan_of_roamer old) (got one.after) calls =
       λ calls is. record { front = (is.front.0 ++ came.0, came.1 ∙ ap (λ (l : List (List ℕ)). l ++ came.0) is.front.1 ∙ append_assoc _ is.front.0 came.0); lawful = is.lawful } in
       let cut = stood.cut now faulted in
-      let ending : LogEnding ended (ends_of new) (wrote ++ cut.rest) cut.taken (roamer_messages new, roamer_clock new, roamer_batch new) =
-      subst (LogEnding ended (ends_of new) (wrote ++ cut.rest) cut.taken) (λ i. (sym same.messages i, sym same.clock i, sym same.batch i))
-      (cut.log, still_ended ended (λ w. IsClosed w cut.log.blocks) (ends_of old) (ends_of new) writer one.before one.after one.was one.now (λ own over. let stays = one.step.1.stays_ended over in one.step.1.none stays.0 ∙ stays.1) cut.closed) in
+      let planned = plan_of_roamer old in
+      let says = λ (p : Plan) (w : ℕ) (end : S). (ended end ≡ true) × AreFramesOf p (got end) (get_or cut.taken w []) in
+      let still : ended one.before ≡ true → (ended one.after ≡ true) × (got one.after ≡ got one.before) = λ over.
+      let stays = one.step.1.stays_ended over in
+      let none : came.0 ≡ [] = nil_from_length came.0 (came.2 ∙ stays.0) in
+      (still_ended ended loads pair plan frames all one.before one.after one.step.1 over, came.1 ∙ ap (λ (l : List (List ℕ)). got one.before ++ l) none ∙ append-nil (got one.before)) in
+      let closed = still_said (λ w end. IsClosed w cut.log.blocks → says planned w end) (ends_of old) (ends_of new) writer one.before one.after one.was one.now
+      (λ was own.
+      let (over, are) = was own in
+      let (over_now, same_got) = still over in
+      (over_now, subst (λ (frames : List (List ℕ)). AreFramesOf planned frames (get_or cut.taken writer [])) (sym same_got) are))
+      cut.closed in
+      let (log, marks) = same_marked_log (λ w. (end : S) → slice_get (ends_of new) w ≡ Some end → says (plan_of_roamer new) w end) (wrote ++ cut.rest) cut.taken (roamer_messages old) (roamer_messages new) (roamer_clock old) (roamer_clock new) (roamer_batch old) (roamer_batch new) (sym same.messages) (sym same.clock) (sym same.batch)
+      (cut.log, λ w own end there. subst (λ (p : Plan). says p w end) (same_plan old new same) (closed w end there own)) in
       subst (RoamerStandsFor got ended new) (sym (append-nil wrote))
       (stands_cut got ended new wrote (keeps.begun ∙ now) (keeps.faulted ∙ faulted) (record {
         taken = cut.taken;
@@ -151,7 +156,7 @@ threw {S} got ended loads pair plan old new writer frames all p now faulted one 
             move_ends (λ p es. FramesWereTaken p got es cut.taken) old new writer one.after one.now same
             (zip_step (λ end calls. BeginWithFramesOf (plan_of_roamer old) (got end) calls) (ends_of old) cut.taken writer one.before one.after cut.frames one.was more);
         rest = cut.rest;
-        log = ending.0;
-        closed = ending.1;
+        log = log;
+        closed = λ w end there own. marks w own end there;
       }));
 }

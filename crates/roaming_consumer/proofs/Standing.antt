@@ -24,7 +24,7 @@ use Rattle.roaming_consumer.specs.declared.roamer.Roamer.{Roamer}
 use Rattle.roaming_consumer.specs.Growth.{LogProgress, IsLogSoFar, with_calls, FragmentsFor, IsNext, progress_behind, progress_closing}
 use Rattle.roaming_consumer.specs.Drafts.{IsDraft}
 use Rattle.roaming_consumer.specs.Gathering.{DraftsFrames}
-use Rattle.roaming_consumer.specs.Roamers.{ends_of, roamer_messages, roamer_clock, roamer_batch, roamer_progress, is_begun, is_faulted, plan_of_roamer, ArePlanned, IsSameRun, ChangesOne, FramesAreTaken, BeginWithFramesOf, FramesWereTaken, IsLogOfEnds, IsCutLogOfEnds, RoamerStandsFor, roamer_header, AppendsToLog}
+use Rattle.roaming_consumer.specs.Roamers.{ends_of, roamer_messages, roamer_clock, roamer_batch, roamer_progress, is_begun, is_faulted, plan_of_roamer, ArePlanned, IsSameRun, EndAfterTaking, ChangesOne, FramesAreTaken, BeginWithFramesOf, FramesWereTaken, IsLogOfEnds, IsCutLogOfEnds, RoamerStandsFor, roamer_header, AppendsToLog}
 use Rattle.roaming_consumer.proofs.Used.{ids_known}
 use Rattle.roaming_consumer.proofs.lemmas.OnePlace.{get_set_other, get_set_same, zip_at, zip_set, zip_step, zip_weaker}
 use Rattle.roaming_consumer.proofs.Growth.{grown, closing, beginning}
@@ -162,19 +162,27 @@ same_plan old new same_run = λ i. plan_of (sym same_run.messages i) (sym same_r
 pub move_ends : {S : Type 0} (P : Plan → List S → Type 0) (old new : Roamer S) (writer : ℕ) (after : S) → ends_of new ≡ slice_set (ends_of old) writer after → IsSameRun old new → P (plan_of_roamer old) (slice_set (ends_of old) writer after) → P (plan_of_roamer new) (ends_of new)
 move_ends {S} P old new writer after ends same_run holds = subst (λ (x : Plan × List S). P x.0 x.1) (λ i. (same_plan old new same_run i, sym ends i)) holds
 
--- The ends of closed writers have ended, and one end took a step.
-pub still_ended : {S : Type 0} (ended : S → Bool) (IsOver : ℕ → Type 0) (ends ends_after : List S) (writer : ℕ) (before after : S) → slice_get ends writer ≡ Some before → ends_after ≡ slice_set ends writer after → (IsOver writer → ended before ≡ true → ended after ≡ true)
-    → ((w : ℕ) (end : S) → slice_get ends w ≡ Some end → IsOver w → ended end ≡ true)
-    → (w : ℕ) (end : S) → slice_get ends_after w ≡ Some end → IsOver w → ended end ≡ true
-still_ended {S} ended IsOver ends ends_after writer before after was now stays closed w end there over =
+-- What is said of each end by its writer's number stays said, where one end took a step.
+pub still_said : {S : Type 0} (Says : ℕ → S → Type 0) (ends ends_after : List S) (writer : ℕ) (before after : S) → slice_get ends writer ≡ Some before → ends_after ≡ slice_set ends writer after → (Says writer before → Says writer after)
+    → ((w : ℕ) (end : S) → slice_get ends w ≡ Some end → Says w end)
+    → (w : ℕ) (end : S) → slice_get ends_after w ≡ Some end → Says w end
+still_said {S} Says ends ends_after writer before after was now step said w end there =
     let found : slice_get (slice_set ends writer after) w ≡ Some end = ap (λ (es : List S). slice_get es w) (sym now) ∙ there in
     elim (eqb_tells w writer) [
       | inl here ↦
-          let own : IsOver writer = subst IsOver here.1 over in
           let is : after ≡ end = get_set_same ends writer after end (ap (slice_get (slice_set ends writer after)) (sym here.1) ∙ found) in
-          ap ended (sym is) ∙ stays own (closed writer before was own)
-      | inr differs ↦ closed w end (sym (get_set_other ends writer w after differs.1) ∙ found) over
+          subst (λ (n : ℕ). Says n end) (sym here.1) (subst (Says writer) is (step (said writer before was)))
+      | inr differs ↦ said w end (sym (get_set_other ends writer w after differs.1) ∙ found)
     ]
+
+-- an end that had ended has ended after frames were taken from it
+pub still_ended : {S : Type 0} (ended : S → Bool) (loads : S → ℕ) (pair : S → List ℕ) (plan : S → Plan) (frames : ℕ) (all : Bool) (before after : S) → EndAfterTaking ended loads pair plan frames all before after → ended before ≡ true → ended after ≡ true
+still_ended ended loads pair plan frames all before after took over =
+    let stays = took.stays_ended over in took.none stays.0 ∙ stays.1
+
+-- of an end by its writer's number: a writer that this list has as closed has ended
+abbrev pub EndedIfClosed : {S : Type 0} → (S → Bool) → List Bool → ℕ → S → Type 0
+EndedIfClosed ended closed writer end = get_or closed writer false ≡ true → ended end ≡ true
 
 -- what is kept of the log behind the extent of a draft
 abbrev pub behind_draft : {S : Type 0} → Roamer S → Draft → LogProgress
@@ -215,7 +223,7 @@ extent_stands {S} got ended old new writer before after draft body fragments ext
       frames = move_ends (λ p es. FramesAreTaken p got es (with_calls log.taken writer entries)) old new writer after moved.ends moved.same_run (zip_set (λ end calls. AreFramesOf plan (got end) calls) (ends_of old) log.taken writer after (calls ++ entries) log.frames now);
       log =
           same_log (wrote ++ fragments ++ extent) (wrote ++ (fragments ++ extent)) (with_calls log.taken writer entries) (roamer_messages old) (roamer_messages new) (roamer_clock old) (roamer_clock new) (roamer_batch old) (roamer_batch new) (progress_behind (roamer_progress old) entries) (behind_draft old draft) (append_assoc wrote fragments extent) (sym moved.same_run.messages) (sym moved.same_run.clock) (sym moved.same_run.batch) progress_is more;
-      closed = still_ended ended (λ w. get_or (roamer_progress old).closed w false ≡ true) (ends_of old) (ends_of new) writer before after moved.was moved.ends (λ own. absurd (both_ways (get_or (roamer_progress old).closed writer false) open_writer own)) log.closed;
+      closed = still_said (EndedIfClosed ended (roamer_progress old).closed) (ends_of old) (ends_of new) writer before after moved.was moved.ends (λ over own. absurd (both_ways (get_or (roamer_progress old).closed writer false) open_writer own)) log.closed;
     }
 
 -- ---- no record
@@ -232,7 +240,7 @@ idle_stands {S} got ended old new writer before after draft body moved none stay
       frames = move_ends (λ p es. FramesAreTaken p got es log.taken) old new writer after moved.ends moved.same_run (taken_still plan got (ends_of old) log.taken writer before after log.frames moved.was same);
       log =
           same_log wrote (wrote ++ []) log.taken (roamer_messages old) (roamer_messages new) (roamer_clock old) (roamer_clock new) (roamer_batch old) (roamer_batch new) (roamer_progress old) (roamer_progress old) (sym (append-nil wrote)) (sym moved.same_run.messages) (sym moved.same_run.clock) (sym moved.same_run.batch) refl log.log;
-      closed = still_ended ended (λ w. get_or (roamer_progress old).closed w false ≡ true) (ends_of old) (ends_of new) writer before after moved.was moved.ends stays log.closed;
+      closed = still_said (EndedIfClosed ended (roamer_progress old).closed) (ends_of old) (ends_of new) writer before after moved.was moved.ends (λ over own. stays own (over own)) log.closed;
     }
 
 -- the close mark was written
@@ -272,9 +280,12 @@ cut_of got ended roamer progress wrote rest log = record {
   rest = rest;
   log = log.log.log;
   closed = λ writer end there closed.
+      let plan = plan_of_roamer roamer in
       let inside = slice_get_within (ends_of roamer) writer end there in
-      let size = taken_length (plan_of_roamer roamer) got (ends_of roamer) log.taken log.frames in
-      log.closed writer end there (log.log.closed writer (omega (arith, inside, size)) ∙ closed);
+      let size = taken_length plan got (ends_of roamer) log.taken log.frames in (
+        log.closed writer end there (log.log.closed writer (omega (arith, inside, size)) ∙ closed),
+        zip_at (λ end calls. AreFramesOf plan (got end) calls) (ends_of roamer) log.taken writer end [] log.frames there,
+      );
 }
 
 pub stands_begun : {S : Type 0} (got : S → List (List ℕ)) (ended : S → Bool) (roamer : Roamer S) (progress : LogProgress) (wrote : List ℕ) → is_begun roamer ≡ true → roamer_progress roamer ≡ progress → IsLogOfEnds got ended roamer progress wrote → RoamerStandsFor got ended roamer wrote

@@ -1,6 +1,7 @@
 -- Where visits stop: of which a write failed, and which take no more frames.
-use Rattle.std.proofs.Common.{◌≡◌, ℕ, ◌<◌, ◌≤◌, Bool, true, List, ◌++◌, length, refl, ap, subst, ◌∙◌, inl, inr, arith}
-use Rattle.std.specs.Prelude.{◌⊎◌, max, Result, is_err}
+use Rattle.std.proofs.Common.{◌≡◌, ℕ, ◌<◌, ◌≤◌, Bool, true, List, ◌++◌, length, refl, sym, ap, subst, ◌∙◌, inl, inr, arith}
+use Rattle.std.specs.Prelude.{◌⊎◌, Some, max, slice_get, Result, is_err}
+use Rattle.std.proofs.lemmas.Option.{same_Some}
 use Rattle.nl_io.specs.Count.{Rose}
 use Rattle.nl_io.specs.Content.{Told}
 use Rattle.checkpoint_io.specs.Logs.{ids_used}
@@ -9,7 +10,7 @@ use Rattle.roaming_consumer.specs.declared.draft.Draft.{Draft}
 use Rattle.roaming_consumer.specs.declared.roamer.Roamer.{Roamer}
 use Rattle.roaming_consumer.specs.Gathering.{StopsTaking}
 use Rattle.roaming_consumer.specs.Gathering.StopsTaking.{batch_is_full, body_is_full, nothing_is_there, all_has_ended}
-use Rattle.roaming_consumer.specs.Roamers.{ends_of, roamer_messages, roamer_clock, roamer_batch, roamer_progress, KeepsLog, ChangesOne}
+use Rattle.roaming_consumer.specs.Roamers.{ends_of, roamer_messages, roamer_clock, roamer_batch, roamer_progress, KeepsLog, EndAfterTaking, ChangesOne}
 use Rattle.roaming_consumer.specs.Visits.{VisitStops}
 use Rattle.roaming_consumer.proofs.lemmas.Sending.{err_of}
 use Rattle.roaming_consumer.proofs.Standing.{spells_extent}
@@ -52,6 +53,14 @@ stopped_in_extent got ended loads pair plan old mid ends_now writer draft all bo
         puts = err_of r failed sent.sent.err;
       });
     }
+
+-- ---- writers that had ended
+
+-- no frame came, and the end answered again that all had ended
+pub none_of_ended : {S : Type 0} (ended : S → Bool) (loads : S → ℕ) (pair : S → List ℕ) (plan : S → Plan) (ends : List S) (writer frames : ℕ) (all : Bool) (before after : S) → slice_get ends writer ≡ Some before → EndAfterTaking ended loads pair plan frames all before after
+    → (end : S) → slice_get ends writer ≡ Some end → ended end ≡ true → (frames ≡ 0) × (all ≡ true)
+none_of_ended ended loads pair plan ends writer frames all before after was took end there over =
+    took.stays_ended (ap ended (same_Some before end (sym was ∙ there)) ∙ over)
 
 -- ---- no more frames
 

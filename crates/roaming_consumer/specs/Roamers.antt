@@ -101,8 +101,8 @@ pub record IsLogOfEnds {S : Type 0} (got : S → List (List ℕ)) (ended : S →
   pub log : IsLogSoFar wrote taken (roamer_messages roamer) (roamer_clock roamer) (roamer_batch roamer) progress
   pub closed : HaveEnded ended (ends_of roamer) progress.closed
 
--- The bytes are the front of a log. It is that of the first calls whose frames were taken from the ends, and has close
--- marks of writers that have ended alone.
+-- The bytes are the front of a log. It is that of the first calls whose frames were taken from the ends. A writer whose
+-- close mark is in it has ended, and all calls whose frames were taken of it are there.
 pub record IsCutLogOfEnds {S : Type 0} (got : S → List (List ℕ)) (ended : S → Bool) (roamer : Roamer S)
     (wrote : List ℕ) : Type 0 where
   pub taken : List (List Call)
@@ -110,7 +110,7 @@ pub record IsCutLogOfEnds {S : Type 0} (got : S → List (List ℕ)) (ended : S 
   pub rest : List ℕ
   pub log : LogOf (wrote ++ rest) taken (roamer_messages roamer) (roamer_clock roamer) (roamer_batch roamer)
   pub closed : (writer : ℕ) (end : S) → slice_get (ends_of roamer) writer ≡ Some end → IsClosed writer log.blocks
-      → ended end ≡ true
+      → (ended end ≡ true) × AreFramesOf (plan_of_roamer roamer) (got end) (get_or taken writer [])
 
 -- The bytes are the log of the calls whose frames were taken from the ends, and the close mark of each writer is in it.
 pub record IsClosedLogOfEnds {S : Type 0} (got : S → List (List ℕ)) (roamer : Roamer S) (wrote : List ℕ) : Type 0 where

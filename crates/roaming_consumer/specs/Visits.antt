@@ -24,12 +24,13 @@ VisitTells got ended loads Idle before after = FindsNothing got ended loads befo
 VisitTells got ended loads Ended before after = (got after ≡ got before) × (ended after ≡ true)
 VisitTells got ended loads (Discarded n) before after = (1 ≤ n) × FramesCame (got before) (got after) n
 
--- what every visit leaves of an end: which ring it is, what the ends of the ring agree on, and that it has ended
+-- what every visit leaves of an end: which ring it is, what the ends of the ring agree on, and that it has ended, if so
 pub record KeepsRing {S : Type 0} (ended : S → Bool) (loads : S → ℕ) (pair : S → List ℕ) (plan : S → Plan)
     (before after : S) : Type 0 where
   pub loads_never_fall : loads before ≤ loads after
   pub same_pair : pair after ≡ pair before
   pub same_plan : plan after ≡ plan before
+  pub stays_ended : ended before ≡ true → ended after ≡ true
 
 -- the answer is that of a visit before any write had failed
 abbrev pub IsWritten : Visit → Type 0

@@ -1,9 +1,9 @@
 //! Visits.
 
-ghost use Rattle.std.specs.Prelude.{◌≡◌, ◌<◌, ◌≤◌, ◌+◌, true, false, length, Ok, IfOk, OnOk, OnErr};
+ghost use Rattle.std.specs.Prelude.{◌≡◌, ◌⊎◌, ◌<◌, ◌≤◌, ◌+◌, true, false, length, slice_get, Some, Ok, IfOk, IsErr, OnOk, OnErr};
 ghost use Rattle.nl_io.specs.Count.{Rose};
 ghost use Rattle.nl_io.specs.Content.{Told};
-ghost use Rattle.roaming_consumer.specs.Roamers.{ends_of, roamer_batch, is_begun, is_faulted, ArePlanned, IsSameRun, ChangesOne, KeepsLog, AppendsToLog};
+ghost use Rattle.roaming_consumer.specs.Roamers.{ends_of, roamer_batch, is_begun, is_faulted, is_marked, ArePlanned, IsSameRun, ChangesOne, KeepsLog, AppendsToLog};
 ghost use Rattle.roaming_consumer.specs.Visits.{VisitTells, KeepsRing, Marks, TakesAtMost, VisitWrites, VisitStops, IsWritten, IsThrown};
 
 use crate::gathering::{Gathered, Thrown};
@@ -22,6 +22,8 @@ impl<'d, S: StageOut> Roamer<'d, S> {
         ensures visits { ChangesOne (ends_of self.old) (ends_of self.new) writer (λ before after.
             IfOk result (λ visit. VisitTells S.got S.ended S.loads visit before after)
             × KeepsRing S.ended S.loads S.pair S.plan before after) }
+        ensures again { (end : S) → slice_get (ends_of self.old) writer ≡ Some end → S.ended end ≡ true
+            → (result ≡ Ok Visit.Ended) ⊎ (IsErr result × (is_marked self.old writer ≡ false)) }
         ensures written { IfOk result IsWritten }
         ensures few { IfOk result (TakesAtMost (roamer_batch self.old)) }
         ensures marks { Marks result writer self.old self.new }
@@ -67,6 +69,8 @@ impl<'d, S: StageOut> Roamer<'d, S> {
         ensures visits { ChangesOne (ends_of self.old) (ends_of self.new) writer (λ before after.
             VisitTells S.got S.ended S.loads result before after
             × KeepsRing S.ended S.loads S.pair S.plan before after) }
+        ensures again { (end : S) → slice_get (ends_of self.old) writer ≡ Some end → S.ended end ≡ true
+            → result ≡ Visit.Ended }
         ensures thrown { IsThrown result }
         ensures wrote { (put : Told) → AppendsToLog S.got S.ended self.old self.new put put }
         ensures writes { (put : Told) → ChangesOne (ends_of self.old) (ends_of self.new) writer
@@ -100,6 +104,9 @@ impl<'d, S: StageOut> Roamer<'d, S> {
         ensures visits { ChangesOne (ends_of self.old) (ends_of self.new) writer (λ before after.
             IfOk result (λ visit. VisitTells S.got S.ended S.loads visit before after)
             × KeepsRing S.ended S.loads S.pair S.plan before after) }
+        // A writer that had ended is told as ended each time, unless its close mark wasn't written and can't be.
+        ensures again { (end : S) → slice_get (ends_of self.old) writer ≡ Some end → S.ended end ≡ true
+            → (result ≡ Ok Visit.Ended) ⊎ (IsErr result × (is_marked self.old writer ≡ false)) }
         ensures written { is_faulted self.old ≡ false → IfOk result IsWritten }
         ensures thrown { is_faulted self.old ≡ true → IfOk result IsThrown }
         ensures few { IfOk result (TakesAtMost (roamer_batch self.old)) }

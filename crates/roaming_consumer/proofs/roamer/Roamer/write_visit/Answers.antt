@@ -1,11 +1,13 @@
 use Rattle.std.proofs.Common.{Bool, true, false, List, length, get_or, refl, sym, ap, ◌∙◌, arith}
 use Rattle.std.specs.Prelude.{slice_set}
+use Rattle.std.proofs.lemmas.Bool.{both_ways}
+use Rattle.roaming_consumer.specs.Roamers.{ends_of}
 use Rattle.roaming_consumer.proofs.lemmas.Sending.{ok_of, err_of, sent_whole}
 use Rattle.roaming_consumer.proofs.Standing.{draft_some, draft_ids}
 use Rattle.roaming_consumer.proofs.Additions.{writes_extent, extent_appended, extent_cut, nothing_appended, mark_appended, mark_cut}
 use Rattle.roaming_consumer.specs.Growth.{LogProgress}
 use Rattle.roaming_consumer.proofs.lemmas.Marking.{marks_stay, mark_written}
-use Rattle.roaming_consumer.proofs.Stopping.{stopped_in_extent}
+use Rattle.roaming_consumer.proofs.Stopping.{stopped_in_extent, none_of_ended}
 use Rattle.roaming_consumer.proofs.roamer.Roamer.write_visit.Goals as goal
 use Rattle.roaming_consumer.proofs.roamer.Roamer.write_visit.Goals.{else-not-self-writer-via-then-not-self-writer+else-is_err-2, else-not-self-writer-via-else-not-self-writer}
 
@@ -85,3 +87,21 @@ returns-then-draft-gt0-clause-writes g c =
     let mid = c.collect-ended.new.self in
     rw c.from.ensures (
     writes_extent g.S.StageOut.got g.S.StageOut.ended g.S.StageOut.loads g.S.StageOut.pair g.S.StageOut.plan c.args.self.now mid c.write_draft.new.self c.args.writer c.collect-ended.result.draft c.collect-ended.result.ended mid.body.items c.collect-ended.ensures.gathers c.collect-ended.ensures.others w.same_ends c.args.self.now.few_ends (omega (arith, mid.body_room, mid.body.ok.0)) (omega arith) c.write_draft.result _ _ _ _ w.sent c.if-is_err.ensures.value)
+
+pub returns-then-draft-gt0-clause-again : goal.returns-then-draft-gt0-clause-again
+returns-then-draft-gt0-clause-again g c = λ end there over.
+    let one = c.collect-ended.ensures.gathers in
+    let none = none_of_ended g.S.StageOut.ended g.S.StageOut.loads g.S.StageOut.pair g.S.StageOut.plan (ends_of c.args.self.now) c.args.writer c.collect-ended.result.draft.records c.collect-ended.result.ended one.before one.after one.was one.step.1 end there over in
+    absurd (omega (arith, none.0))
+
+pub returns-then-not-ended-clause-again : goal.returns-then-not-ended-clause-again
+returns-then-not-ended-clause-again g c = λ end there over.
+    let one = c.collect-ended.ensures.gathers in
+    let none = none_of_ended g.S.StageOut.ended g.S.StageOut.loads g.S.StageOut.pair g.S.StageOut.plan (ends_of c.args.self.now) c.args.writer c.collect-ended.result.draft.records c.collect-ended.result.ended one.before one.after one.was one.step.1 end there over in
+    absurd (both_ways c.collect-ended.result.ended c.if-not-ended.true none.1)
+
+pub returns-then-is_err-clause-again : goal.returns-then-is_err-clause-again
+returns-then-is_err-clause-again g c = λ end there over.
+    let one = c.collect-ended.ensures.gathers in
+    let none = none_of_ended g.S.StageOut.ended g.S.StageOut.loads g.S.StageOut.pair g.S.StageOut.plan (ends_of c.args.self.now) c.args.writer c.collect-ended.result.draft.records c.collect-ended.result.ended one.before one.after one.was one.step.1 end there over in
+    absurd (omega (arith, none.0))
