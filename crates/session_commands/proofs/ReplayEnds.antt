@@ -73,6 +73,7 @@ whole_front sent got run options outcome bytes session =
       first = first_of_all taken;
       rest = [];
       log = subst (λ (b : List ℕ). LogOf b taken run.dictionary run.clock options.batch) (sym (append-nil bytes)) session.log.lawful;
+      closed = λ writer marked. refl;
     }
 
 -- what a session has written, whatever it answers

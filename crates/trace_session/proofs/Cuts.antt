@@ -1,21 +1,24 @@
 -- From what a session's parts say where a write failed to what was written.
-use Rattle.std.proofs.Common.{◌≡◌, ℕ, Bool, true, false, List, [], ◌∷◌, ◌++◌, length, take, drop, refl, sym, ap, ◌∙◌, subst, arith}
-use Rattle.std.specs.Prelude.{All}
+use Rattle.std.proofs.Common.{◌≡◌, ℕ, Bool, true, false, List, [], ◌∷◌, ◌++◌, length, take, drop, refl, sym, ap, ◌∙◌, subst, inl, inr, arith}
+use Rattle.std.specs.Prelude.{All, Some, get_or, slice_get}
 use Rattle.std.specs.List.{enumerate_from}
-use Rattle.std.proofs.lemmas.List.{length-map, take-map, take-append-drop}
+use Rattle.std.proofs.lemmas.Bool.{both_ways}
+use Rattle.std.proofs.lemmas.List.{get_or_past, length-map, take-map, take-append-drop}
 use Rattle.std.proofs.lemmas.List.Elements.{All-head, All-tail, All-take}
 use Rattle.std.proofs.lemmas.List.FromFn.{length-enumerate_from}
+use Rattle.std.proofs.lemmas.Option.{get_or_from_slice_get, slice_get_cases, slice_get_within}
+use Rattle.std.proofs.lemmas.Slice.Zip.{AllZip-long}
 use Rattle.std.proofs.Math.Seq.{take-append_seam}
-use Rattle.log_dictionary.specs.declared.clock.Clock.{Clock}
-use Rattle.log_dictionary.specs.declared.message.Message.{Message}
 use Rattle.arg_records.specs.declared.call.Call.{Call}
-use Rattle.checkpoint_io.specs.Logs.{LogOf}
+use Rattle.checkpoint_io.specs.Validity.{IsClosed}
 use Rattle.session_options.specs.declared.options.Options.{Options}
 use Rattle.ring_core.specs.Plans.{Plan, plan_of, IsPlanned, frame_of, frames_of, AreFramesOf}
 use Rattle.ring_core.proofs.lemmas.Frames.{NeverFalls-take}
 use Rattle.ring_core.proofs.lemmas.OneReading.{AreFramesOf-unique}
 use Rattle.roaming_consumer.specs.declared.roamer.Roamer.{Roamer}
 use Rattle.roaming_consumer.specs.Roamers.{ends_of, roamer_messages, roamer_clock, roamer_batch, is_begun, is_faulted, plan_of_roamer, BeginWithFramesOf, FramesWereTaken, IsSameRun, RoamerStandsFor}
+use Rattle.roaming_consumer.proofs.lemmas.Marking.{same_marked_log}
+use Rattle.roaming_consumer.proofs.lemmas.OnePlace.{zip_at}
 use Rattle.trace_text.specs.Recordings.{Recording}
 use Rattle.log_session.specs.Settling.{IsRejoined, AllZip3}
 use Rattle.log_session.specs.Writers.{WriterView}
@@ -45,10 +48,13 @@ first_calls plan frames whole calls are begin =
     let same = AreFramesOf-unique plan (frames_of calls) (take n whole) calls taken begin.lawful in
     (drop n whole, sym (take-append-drop n whole) ∙ ap (λ (l : List Call). l ++ drop n whole) same)
 
--- the log of other messages, of another clock and batch, which are the same
-same_log : (bytes : List ℕ) (taken : List (List Call)) (messages names : List Message) (clock watch : Clock) (batch size : ℕ) → messages ≡ names → clock ≡ watch → batch ≡ size → LogOf bytes taken messages clock batch → LogOf bytes taken names watch size
-same_log bytes taken messages names clock watch batch size same_messages same_clock same_batch =
-    subst (λ (x : List Message × Clock × ℕ). LogOf bytes taken x.0 x.1 x.2) (λ i. (same_messages i, same_clock i, same_batch i))
+-- A writer's calls are the same in two lists, with as many items as there are ends, if they are so where it has an end.
+same_calls : {O : Type 0} (ends : List O) (ours all : List (List Call)) (writer : ℕ) → length ours ≡ length ends → length all ≡ length ends → ((end : O) → slice_get ends writer ≡ Some end → get_or ours writer [] ≡ get_or all writer []) → get_or ours writer [] ≡ get_or all writer []
+same_calls ends ours all writer our_count count same =
+    elim (slice_get_cases ends writer).1 [
+      | inl (end, within, there, at) ↦ same end there
+      | inr (past, none) ↦ get_or_past ours writer [] (omega (arith, past, our_count)) ∙ sym (get_or_past all writer [] (omega (arith, past, count)))
+    ]
 
 module _ {S O D : Type 0} (sent : S → List (List ℕ)) (closed : S → Bool) (got : O → List (List ℕ)) (ended : O → Bool) (sent_left got_left : D → List (List ℕ)) (closed_left ended_left : D → Bool)
     (run : Recording) (options : Options) (new : Roamer O) (drops : List Dropped) (writers : List (WriterView S)) (left : List D)
@@ -63,19 +69,29 @@ module _ {S O D : Type 0} (sent : S → List (List ℕ)) (closed : S → Bool) (
       let plan_is : plan_of_roamer new ≡ plan_of run.dictionary run.clock.tick = λ i. plan_of (messages i) (clock i).tick in
       let cut = stands.cut begun faulted in
       let frames = subst (λ (p : Plan). FramesWereTaken p got (ends_of new) cut.taken) plan_is cut.frames in
+      let ends = ends_of new in
       let taken = Taken run options.level drops in
       let p = plan_of run.dictionary run.clock.tick in
-      let got_taken = got_all p sent closed got ended sent_left got_left closed_left ended_left writers (ends_of new) left taken joined (all_sent sent closed run options drops writers done all) (all_ended ended new over) in
+      let begins = λ (end : O) (calls : List Call). BeginWithFramesOf p (got end) calls in
+      let are = λ (end : O) (calls : List Call). AreFramesOf p (got end) calls in
+      let got_taken = got_all p sent closed got ended sent_left got_left closed_left ended_left writers ends left taken joined (all_sent sent closed run options drops writers done all) (all_ended ended new over) in
+      let all_there : (writer : ℕ) → IsClosed writer cut.log.blocks → get_or cut.taken writer [] ≡ get_or taken writer [] = λ writer marked.
+      same_calls ends cut.taken taken writer (AllZip-long begins ends cut.taken frames) (AllZip-long are ends taken got_taken)
+      (λ end there.
+      let ours = subst (λ (x : Plan). AreFramesOf x (got end) (get_or cut.taken writer [])) plan_is (cut.closed writer end there marked).1 in
+      AreFramesOf-unique p (got end) (get_or cut.taken writer []) (get_or taken writer []) ours (zip_at are ends taken writer end [] got_taken there)) in
+      let (log, marks) = same_marked_log (λ writer. get_or cut.taken writer [] ≡ get_or taken writer []) (bytes ++ cut.rest) cut.taken (roamer_messages new) run.dictionary (roamer_clock new) run.clock (roamer_batch new) options.batch messages clock batch (cut.log, all_there) in
       record {
         drops = drops;
         dropped = done.lawful;
         waits = done.waits;
         taken = cut.taken;
         first =
-            zip_meet (λ end calls. BeginWithFramesOf p (got end) calls) (λ end whole. AreFramesOf p (got end) whole) (λ calls whole. (rest : List Call) × (whole ≡ calls ++ rest)) (ends_of new) cut.taken taken frames got_taken
+            zip_meet begins are (λ calls whole. (rest : List Call) × (whole ≡ calls ++ rest)) ends cut.taken taken frames got_taken
             (λ end calls whole begin are. first_calls p (got end) whole calls are begin);
         rest = cut.rest;
-        log = same_log (bytes ++ cut.rest) cut.taken (roamer_messages new) run.dictionary (roamer_clock new) run.clock (roamer_batch new) options.batch messages clock batch cut.log;
+        log = log;
+        closed = marks;
       }
 
 -- ---- where the header failed
@@ -94,8 +110,8 @@ none_first plan got (end ∷ ends) ((call ∷ calls) ∷ taken) (whole ∷ all) 
     absurd (cc nothing)
 
 pub cut_header : {S O : Type 0} (sent : S → List (List ℕ)) (closed : S → Bool) (got : O → List (List ℕ)) (ended : O → Bool) (pair : O → List ℕ) (plan : O → Plan) (run : Recording) (options : Options) (works : List Work) (old new : Roamer O) (wrote bytes : List ℕ)
-    → AreReady pair plan run options works old → RoamerStandsFor got ended old wrote → is_begun old ≡ false → ends_of new ≡ ends_of old → IsSameRun old new → is_begun new ≡ true → is_faulted new ≡ true → RoamerStandsFor got ended new bytes → IsCutSession run options bytes
-cut_header {S} {O} sent closed got ended pair plan run options works old new wrote bytes ready stood unbegun ends same_run begun faulted stands =
+    → AreReady pair plan run options works old → RoamerStandsFor got ended old wrote → is_begun old ≡ false → All (λ end. ended end ≡ false) (ends_of old) → ends_of new ≡ ends_of old → IsSameRun old new → is_begun new ≡ true → is_faulted new ≡ true → RoamerStandsFor got ended new bytes → IsCutSession run options bytes
+cut_header {S} {O} sent closed got ended pair plan run options works old new wrote bytes ready stood unbegun fresh ends same_run begun faulted stands =
     let messages : roamer_messages new ≡ run.dictionary = same_run.messages ∙ ready.messages in
     let cut = stands.cut begun faulted in
     let none : All (λ end. got end ≡ []) (ends_of new) = subst (All (λ end. got end ≡ [])) (sym ends) (stood.untaken unbegun) in
@@ -104,6 +120,14 @@ cut_header {S} {O} sent closed got ended pair plan run options works old new wro
     let count : length (ends_of new) ≡ length taken =
     ap length ends ∙ sym (ends_count pair plan run options works old ready) ∙ ready.count
     ∙ sym (length-map (enumerate_from 0 run.writers) (taken_of run options.level []) ∙ length-enumerate_from 0 run.writers) in
+    let frames = AllZip-long (λ end calls. BeginWithFramesOf (plan_of_roamer new) (got end) calls) (ends_of new) cut.taken cut.frames in
+    let none_closed : (writer : ℕ) → IsClosed writer cut.log.blocks → get_or cut.taken writer [] ≡ get_or taken writer [] = λ writer marked.
+    same_calls (ends_of new) cut.taken taken writer frames (sym count)
+    (λ end there.
+    let before : slice_get (ends_of old) writer ≡ Some end = ap (λ (es : List O). slice_get es writer) (sym ends) ∙ there in
+    let not_ended : ended end ≡ false = ap ended (sym (get_or_from_slice_get (ends_of old) writer end end before)) ∙ fresh writer end (slice_get_within (ends_of old) writer end before) in
+    absurd (both_ways (ended end) not_ended (cut.closed writer end there marked).0)) in
+    let (log, marks) = same_marked_log (λ writer. get_or cut.taken writer [] ≡ get_or taken writer []) (bytes ++ cut.rest) cut.taken (roamer_messages new) run.dictionary (roamer_clock new) run.clock (roamer_batch new) options.batch messages (same_run.clock ∙ ready.clock) (same_run.batch ∙ ready.batch) (cut.log, none_closed) in
     record {
       drops = [];
       dropped = done.lawful;
@@ -111,6 +135,6 @@ cut_header {S} {O} sent closed got ended pair plan run options works old new wro
       taken = cut.taken;
       first = none_first (plan_of_roamer new) got (ends_of new) cut.taken taken none cut.frames count;
       rest = cut.rest;
-      log =
-          same_log (bytes ++ cut.rest) cut.taken (roamer_messages new) run.dictionary (roamer_clock new) run.clock (roamer_batch new) options.batch messages (same_run.clock ∙ ready.clock) (same_run.batch ∙ ready.batch) cut.log;
+      log = log;
+      closed = marks;
     }

@@ -1,5 +1,5 @@
 -- What a session came to.
-use Rattle.std.specs.Prelude.{◌≡◌, ℕ, ◌+◌, ◌<◌, List, [], ◌++◌, length, map}
+use Rattle.std.specs.Prelude.{◌≡◌, ℕ, ◌+◌, ◌<◌, List, [], ◌++◌, length, map, get_or}
 use Rattle.std.specs.List.{AllZip}
 use Rattle.session_options.specs.declared.options.Options.{Options}
 use Rattle.session_options.specs.declared.options.Policy.TheVariants as policies
@@ -44,7 +44,8 @@ abbrev pub AreFirstCalls : List (List Call) → List (List Call) → Type 0
 AreFirstCalls taken all = AllZip (λ calls whole. (rest : List Call) × (whole ≡ calls ++ rest)) taken all
 
 -- The bytes are the front of a log that a session of the run might give. It is that of the first calls of each writer
--- that the level keeps and that aren't dropped. The drops are lawful, and where writers wait there are none.
+-- that the level keeps and that aren't dropped, and of all of them where the writer's close mark is in it. The drops are
+-- lawful, and where writers wait there are none.
 pub record IsCutSession (run : Recording) (options : Options) (bytes : List ℕ) : Type 0 where
   pub drops : List Dropped
   pub dropped : LawfulDrops run options.level options.ring drops
@@ -53,3 +54,5 @@ pub record IsCutSession (run : Recording) (options : Options) (bytes : List ℕ)
   pub first : AreFirstCalls taken (Taken run options.level drops)
   pub rest : List ℕ
   pub log : LogOf (bytes ++ rest) taken run.dictionary run.clock options.batch
+  pub closed : (writer : ℕ) → IsClosed writer log.blocks
+      → get_or taken writer [] ≡ get_or (Taken run options.level drops) writer []

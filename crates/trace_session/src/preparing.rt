@@ -4,7 +4,7 @@ ghost use Rattle.std.specs.Prelude.{◌≡◌, ◌⊎◌, ◌↔◌, ◌<◌, �
 ghost use Rattle.std.specs.Arc.{arc_value};
 ghost use Rattle.session_options.specs.declared.limits.TheConstants.{MAX_TRACE_WRITERS, MIN_RING, MAX_RING, MAX_BATCH};
 ghost use Rattle.ring_core.specs.Plans.{plan_of};
-ghost use Rattle.roaming_consumer.specs.Roamers.{is_begun, RoamerStandsFor};
+ghost use Rattle.roaming_consumer.specs.Roamers.{ends_of, is_begun, RoamerStandsFor};
 ghost use Rattle.trace_session.specs.Workers.{work_of};
 ghost use Rattle.trace_session.specs.Finishing.{work_at, works_of};
 ghost use Rattle.trace_session.specs.Running.{IsNewWriter, AreReady};
@@ -89,6 +89,7 @@ pub(crate) fn prepare<'d, S: Stage, G: Gate>(
     ensures ready { IfOk result (λ both. AreReady S.Out.pair S.Out.plan (arc_value trace.now) options.now
         (map (work_of S.In.pair S.In.words) both.0.items) both.1) }
     ensures stands { IfOk result (λ both. (is_begun both.1 ≡ false) × RoamerStandsFor S.Out.got S.Out.ended both.1 []) }
+    ensures fresh { IfOk result (λ both. All (λ end. S.Out.ended end ≡ false) (ends_of both.1)) }
 {
     let writers = trace.writers.len() as u32;
     let (writers, roamer) = start::<S>(

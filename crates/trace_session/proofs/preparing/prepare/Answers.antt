@@ -1,8 +1,9 @@
-use Rattle.std.proofs.Common.{◌≡◌, ℕ, List, map, length, ap, ◌∙◌, arith}
+use Rattle.std.proofs.Common.{◌≡◌, ℕ, false, List, map, length, ap, ◌∙◌, arith}
 use Rattle.std.specs.Arc.{arc_value}
 use Rattle.std.proofs.lemmas.List.{length-map}
 use Rattle.std.proofs.lemmas.Result.{IfErr-at_err}
 use Rattle.arg_records.proofs.lemmas.Walks.{zip_first}
+use Rattle.roaming_consumer.proofs.lemmas.OnePlace.{zip_second}
 use Rattle.ring_core.specs.Plans.{Plan, plan_of}
 use Rattle.roaming_consumer.specs.Roamers.{ends_of}
 use Rattle.trace_text.specs.Recordings.{Recording}
@@ -48,3 +49,6 @@ returns-in-Ok-clause-ready g c =
       batch = started.run.2;
       unfaulted = started.flags.1;
     }
+
+pub returns-in-Ok-clause-fresh : goal.returns-in-Ok-clause-fresh
+returns-in-Ok-clause-fresh g c = zip_second _ (λ end. g.S.Out.StageOut.ended end ≡ false) (λ writer end ring. ring.not_ended) _ _ c.in_ok-writers.ensures.rings

@@ -57,7 +57,7 @@ returns-in_default-begin-clause-cut g c = λ is.
       begun.wrote.bytes,
       begun.wrote.put_is,
       cut_header g.S.In.StageIn.sent g.S.In.StageIn.closed g.S.Out.StageOut.got g.S.Out.StageOut.ended g.S.Out.StageOut.pair g.S.Out.StageOut.plan _ c.args.options.now _ c.in-Ok.both.1 c.begin.new.self [] begun.wrote.bytes
-          c.in-Ok.ensures.ready stands unbegun begun.same_ends begun.same_run begun.begun c.in_default-begin.ensures.err (begun.wrote.stands [] stands),
+          c.in-Ok.ensures.ready stands unbegun c.in-Ok.ensures.fresh begun.same_ends begun.same_run begun.begun c.in_default-begin.ensures.err (begun.wrote.stands [] stands),
     )
 
 pub returns-in-Err-clause-cut : goal.returns-in-Err-clause-cut
