@@ -15,7 +15,7 @@ use Rattle.log_dictionary.specs.declared.message.Message.{Message}
 use Rattle.log_dictionary.specs.declared.message_set.Key.{Key}
 use Rattle.log_dictionary.specs.BinaryEntries.{entry_bytes, SpellsEntry}
 use Rattle.log_dictionary.specs.Messages.{SameMessage, HasMessage, HasId, AreDistinct, AreFormed}
-use Rattle.log_dictionary.specs.Places.{hash_of, key_of, same_key, place_of, LeadsTo, LeadElsewhere, AreKeys, IsFree}
+use Rattle.log_dictionary.specs.Places.{hash_of, key_of, same_key, place_of, LeadsTo, LeadElsewhere, AreKeys, IsFreeKey}
 use Rattle.log_dictionary.proofs.lemmas.Distinct.{still_distinct}
 
 -- ---- keys
@@ -110,7 +110,7 @@ is_nowhere keys messages message count are elsewhere none there =
     ]
 
 -- and the next is free for it
-pub is_free : (keys : List Key) (messages : List Message) (message : Message) (count : ℕ) → LeadElsewhere keys messages message count → place_of keys (key_of message count) ≡ None → count ≤ length keys → IsFree keys message (key_of message count)
+pub is_free : (keys : List Key) (messages : List Message) (message : Message) (count : ℕ) → LeadElsewhere keys messages message count → place_of keys (key_of message count) ≡ None → count ≤ length keys → IsFreeKey keys message (key_of message count)
 is_free keys messages message count elsewhere none few =
     record { own = refl; absent = none; count = few; first = λ nth lt. subst IsSome (sym (elsewhere nth lt).1) refl }
 
@@ -144,7 +144,7 @@ still_some keys key other some = told (place_of keys other) refl some
     told (Some place) e is = subst IsSome (sym (still_at (same_key other) keys key place e)) refl
 
 -- keys lead to a message that was put last, where a free one was put last too
-pub one_more_key : (keys : List Key) (messages : List Message) (last : Message) (key : Key) → length keys ≡ length messages → AreKeys keys messages → IsFree keys last key → AreKeys (keys ++ key ∷ []) (messages ++ last ∷ [])
+pub one_more_key : (keys : List Key) (messages : List Message) (last : Message) (key : Key) → length keys ≡ length messages → AreKeys keys messages → IsFreeKey keys last key → AreKeys (keys ++ key ∷ []) (messages ++ last ∷ [])
 one_more_key keys messages last key long are free = record { counts = counts; found = found }
   where
     more : length (messages ++ last ∷ []) ≡ length messages + 1
@@ -169,7 +169,7 @@ one_more_key keys messages last key long are free = record { counts = counts; fo
         ]
 
 -- so a new message stands behind the others, as they stood
-pub one_more_entry : (entries : List (Key × Message)) (key : Key) (last : Message) → AreDistinct (messages_in entries) × AreKeys (keys_in entries) (messages_in entries) × AreFormed (messages_in entries) → ¬ (HasMessage (messages_in entries) last) → IsFree (keys_in entries) last key → SpellsEntry (entry_bytes last) last
+pub one_more_entry : (entries : List (Key × Message)) (key : Key) (last : Message) → AreDistinct (messages_in entries) × AreKeys (keys_in entries) (messages_in entries) × AreFormed (messages_in entries) → ¬ (HasMessage (messages_in entries) last) → IsFreeKey (keys_in entries) last key → SpellsEntry (entry_bytes last) last
     → (λ (all : List (Key × Message)). AreDistinct (messages_in all) × AreKeys (keys_in all) (messages_in all) × AreFormed (messages_in all)) (entries ++ (key, last) ∷ [])
 one_more_entry entries key last are new free spelled =
     let messages = messages_in entries in

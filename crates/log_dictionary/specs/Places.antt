@@ -49,7 +49,7 @@ LeadElsewhere keys messages message count =
     → (place : ℕ) × (place_of keys (key_of message nth) ≡ Some place) × ¬ (HasId messages message place)
 
 -- the key is the message's and isn't there, and all the message's keys before it are
-pub record IsFree (keys : List Key) (message : Message) (key : Key) : Type 0 where
+pub record IsFreeKey (keys : List Key) (message : Message) (key : Key) : Type 0 where
   pub own : key ≡ key_of message key.nth
   pub absent : place_of keys key ≡ None
   pub count : key.nth ≤ length keys

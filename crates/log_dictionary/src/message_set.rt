@@ -6,7 +6,7 @@ ghost use Rattle.log_dictionary.specs.declared.dictionary.TheConstants.{MAX_MESS
 ghost use Rattle.log_dictionary.specs.Additions.{IsAdded};
 ghost use Rattle.log_dictionary.specs.BinaryEntries.{SpellsEntry, entry_bytes};
 ghost use Rattle.log_dictionary.specs.Messages.{HasMessage, HasId, AreDistinct, AreFormed};
-ghost use Rattle.log_dictionary.specs.Places.{hash_of, IsPlace, IsFree, AreKeys};
+ghost use Rattle.log_dictionary.specs.Places.{hash_of, IsPlace, IsFreeKey, AreKeys};
 
 use crate::binary_entry::{MAX_ENTRY, entry_len, put_entry};
 use crate::dictionary::{Added, MAX_MESSAGES};
@@ -66,7 +66,7 @@ fn find(messages: &Messages, message: &Message) -> Result<usize, Key>
     requires { AreKeys (keys messages.now) (values messages.now) }
     ensures found { IfOk result (HasId (values messages.now) message.now) }
     ensures none { OnErr result (¬ (HasMessage (values messages.now) message.now)) }
-    ensures free { IfErr result (IsFree (keys messages.now) message.now) }
+    ensures free { IfErr result (IsFreeKey (keys messages.now) message.now) }
     ensures spelled { SpellsEntry (entry_bytes message.now) message.now }
 {
     let hash = hash_of(message);

@@ -25,7 +25,7 @@ use Rattle.word_ring.specs.declared.known.Known.{Known}
 use Rattle.word_ring.specs.declared.places.TheConstants.{PRODUCER, CONSUMER, DATA}
 use Rattle.word_ring.specs.Rule.{plan_in, no_plan, newcomer, writer_of, roamer_of, both_of, spent, LaysOut, IsEnd, SeatKnows, RingTable, IsRingTable}
 use Rattle.word_ring.specs.Plays.{written_by, read_by, writer_barred, roamer_barred, put_step, having_looked, having_put, having_published, having_closed, having_loaded, having_read, having_released}
-use Rattle.word_ring.specs.Events.{GoesOn, MakesStep, StaysRing}
+use Rattle.word_ring.specs.Events.{StepsRing, MakesStep, StaysRing}
 use Rattle.word_ring.proofs.Laying.{produced, consumed, data_stored}
 use Rattle.word_ring.proofs.Puts.{put_stores, put_writes}
 
@@ -85,7 +85,7 @@ module _ (size : ℕ) (table : RingTable) (h : IsRingTable size table) (id : ℕ
   -- the writer made a step, which left the roamer's record
   writer_moves : (kind : StepKind) (words : List ℕ) (next : RingState) (record_now : WriterRecord) → v.writes ≡ true → barred h.ring kind ≡ None → next ≡ after_step h.ring kind
       → record_now ≡ next.writer → next.roamer ≡ h.ring.roamer → LaysOut size words next → RingLawful h.plan next
-      → GoesOn size table h kind (record { words = words; homes = table.homes; views = set table.views id (record v { writer = record_now }) })
+      → StepsRing size table h kind (record { words = words; homes = table.homes; views = set table.views id (record v { writer = record_now }) })
   writer_moves kind words next record_now may free next_is is same laid lawful =
       let mine = (h.each id v at).writes may in
       let now : Known = record v { writer = record_now } in
@@ -113,7 +113,7 @@ module _ (size : ℕ) (table : RingTable) (h : IsRingTable size table) (id : ℕ
   -- the roamer made a step, which left the writer's record
   roamer_moves : (kind : StepKind) (words : List ℕ) (next : RingState) (record_now : RoamerRecord) → v.reads ≡ true → barred h.ring kind ≡ None → next ≡ after_step h.ring kind
       → record_now ≡ next.roamer → next.writer ≡ h.ring.writer → LaysOut size words next → RingLawful h.plan next
-      → GoesOn size table h kind (record { words = words; homes = table.homes; views = set table.views id (record v { roamer = record_now }) })
+      → StepsRing size table h kind (record { words = words; homes = table.homes; views = set table.views id (record v { roamer = record_now }) })
   roamer_moves kind words next record_now may free next_is is same laid lawful =
       let mine = (h.each id v at).reads may in
       let now : Known = record v { roamer = record_now } in
@@ -147,7 +147,7 @@ looks size id v may free table h at =
     let found : ℕ = get_or table.words CONSUMER 0 in
     let is = h.laid.consumer in
     let words : set table.words CONSUMER found ≡ table.words = set-get_or table.words CONSUMER 0 in
-    subst (λ (ws : List ℕ). GoesOn size table h steps.Look (record { words = ws; homes = table.homes; views = set table.views id (having_looked v found) })) (sym words)
+    subst (λ (ws : List ℕ). StepsRing size table h steps.Look (record { words = ws; homes = table.homes; views = set table.views id (having_looked v found) })) (sym words)
     (writer_moves size table h id v at steps.Look table.words (after_step ring steps.Look) (having_looked v found).writer may
     (writer_open size table h id v at may steps.Look refl free)
     refl
@@ -246,7 +246,7 @@ loads size id v may table h at =
     let position = found_published size table.words ring h.laid in
     let bit = found_closed size table.words ring h.laid in
     let words : set table.words PRODUCER found ≡ table.words = set-get_or table.words PRODUCER 0 in
-    subst (λ (ws : List ℕ). GoesOn size table h steps.Load (record { words = ws; homes = table.homes; views = set table.views id (having_loaded v found) })) (sym words)
+    subst (λ (ws : List ℕ). StepsRing size table h steps.Load (record { words = ws; homes = table.homes; views = set table.views id (having_loaded v found) })) (sym words)
     (roamer_moves size table h id v at steps.Load table.words (after_step ring steps.Load) (having_loaded v found).roamer may
     refl
     refl
@@ -276,7 +276,7 @@ reads size id v may free table h at =
     let is = found_next size id v table h at may in
     let words : set table.words place found ≡ table.words = set-get_or table.words place 0 in
     let unbarred = roamer_open size table h id v at may steps.Read refl free in
-    subst (λ (ws : List ℕ). GoesOn size table h steps.Read (record { words = ws; homes = table.homes; views = set table.views id (having_read v found) })) (sym words)
+    subst (λ (ws : List ℕ). StepsRing size table h steps.Read (record { words = ws; homes = table.homes; views = set table.views id (having_read v found) })) (sym words)
     (roamer_moves size table h id v at steps.Read table.words (after_step ring steps.Read) (having_read v found).roamer may
     unbarred
     refl

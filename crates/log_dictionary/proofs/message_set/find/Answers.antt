@@ -4,7 +4,7 @@ use Rattle.std.proofs.lemmas.Option.{same_Some}
 use Rattle.indexmap.specs.IndexMap.{keys, values}
 use Rattle.log_dictionary.specs.declared.message_set.Key.{Key}
 use Rattle.log_dictionary.specs.Messages.{SameMessage}
-use Rattle.log_dictionary.specs.Places.{key_of, place_of, IsFree}
+use Rattle.log_dictionary.specs.Places.{key_of, place_of, IsFreeKey}
 use Rattle.log_dictionary.proofs.lemmas.Distinct.{same_from_test, test_from_same}
 use Rattle.log_dictionary.proofs.Places.{as_long, stands, past_is_absent, one_more_elsewhere, is_nowhere, is_free}
 use Rattle.log_dictionary.proofs.message_set.find.Goals as goal
@@ -29,7 +29,7 @@ returns-in_default-clause-free c =
     let names = keys c.args.messages.now in
     let are = c.as_slice-others.ensures ∙ c.values.ensures.rest in
     let few : c.loop-nth.nth ≤ length names = omega (arith, c.loop-nth-test.true, ap length are, as_long c.args.messages.now.entries) in
-    subst (λ (h : ℕ). IsFree names message (key h c.loop-nth.nth)) (sym c.hash_of-hash.ensures.value) (is_free names (values c.args.messages.now) message c.loop-nth.nth c.loop-nth.invariant (absent c) few)
+    subst (λ (h : ℕ). IsFreeKey names message (key h c.loop-nth.nth)) (sym c.hash_of-hash.ensures.value) (is_free names (values c.args.messages.now) message c.loop-nth.nth c.loop-nth.invariant (absent c) few)
 
 pub returns-then-eq-clause-found : goal.returns-then-eq-clause-found
 returns-then-eq-clause-found c =
@@ -64,4 +64,4 @@ returns-clause-free c =
     let none = past_is_absent names all (key_of message c.loop-nth.nth) c.requires (omega (arith, c.loop-nth-test.false, ap length are)) in
     let few : c.loop-nth.nth ≤ length names = omega (arith, c.loop-nth.auto.nth-end, ap length are, as_long c.args.messages.now.entries) in
     let last : c.loop-nth.nth ≡ length c.as_slice-others.result.now = omega (arith, c.loop-nth.auto.nth-end, c.loop-nth-test.false) in
-    subst (λ (n : ℕ). IsFree names message (key c.hash_of-hash.result n)) last (subst (λ (h : ℕ). IsFree names message (key h c.loop-nth.nth)) (sym c.hash_of-hash.ensures.value) (is_free names all message c.loop-nth.nth c.loop-nth.invariant none few))
+    subst (λ (n : ℕ). IsFreeKey names message (key c.hash_of-hash.result n)) last (subst (λ (h : ℕ). IsFreeKey names message (key h c.loop-nth.nth)) (sym c.hash_of-hash.ensures.value) (is_free names all message c.loop-nth.nth c.loop-nth.invariant none few))
