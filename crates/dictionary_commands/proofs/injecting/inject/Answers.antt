@@ -56,3 +56,11 @@ returns-clause-ends g c =
     let injects = subst (λ (read : List ℕ). InjectsSource c.args.source.now read c.in_ok-messages.messages c.in_ok-text.text.items c.in_ok-text.count) c.deref.ensures.value c.in_ok-text.ensures.text in
     text_lost c.args.dictionary.now c.args.source.now c.args.output.now old (g.F.Files.desk c.save.new.files) c.in_ok-messages.messages bytes c.in_ok-text.text.items c.in_ok-text.count c.in_ok-messages.ensures.found is injects
     (rw (same, c.deref-2.ensures.value) at c.in-Err.ensures.front) (rw same at c.save.ensures.only) (rw same at c.in-Err.ensures.cause)
+
+pub returns-in-Ok-clause-files_others : goal.returns-in-Ok-clause-files_others
+returns-in-Ok-clause-files_others g c = g.met.F.Files.rest_then _ _ _
+    (g.met.F.Files.rest_then _ _ _ c.in_ok-messages.ensures.others c.in_ok-bytes.ensures.others) c.save.ensures.others
+
+pub returns-clause-files_others : goal.returns-clause-files_others
+returns-clause-files_others g c = g.met.F.Files.rest_then _ _ _
+    (g.met.F.Files.rest_then _ _ _ c.in_ok-messages.ensures.others c.in_ok-bytes.ensures.others) c.save.ensures.others
