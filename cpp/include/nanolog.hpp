@@ -11,6 +11,12 @@
 // thread's first one or goes by the writer that is shared.
 #pragma once
 
+#if __cplusplus < 201703L
+#error "nanolog.hpp is for C++17 and later standards: compile with -std=c++17"
+#elif !defined(__linux__) || !defined(__x86_64__)
+#error "nanolog.hpp is for Linux on x86-64"
+#else
+
 #include <cstdint>
 #include <cstdio>
 
@@ -20,3 +26,5 @@
 #include "nanolog_report.hpp"
 #include "nanolog_session.hpp"
 #include "nanolog_statement.hpp"
+
+#endif

@@ -1,11 +1,13 @@
 // Threads that log at once.
 // usage: threads THREADS CALLS wait|drop   each thread makes so many calls, beside each other
 //        threads ALONE CALLS one           so many threads, one after the other
+//        threads ALONE CALLS least         as these, with the least stack that a thread may have
 //        threads ALIVE CALLS all           so many threads that are alive until all have called
 // It prints how many calls were logged and dropped, how many writers there were, and how many calls the shared one
 // made.
 #include <pthread.h>
 
+#include <climits>
 #include <cstring>
 #include <nanolog.hpp>
 #include <string>
@@ -31,6 +33,26 @@ void call_all(int thread, int calls) {
     for (int number = 0; number < calls; number++) call(thread, number);
 }
 
+struct Work {
+    int thread, calls;
+};
+
+// Makes the calls in a thread with the least stack.
+void call_on_least_stack(Work work) {
+    pthread_attr_t attributes;
+    pthread_t thread;
+    pthread_attr_init(&attributes);
+    CHECK(pthread_attr_setstacksize(&attributes, static_cast<std::size_t>(PTHREAD_STACK_MIN)) == 0);
+    const auto run = [](void *of) -> void * {
+        const Work &own = *static_cast<Work *>(of);
+        call_all(own.thread, own.calls);
+        return nullptr;
+    };
+    CHECK(pthread_create(&thread, &attributes, run, &work) == 0);
+    CHECK(pthread_join(thread, nullptr) == 0);
+    pthread_attr_destroy(&attributes);
+}
+
 }  // namespace
 
 int main(int count, char **words) {
@@ -48,6 +70,10 @@ int main(int count, char **words) {
     pthread_barrier_init(&barrier, nullptr, static_cast<unsigned>(threads));
     std::vector<std::thread> running;
     for (int thread = 0; thread < threads; thread++) {
+        if (way == "least") {
+            call_on_least_stack({thread, calls});
+            continue;
+        }
         running.emplace_back([&, thread] {
             if (way != "one") pthread_barrier_wait(&barrier);
             call_all(thread, calls);

@@ -220,16 +220,8 @@ test_version() {
         grep -q "undefined.*nanolog_version_1" err || fail "$compiler: links with another version: $(head -n 3 err)"
 }
 
-# cost FLAG.. prints the least processor time of five compilations, in milliseconds.
-cost() {
-    local turn least=1000000 taken TIMEFORMAT='%U %S'
-    for ((turn = 0; turn < 5; turn++)); do
-        taken=$({ time "$compiler" -std=c++17 -O2 -c -o /dev/null "$@" 2>/dev/null; } 2>&1 |
-            awk '{ printf "%d", 1000 * ($1 + $2) }')
-        [ "$taken" -lt "$least" ] && least=$taken
-    done
-    echo "$least"
-}
+# bytes_of FLAG.. prints how many bytes a source has with all that it includes.
+bytes_of() { "$compiler" -std=c++17 -E -P "$@" | wc -c; }
 
 test_headers() {
     test_misfits
@@ -288,15 +280,13 @@ END
         [ ! -s got ] || fail "$compiler: the header leaves macros: $(cat got)"
     done
 
-    # What it costs to include it: at most as much as two headers of C++ do.
-    echo >without.cc
+    # With it a source gets less text than with two headers of C++.
     printf '#include <%s>\n' string thread >two.cc
-    local without with two
-    without=$(cost without.cc)
-    two=$(cost two.cc)
-    with=$(cost -I "$library" with.cc)
-    say "$compiler: the header takes $((with - without)) ms, and <string> and <thread> take $((two - without))"
-    [ "$((2 * (with - without)))" -lt "$((3 * (two - without)))" ] || fail "$compiler: the header costs too much"
+    above 'bytes of <string> and <thread>' "$(bytes_of two.cc)" "$(bytes_of -I "$library" with.cc)"
+
+    # What it wants is said.
+    ! "$compiler" -std=c++14 -fsyntax-only -I "$library" with.cc 2>err && grep -q 'error.*C++17' err ||
+        fail "$compiler: it doesn't tell of C++17: $(head -n 5 err)"
 
     # The header of the C calls, in C.
     printf '%s\n' '#include "nanolog.h"' 'int main(void) { nanolog_free(0); return 0; }' >c.c

@@ -38,6 +38,8 @@ test_threads() {
     done
     run_threads 1000 3 one
     equal '1000 threads, one after the other' "$logged $writers $shared" '3000 1 0'
+    run_threads 10 30 least
+    equal '10 threads with the least stack' "$logged $writers $shared" '300 1 0'
     # 63 threads have a writer each, and 37 share one.
     run_threads 100 30 all
     equal '100 threads at once' "$logged $writers $shared" '3000 64 1110'
