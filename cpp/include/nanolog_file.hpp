@@ -1,6 +1,7 @@
 // The file of a log. It is part of nanolog.hpp.
 #pragma once
 
+#include <fcntl.h>
 #include <unistd.h>
 
 #include <atomic>
@@ -88,6 +89,18 @@ class Blocks {
     std::uint8_t field_[8] = {};
     std::uint64_t place_ = 0, whole_ = 0;
 };
+
+// Makes a file, in place of what the name held. A program may run without standard streams: what it prints all the same
+// isn't to go into the file, so this has none of their descriptors.
+inline int make_file(const char *name) {
+    const int file = ::open(name, O_WRONLY | O_CREAT | O_TRUNC | O_CLOEXEC, 0666);
+    if (file < 0 || file > STDERR_FILENO) return file;
+    const int other = ::fcntl(file, F_DUPFD_CLOEXEC, STDERR_FILENO + 1);
+    const int error = errno;
+    ::close(file);
+    errno = error;
+    return other;
+}
 
 // A file that takes the bytes of a log, until it fails. Behind a gap nothing could be read, so nothing more is written
 // then; what fails is said at once, before anybody can see it by `error`.

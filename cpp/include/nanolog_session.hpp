@@ -1,8 +1,6 @@
 // Sessions. It is part of nanolog.hpp.
 #pragma once
 
-#include <fcntl.h>
-
 #include <atomic>
 #include <cerrno>
 #include <cstddef>
@@ -162,7 +160,7 @@ class Session {
 
     // Makes the file and starts the consumer.
     bool start(const char *log_name, void *consumer) {
-        const int file = ::open(log_name, O_WRONLY | O_CREAT | O_TRUNC | O_CLOEXEC, 0666);
+        const int file = detail::make_file(log_name);
         const int failed = core_->consumer.start(consumer, log_name, core_->is_quiet, file, file < 0 ? errno : 0);
         return failed == 0 || fail(log_name, std::strerror(failed));
     }

@@ -106,6 +106,16 @@ void closes() {
     mark("flushed");
 }
 
+// The program runs without streams for its output, and prints to them all the same.
+void no_streams() {
+    for (int stream = 1; stream < 3; stream++) CHECK(close(stream) == 0);
+    nanolog::Session log(kLog, small());
+    call_lines();
+    CHECK(log.flush());
+    for (int stream = 1; stream < 3; stream++) CHECK(write(stream, "printed", 7) < 0 && errno == EBADF);
+    call_lines();
+}
+
 // Where the blocks of a log end that has no close marks.
 long end_of_blocks(const char *name) {
     std::FILE *const file = std::fopen(name, "r");
@@ -366,6 +376,7 @@ int main(int count, char **words) {
         {"pipe_flushes_at", pipe_flushes_at},
         {"fails", fails},
         {"closes", closes},
+        {"no_streams", no_streams},
         {"too_large", too_large},
         {"pipe_closes", pipe_closes},
         {"pipe_exits", pipe_exits},

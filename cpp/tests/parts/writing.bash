@@ -15,6 +15,7 @@ ${marks}nanolog: no/such.log: bytes not written: M
 -- flushed
 nanolog: ends.log: bytes not written: M
 ' 5 closes
+    ends_with 0 '' 10 no_streams
     run_ends 7 "$late"$'\n' handler_full
     run_ends 134 '' pipe_crashes
     ends_with 0 "$late"$'\n-- another one\n' 5 pipe_closes
