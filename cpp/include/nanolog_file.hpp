@@ -2,6 +2,7 @@
 #pragma once
 
 #include <fcntl.h>
+#include <sys/stat.h>
 #include <unistd.h>
 
 #include <atomic>
@@ -111,13 +112,16 @@ class LogFile {
         std::snprintf(name_, sizeof name_, "%s", name);
         is_quiet_ = quiet;
         file_.store(file);
-        if (file < 0) fail(error, "nothing is written");
+        if (file < 0 || ::fstat(file, &made_) != 0) fail(file < 0 ? error : errno, "nothing is written");
     }
 
     void write(const std::uint8_t *bytes, std::size_t len) {
+        if (len == 0) return;
         const int file = file_.load();
         std::size_t count = 0;
-        if (file >= 0) {
+        if (file >= 0 && !is_own(file)) {
+            fail(EBADF, "nothing more is written");
+        } else if (file >= 0) {
             blocks_.walk(bytes, len, kMostBytes);
             if (written_.get() + len > kMostBytes) return end(file, bytes, len);
             count = write_all(file, bytes, len);
@@ -129,7 +133,9 @@ class LogFile {
 
     void close() {
         const int file = file_.exchange(-1);
-        if (file >= 0 && ::close(file) != 0) fail(errno, "what was written may be lost");
+        if (file < 0) return;
+        errno = EBADF;
+        if (!is_own(file) || ::close(file) != 0) fail(errno, "what was written may be lost");
     }
 
     // Closes the descriptor that the child of a fork has of it.
@@ -170,7 +176,12 @@ class LogFile {
         error_.store(EFBIG);
     }
 
-    // Where the descriptor was closed by somebody else it may be that of another file by now.
+    // Whether the descriptor is still that of the file: where somebody else has closed it, it may be another's by now.
+    bool is_own(int file) const {
+        struct stat found;
+        return ::fstat(file, &found) == 0 && found.st_dev == made_.st_dev && found.st_ino == made_.st_ino;
+    }
+
     void fail(int error, const char *what) {
         const int file = file_.exchange(-1);
         if (file >= 0 && error != EBADF) ::close(file);
@@ -180,6 +191,7 @@ class LogFile {
 
     char name_[256] = "";
     bool is_quiet_ = false;
+    struct stat made_ {};
     std::atomic<int> file_{-1}, error_{0};
     Count written_, unwritten_;
     Blocks blocks_;

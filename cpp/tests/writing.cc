@@ -106,6 +106,21 @@ void closes() {
     mark("flushed");
 }
 
+// The descriptor is another file's by then.
+void replaces() {
+    nanolog::Session log(kLog, small());
+    call_lines();
+    const int descriptor = descriptor_of_log();
+    CHECK(log.flush() && close(descriptor) == 0);
+    CHECK(open("other", O_WRONLY | O_CREAT | O_TRUNC, 0600) == descriptor);
+    call_lines();
+    CHECK(!log.flush());
+    mark("flushed");
+    log.close();
+    struct stat found;
+    CHECK(fstat(descriptor, &found) == 0 && found.st_size == 0);
+}
+
 // The program runs without streams for its output, and prints to them all the same.
 void no_streams() {
     for (int stream = 1; stream < 3; stream++) CHECK(close(stream) == 0);
@@ -376,6 +391,7 @@ int main(int count, char **words) {
         {"pipe_flushes_at", pipe_flushes_at},
         {"fails", fails},
         {"closes", closes},
+        {"replaces", replaces},
         {"no_streams", no_streams},
         {"too_large", too_large},
         {"pipe_closes", pipe_closes},

@@ -11,10 +11,13 @@ ${marks}nanolog: /dev/full: bytes not written: M
 ${marks}nanolog: no/such.log: bytes not written: M
 " fails no/such.log
     run_ends 0 "$marks" fails quiet
-    leaves 0 'nanolog: ends.log: Bad file descriptor; nothing more is written
+    local case
+    for case in closes replaces; do
+        leaves 0 'nanolog: ends.log: Bad file descriptor; nothing more is written
 -- flushed
 nanolog: ends.log: bytes not written: M
-' 5 closes
+' 5 $case
+    done
     ends_with 0 '' 10 no_streams
     run_ends 7 "$late"$'\n' handler_full
     run_ends 134 '' pipe_crashes
