@@ -30,8 +30,8 @@ use Rattle.trace_session.specs.Rounds.{Roams, IsOverUpTo}
 use Rattle.trace_session.specs.Running.{AreReady}
 use Rattle.trace_session.specs.Sessions.{IsWholeLog, IsSession}
 use Rattle.log_session.specs.Settling.{IsRejoined, AllZip3}
-use Rattle.trace_session.specs.declared.seat.Seat.{Seat}
-use Rattle.trace_session.specs.Seats.{worker_of, works_at}
+use Rattle.trace_session.specs.declared.workplace.Workplace.{Workplace}
+use Rattle.trace_session.specs.Workplaces.{worker_of, works_at}
 use Rattle.trace_session.specs.Workers.{Work, WorkerView, work_of, IsSameWork}
 use Rattle.log_session.specs.Writers.{WriterView}
 
@@ -150,25 +150,25 @@ whole_log {S} {O} {D} sent closed got ended pair plan sent_left got_left closed_
     let whole : LogWith bytes (taken, run.dictionary, run.clock, options.batch) = subst (LogWith bytes) (λ i. (same i, messages i, clock i, batch i)) is in
     record { lawful = whole.0; closed = whole.1 }
 
--- ---- seats
+-- ---- workplaces
 
--- one worker more has a seat
-pub seated : {S G : Type 0} (pair : S → List ℕ) (words : S → ℕ) (seats after : List (Seat S G)) (rest more all : List (WorkerView S)) (worker : WorkerView S) (seat : Seat S G)
-    → works_at pair words seats ++ map (work_of pair words) rest ≡ map (work_of pair words) all → rest ≡ worker ∷ more → IsSameWork pair words worker (worker_of seat) → after ≡ seats ++ seat ∷ []
+-- one worker more has a workplace
+pub seated : {S G : Type 0} (pair : S → List ℕ) (words : S → ℕ) (workplaces after : List (Workplace S G)) (rest more all : List (WorkerView S)) (worker : WorkerView S) (workplace : Workplace S G)
+    → works_at pair words workplaces ++ map (work_of pair words) rest ≡ map (work_of pair words) all → rest ≡ worker ∷ more → IsSameWork pair words worker (worker_of workplace) → after ≡ workplaces ++ workplace ∷ []
     → works_at pair words after ++ map (work_of pair words) more ≡ map (work_of pair words) all
-seated {S} {G} pair words seats after rest more all worker seat joined is same pushed =
-    let work : Seat S G → Work = λ s. work_of pair words (worker_of s) in
-    let works : works_at pair words after ≡ works_at pair words seats ++ work_of pair words worker ∷ [] =
-    ap (map work) pushed ∙ map-append work seats (seat ∷ []) ∙ ap (λ (w : Work). works_at pair words seats ++ w ∷ []) same in
+seated {S} {G} pair words workplaces after rest more all worker workplace joined is same pushed =
+    let work : Workplace S G → Work = λ s. work_of pair words (worker_of s) in
+    let works : works_at pair words after ≡ works_at pair words workplaces ++ work_of pair words worker ∷ [] =
+    ap (map work) pushed ∙ map-append work workplaces (workplace ∷ []) ∙ ap (λ (w : Work). works_at pair words workplaces ++ w ∷ []) same in
     ap (λ (l : List Work). l ++ map (work_of pair words) more) works
-    ∙ append_assoc (works_at pair words seats) (work_of pair words worker ∷ []) (map (work_of pair words) more)
-    ∙ ap (λ (l : List (WorkerView S)). works_at pair words seats ++ map (work_of pair words) l) (sym is)
+    ∙ append_assoc (works_at pair words workplaces) (work_of pair words worker ∷ []) (map (work_of pair words) more)
+    ∙ ap (λ (l : List (WorkerView S)). works_at pair words workplaces ++ map (work_of pair words) l) (sym is)
     ∙ joined
 
-pub all_seated : {S G : Type 0} (pair : S → List ℕ) (words : S → ℕ) (seats : List (Seat S G)) (rest all : List (WorkerView S))
-    → works_at pair words seats ++ map (work_of pair words) rest ≡ map (work_of pair words) all → length rest ≡ 0 → works_at pair words seats ≡ map (work_of pair words) all
-all_seated pair words seats [] all joined none = sym (append-nil (works_at pair words seats)) ∙ joined
-all_seated pair words seats (worker ∷ rest) all joined none = absurd (omega arith)
+pub all_seated : {S G : Type 0} (pair : S → List ℕ) (words : S → ℕ) (workplaces : List (Workplace S G)) (rest all : List (WorkerView S))
+    → works_at pair words workplaces ++ map (work_of pair words) rest ≡ map (work_of pair words) all → length rest ≡ 0 → works_at pair words workplaces ≡ map (work_of pair words) all
+all_seated pair words workplaces [] all joined none = sym (append-nil (works_at pair words workplaces)) ∙ joined
+all_seated pair words workplaces (worker ∷ rest) all joined none = absurd (omega arith)
 
 -- ---- what a session's parts bring each other
 
@@ -192,16 +192,16 @@ zip_from_maps f h [] (y ∷ ys) same = absurd cc
 zip_from_maps f h (x ∷ xs) [] same = absurd cc
 zip_from_maps f h (x ∷ xs) (y ∷ ys) same = (cc same, zip_from_maps f h xs ys (cc same))
 
-pub as_many_seats : {S G : Type 0} (pair : S → List ℕ) (words : S → ℕ) (seats others : List (Seat S G)) → works_at pair words seats ≡ works_at pair words others → length seats ≡ length others
-as_many_seats {S} {G} pair words seats others same =
-    let work : Seat S G → Work = λ seat. work_of pair words (worker_of seat) in
-    sym (length-map seats work) ∙ ap length same ∙ length-map others work
+pub as_many_seats : {S G : Type 0} (pair : S → List ℕ) (words : S → ℕ) (workplaces others : List (Workplace S G)) → works_at pair words workplaces ≡ works_at pair words others → length workplaces ≡ length others
+as_many_seats {S} {G} pair words workplaces others same =
+    let work : Workplace S G → Work = λ workplace. work_of pair words (worker_of workplace) in
+    sym (length-map workplaces work) ∙ ap length same ∙ length-map others work
 
--- seats that were lent and written back work on what they did
-pub works_kept : {S G : Type 0} (pair : S → List ℕ) (words : S → ℕ) (starts lent seats : List (Seat S G)) (len : ℕ) (works : List Work) → works_at pair words starts ≡ works → lent ≡ starts → length lent ≡ len
-    → works_at pair words seats ≡ works_at pair words lent → works_at pair words (take len (seats ++ drop (length seats) starts)) ≡ works
-works_kept pair words starts lent seats len works started value many same =
-    ap (works_at pair words) (take_at seats (drop (length seats) starts) len (as_many_seats pair words seats lent same ∙ many))
+-- workplaces that were lent and written back work on what they did
+pub works_kept : {S G : Type 0} (pair : S → List ℕ) (words : S → ℕ) (starts lent workplaces : List (Workplace S G)) (len : ℕ) (works : List Work) → works_at pair words starts ≡ works → lent ≡ starts → length lent ≡ len
+    → works_at pair words workplaces ≡ works_at pair words lent → works_at pair words (take len (workplaces ++ drop (length workplaces) starts)) ≡ works
+works_kept pair words starts lent workplaces len works started value many same =
+    ap (works_at pair words) (take_at workplaces (drop (length workplaces) starts) len (as_many_seats pair words workplaces lent same ∙ many))
     ∙ same
     ∙ ap (works_at pair words) value
     ∙ started

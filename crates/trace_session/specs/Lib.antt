@@ -4,7 +4,7 @@ pub mod Sessions
 pub mod Workers
 pub mod Turns
 pub mod WorkerInside
-pub mod Seats
+pub mod Workplaces
 pub mod Rounds
 pub mod Finishing
 pub mod FinishedInside

@@ -4,10 +4,10 @@ ghost use Rattle.std.specs.Prelude.{◌≡◌, ◌↔◌, ◌<◌, ◌+◌, Bool
 ghost use Rattle.std.specs.List.{AllZip};
 ghost use Rattle.roaming_consumer.specs.Roamers.{ends_of, is_begun, ArePlanned};
 ghost use Rattle.trace_session.specs.Rounds.{Roams, IsOverUpTo};
-ghost use Rattle.trace_session.specs.Seats.{works_at, TakesOneTurn};
+ghost use Rattle.trace_session.specs.Workplaces.{works_at, TakesOneTurn};
 
 use crate::gate::Gate;
-use crate::seat::Seat;
+use crate::workplace::Workplace;
 use nl_io::Sink;
 use ring_core::{StageIn, StageOut};
 use roaming_consumer::{Roamer, Visit};
@@ -82,17 +82,17 @@ fn visit_all<O: StageOut, K: Sink>(roamer: &mut Roamer<'_, O>, writers: u32, sin
 }
 
 /// Takes a turn of each worker that is here.
-fn take_turns<I, G>(seats: &mut [Seat<I, G>]) -> Round
+fn take_turns<I, G>(workplaces: &mut [Workplace<I, G>]) -> Round
 where
     I: StageIn + Send + Drop + 'static,
     G: Gate + 'static,
-    ensures same { works_at I.pair I.words seats.new ≡ works_at I.pair I.words seats.old }
+    ensures same { works_at I.pair I.words workplaces.new ≡ works_at I.pair I.words workplaces.old }
     ensures turns { AllZip (λ old new. (moved : Bool) × TakesOneTurn I.at I.words I.seen I.looks I.closed old new moved)
-        seats.old seats.new }
+        workplaces.old workplaces.new }
 {
     let mut round = Round::Over;
-    for place in 0..seats.len() {
-        if seats[place].take_turn() {
+    for place in 0..workplaces.len() {
+        if workplaces[place].take_turn() {
             round = Round::Moved;
         }
     }
@@ -104,7 +104,7 @@ where
 pub(crate) fn consume<I, O, K, G, R>(
     rt: R,
     roamer: &mut Roamer<'_, O>,
-    seats: &mut [Seat<I, G>],
+    workplaces: &mut [Workplace<I, G>],
     sink: &mut K,
     gate: &Arc<G, Global>,
 )
@@ -114,13 +114,13 @@ where
     K: Sink,
     G: Gate + 'static,
     R: Wait + Copy,
-    requires known { length seats.old ≡ length (ends_of roamer.old) }
+    requires known { length workplaces.old ≡ length (ends_of roamer.old) }
     requires planned { ArePlanned O.plan roamer.old }
     requires begun { is_begun roamer.old ≡ true }
     ensures roams { Roams O.got O.ended O.pair O.plan roamer.old roamer.new
         (K.put sink.old) (K.put sink.new) (K.faults sink.old) (K.faults sink.new) }
     ensures over { IsOverUpTo O.ended (length (ends_of roamer.new)) roamer.new }
-    ensures same { works_at I.pair I.words seats.new ≡ works_at I.pair I.words seats.old }
+    ensures same { works_at I.pair I.words workplaces.new ≡ works_at I.pair I.words workplaces.old }
     ensures others { K.rest sink.old sink.new }
 {
     let pause = Parker::new();
@@ -129,8 +129,8 @@ where
     for _ in rt.forever() {
         gate.round(number);
         number = number.saturating_add(1);
-        let visits = visit_all(roamer, seats.len() as u32, sink);
-        let turns = take_turns(seats);
+        let visits = visit_all(roamer, workplaces.len() as u32, sink);
+        let turns = take_turns(workplaces);
         match visits.with(turns) {
             Round::Moved => nap = FIRST_NAP,
             Round::Idle => {

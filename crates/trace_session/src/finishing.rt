@@ -5,12 +5,12 @@ ghost use Rattle.trace_text.specs.declared.trace.TheConstants.{MAX_CALLS};
 ghost use Rattle.trace_session.specs.Drops.{call_count};
 ghost use Rattle.trace_session.specs.Workers.{work_of};
 ghost use Rattle.trace_session.specs.Finishing.{work_at, works_of};
-ghost use Rattle.trace_session.specs.Seats.{works_at};
+ghost use Rattle.trace_session.specs.Workplaces.{works_at};
 
 use crate::drops::Dropped;
 use crate::gate::Gate;
-use crate::seat::Seat;
 use crate::worker::Worker;
+use crate::workplace::Workplace;
 use log_session::Writer;
 use ring_core::StageIn;
 use session_options::{Options, Policy};
@@ -98,22 +98,22 @@ impl<'d, S: StageIn + Drop> Finished<'d, S> {
     }
 
     /// Adds what the workers of all writers leave, when they have ended.
-    pub(crate) fn add_all<G, R>(&mut self, rt: R, seats: Vec<Seat<S, G>>)
+    pub(crate) fn add_all<G, R>(&mut self, rt: R, workplaces: Vec<Workplace<S, G>>)
     where
         S: Send + 'static,
         G: Gate + 'static,
         R: Threads + Wait + Copy,
         requires nothing { self.old.writers ≡ [] }
-        requires works { works_at S.pair S.words seats.items
-            ≡ works_of self.old.run self.old.options (map (λ work. work.pair) (works_at S.pair S.words seats.items)) }
-        requires count { length seats.items ≡ length self.old.run.writers }
+        requires works { works_at S.pair S.words workplaces.items
+            ≡ works_of self.old.run self.old.options (map (λ work. work.pair) (works_at S.pair S.words workplaces.items)) }
+        requires count { length workplaces.items ≡ length self.old.run.writers }
         ensures same { (self.new.run ≡ self.old.run) × (self.new.options ≡ self.old.options) }
         ensures all { length self.new.writers ≡ length self.new.run.writers }
         ensures rings { map (λ writer. S.pair writer.end) self.new.writers
-            ≡ map (λ work. work.pair) (works_at S.pair S.words seats.items) }
+            ≡ map (λ work. work.pair) (works_at S.pair S.words workplaces.items) }
     {
-        for seat in seats {
-            self.add(seat.leave(rt));
+        for workplace in workplaces {
+            self.add(workplace.leave(rt));
         }
     }
 

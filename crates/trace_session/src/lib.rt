@@ -9,9 +9,9 @@ pub mod laws;
 mod level;
 mod outcome;
 mod preparing;
-mod seat;
 mod session;
 mod worker;
+mod workplace;
 
 pub use drops::{Dropped, Drops};
 pub use gate::{FreeGate, Gate};

@@ -11,8 +11,8 @@ ghost use Rattle.trace_session.specs.Running.{IsNewWriter, AreReady};
 
 use crate::finishing::Finished;
 use crate::gate::Gate;
-use crate::seat::Seat;
 use crate::worker::Worker;
+use crate::workplace::Workplace;
 use log_session::{Writer, start};
 use ring_core::{Stage, StageFault, StageIn};
 use roaming_consumer::Roamer;
@@ -109,7 +109,7 @@ pub(crate) fn prepare<'d, S: Stage, G: Gate>(
 /// What a run puts where it no longer can ask for memory.
 #[derive(Drop)]
 pub(crate) struct Room<'d, I: StageIn, D, G> {
-    pub(crate) seats: Vec<Seat<I, G>>,
+    pub(crate) workplaces: Vec<Workplace<I, G>>,
     pub(crate) finished: Finished<'d, I>,
     pub(crate) settled: Vec<D>,
 }
@@ -127,7 +127,7 @@ impl<'d, I: StageIn + Drop, D: Drop, G: Gate> Room<'d, I, D, G> {
     {
         let writers = trace.writers.len();
         Ok(Room {
-            seats: Vec::with_capacity(alloc, writers)?,
+            workplaces: Vec::with_capacity(alloc, writers)?,
             finished: Finished::make(alloc, trace, options)?,
             settled: Vec::with_capacity(alloc, writers)?,
         })

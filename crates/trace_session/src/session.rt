@@ -11,7 +11,7 @@ ghost use Rattle.trace_session.specs.Sessions.{IsSession, IsCutSession};
 ghost use Rattle.trace_session.specs.Running.{AreReady};
 ghost use Rattle.trace_session.specs.Rooms.{IsFree};
 ghost use Rattle.trace_session.specs.Workers.{work_of};
-ghost use Rattle.trace_session.specs.Seats.{works_at};
+ghost use Rattle.trace_session.specs.Workplaces.{works_at};
 
 use crate::consuming::consume;
 use crate::drops::Drops;
@@ -19,8 +19,8 @@ use crate::finishing::count_calls;
 use crate::gate::Gate;
 use crate::outcome::{Outcome, RunFault};
 use crate::preparing::{Room, prepare};
-use crate::seat::Seat;
 use crate::worker::Worker;
+use crate::workplace::Workplace;
 use log_session::settle;
 use nl_io::Sink;
 use ring_core::{Stage, StageFault, StageIn};
@@ -32,17 +32,17 @@ use std::thread::Threads;
 use trace_text::Trace;
 
 /// Starts a thread for each worker.
-fn start_all<I, G, R>(rt: R, workers: Vec<Worker<I, G>>, seats: &mut Vec<Seat<I, G>>)
+fn start_all<I, G, R>(rt: R, workers: Vec<Worker<I, G>>, workplaces: &mut Vec<Workplace<I, G>>)
 where
     I: StageIn + Send + Drop + 'static,
     G: Gate + 'static,
     R: Threads + Wait + Copy + Send + 'static,
-    requires nobody { (seats.old.items ≡ []) × (vec_len seats.old ≡ 0) }
-    requires room { length workers.items ≤ vec_capacity seats.old }
-    ensures { works_at I.pair I.words seats.new.items ≡ map (work_of I.pair I.words) workers.items }
+    requires nobody { (workplaces.old.items ≡ []) × (vec_len workplaces.old ≡ 0) }
+    requires room { length workers.items ≤ vec_capacity workplaces.old }
+    ensures { works_at I.pair I.words workplaces.new.items ≡ map (work_of I.pair I.words) workers.items }
 {
     for worker in workers {
-        seats.push_reserved(Seat::start(rt, worker));
+        workplaces.push_reserved(Workplace::start(rt, worker));
     }
 }
 
@@ -79,15 +79,15 @@ where
     ensures others { K.rest sink.old sink.new }
 {
     let Room {
-        mut seats,
+        mut workplaces,
         mut finished,
         mut settled,
     } = room;
     let mut roamer = roamer;
     let calls = count_calls(&trace.writers) as u64;
-    start_all(rt, workers, &mut seats);
-    consume(rt, &mut roamer, &mut seats, sink, gate);
-    finished.add_all(rt, seats);
+    start_all(rt, workers, &mut workplaces);
+    consume(rt, &mut roamer, &mut workplaces, sink, gate);
+    finished.add_all(rt, workplaces);
     let faulted = roamer.faulted();
     let (drops, writers) = finished.into_parts();
     let accepted = settle::<S>(writers, roamer, &mut settled);

@@ -11,12 +11,12 @@ loop-init g c = record {
   others = g.met.K.Sink.rest_same _;
 }
 
-pub overflow_cast-seats : goal.overflow_cast-seats
-overflow_cast-seats g c = omega (arith, c.loop.auto.seats, c.requires.known, c.args.roamer.now.few_ends)
+pub overflow_cast-workplaces : goal.overflow_cast-workplaces
+overflow_cast-workplaces g c = omega (arith, c.loop.auto.workplaces, c.requires.known, c.args.roamer.now.few_ends)
 
 pub visit_all-visits-requires-clause-known : goal.visit_all-visits-requires-clause-known
 visit_all-visits-requires-clause-known g c =
-    c.loop.auto.seats ∙ c.requires.known ∙ sym (as_many g.O.StageOut.pair _ _ c.loop.invariant.roams.same_rings)
+    c.loop.auto.workplaces ∙ c.requires.known ∙ sym (as_many g.O.StageOut.pair _ _ c.loop.invariant.roams.same_rings)
 
 pub visit_all-visits-requires-clause-planned : goal.visit_all-visits-requires-clause-planned
 visit_all-visits-requires-clause-planned g c = c.loop.invariant.roams.planned
@@ -46,7 +46,7 @@ returns-in-Over-clause-over g c =
     let both = c.with.ensures.0 c.in-Over.is in
     let before = as_many g.O.StageOut.pair _ _ c.loop.invariant.roams.same_rings in
     let after = as_many g.O.StageOut.pair _ _ c.visit_all-visits.ensures.roams.same_rings in
-    let all : length c.loop.seats ≡ length (ends_of c.visit_all-visits.new.roamer) = c.loop.auto.seats ∙ c.requires.known ∙ sym (after ∙ before) in
+    let all : length c.loop.workplaces ≡ length (ends_of c.visit_all-visits.new.roamer) = c.loop.auto.workplaces ∙ c.requires.known ∙ sym (after ∙ before) in
     subst (λ (n : ℕ). IsOverUpTo g.O.StageOut.ended n c.visit_all-visits.new.roamer) all (c.visit_all-visits.ensures.over both.0)
 
 pub returns-in-Over-clause-same : goal.returns-in-Over-clause-same

@@ -13,7 +13,7 @@ pub consume-requires-clause-known : goal.consume-requires-clause-known
 consume-requires-clause-known g c κs within =
     let started = c.start_all.ensures in
     ap length c.deref_mut.ensures.value
-    ∙ sym (length-map {B = Work} c.start_all.new.seats.items _)
+    ∙ sym (length-map {B = Work} c.start_all.new.workplaces.items _)
     ∙ ap length started
     ∙ ends_count g.S.Out.StageOut.pair g.S.Out.StageOut.plan c.args.trace.now c.args.options.now _ c.args.roamer c.requires.ready
 
@@ -21,7 +21,7 @@ pub add_all-requires-clause-works : goal.add_all-requires-clause-works
 add_all-requires-clause-works g c κs within =
     let ready = c.requires.ready in
     let lent = c.deref_mut.ensures in
-    let kept = works_kept g.S.In.StageIn.pair g.S.In.StageIn.words _ _ c.consume.new.seats _ _ c.start_all.ensures lent.value lent.len c.consume.ensures.same in
+    let kept = works_kept g.S.In.StageIn.pair g.S.In.StageIn.words _ _ c.consume.new.workplaces _ _ c.start_all.ensures lent.value lent.len c.consume.ensures.same in
     let run = ap (λ (v : FinishedView g.row.S-In.Denot). v.run) c.requires.free.finished in
     let options = ap (λ (v : FinishedView g.row.S-In.Denot). v.options) c.requires.free.finished in
     kept
@@ -31,7 +31,7 @@ add_all-requires-clause-works g c κs within =
 pub add_all-requires-clause-count : goal.add_all-requires-clause-count
 add_all-requires-clause-count g c κs within =
     let lent = c.deref_mut.ensures in
-    let kept = works_kept g.S.In.StageIn.pair g.S.In.StageIn.words _ _ c.consume.new.seats _ _ c.start_all.ensures lent.value lent.len c.consume.ensures.same in
+    let kept = works_kept g.S.In.StageIn.pair g.S.In.StageIn.words _ _ c.consume.new.workplaces _ _ c.start_all.ensures lent.value lent.len c.consume.ensures.same in
     let run = ap (λ (v : FinishedView g.row.S-In.Denot). v.run) c.requires.free.finished in
     sym (length-map {B = Work} _ _) ∙ ap length kept ∙ c.requires.ready.count ∙ sym (ap (λ (r : Recording). length r.writers) run)
 
@@ -56,7 +56,7 @@ returns-then-faulted-clause-cut g c =
 pub settle-accepted-requires-clause-rings : goal.settle-accepted-requires-clause-rings
 settle-accepted-requires-clause-rings g c κs within =
     let lent = c.deref_mut.ensures in
-    let kept = works_kept g.S.In.StageIn.pair g.S.In.StageIn.words _ _ c.consume.new.seats _ _ c.start_all.ensures lent.value lent.len c.consume.ensures.same in
+    let kept = works_kept g.S.In.StageIn.pair g.S.In.StageIn.words _ _ c.consume.new.workplaces _ _ c.start_all.ensures lent.value lent.len c.consume.ensures.same in
     zip_from_maps (λ (writer : WriterView g.row.S-In.Denot). g.S.In.StageIn.pair writer.end) g.S.Out.StageOut.pair _ _ (
     ap (map (λ (writer : WriterView g.row.S-In.Denot). g.S.In.StageIn.pair writer.end)) c.into_parts-drops.ensures.writers
     ∙ c.add_all.ensures.rings

@@ -1,6 +1,6 @@
 use Rattle.std.proofs.Common.{◌++◌, map, length, ap, ◌∙◌, arith}
 use Rattle.trace_session.specs.Workers.{work_of}
-use Rattle.trace_session.specs.Seats.{works_at}
+use Rattle.trace_session.specs.Workplaces.{works_at}
 use Rattle.arg_records.proofs.lemmas.Walks.{one_less}
 use Rattle.trace_session.proofs.Sessions.{seated, all_seated}
 use Rattle.trace_session.proofs.session.start_all.Goals as goal

@@ -1,18 +1,18 @@
--- What seats' workers work on, and their turns.
+-- What workplaces' workers work on, and their turns.
 use Rattle.std.proofs.Common.{◌≡◌, ℕ, zero, suc, ◌+◌, ◌<◌, ◌≤◌, List, [], ◌∷◌, get_or, length, refl, sym, subst, arith}
 use Rattle.std.specs.Prelude.{slice_set}
 use Rattle.std.specs.List.{AllZip}
 use Rattle.std.proofs.Math.Seq.{map-set_same}
-use Rattle.trace_session.specs.declared.seat.Seat.{Seat}
+use Rattle.trace_session.specs.declared.workplace.Workplace.{Workplace}
 use Rattle.trace_session.specs.Workers.{Work, work_of, IsSameWork}
-use Rattle.trace_session.specs.Seats.{worker_of, works_at}
+use Rattle.trace_session.specs.Workplaces.{worker_of, works_at}
 
--- where the worker of one seat works on as it did, all do
-pub works_still : {S G : Type 0} (pair : S → List ℕ) (words : S → ℕ) (seats : List (Seat S G)) (place : ℕ) (default new : Seat S G) → IsSameWork pair words (worker_of (get_or seats place default)) (worker_of new)
-    → works_at pair words (slice_set seats place new) ≡ works_at pair words seats
-works_still {S} {G} pair words seats place default new same =
-    let work : Seat S G → Work = λ seat. work_of pair words (worker_of seat) in
-    map-set_same work seats place new default same
+-- where the worker of one workplace works on as it did, all do
+pub works_still : {S G : Type 0} (pair : S → List ℕ) (words : S → ℕ) (workplaces : List (Workplace S G)) (place : ℕ) (default new : Workplace S G) → IsSameWork pair words (worker_of (get_or workplaces place default)) (worker_of new)
+    → works_at pair words (slice_set workplaces place new) ≡ works_at pair words workplaces
+works_still {S} {G} pair words workplaces place default new same =
+    let work : Workplace S G → Work = λ workplace. work_of pair words (worker_of workplace) in
+    map-set_same work workplaces place new default same
 
 -- ---- turns, one after the other
 

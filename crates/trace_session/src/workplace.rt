@@ -23,7 +23,7 @@ impl<S: StageIn, G> Promise<Worker<S, G>> for Returns<S, G> {
 
 /// Where a worker is.
 #[derive(Drop)]
-pub(crate) enum Seat<S: StageIn, G> {
+pub(crate) enum Workplace<S: StageIn, G> {
     /// It works in a thread of its own.
     Away(PromisedHandle<Worker<S, G>, Returns<S, G>>),
     /// It takes its turns here.
@@ -41,25 +41,25 @@ fn go<S: StageIn + Drop, G: Gate, R: Wait + Copy>(rt: R, worker: Worker<S, G>) -
     worker
 }
 
-impl<S: StageIn + Send + Drop + 'static, G: Gate + 'static> Seat<S, G> {
+impl<S: StageIn + Send + Drop + 'static, G: Gate + 'static> Workplace<S, G> {
     ghost use Rattle.trace_session.specs.Workers.{IsSameWork};
-    ghost use Rattle.trace_session.specs.Seats.{worker_of, TakesOneTurn};
+    ghost use Rattle.trace_session.specs.Workplaces.{worker_of, TakesOneTurn};
 
     /// Starts a thread for the worker. Where none can be started, the worker stays here.
-    pub(crate) fn start<R>(rt: R, worker: Worker<S, G>) -> Seat<S, G>
+    pub(crate) fn start<R>(rt: R, worker: Worker<S, G>) -> Workplace<S, G>
     where
         R: Threads + Wait + Copy + Send + 'static,
         ensures { IsSameWork S.pair S.words worker (worker_of result) }
     {
         let Ok(stays) = worker.stays.clone() else {
-            return Seat::Here(worker);
+            return Workplace::Here(worker);
         };
         let promise = Returns(Snapshot::of(&worker));
         match thread::spawn_with(&rt, promise, move || go(rt, worker)) {
-            Ok(handle) => Seat::Away(handle),
+            Ok(handle) => Workplace::Away(handle),
             Err(refused) => {
                 stays.store(true, Ordering::SeqCst);
-                Seat::Here((refused.value)())
+                Workplace::Here((refused.value)())
             }
         }
     }
@@ -70,8 +70,8 @@ impl<S: StageIn + Send + Drop + 'static, G: Gate + 'static> Seat<S, G> {
         ensures turn { TakesOneTurn S.at S.words S.seen S.looks S.closed self.old self.new result }
     {
         match self {
-            Seat::Away(_) => false,
-            Seat::Here(worker) => worker.turn() == Turn::Moved,
+            Workplace::Away(_) => false,
+            Workplace::Here(worker) => worker.turn() == Turn::Moved,
         }
     }
 
@@ -81,8 +81,8 @@ impl<S: StageIn + Send + Drop + 'static, G: Gate + 'static> Seat<S, G> {
         ensures finished { result.progress.closed ≡ true }
     {
         let mut worker = match self {
-            Seat::Away(handle) => handle.join(&rt),
-            Seat::Here(worker) => worker,
+            Workplace::Away(handle) => handle.join(&rt),
+            Workplace::Here(worker) => worker,
         };
         worker.work(rt);
         worker
