@@ -1,8 +1,8 @@
 -- What is held back between two places, and what is given of it.
 use Rattle.std.proofs.Common.{◌≡◌, ℕ, ◌≤◌, List, [], ◌∷◌, ◌++◌, refl, length, take, drop, sym, ap, ◌∙◌, append_assoc, length-drop, arith}
 use Rattle.std.proofs.lemmas.List.{length-take, length-take-le, drop_all, nil_from_length, take-append-drop, take_at}
-use Rattle.log_ends.specs.declared.held.Held.{Held}
-use Rattle.log_ends.specs.Helds.{held_back, GivesHeld}
+use Rattle.log_ends.specs.declared.backlog.Backlog.{Backlog}
+use Rattle.log_ends.specs.Backlogs.{held_back, GivesBacklog}
 
 pub nothing_back : (bytes : List ℕ) (given end : ℕ) → given ≡ end → drop given (take end bytes) ≡ []
 nothing_back bytes given end same = drop_all given (take end bytes) (omega (arith, length-take end bytes, same))
@@ -15,7 +15,7 @@ some_room : (bytes : List ℕ) → ¬ (bytes ≡ []) → 1 ≤ length bytes
 some_room [] some = absurd (some refl)
 some_room (byte ∷ bytes) some = omega arith
 
-module _ (old new : Held) (into into_after : List ℕ) (count : ℕ) (gives : GivesHeld old into count new into_after) where
+module _ (old new : Backlog) (into into_after : List ℕ) (count : ℕ) (gives : GivesBacklog old into count new into_after) where
   -- what was given is the front of what was held back
   given_front : take count into_after ≡ take count (held_back old)
   given_front =

@@ -13,8 +13,8 @@ use Rattle.roaming_consumer.specs.declared.visit.SinkFault.{SinkFault}
 use Rattle.roaming_consumer.specs.Roamers.{ends_of, is_marked, IsSameRun, ChangesOne, AppendsToLog}
 use Rattle.roaming_consumer.specs.Visits.{VisitTells, KeepsRing, Marks, IsWritten, VisitWrites}
 use Rattle.log_ends.specs.declared.consumer.ConsumerEnd.{ConsumerEnd}
-use Rattle.log_ends.specs.declared.held.Held.{Held}
-use Rattle.log_ends.specs.Helds.{held_back}
+use Rattle.log_ends.specs.declared.backlog.Backlog.{Backlog}
+use Rattle.log_ends.specs.Backlogs.{held_back}
 use Rattle.log_ends.specs.Consumers.{HasPut, waiting, EndGoesOn}
 use Rattle.log_ends.specs.Rounds.{VisitAnswers, IsVisited}
 
@@ -48,26 +48,26 @@ goes_on visit before after tells keeps = record {
   front = came_behind visit before after tells;
 }
 
-answers : (visit : Visit) (old new : Roamer WordRoamerEnd) (held held_after : Held) (writer : ℕ) (before after first last : WordRoamerEnd) → held_back held ≡ [] → IsWritten visit → Tells visit before after
-    → VisitWrites got ended loads old writer (Some (held_back held)) (Some (held_back held_after)) visit first last
-    → VisitAnswers visit before after (held_back held_after)
-answers (visits.Wrote n) old new held held_after writer before after first last none_yet written tells writes =
+answers : (visit : Visit) (old new : Roamer WordRoamerEnd) (backlog backlog_after : Backlog) (writer : ℕ) (before after first last : WordRoamerEnd) → held_back backlog ≡ [] → IsWritten visit → Tells visit before after
+    → VisitWrites got ended loads old writer (Some (held_back backlog)) (Some (held_back backlog_after)) visit first last
+    → VisitAnswers visit before after (held_back backlog_after)
+answers (visits.Wrote n) old new backlog backlog_after writer before after first last none_yet written tells writes =
     λ none.
     let put = ap length (same_Some _ _ writes.puts) in
     let joined = ap length writes.spelled.joined in
-    omega (arith, ap length none, put, length-append (held_back held) (writes.fragments ++ writes.extent), length-append writes.fragments writes.extent, joined)
-answers visits.Idle old new held held_after writer before after first last none_yet written tells writes = (
+    omega (arith, ap length none, put, length-append (held_back backlog) (writes.fragments ++ writes.extent), length-append writes.fragments writes.extent, joined)
+answers visits.Idle old new backlog backlog_after writer before after first last none_yet written tells writes = (
   record { none = tells.0; looked = inr tells.2 },
   tells.1,
-  same_Some (held_back held_after) (held_back held) writes ∙ none_yet,
+  same_Some (held_back backlog_after) (held_back backlog) writes ∙ none_yet,
 )
-answers visits.Ended old new held held_after writer before after first last none_yet written tells writes = (record { none = tells.0; looked = inl tells.1 }, tells.1)
-answers (visits.Discarded n) old new held held_after writer before after first last none_yet written tells writes = absurd written
+answers visits.Ended old new backlog backlog_after writer before after first last none_yet written tells writes = (record { none = tells.0; looked = inl tells.1 }, tells.1)
+answers (visits.Discarded n) old new backlog backlog_after writer before after first last none_yet written tells writes = absurd written
 
-pub stands_after : (old new : Roamer WordRoamerEnd) (held held_after : Held) → held_back held ≡ [] → AppendsToLog got ended old new (Some (held_back held)) (Some (held_back held_after))
-    → (wrote : List ℕ) → HasPut old wrote → HasPut new (wrote ++ held_back held_after)
-stands_after old new held held_after none appends wrote stands =
-    let same : held_back held_after ≡ appends.bytes = same_Some _ _ appends.put_is ∙ ap (λ (front : List ℕ). front ++ appends.bytes) none in
+pub stands_after : (old new : Roamer WordRoamerEnd) (backlog backlog_after : Backlog) → held_back backlog ≡ [] → AppendsToLog got ended old new (Some (held_back backlog)) (Some (held_back backlog_after))
+    → (wrote : List ℕ) → HasPut old wrote → HasPut new (wrote ++ held_back backlog_after)
+stands_after old new backlog backlog_after none appends wrote stands =
+    let same : held_back backlog_after ≡ appends.bytes = same_Some _ _ appends.put_is ∙ ap (λ (front : List ℕ). front ++ appends.bytes) none in
     subst (λ (bytes : List ℕ). HasPut new (wrote ++ bytes)) (sym same) (appends.stands wrote stands)
 
 marks_kept : (old new : Roamer WordRoamerEnd) (writer : ℕ) (outcome : Result Visit SinkFault) → Marks outcome writer old new → (other : ℕ) → is_marked old other ≡ true → is_marked new other ≡ true
@@ -81,8 +81,8 @@ pub visited : (old new : ConsumerEnd) (writer : ℕ) (visit : Visit) → waiting
     → ChangesOne (ends_of old.roamer) (ends_of new.roamer) writer (λ before after. Tells visit before after × Keeps before after)
     → IsWritten visit
     → Marks (Ok visit) writer old.roamer new.roamer
-    → ChangesOne (ends_of old.roamer) (ends_of new.roamer) writer (VisitWrites got ended loads old.roamer writer (Some (held_back old.held)) (Some (held_back new.held)) visit)
-    → AppendsToLog got ended old.roamer new.roamer (Some (held_back old.held)) (Some (held_back new.held))
+    → ChangesOne (ends_of old.roamer) (ends_of new.roamer) writer (VisitWrites got ended loads old.roamer writer (Some (held_back old.backlog)) (Some (held_back new.backlog)) visit)
+    → AppendsToLog got ended old.roamer new.roamer (Some (held_back old.backlog)) (Some (held_back new.backlog))
     → IsSameRun old.roamer new.roamer
     → new.writers ≡ old.writers → new.next ≡ old.next → new.over ≡ old.over
     → IsVisited old writer visit new
@@ -92,8 +92,8 @@ visited old new writer visit none changes written marks writes appends same_run 
   was = changes.was;
   now = changes.now;
   goes_on = goes_on visit changes.before changes.after changes.step.0 changes.step.1;
-  answers = answers visit old.roamer new.roamer old.held new.held writer changes.before changes.after writes.before writes.after none written changes.step.0 writes.step;
-  stands = stands_after old.roamer new.roamer old.held new.held none appends;
+  answers = answers visit old.roamer new.roamer old.backlog new.backlog writer changes.before changes.after writes.before writes.after none written changes.step.0 writes.step;
+  stands = stands_after old.roamer new.roamer old.backlog new.backlog none appends;
   marked = λ is. marks.written old.unfaulted (ap Ok is);
   kept = marks_kept old.roamer new.roamer writer (Ok visit) marks;
   same_run = same_run;

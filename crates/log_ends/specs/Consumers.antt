@@ -9,7 +9,7 @@ use Rattle.roaming_consumer.specs.Roamers.{ends_of, AreMarked, IsSameRun, Roamer
 use Rattle.log_ends.specs.declared.consumer.ConsumerEnd.{ConsumerEnd}
 use Rattle.log_ends.specs.declared.consumer.Pumped.{Pumped}
 use Rattle.log_ends.specs.declared.consumer.Pumped.TheVariants as pumped
-use Rattle.log_ends.specs.Helds.{held_back}
+use Rattle.log_ends.specs.Backlogs.{held_back}
 
 -- the roamer's calls have put these bytes
 abbrev pub HasPut : Roamer WordRoamerEnd → List ℕ → Type 0
@@ -21,7 +21,7 @@ consumer_ends consumer = ends_of consumer.roamer
 
 -- the bytes that weren't given
 abbrev pub waiting : ConsumerEnd → List ℕ
-waiting consumer = held_back consumer.held
+waiting consumer = held_back consumer.backlog
 
 -- These bytes were given so far. With those that wait behind them they are the log of the calls whose frames were taken.
 abbrev pub HasGiven : ConsumerEnd → List ℕ → Type 0

@@ -1,5 +1,5 @@
 pub mod Arguments
-pub mod Helds
+pub mod Backlogs
 pub mod Ends
 pub mod Rooms
 pub mod Texts

@@ -3,10 +3,10 @@
 ghost use Rattle.std.specs.Prelude.{◌≡◌, ◌<◌, true, false, [], length};
 ghost use Rattle.word_ring.specs.Ends.{WordRoamerEnd};
 ghost use Rattle.roaming_consumer.specs.Roamers.{ends_of, roamer_messages, is_begun, is_faulted, AreMarked, ArePlanned};
-ghost use Rattle.log_ends.specs.Helds.{held_back, room_len};
+ghost use Rattle.log_ends.specs.Backlogs.{held_back, room_len};
 ghost use Rattle.log_ends.specs.Rooms.{visit_len};
 
-use crate::held::Held;
+use crate::backlog::Backlog;
 use roaming_consumer::Roamer;
 use word_ring::WordOut;
 
@@ -15,7 +15,7 @@ use word_ring::WordOut;
 pub struct ConsumerEnd {
     pub(crate) roamer: Roamer<'static, WordOut>,
     /// What the last visit wrote that wasn't given.
-    pub(crate) held: Held,
+    pub(crate) backlog: Backlog,
     /// How many writers there are.
     pub(crate) writers: u32,
     /// The writer that is visited next.
@@ -26,9 +26,9 @@ pub struct ConsumerEnd {
     ghost begun: { is_begun roamer ≡ true },
     ghost unfaulted: { is_faulted roamer ≡ false },
     ghost planned: { ArePlanned (λ (end : WordRoamerEnd). end.plan) roamer },
-    ghost unrefused: { held.refused ≡ 0 },
-    ghost ended: { over ≡ true → AreMarked roamer × (held_back held ≡ []) },
-    ghost roomy: { visit_len (roamer_messages roamer) < room_len held },
+    ghost unrefused: { backlog.refused ≡ 0 },
+    ghost ended: { over ≡ true → AreMarked roamer × (held_back backlog ≡ []) },
+    ghost roomy: { visit_len (roamer_messages roamer) < room_len backlog },
 }
 
 /// What a pump gave.

@@ -2,10 +2,10 @@
 #![tactic(auto)]
 
 mod argument;
+mod backlog;
 mod consumer;
 mod end;
 mod giving;
-mod held;
 pub mod laws;
 mod opening;
 mod pumping;

@@ -6,8 +6,8 @@ ghost use Rattle.trace_text.specs.Dictionaries.{DictionaryText};
 ghost use Rattle.log_ends.specs.Openings.{IsSetupInRange, IsTextRefusedAt, IsOpened, open_fault};
 ghost use Rattle.log_ends.specs.Ends.{IsWriterFor};
 
+use crate::backlog::Backlog;
 use crate::consumer::ConsumerEnd;
-use crate::held::Held;
 use crate::rooms::room_of;
 use crate::session::SessionEnd;
 use crate::setup::Setup;
@@ -94,9 +94,9 @@ fn session_over(
     ) else {
         return Err(AllocError);
     };
-    let mut held = Held::make(alloc, room_of(dictionary))?;
+    let mut backlog = Backlog::make(alloc, room_of(dictionary))?;
     let left = writer_ends(alloc, writers, dictionary)?;
-    if roamer.begin(&mut held).is_err() {
+    if roamer.begin(&mut backlog).is_err() {
         unreachable!();
     }
     let session = SessionEnd {
@@ -106,7 +106,7 @@ fn session_over(
     };
     let consumer = ConsumerEnd {
         roamer,
-        held,
+        backlog,
         writers: setup.writers,
         next: 0,
         over: false,

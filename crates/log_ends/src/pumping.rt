@@ -19,7 +19,7 @@ impl ConsumerEnd {
         requires going { is_over self.old ≡ false }
         ensures { IsVisited self.old writer result self.new }
     {
-        match self.roamer.visit(writer, &mut self.held) {
+        match self.roamer.visit(writer, &mut self.backlog) {
             Ok(visit) => visit,
             Err(_) => unreachable!(),
         }
@@ -36,7 +36,7 @@ impl ConsumerEnd {
         let mut all_ended = true;
         for writer in first..writers {
             let visit = self.visit(writer);
-            if !self.held.is_empty() {
+            if !self.backlog.is_empty() {
                 self.next = writer + 1;
                 return false;
             }
@@ -54,11 +54,11 @@ impl ConsumerEnd {
         requires { is_over self.old ≡ false }
         ensures { Seeks self.old result self.new }
     {
-        if !self.held.is_empty() {
+        if !self.backlog.is_empty() {
             return false;
         }
         self.visit_from(self.next);
-        if !self.held.is_empty() {
+        if !self.backlog.is_empty() {
             return false;
         }
         self.visit_from(0)
@@ -77,7 +77,7 @@ impl ConsumerEnd {
             return Pumped::AtEnd;
         }
         let at_end = self.seek();
-        match self.held.give(into) {
+        match self.backlog.give(into) {
             0 => {
                 self.over = at_end;
                 if at_end {

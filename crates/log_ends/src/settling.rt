@@ -23,7 +23,7 @@ pub fn settle(writer: WriterEnd, consumer: ConsumerEnd, number: u32)
     } = writer;
     let ConsumerEnd {
         roamer,
-        held: _,
+        backlog: _,
         writers: _,
         next: _,
         over: _,

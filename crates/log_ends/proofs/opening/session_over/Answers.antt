@@ -17,9 +17,9 @@ writer_ends-requires c =
 
 pub unreachable-requires : goal.unreachable-requires
 unreachable-requires c =
-    let held = c.in_ok-held in
+    let backlog = c.in_ok-backlog in
     no_error c.begin.result
-    (header_succeeds held.held c.begin.new.sink (roamer_header c.in-Ok.roamer) c.begin.result held.ensures.empty held.ensures.unrefused (omega (arith, held.ensures.room, c.room_of.ensures)) c.begin.ensures.others c.begin.ensures.sent)
+    (header_succeeds backlog.backlog c.begin.new.sink (roamer_header c.in-Ok.roamer) c.begin.result backlog.ensures.empty backlog.ensures.unrefused (omega (arith, backlog.ensures.room, c.room_of.ensures)) c.begin.ensures.others c.begin.ensures.sent)
     (sym c.if-is_err.ensures.value)
 
 pub invariant_of-consumer-clause-counted : goal.invariant_of-consumer-clause-counted
@@ -43,7 +43,7 @@ returns c =
       messages_are = begun.same_run.messages ∙ started.run.0;
       clock_is = begun.same_run.clock ∙ started.run.1;
       batch_is = begun.same_run.batch ∙ started.run.2;
-      ungiven = stands_after c.in-Ok.roamer c.begin.new.self c.in_ok-held.held c.begin.new.sink c.in_ok-held.ensures.empty begun.wrote [] started.stands;
+      ungiven = stands_after c.in-Ok.roamer c.begin.new.self c.in_ok-backlog.backlog c.begin.new.sink c.in_ok-backlog.ensures.empty begun.wrote [] started.stands;
       first_is_next = refl;
       goes_on = refl;
     }

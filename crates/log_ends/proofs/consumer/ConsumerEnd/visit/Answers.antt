@@ -8,14 +8,14 @@ pub invariant_of-self-clause-unfaulted : goal.invariant_of-self-clause-unfaulted
 invariant_of-self-clause-unfaulted c =
     let e = c.visit.ensures in let self = c.args.self.now in
     stays_unfaulted self.roamer c.visit.new.self c.visit.result
-    (visit_succeeds self.roamer c.visit.new.self self.held c.visit.new.sink c.args.writer c.visit.result c.requires.none self.unrefused self.roomy e.others e.cause e.stops)
+    (visit_succeeds self.roamer c.visit.new.self self.backlog c.visit.new.sink c.args.writer c.visit.result c.requires.none self.unrefused self.roomy e.others e.cause e.stops)
     e.ok self.unfaulted
 
 pub invariant_of-self-clause-unrefused : goal.invariant_of-self-clause-unrefused
 invariant_of-self-clause-unrefused c =
     let e = c.visit.ensures in let self = c.args.self.now in
-    stays_unrefused self.held c.visit.new.sink c.visit.result
-    (visit_succeeds self.roamer c.visit.new.self self.held c.visit.new.sink c.args.writer c.visit.result c.requires.none self.unrefused self.roomy e.others e.cause e.stops)
+    stays_unrefused self.backlog c.visit.new.sink c.visit.result
+    (visit_succeeds self.roamer c.visit.new.self self.backlog c.visit.new.sink c.args.writer c.visit.result c.requires.none self.unrefused self.roomy e.others e.cause e.stops)
     e.counted self.unrefused
 
 pub invariant_of-self-clause-roomy : goal.invariant_of-self-clause-roomy

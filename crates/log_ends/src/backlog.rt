@@ -9,7 +9,7 @@ use std::alloc::{AllocError, Global};
 /// A sink of bytes that a caller takes away. All its memory is taken when it is made, and all of it is free again once
 /// nothing waits.
 #[derive(Drop)]
-pub(crate) struct Held {
+pub(crate) struct Backlog {
     room: Vec<u8>,
     /// Up to which place the room is filled.
     end: usize,
@@ -22,16 +22,16 @@ pub(crate) struct Held {
     ghost filled: { 1 ≤ refused → end ≡ vec_len room },
 }
 
-impl Held {
-    ghost use Rattle.log_ends.specs.Helds.{held_back, room_len, GivesHeld};
+impl Backlog {
+    ghost use Rattle.log_ends.specs.Backlogs.{held_back, room_len, GivesBacklog};
 
     /// An empty one, with room for so many bytes.
-    pub(crate) fn make(alloc: Global, room: usize) -> Result<Held, AllocError>
-        ensures empty { IfOk result (λ held. held_back held ≡ []) }
-        ensures unrefused { IfOk result (λ held. held.refused ≡ 0) }
-        ensures room { IfOk result (λ held. room_len held ≡ room) }
+    pub(crate) fn make(alloc: Global, room: usize) -> Result<Backlog, AllocError>
+        ensures empty { IfOk result (λ backlog. held_back backlog ≡ []) }
+        ensures unrefused { IfOk result (λ backlog. backlog.refused ≡ 0) }
+        ensures room { IfOk result (λ backlog. room_len backlog ≡ room) }
     {
-        Ok(Held {
+        Ok(Backlog {
             room: Vec::from_elem(alloc, 0, room)?,
             end: 0,
             given: 0,
@@ -48,7 +48,7 @@ impl Held {
 
     /// Gives as many bytes as there are, and as fit.
     pub(crate) fn give(&mut self, into: &mut [u8]) -> usize
-        ensures gives { GivesHeld self.old into.old result self.new into.new }
+        ensures gives { GivesBacklog self.old into.old result self.new into.new }
         ensures bound { result < 2 ^ 63 }
     {
         let count = into.len().min(self.end - self.given);
@@ -65,10 +65,10 @@ impl Held {
     }
 }
 
-impl Sink for Held {
+impl Sink for Backlog {
     ghost use Rattle.std.specs.Prelude.{Some, refl};
     ghost use Rattle.std.proofs.Common.{◌∙◌};
-    ghost use Rattle.log_ends.specs.Helds.{held_back, IsSameRoom};
+    ghost use Rattle.log_ends.specs.Backlogs.{held_back, IsSameRoom};
 
     ghost put = { λ s. Some (held_back s) };
 
