@@ -18,7 +18,7 @@ const NO_TEXT: &[u8] = b"\0";
 
 /// An argument of a call: a number in a word, or a text.
 #[repr(C)]
-pub struct Argument<'a> {
+pub struct CArgument<'a> {
     /// Its kind.
     pub tag: u8,
     /// The number, which stands in two's complement where it is signed.
@@ -27,7 +27,7 @@ pub struct Argument<'a> {
     pub text: &'a [u8],
 }
 
-impl printf_grammar::Argument for Argument<'_> {
+impl printf_grammar::Argument for CArgument<'_> {
     ghost use Rattle.log_ends.specs.Arguments.{argument_given};
 
     ghost value = { argument_given };

@@ -13,7 +13,7 @@ ghost use Rattle.printf_grammar.specs.Types.{Types, Fits, FitsType};
 ghost use Rattle.direct_printf.specs.Fields.{Text};
 ghost use Rattle.word_ring.specs.Ends.{WordRoamerEnd};
 ghost use Rattle.roaming_consumer.specs.Roamers.{roamer_progress, IsLogOfEnds};
-ghost use Rattle.log_ends.specs.declared.argument.Argument.{Argument};
+ghost use Rattle.log_ends.specs.declared.argument.CArgument.{CArgument};
 ghost use Rattle.log_ends.specs.declared.argument.TheConstants.{SIGNED, UNSIGNED, TEXT};
 ghost use Rattle.log_ends.specs.declared.consumer.ConsumerEnd.{ConsumerEnd};
 ghost use Rattle.log_ends.specs.declared.session.SessionEnd.{SessionEnd};
@@ -42,7 +42,7 @@ pub fn given_bytes_are_of_a_log()
 /// The kinds of arguments have these numbers, and an argument of no kind fits no conversion.
 pub fn kinds_of_arguments()
     ensures numbers { (SIGNED ≡ 0) × (UNSIGNED ≡ 1) × (TEXT ≡ 2) }
-    ensures none { (argument : Argument) (kind : ArgType) → argument.tag ≢ SIGNED → argument.tag ≢ UNSIGNED
+    ensures none { (argument : CArgument) (kind : ArgType) → argument.tag ≢ SIGNED → argument.tag ≢ UNSIGNED
         → argument.tag ≢ TEXT → FitsType (argument_given argument) kind → ⊥ }
 {}
 

@@ -17,7 +17,7 @@ mod slots;
 mod texts;
 mod writer;
 
-pub use argument::{Argument, SIGNED, TEXT, UNSIGNED};
+pub use argument::{CArgument, SIGNED, TEXT, UNSIGNED};
 pub use consumer::{ConsumerEnd, Pumped};
 pub use end::End;
 pub use opening::{OpenFault, open};

@@ -8,7 +8,7 @@ ghost use Rattle.log_ends.specs.Texts.{text_limit};
 ghost use Rattle.log_ends.specs.Consumers.{Pumps, IfGave};
 ghost use Rattle.log_ends.specs.Slots.{end_in, session_in, OnWriter, OnSession, OnConsumer, IsAnswered, GivesInto, OpensInto};
 
-use crate::argument::Argument;
+use crate::argument::CArgument;
 use crate::consumer::Pumped;
 use crate::end::End;
 use crate::opening::{OpenFault, open};
@@ -90,7 +90,7 @@ pub fn log_call(
     writer: &mut Slot,
     stamp: u64,
     id: u32,
-    args: &[Argument<'_>],
+    args: &[CArgument<'_>],
 ) -> Option<Result<(), LogFault>>
     ensures { OnWriter (end_in writer.old) (end_in writer.new) (λ old new.
         IsAnswered result (λ outcome. LogsCall old stamp id (map argument_given args.now) outcome new)) (result ≡ None) }

@@ -3,7 +3,7 @@
 ghost use Rattle.std.specs.Prelude.{◌≡◌, ◌≤◌, map, false, Err};
 ghost use Rattle.ring_core.specs.Plans.{types_by_id};
 
-use crate::argument::Argument;
+use crate::argument::CArgument;
 use log_dictionary::Dictionary;
 use log_session::{JudgedRefusal, Writer};
 use ring_core::{Full, MAX_POSITION, OFFER_ROOM};
@@ -44,7 +44,7 @@ impl WriterEnd {
     /// # Errors
     ///
     /// Nothing was logged.
-    pub fn log(&mut self, stamp: u64, id: u32, args: &[Argument<'_>]) -> Result<(), LogFault>
+    pub fn log(&mut self, stamp: u64, id: u32, args: &[CArgument<'_>]) -> Result<(), LogFault>
         ensures { LogsCall self.old stamp id (map argument_given args.now) result self.new }
     {
         if self.writer.is_closed() {
@@ -67,7 +67,7 @@ impl WriterEnd {
 
     /// What is told of a call that is too early or has no words left to count: that it doesn't fit comes before both.
     #[cold]
-    fn refuse(&self, stamp: u64, id: u32, args: &[Argument<'_>]) -> LogFault
+    fn refuse(&self, stamp: u64, id: u32, args: &[CArgument<'_>]) -> LogFault
         requires unfinished { is_finished self.now ≡ false }
         requires refused { writer_stamp self.now ≤ stamp → IsWornOut self.now }
         ensures { LogsCall self.now stamp id (map argument_given args.now) (Err result) self.now }

@@ -31,7 +31,7 @@ use crate::answers::{
 use crate::handle::Handle;
 use log_dictionary::Clock;
 use log_ends::{
-    Argument, Setup, end_session, finish_writer, give_writer, log_call, open_into, pump_log,
+    CArgument, Setup, end_session, finish_writer, give_writer, log_call, open_into, pump_log,
     text_limit_of,
 };
 use std::alloc::Global;
@@ -125,7 +125,7 @@ pub extern "C" fn nanolog_log(
     writer: &mut Handle,
     stamp: u64,
     id: u32,
-    args: &[Argument<'_>],
+    args: &[CArgument<'_>],
     need: &mut u64,
     room: &mut u64,
 ) -> i32
