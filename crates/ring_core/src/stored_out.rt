@@ -21,7 +21,7 @@ use thiserror::Error;
 
 /// One answer that is stored.
 #[derive(Debug, Drop)]
-enum Entry {
+enum StoredAnswer {
     /// The words of a frame.
     Frame(Vec<u64>),
     /// There is no frame just then.
@@ -65,7 +65,7 @@ pub struct StoredOut<'d> {
     dictionary: &'d Dictionary,
     first: u64,
     last: u64,
-    entries: Vec<Entry>,
+    answers: Vec<StoredAnswer>,
     next: usize,
     closed: bool,
     ended: bool,
@@ -101,7 +101,7 @@ impl<'d> StoredOut<'d> {
             dictionary,
             first,
             last: first,
-            entries: Vec::new(alloc),
+            answers: Vec::new(alloc),
             next: 0,
             closed: false,
             ended: false,
@@ -131,8 +131,8 @@ impl<'d> StoredOut<'d> {
         if stamp < self.last {
             return Err(StoreFault::NoCall);
         }
-        let frame = Vec::from_slice(*self.entries.allocator(), &words[..len])?;
-        self.entries.push(Entry::Frame(frame))?;
+        let frame = Vec::from_slice(*self.answers.allocator(), &words[..len])?;
+        self.answers.push(StoredAnswer::Frame(frame))?;
         self.last = stamp;
         Ok(())
     }
@@ -146,7 +146,7 @@ impl<'d> StoredOut<'d> {
         if self.closed {
             return Err(StoreFault::Closed);
         }
-        self.entries.push(Entry::Pause)?;
+        self.answers.push(StoredAnswer::Pause)?;
         Ok(())
     }
 
@@ -167,7 +167,7 @@ impl<'d> StoredOut<'d> {
         ensures ended { self.old.ended ≡ true → result ≡ Taken.Ended }
         ensures loads_never_fall { self.old.loads ≤ self.new.loads }
     {
-        if self.next >= self.entries.len() {
+        if self.next >= self.answers.len() {
             if self.closed {
                 self.ended = true;
                 return Taken::Ended;
@@ -175,14 +175,14 @@ impl<'d> StoredOut<'d> {
             self.loads = self.loads.saturating_add(1);
             return Taken::Nothing;
         }
-        let entry = &self.entries[self.next];
+        let answer = &self.answers[self.next];
         self.next += 1;
-        match entry {
-            Entry::Frame(words) => {
+        match answer {
+            StoredAnswer::Frame(words) => {
                 copy_words(words.as_slice(), into);
                 Taken::Frame(words.len())
             }
-            Entry::Pause => {
+            StoredAnswer::Pause => {
                 self.loads = self.loads.saturating_add(1);
                 Taken::Nothing
             }
