@@ -2,8 +2,8 @@
 use Rattle.std.proofs.Common.{◌≡◌, ℕ, true, false, List, [], ◌∷◌, ◌++◌, sym, ap, ◌∙◌, subst, true≢false}
 use Rattle.std.specs.Prelude.{None}
 use Rattle.ring_core.specs.Plans.{Plan, Lawful}
-use Rattle.ring_machine.specs.declared.steps.Step.{Step as StepKind}
-use Rattle.ring_machine.specs.declared.steps.Step.TheVariants as steps
+use Rattle.ring_machine.specs.declared.steps.StepKind.{StepKind}
+use Rattle.ring_machine.specs.declared.steps.StepKind.TheVariants as steps
 use Rattle.ring_machine.specs.Streams.{Walk, is_whole_frame, is_wrap_mark, onward}
 use Rattle.ring_machine.specs.RingStates.{RingState, written, RingOk, RingLawful}
 use Rattle.ring_machine.specs.Steps.{barred, after_step, stored, is_store}

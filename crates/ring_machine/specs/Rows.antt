@@ -1,7 +1,7 @@
 -- A worked schedule of a ring, and what is barred in it.
 use Rattle.std.specs.Prelude.{ℕ, List, [], ◌∷◌, Option}
-use Rattle.ring_machine.specs.declared.steps.Step.{Step as StepKind}
-use Rattle.ring_machine.specs.declared.steps.Step.TheVariants as steps
+use Rattle.ring_machine.specs.declared.steps.StepKind.{StepKind}
+use Rattle.ring_machine.specs.declared.steps.StepKind.TheVariants as steps
 use Rattle.ring_machine.specs.declared.steps.Barred.{Barred}
 use Rattle.ring_machine.specs.RingStates.{RingState, written, taken, new_ring}
 use Rattle.ring_machine.specs.Steps.{after_step, barred}

@@ -5,8 +5,8 @@ use Rattle.arg_records.specs.declared.frame.TheConstants.{MAX_FRAME_WORDS}
 use Rattle.log_dictionary.specs.declared.dictionary.TheConstants.{MAX_MESSAGES}
 use Rattle.ring_machine.specs.declared.records.WriterRecord.{WriterRecord}
 use Rattle.ring_machine.specs.declared.records.RoamerRecord.{RoamerRecord}
-use Rattle.ring_machine.specs.declared.steps.Step.{Step as StepKind}
-use Rattle.ring_machine.specs.declared.steps.Step.TheVariants as steps
+use Rattle.ring_machine.specs.declared.steps.StepKind.{StepKind}
+use Rattle.ring_machine.specs.declared.steps.StepKind.TheVariants as steps
 use Rattle.ring_machine.specs.declared.steps.Event.{Event}
 use Rattle.ring_machine.specs.declared.steps.Barred.{Barred}
 use Rattle.ring_machine.specs.declared.steps.Barred.TheVariants as bars

@@ -5,8 +5,8 @@
 ghost use Rattle.std.specs.Prelude.{◌≡◌, ◌≢◌, ◌≤◌, ◌++◌, ◌∷◌, [], ℕ, true, false, List, None, Some, length, replicate, slice_get, All};
 ghost use Rattle.ring_core.specs.Plans.{Plan, BeginsWith, Lawful};
 ghost use Rattle.ring_machine.specs.declared.rings.TheConstants.{MAX_RINGS};
-ghost use Rattle.ring_machine.specs.declared.steps.Step.{Step as StepKind};
-ghost use Rattle.ring_machine.specs.declared.steps.Step.TheVariants as steps;
+ghost use Rattle.ring_machine.specs.declared.steps.StepKind.{StepKind};
+ghost use Rattle.ring_machine.specs.declared.steps.StepKind.TheVariants as steps;
 ghost use Rattle.ring_machine.specs.declared.steps.Event.{Event};
 ghost use Rattle.ring_machine.specs.declared.steps.Barred.TheVariants as bars;
 ghost use Rattle.ring_machine.specs.Streams.{is_whole_frame, IsStream};

@@ -12,5 +12,5 @@ mod view;
 
 pub use records::{RoamerRecord, WriterRecord};
 pub use rings::{MAX_RINGS, Rings};
-pub use steps::{Barred, Event, Step};
+pub use steps::{Barred, Event, StepKind};
 pub use view::RingView;

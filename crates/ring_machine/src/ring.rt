@@ -8,7 +8,7 @@ ghost use Rattle.ring_machine.specs.RingStates.{new_ring, written, taken, RingOk
 ghost use Rattle.ring_machine.specs.Steps.{first_bar, store_tests, writer_bar, roamer_bar, barred, stored, after_step};
 ghost use Rattle.ring_machine.specs.Rings.{view_of};
 
-use crate::steps::{Barred, Step};
+use crate::steps::{Barred, StepKind};
 use crate::track::Track;
 use crate::view::RingView;
 use arg_records::MAX_FRAME_WORDS;
@@ -100,7 +100,7 @@ impl Ring {
     /// Why the writer can't skip.
     fn skip_barred(&self) -> Option<Barred>
         requires { (written self.now).at ≤ MAX_POSITION }
-        ensures { result ≡ writer_bar self.now.size self.now.writer Step.Skip }
+        ensures { result ≡ writer_bar self.now.size self.now.writer StepKind.Skip }
     {
         if self.closed {
             return Some(Barred::Closed);
@@ -120,7 +120,7 @@ impl Ring {
 
     /// Why the writer can't publish.
     fn publish_barred(&self) -> Option<Barred>
-        ensures { result ≡ writer_bar self.now.size self.now.writer Step.Publish }
+        ensures { result ≡ writer_bar self.now.size self.now.writer StepKind.Publish }
     {
         if self.closed {
             return Some(Barred::Closed);
@@ -136,7 +136,7 @@ impl Ring {
 
     /// Why the writer can't close the ring.
     fn close_barred(&self) -> Option<Barred>
-        ensures { result ≡ writer_bar self.now.size self.now.writer Step.Close }
+        ensures { result ≡ writer_bar self.now.size self.now.writer StepKind.Close }
     {
         if self.closed {
             return Some(Barred::Closed);
@@ -149,7 +149,7 @@ impl Ring {
 
     /// Why the roamer can't release.
     fn release_barred(&self) -> Option<Barred>
-        ensures { result ≡ roamer_bar self.now.size self.now.roamer Step.Release }
+        ensures { result ≡ roamer_bar self.now.size self.now.roamer StepKind.Release }
     {
         if self.read.is_inside() {
             return Some(Barred::MidFrame);
@@ -161,28 +161,28 @@ impl Ring {
     }
 
     /// Why the step can't be made.
-    pub(crate) fn barred(&self, step: Step) -> Option<Barred>
+    pub(crate) fn barred(&self, step: StepKind) -> Option<Barred>
         requires { (written self.now).at ≤ MAX_POSITION }
         ensures { result ≡ barred self.now step }
     {
         match step {
-            Step::Look if self.closed => Some(Barred::Closed),
-            Step::Look => None,
-            Step::Store(_) if self.closed => Some(Barred::Closed),
-            Step::Store(word) => self.store_barred(word),
-            Step::Skip => self.skip_barred(),
-            Step::Publish => self.publish_barred(),
-            Step::Close => self.close_barred(),
-            Step::Load => None,
-            Step::Read if self.loaded == self.read.at() => Some(Barred::Empty),
-            Step::Read => None,
-            Step::Release => self.release_barred(),
+            StepKind::Look if self.closed => Some(Barred::Closed),
+            StepKind::Look => None,
+            StepKind::Store(_) if self.closed => Some(Barred::Closed),
+            StepKind::Store(word) => self.store_barred(word),
+            StepKind::Skip => self.skip_barred(),
+            StepKind::Publish => self.publish_barred(),
+            StepKind::Close => self.close_barred(),
+            StepKind::Load => None,
+            StepKind::Read if self.loaded == self.read.at() => Some(Barred::Empty),
+            StepKind::Read => None,
+            StepKind::Release => self.release_barred(),
         }
     }
 
     /// The writer looks.
     fn look(&mut self)
-        ensures { self.new ≡ after_step self.old Step.Look }
+        ensures { self.new ≡ after_step self.old StepKind.Look }
     {
         self.seen = self.released;
         self.looks = self.looks.saturating_add(1);
@@ -208,7 +208,7 @@ impl Ring {
     fn publish(&mut self)
         requires not_closed { self.old.writer.closed ≡ false }
         requires whole { (written self.old).part ≡ [] }
-        ensures { self.new ≡ after_step self.old Step.Publish }
+        ensures { self.new ≡ after_step self.old StepKind.Publish }
     {
         self.published = self.stored.at();
         self.sent = self.stored.frames();
@@ -219,7 +219,7 @@ impl Ring {
     fn close(&mut self)
         requires not_closed { self.old.writer.closed ≡ false }
         requires published { self.old.writer.published ≡ (written self.old).at }
-        ensures { self.new ≡ after_step self.old Step.Close }
+        ensures { self.new ≡ after_step self.old StepKind.Close }
     {
         self.closed = true;
         self.writer_steps = self.writer_steps.saturating_add(1);
@@ -227,7 +227,7 @@ impl Ring {
 
     /// The roamer loads the producer word.
     fn load(&mut self)
-        ensures { self.new ≡ after_step self.old Step.Load }
+        ensures { self.new ≡ after_step self.old StepKind.Load }
     {
         self.loaded = self.published;
         self.learnt = self.closed;
@@ -239,7 +239,7 @@ impl Ring {
     fn read(&mut self) -> Result<(), AllocError>
         requires left { self.old.roamer.loaded ≢ (taken self.old).at }
         requires position { (written self.old).at ≤ MAX_POSITION }
-        ensures ok { OnOk result (self.new ≡ after_step self.old Step.Read) }
+        ensures ok { OnOk result (self.new ≡ after_step self.old StepKind.Read) }
         ensures err { OnErr result (self.new ≡ self.old) }
     {
         let word = self.words[(self.read.at() % self.size) as usize];
@@ -251,28 +251,28 @@ impl Ring {
     /// The roamer releases all that it has read.
     fn release(&mut self)
         requires whole { (taken self.old).part ≡ [] }
-        ensures { self.new ≡ after_step self.old Step.Release }
+        ensures { self.new ≡ after_step self.old StepKind.Release }
     {
         self.released = self.read.at();
         self.roamer_steps = self.roamer_steps.saturating_add(1);
     }
 
     /// Makes a step that isn't barred.
-    pub(crate) fn go(&mut self, step: Step) -> Result<(), AllocError>
+    pub(crate) fn go(&mut self, step: StepKind) -> Result<(), AllocError>
         requires open { barred self.old step ≡ None }
         requires position { (written self.old).at ≤ MAX_POSITION }
         ensures ok { OnOk result (self.new ≡ after_step self.old step) }
         ensures err { OnErr result (self.new ≡ self.old) }
     {
         match step {
-            Step::Look => self.look(),
-            Step::Store(word) => return self.store(word),
-            Step::Skip => return self.store(0),
-            Step::Publish => self.publish(),
-            Step::Close => self.close(),
-            Step::Load => self.load(),
-            Step::Read => return self.read(),
-            Step::Release => self.release(),
+            StepKind::Look => self.look(),
+            StepKind::Store(word) => return self.store(word),
+            StepKind::Skip => return self.store(0),
+            StepKind::Publish => self.publish(),
+            StepKind::Close => self.close(),
+            StepKind::Load => self.load(),
+            StepKind::Read => return self.read(),
+            StepKind::Release => self.release(),
         }
         Ok(())
     }

@@ -7,7 +7,7 @@ use thiserror::Error;
 
 /// One step of one end of a ring. Each loads or stores one word.
 #[derive(Clone, Copy, Debug, PartialEq, Eq)]
-pub enum Step {
+pub enum StepKind {
     /// The writer loads the consumer word: it sees how far its words are released.
     Look,
     /// The writer stores a word of a frame.
@@ -32,7 +32,7 @@ pub struct Event {
     /// The number of the ring, from 0.
     pub ring: u32,
     /// What happens there.
-    pub step: Step,
+    pub step: StepKind,
 }
 
 /// Why a step was not made. Where several causes hold, the first of them is given.

@@ -2,7 +2,7 @@
 
 use crate::expecting::expect;
 use ring_core::StageFault;
-use ring_machine::{Barred, Event, RingView, Rings, Step};
+use ring_machine::{Barred, Event, RingView, Rings, StepKind};
 use std::test::Fail;
 
 /// What is shown of a ring.
@@ -14,7 +14,7 @@ fn view(rings: &Rings, ring: u32) -> Result<RingView, Fail> {
 }
 
 /// Makes a step of a ring.
-fn make_step(rings: &mut Rings, ring: u32, step: Step) -> Result<Result<(), Barred>, Fail> {
+fn make_step(rings: &mut Rings, ring: u32, step: StepKind) -> Result<Result<(), Barred>, Fail> {
     if !rings.has_room(ring) {
         return Err("the positions are used up".into());
     }
@@ -25,7 +25,7 @@ fn make_step(rings: &mut Rings, ring: u32, step: Step) -> Result<Result<(), Barr
 #[test]
 fn rings_apart(rt: HostRuntime) -> Result<(), Fail> {
     let mut rings = Rings::make(rt.alloc(), 2, 1_024)?;
-    let store = Step::Store(3);
+    let store = StepKind::Store(3);
     expect(&rt, &make_step(&mut rings, 1, store)?, &Ok(()));
     expect(&rt, &view(&rings, 0)?.written, &0);
     expect(&rt, &view(&rings, 1)?.written, &1);

@@ -14,8 +14,8 @@ use Rattle.log_dictionary.proofs.lemmas.Lines.{none_by_test, decimal_none}
 use Rattle.log_dictionary.proofs.lemmas.NumberLaws.{natural_decimal, decimal_natural}
 use Rattle.session_options.specs.declared.limits.TheConstants.{MIN_RING}
 use Rattle.ring_machine.specs.declared.rings.TheConstants.{MAX_RINGS}
-use Rattle.ring_machine.specs.declared.steps.Step.{Step as StepKind}
-use Rattle.ring_machine.specs.declared.steps.Step.TheVariants as steps
+use Rattle.ring_machine.specs.declared.steps.StepKind.{StepKind}
+use Rattle.ring_machine.specs.declared.steps.StepKind.TheVariants as steps
 use Rattle.schedule_text.specs.declared.head_line.TheConstants.{MAX_WORDS}
 use Rattle.schedule_text.specs.StepLines.{step_name, step_word, step_line, FitsWord, FitsStep}
 use Rattle.schedule_text.specs.Lines.{number_at, sizes_within, sizes_of, sizes_at, plain_step, NumberedStep, store_at, plain_at, step_with, step_at, first_line_says}

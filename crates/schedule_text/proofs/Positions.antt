@@ -6,8 +6,8 @@ use Rattle.std.proofs.lemmas.List.Elements.{All-set, All-replicate, All-weaker}
 use Rattle.session_options.specs.declared.limits.TheConstants.{MIN_RING}
 use Rattle.ring_core.specs.declared.limits.TheConstants.{MAX_POSITION}
 use Rattle.ring_machine.specs.declared.rings.TheConstants.{MAX_RINGS}
-use Rattle.ring_machine.specs.declared.steps.Step.{Step as StepKind}
-use Rattle.ring_machine.specs.declared.steps.Step.TheVariants as steps
+use Rattle.ring_machine.specs.declared.steps.StepKind.{StepKind}
+use Rattle.ring_machine.specs.declared.steps.StepKind.TheVariants as steps
 use Rattle.ring_machine.specs.declared.steps.Event.{Event}
 use Rattle.ring_machine.specs.Streams.{Walk, start, is_wrap_mark, is_whole_frame, skipped, framed, parted, onward, walk_from}
 use Rattle.ring_machine.specs.RingStates.{RingState, new_ring, written}

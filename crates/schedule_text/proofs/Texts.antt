@@ -6,7 +6,7 @@ use Rattle.std.proofs.lemmas.List.{drop_all}
 use Rattle.nl_io.specs.Content.{Told}
 use Rattle.nl_io.specs.TextWriters.{Carries, IsCutOff}
 use Rattle.nl_io.proofs.lemmas.TextWriters.{carries_held, carries_more, cut_more}
-use Rattle.ring_machine.specs.declared.steps.Step.{Step as StepKind}
+use Rattle.ring_machine.specs.declared.steps.StepKind.{StepKind}
 use Rattle.ring_machine.specs.declared.view.RingView.{RingView}
 use Rattle.ring_machine.specs.RingStates.{RingState}
 use Rattle.ring_machine.specs.Rings.{view_of}

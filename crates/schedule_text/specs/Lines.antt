@@ -5,8 +5,8 @@ use Rattle.log_dictionary.specs.Numbers.{natural_of, if_small}
 use Rattle.log_dictionary.specs.Fields.{◌>>=◌, after, split_at_first}
 use Rattle.session_options.specs.declared.limits.TheConstants.{MIN_RING}
 use Rattle.ring_machine.specs.declared.rings.TheConstants.{MAX_RINGS}
-use Rattle.ring_machine.specs.declared.steps.Step.{Step as StepKind}
-use Rattle.ring_machine.specs.declared.steps.Step.TheVariants as steps
+use Rattle.ring_machine.specs.declared.steps.StepKind.{StepKind}
+use Rattle.ring_machine.specs.declared.steps.StepKind.TheVariants as steps
 use Rattle.schedule_text.specs.declared.head_line.TheConstants.{MAX_WORDS}
 
 -- the number below 2^64 that the field spells

@@ -1,7 +1,7 @@
 -- How steps are spelled.
 use Rattle.std.specs.Prelude.{ℕ, ◌<◌, ◌^◌, List, [], ◌∷◌, ◌++◌, codes, decimal, ⊤}
-use Rattle.ring_machine.specs.declared.steps.Step.{Step as StepKind}
-use Rattle.ring_machine.specs.declared.steps.Step.TheVariants as steps
+use Rattle.ring_machine.specs.declared.steps.StepKind.{StepKind}
+use Rattle.ring_machine.specs.declared.steps.StepKind.TheVariants as steps
 use Rattle.ring_machine.specs.declared.steps.Event.{Event}
 
 -- the name of a step

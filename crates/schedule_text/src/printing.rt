@@ -10,21 +10,21 @@ ghost use Rattle.schedule_text.specs.Judged.{event_of};
 
 use itoa::Buffer;
 use nl_io::{Failed, Sink, TextWriter};
-use ring_machine::{RingView, Rings, Step};
+use ring_machine::{RingView, Rings, StepKind};
 
 /// The name of a step.
-fn step_name(step: Step) -> &'static str
+fn step_name(step: StepKind) -> &'static str
     ensures { result.now ≡ step_name step }
 {
     match step {
-        Step::Look => "look",
-        Step::Store(_) => "store",
-        Step::Skip => "skip",
-        Step::Publish => "publish",
-        Step::Close => "close",
-        Step::Load => "load",
-        Step::Read => "read",
-        Step::Release => "release",
+        StepKind::Look => "look",
+        StepKind::Store(_) => "store",
+        StepKind::Skip => "skip",
+        StepKind::Publish => "publish",
+        StepKind::Close => "close",
+        StepKind::Load => "load",
+        StepKind::Read => "read",
+        StepKind::Release => "release",
     }
 }
 
@@ -34,7 +34,7 @@ fn put_event<O: Sink>(
     writer: &mut TextWriter,
     number: u64,
     ring: u64,
-    step: Step,
+    step: StepKind,
 ) -> Result<(), Failed>
     ensures ok { OnOk result (Carries (writer.old ++ event_text number (event_of (ring, step))) (O.put out.old)
         (O.put out.new) writer.new) }
@@ -102,7 +102,7 @@ pub(crate) fn put_step<O: Sink>(
     writer: &mut TextWriter,
     number: u64,
     ring: u64,
-    step: Step,
+    step: StepKind,
     view: &RingView,
 ) -> Result<(), Failed>
     ensures ok { OnOk result (Carries (writer.old ++ (event_text number (event_of (ring, step))

@@ -15,19 +15,19 @@ ghost use Rattle.schedule_text.specs.Playing.{Reached, StopsInHead};
 use crate::cause::{ScheduleCause, told_bar};
 use crate::playing::{MAX_STEPS, ScheduleFault};
 use crate::step_line::read_step;
-use ring_machine::{Barred, Event, RingView, Rings, Step};
+use ring_machine::{Barred, Event, RingView, Rings, StepKind};
 
 /// A step that was made, what is shown of its ring behind it, and the lines behind its own.
 #[derive(Clone, Copy)]
 pub(crate) struct Made<'a> {
     pub(crate) ring: u64,
-    pub(crate) step: Step,
+    pub(crate) step: StepKind,
     pub(crate) view: RingView,
     pub(crate) rest: &'a [u8],
 }
 
 /// Makes a step, and answers what is shown of its ring behind it.
-fn make_step(rings: &mut Rings, ring: u64, step: Step) -> Result<RingView, Barred>
+fn make_step(rings: &mut Rings, ring: u64, step: StepKind) -> Result<RingView, Barred>
     requires few { length rings.old ≤ MAX_RINGS }
     requires position { IfSome (slice_get rings.old ring) (λ s. (written s).at ≤ MAX_POSITION) }
     ensures made { OnOk result (IsEvent rings.old (event_of (ring, step)) rings.new) }

@@ -13,8 +13,8 @@ use Rattle.ring_core.specs.Plans.{Plan, Lawful}
 use Rattle.ring_core.proofs.lemmas.Frames.{AreFramesOf-nil}
 use Rattle.ring_machine.specs.declared.records.WriterRecord.{WriterRecord}
 use Rattle.ring_machine.specs.declared.records.RoamerRecord.{RoamerRecord}
-use Rattle.ring_machine.specs.declared.steps.Step.{Step as StepKind}
-use Rattle.ring_machine.specs.declared.steps.Step.TheVariants as steps
+use Rattle.ring_machine.specs.declared.steps.StepKind.{StepKind}
+use Rattle.ring_machine.specs.declared.steps.StepKind.TheVariants as steps
 use Rattle.ring_machine.specs.Streams.{walk}
 use Rattle.ring_machine.specs.RingStates.{RingState, new_ring, new_writer, new_roamer, written, taken, RingOk, RingLawful}
 use Rattle.ring_machine.specs.Steps.{writer_bar, roamer_bar, is_writers, barred, stored, after_step, next_word}

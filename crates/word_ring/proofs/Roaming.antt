@@ -4,7 +4,7 @@ use Rattle.std.specs.Prelude.{◌⊎◌, None}
 use Rattle.arg_records.specs.declared.frame.TheConstants.{MAX_FRAME_WORDS}
 use Rattle.nl_io.specs.Count.{counted}
 use Rattle.ring_core.specs.Plans.{Plan, Lawful}
-use Rattle.ring_machine.specs.declared.steps.Step.TheVariants as steps
+use Rattle.ring_machine.specs.declared.steps.StepKind.TheVariants as steps
 use Rattle.ring_machine.specs.Streams.{Walk, next_lap, Begins, Wraps}
 use Rattle.ring_machine.proofs.lemmas.Bars.{may_release}
 use Rattle.word_ring.specs.declared.known.Known.{Known}

@@ -4,7 +4,7 @@ use Rattle.std.specs.Prelude.{None}
 use mathlib.Core.Option.{none}
 use Rattle.atomic_table.specs.Table.{keeps, Allows, Splits, Joins, step}
 use Rattle.ring_core.specs.Plans.{Plan, Lawful, BeginsWith}
-use Rattle.ring_machine.specs.declared.steps.Step.TheVariants as steps
+use Rattle.ring_machine.specs.declared.steps.StepKind.TheVariants as steps
 use Rattle.ring_machine.specs.Streams.{Walk, start, walk, FitsWithin}
 use Rattle.ring_machine.specs.RingStates.{RingState, written, taken, RingOk}
 use Rattle.ring_machine.specs.Steps.{after_step, next_word}

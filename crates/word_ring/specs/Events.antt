@@ -3,7 +3,7 @@ use Rattle.std.specs.Prelude.{◌≡◌, ℕ, [], slice_index}
 use mathlib.Core.Option.{some}
 use lib.ListN.{get_elem?}
 use Rattle.atomic_table.specs.Table.{stepped, keeps}
-use Rattle.ring_machine.specs.declared.steps.Step.{Step as StepKind}
+use Rattle.ring_machine.specs.declared.steps.StepKind.{StepKind}
 use Rattle.ring_machine.specs.Steps.{IsStep}
 use Rattle.word_ring.specs.declared.known.Known.{Known}
 use Rattle.word_ring.specs.Rule.{RingTable, IsRingTable}

@@ -3,8 +3,8 @@ use Rattle.std.specs.Prelude.{◌≡◌, ℕ, ◌+◌, ◌/◌, ◌%◌, ◌≤�
 use Rattle.atomic_table.specs.Table.{Me, Step}
 use Rattle.nl_io.specs.Count.{counted}
 use Rattle.ring_core.specs.Plans.{Lawful, BeginsWith}
-use Rattle.ring_machine.specs.declared.steps.Step.{Step as StepKind}
-use Rattle.ring_machine.specs.declared.steps.Step.TheVariants as steps
+use Rattle.ring_machine.specs.declared.steps.StepKind.{StepKind}
+use Rattle.ring_machine.specs.declared.steps.StepKind.TheVariants as steps
 use Rattle.ring_machine.specs.declared.steps.Barred.{Barred}
 use Rattle.ring_machine.specs.Streams.{Walk, walk, is_wrap_mark, FitsWithin}
 use Rattle.ring_machine.specs.Steps.{writer_bar, roamer_bar}

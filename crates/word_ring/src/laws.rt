@@ -7,7 +7,7 @@ ghost use mathlib.Core.Option.{some};
 ghost use lib.ListN.{get_elem?};
 ghost use Rattle.atomic_table.specs.Table.{opening};
 ghost use Rattle.ring_core.specs.Plans.{Plan, Lawful};
-ghost use Rattle.ring_machine.specs.declared.steps.Step.TheVariants as steps;
+ghost use Rattle.ring_machine.specs.declared.steps.StepKind.TheVariants as steps;
 ghost use Rattle.ring_machine.specs.RingStates.{new_ring};
 ghost use Rattle.word_ring.specs.declared.known.Known.{Known};
 ghost use Rattle.word_ring.specs.declared.places.TheConstants.{PRODUCER, CONSUMER, DATA};

@@ -4,7 +4,7 @@
 ghost use Rattle.std.specs.Prelude.{◌≡◌, ◌+◌, ◌/◌, ◌%◌, ◌≤◌, ◌<◌, true, None};
 ghost use Rattle.ring_core.specs.declared.limits.TheConstants.{MAX_POSITION};
 ghost use Rattle.ring_core.specs.Plans.{Lawful};
-ghost use Rattle.ring_machine.specs.declared.steps.Step.TheVariants as steps;
+ghost use Rattle.ring_machine.specs.declared.steps.StepKind.TheVariants as steps;
 ghost use Rattle.ring_machine.specs.Streams.{FitsWithin};
 ghost use Rattle.word_ring.specs.Ends.{IsTableSize};
 ghost use Rattle.word_ring.specs.Plays.{written_by, read_by, HasReadFront};

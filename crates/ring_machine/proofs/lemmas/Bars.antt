@@ -6,7 +6,7 @@ use Rattle.arg_records.specs.declared.frame.TheConstants.{MAX_FRAME_WORDS}
 use Rattle.log_dictionary.specs.declared.dictionary.TheConstants.{MAX_MESSAGES}
 use Rattle.ring_machine.specs.declared.records.WriterRecord.{WriterRecord}
 use Rattle.ring_machine.specs.declared.records.RoamerRecord.{RoamerRecord}
-use Rattle.ring_machine.specs.declared.steps.Step.TheVariants as steps
+use Rattle.ring_machine.specs.declared.steps.StepKind.TheVariants as steps
 use Rattle.ring_machine.specs.declared.steps.Barred.{Barred}
 use Rattle.ring_machine.specs.Streams.{Walk, walk, next_lap, is_wrap_mark, Begins, Wraps, FitsWithin}
 use Rattle.ring_machine.specs.Steps.{first_bar, is_inside, is_bad, store_tests, writer_bar, roamer_bar}

@@ -7,8 +7,8 @@ use Rattle.std.proofs.lemmas.List.{length-set}
 use Rattle.std.proofs.lemmas.Option.{slice_get_within, get_or_from_slice_get}
 use Rattle.ring_core.specs.Plans.{Plan, Lawful, BeginsWith}
 use Rattle.ring_core.proofs.lemmas.Frames.{Lawful-front}
-use Rattle.ring_machine.specs.declared.steps.Step.{Step as StepKind}
-use Rattle.ring_machine.specs.declared.steps.Step.TheVariants as steps
+use Rattle.ring_machine.specs.declared.steps.StepKind.{StepKind}
+use Rattle.ring_machine.specs.declared.steps.StepKind.TheVariants as steps
 use Rattle.ring_machine.specs.declared.steps.Event.{Event}
 use Rattle.ring_machine.specs.Streams.{Walk, start, walk, walk_from, IsStream, FrameEndsAt, frames_up_to}
 use Rattle.ring_machine.specs.RingStates.{RingState, new_ring, written, taken, sent, got, has_ended, RingOk, RingLawful}

@@ -1,7 +1,7 @@
 -- What each step leaves of what holds of a ring.
 use Rattle.std.proofs.Common.{◌≡◌, ◌≢◌, ℕ, ◌+◌, ◌%◌, ◌<◌, ◌≤◌, true, false, List, [], ◌∷◌, ◌++◌, length, get_or, set, refl, sym, ap, ◌∙◌, subst, append_assoc, append-nil, length-append, get_or-set_same, get_or-set_other, true≢false, inl, inr, arith}
 use Rattle.std.proofs.lemmas.List.{length-set, length-replicate}
-use Rattle.ring_machine.specs.declared.steps.Step.TheVariants as steps
+use Rattle.ring_machine.specs.declared.steps.StepKind.TheVariants as steps
 use Rattle.ring_machine.specs.Streams.{Walk, start, walk_from, walk, onward, FitsWithin, IsStream, IsBegun, FrameEndsAt}
 use Rattle.ring_machine.specs.RingStates.{RingState, new_ring, written, taken, HoldsUnreleased, RingOk}
 use Rattle.ring_machine.specs.Steps.{stored, next_word, after_step}

@@ -5,8 +5,8 @@ use Rattle.std.specs.List.{flat_map, AllByRecursion}
 use Rattle.std.proofs.lemmas.List.Concat.{flat_map-cons}
 use Rattle.log_dictionary.specs.Fields.{after}
 use Rattle.log_dictionary.proofs.lemmas.Splits.{after_again, after_takes}
-use Rattle.ring_machine.specs.declared.steps.Step.{Step as StepKind}
-use Rattle.ring_machine.specs.declared.steps.Step.TheVariants as steps
+use Rattle.ring_machine.specs.declared.steps.StepKind.{StepKind}
+use Rattle.ring_machine.specs.declared.steps.StepKind.TheVariants as steps
 use Rattle.ring_machine.specs.declared.steps.Event.{Event}
 use Rattle.ring_machine.specs.declared.steps.Barred.{Barred}
 use Rattle.ring_machine.specs.RingStates.{RingState}

@@ -1,4 +1,4 @@
-use Rattle.ring_machine.specs.declared.steps.Step.TheVariants as steps
+use Rattle.ring_machine.specs.declared.steps.StepKind.TheVariants as steps
 use Rattle.ring_machine.proofs.lemmas.Schedules.{RingOk-after}
 use Rattle.ring_machine.proofs.laws.the_roamers_steps_keep_a_ring.Goals as goal
 

@@ -1,5 +1,5 @@
 use Rattle.std.proofs.Common.{◌≡◌, ℕ, false, List, [], length, sym, ap, ◌∙◌, subst}
-use Rattle.ring_machine.specs.declared.steps.Step.TheVariants as steps
+use Rattle.ring_machine.specs.declared.steps.StepKind.TheVariants as steps
 use Rattle.ring_machine.specs.Streams.{walk}
 use Rattle.ring_machine.specs.RingStates.{RingState, written, sent, RingOk}
 use Rattle.ring_machine.specs.Steps.{after_step}

@@ -1,6 +1,6 @@
 use Rattle.std.proofs.Common.{◌≡◌, ◌≢◌, ℕ, ◌%◌, ◌<◌, [], ◌∷◌, ◌++◌, length, get_or, sym, ap, ◌∙◌, subst, arith}
 use Rattle.std.proofs.lemmas.List.{get_or_read}
-use Rattle.ring_machine.specs.declared.steps.Step.TheVariants as steps
+use Rattle.ring_machine.specs.declared.steps.StepKind.TheVariants as steps
 use Rattle.ring_machine.specs.Streams.{MayCome, walk}
 use Rattle.ring_machine.specs.Tracks.{Tracked}
 use Rattle.ring_machine.specs.RingStates.{RingState, taken, RingOk}
