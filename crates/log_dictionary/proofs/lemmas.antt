@@ -12,4 +12,5 @@ pub mod Putting
 pub mod SameMessages
 pub mod Splits
 pub mod TextLaws
+pub mod TimeLaws
 pub mod Written

@@ -1,8 +1,9 @@
--- A worked message, its entry and its line, and more rows of laws.
+-- A worked message, its entry and its line, worked clocks, and more rows of laws.
 use Rattle.std.specs.Prelude.{ℕ, List, [], ◌∷◌, ◌++◌, codes}
 use Rattle.std.proofs.Common.{lit≤}
 use Rattle.printf_grammar.specs.declared.piece.Piece.TheVariants.{Literal, Field}
 use Rattle.printf_grammar.specs.Narrow.{plain_d}
+use Rattle.log_dictionary.specs.declared.clock.Clock.{Clock}
 use Rattle.log_dictionary.specs.declared.severity.Severity.{Severity}
 use Rattle.log_dictionary.specs.declared.severity.Severity.TheVariants.{Error, Warning, Notice, Debug}
 use Rattle.log_dictionary.specs.declared.message.Message.{Message}
@@ -35,3 +36,11 @@ great_line = codes "message 18446744073709551616 NOTICE 12 \"srv.cc\" \"x\""
 
 abbrev pub all_severities : List Severity
 all_severities = Error ∷ Warning ∷ Notice ∷ Debug ∷ []
+
+-- a clock of two ticks a nanosecond
+abbrev pub row_clock : Clock
+row_clock = record { tick = 1000; nanos = 1514764800000000000; rate = 2000000000 }
+
+-- a later clock, of one tick a nanosecond
+abbrev pub later_clock : Clock
+later_clock = record { tick = 2000; nanos = 1514764801000000000; rate = 1000000000 }

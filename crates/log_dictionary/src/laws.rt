@@ -1,11 +1,12 @@
 //! What holds of the definitions. The functions do nothing: what they ensure is proved of the definitions.
 
-ghost use Rattle.std.specs.Prelude.{◌≡◌, ◌⊎◌, ◌↔◌, ℕ, ◌<◌, ◌≤◌, ◌^◌, List, [], ◌∷◌, ◌++◌, length, map, codes, Ok, Err, IsTrue, ℤ, pos, negsuc, FitsSigned};
+ghost use Rattle.std.specs.Prelude.{◌≡◌, ◌⊎◌, ◌↔◌, ℕ, ◌+◌, ◌-◌, ◌*◌, ◌/◌, ◌<◌, ◌≤◌, ◌^◌, List, [], ◌∷◌, ◌++◌, length, map, codes, Ok, Err, IsTrue, ℤ, pos, negsuc, FitsSigned};
 ghost use Rattle.std.specs.Int.{w64};
 ghost use Rattle.std.specs.Option.{option_map};
 ghost use Rattle.std.specs.Fmt.{decimal, signed_decimal};
 ghost use Rattle.nibble_pack.specs.Bytes.{AreBytes};
 ghost use Rattle.log_dictionary.specs.declared.binary_entry.EntryCause.{EntryCause as NoEntry};
+ghost use Rattle.log_dictionary.specs.declared.clock.Clock.{Clock};
 ghost use Rattle.log_dictionary.specs.declared.message.Message.{Message};
 ghost use Rattle.log_dictionary.specs.Additions.{ReadsLine};
 ghost use Rattle.log_dictionary.specs.Severities.{severity_name, severity_number};
@@ -14,8 +15,10 @@ ghost use Rattle.log_dictionary.specs.EntryReading.{fields_at, entry_at};
 ghost use Rattle.log_dictionary.specs.Texts.{OpensText, SpellsText, text_at};
 ghost use Rattle.log_dictionary.specs.Messages.{SameMessage, is_same, SpellsMessage};
 ghost use Rattle.log_dictionary.specs.Canonical.{canonical_text, message_line, dictionary_text, HasLine};
-ghost use Rattle.log_dictionary.specs.Rows.{row_message, row_head, row_entry, row_message_line, great_line, all_severities};
+ghost use Rattle.log_dictionary.specs.Rows.{row_message, row_head, row_entry, row_message_line, great_line};
+ghost use Rattle.log_dictionary.specs.Rows.{all_severities, row_clock, later_clock};
 ghost use Rattle.log_dictionary.specs.Numbers.{natural_of, integer_of, integer_read};
+ghost use Rattle.log_dictionary.specs.Times.{Time};
 
 use crate::binary_entry::EntryCause;
 use crate::clock::Clock;
@@ -170,6 +173,23 @@ pub fn what_is_written_spells()
     ensures marks { canonical_text (34 ∷ 92 ∷ 9 ∷ 254 ∷ []) ≡ codes "\\\"\\\\\\t\\xfe" }
     ensures line { message_line 0 row_message ≡ row_message_line }
     ensures dictionary { dictionary_text (row_message ∷ []) ≡ codes "nanolog-trace 1\n" ++ row_message_line ++ 10 ∷ [] }
+{}
+
+/// Worked times: by one clock, and by two.
+pub fn worked_times()
+    ensures one_clock { Time (row_clock ∷ []) 1003 ≡ 1514764800000000001 }
+    ensures second_clock { Time (row_clock ∷ later_clock ∷ []) 2003 ≡ 1514764801000000003 }
+    ensures at_its_tick { Time (row_clock ∷ later_clock ∷ []) 2000 ≡ 1514764801000000000 }
+    ensures below_its_tick { Time (row_clock ∷ later_clock ∷ []) 1999 ≡ Time (row_clock ∷ []) 1999 }
+{}
+
+/// One more clock at the end of the list changes no time of a stamp below its tick, and from its tick on it alone
+/// counts.
+pub fn later_clocks_count_from_their_ticks()
+    ensures before { (clocks : List Clock) (clock : Clock) (stamp : ℕ) → stamp < clock.tick
+        → Time (clocks ++ clock ∷ []) stamp ≡ Time clocks stamp }
+    ensures since { (clocks : List Clock) (clock : Clock) (stamp : ℕ) → clock.tick ≤ stamp
+        → Time (clocks ++ clock ∷ []) stamp ≡ clock.nanos + (stamp - clock.tick) * 1000000000 / clock.rate }
 {}
 
 /// What a program logs with goes from thread to thread, and threads share it.
