@@ -25,9 +25,9 @@ abbrev pub AreFirstOrigins : List (List ℕ) → List Message → Type 0
 AreFirstOrigins texts messages = texts ≡ map origin_text (take (length texts) messages)
 
 -- the line of a call: `SECONDS.NNNNNNNNN FILE:LINE SEVERITY[WRITER]: TEXT` and LF
-unfoldable pub Line : Clock → LogCall → List ℕ
-Line clock call =
-    seconds_text (Time clock call.stamp)
+unfoldable pub Line : List Clock → LogCall → List ℕ
+Line clocks call =
+    seconds_text (Time clocks call.stamp)
     ++ 32 ∷ call.message.file
     ++ 58 ∷ decimal call.message.line
     ++ 32 ∷ severity_name call.message.severity
@@ -50,5 +50,5 @@ abbrev pub in_order : List LogCall → List LogCall
 in_order calls = in_order_by call_before calls
 
 -- the lines of all calls, in order
-unfoldable pub Direct : Clock → List LogCall → List ℕ
-Direct clock calls = flat_map (Line clock) (in_order calls)
+unfoldable pub Direct : List Clock → List LogCall → List ℕ
+Direct clocks calls = flat_map (Line clocks) (in_order calls)

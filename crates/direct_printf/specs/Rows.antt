@@ -1,13 +1,8 @@
 -- Two calls of one message at two times: the earlier one is of the writer with the greater number.
 use Rattle.std.specs.Prelude.{ℕ, pos, List, [], ◌∷◌, ◌++◌, codes}
 use Rattle.printf_grammar.specs.declared.argument.Value.TheVariants.{Signed}
-use Rattle.log_dictionary.specs.declared.clock.Clock.{Clock}
 use Rattle.log_dictionary.specs.Calls.{LogCall}
 use Rattle.log_dictionary.specs.Rows.{row_message}
-
--- a clock of two ticks a nanosecond
-abbrev pub row_clock : Clock
-row_clock = record { tick = 1000; nanos = 1514764800000000000; rate = 2000000000 }
 
 -- the second writer's call, and the first writer's, two ticks later
 abbrev pub earlier_call : LogCall

@@ -18,10 +18,11 @@ ghost use Rattle.printf_grammar.specs.declared.piece.Conversion.TheVariants.{O, 
 ghost use Rattle.printf_grammar.specs.declared.argument.Value.TheVariants as values;
 ghost use Rattle.printf_grammar.specs.Narrow.{plain_d};
 ghost use Rattle.log_dictionary.specs.Calls.{LogCall};
+ghost use Rattle.log_dictionary.specs.Rows.{row_clock};
 ghost use Rattle.direct_printf.specs.Fields.{Digits, Field, Text, argument_at, signed_of, width_of, wrap_signed};
 ghost use Rattle.direct_printf.specs.Joined.{joined};
 ghost use Rattle.direct_printf.specs.Lines.{call_before, in_order, Direct};
-ghost use Rattle.direct_printf.specs.Rows.{row_clock, earlier_call, later_call, row_lines};
+ghost use Rattle.direct_printf.specs.Rows.{earlier_call, later_call, row_lines};
 
 /// A field is never shorter than its width.
 pub fn fields_are_as_wide_as_asked()
@@ -189,5 +190,5 @@ pub fn calls_are_put_in_order()
 /// The second writer's call is the earlier one: its line comes first.
 pub fn earlier_calls_come_first()
     ensures order { in_order (later_call ∷ earlier_call ∷ []) ≡ earlier_call ∷ later_call ∷ [] }
-    ensures lines { Direct row_clock (later_call ∷ earlier_call ∷ []) ≡ row_lines }
+    ensures lines { Direct (row_clock ∷ []) (later_call ∷ earlier_call ∷ []) ≡ row_lines }
 {}

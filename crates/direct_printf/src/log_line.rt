@@ -6,8 +6,10 @@ ghost use Rattle.log_dictionary.specs.Times.{Time};
 ghost use Rattle.printf_grammar.specs.Types.{Types, Fits};
 ghost use Rattle.direct_printf.specs.Fields.{Digits};
 ghost use Rattle.direct_printf.specs.Lines.{Line, origin_text, seconds_text};
+ghost use Rattle.direct_printf.specs.LineParts.{call_of};
 ghost use Rattle.direct_printf.specs.LineWriters.{ShowsSecond};
 
+use crate::line_parts::LineParts;
 use crate::text::render;
 use itoa::{Buffer, write_digits};
 use log_dictionary::{Clock, Message};
@@ -36,7 +38,7 @@ pub fn line<A: Argument>(
     requires fitting { Fits (map A.value args.now) (Types message.now.format.pieces) }
     requires origin { origin.now ≡ origin_text message.now }
     ensures ok { OnOk result ((ordinal : ℕ) → out.new.items ≡ out.old.items
-        ++ Line clock.now (record {
+        ++ Line (clock.now ∷ []) (record {
           writer = writer;
           ordinal = ordinal;
           stamp = stamp;
@@ -45,7 +47,14 @@ pub fn line<A: Argument>(
         })) }
     ensures err { OnErr result (out.new.items ≡ out.old.items) }
 {
-    LineWriter::make().append(clock, writer, message, origin, stamp, args, out)
+    let parts = LineParts {
+        writer,
+        message,
+        origin,
+        stamp,
+        args,
+    };
+    LineWriter::make().append(clock, &parts, out)
 }
 
 /// Appends lines. It keeps the text of the last second, which the next line mostly has too.
@@ -83,29 +92,19 @@ impl LineWriter {
     pub fn append<A: Argument>(
         &mut self,
         clock: &Clock,
-        writer: u32,
-        message: &Message,
-        origin: &[u8],
-        stamp: u64,
-        args: &[A],
+        parts: &LineParts<'_, A>,
         out: &mut Vec<u8>,
     ) -> Result<(), AllocError>
-        requires not_before { clock.now.tick ≤ stamp }
+        requires not_before { clock.now.tick ≤ parts.now.stamp }
         requires rate { 1 ≤ clock.now.rate }
-        requires fitting { Fits (map A.value args.now) (Types message.now.format.pieces) }
-        requires origin { origin.now ≡ origin_text message.now }
-        ensures ok { OnOk result ((ordinal : ℕ) → out.new.items ≡ out.old.items
-            ++ Line clock.now (record {
-              writer = writer;
-              ordinal = ordinal;
-              stamp = stamp;
-              message = message.now;
-              args = map A.value args.now;
-            })) }
+        requires fitting { Fits (map A.value parts.now.args.now) (Types parts.now.message.now.format.pieces) }
+        requires origin { parts.now.origin.now ≡ origin_text parts.now.message.now }
+        ensures ok { OnOk result ((ordinal : ℕ) → out.new.items
+            ≡ out.old.items ++ Line (clock.now ∷ []) (call_of A.value parts.now ordinal)) }
         ensures err { OnErr result (out.new.items ≡ out.old.items) }
     {
         let before = out.len();
-        let written = self.append_line(clock, writer, message, origin, stamp, args, out);
+        let written = self.append_line(clock, parts, out);
         if written.is_err() {
             out.truncate(before);
         }
@@ -116,30 +115,20 @@ impl LineWriter {
     fn append_line<A: Argument>(
         &mut self,
         clock: &Clock,
-        writer: u32,
-        message: &Message,
-        origin: &[u8],
-        stamp: u64,
-        args: &[A],
+        parts: &LineParts<'_, A>,
         out: &mut Vec<u8>,
     ) -> Result<(), AllocError>
-        requires not_before { clock.now.tick ≤ stamp }
+        requires not_before { clock.now.tick ≤ parts.now.stamp }
         requires rate { 1 ≤ clock.now.rate }
-        requires fitting { Fits (map A.value args.now) (Types message.now.format.pieces) }
-        requires origin { origin.now ≡ origin_text message.now }
-        ensures ok { OnOk result ((ordinal : ℕ) → out.new.items ≡ out.old.items
-            ++ Line clock.now (record {
-              writer = writer;
-              ordinal = ordinal;
-              stamp = stamp;
-              message = message.now;
-              args = map A.value args.now;
-            })) }
+        requires fitting { Fits (map A.value parts.now.args.now) (Types parts.now.message.now.format.pieces) }
+        requires origin { parts.now.origin.now ≡ origin_text parts.now.message.now }
+        ensures ok { OnOk result ((ordinal : ℕ) → out.new.items
+            ≡ out.old.items ++ Line (clock.now ∷ []) (call_of A.value parts.now ordinal)) }
         ensures err { OnErr result (take (vec_len out.old) out.new.items ≡ out.old.items) }
     {
-        self.append_time(time_of(clock, stamp), out)?;
-        append_origin(origin, writer, out)?;
-        render(&message.format, args, out)?;
+        self.append_time(time_of(clock, parts.stamp), out)?;
+        append_origin(parts.origin, parts.writer, out)?;
+        render(&parts.message.format, parts.args, out)?;
         out.push(b'\n')?;
         Ok(())
     }
@@ -205,7 +194,7 @@ fn write_rest(rest: u32, text: &mut [u8; 31])
 fn time_of(clock: &Clock, stamp: u64) -> u128
     requires not_before { clock.now.tick ≤ stamp }
     requires rate { 1 ≤ clock.now.rate }
-    ensures { result ≡ Time clock.now stamp }
+    ensures { result ≡ Time (clock.now ∷ []) stamp }
 {
     if clock.rate > NARROW {
         return clock.time(stamp);
