@@ -20,10 +20,10 @@ use Rattle.trace_commands.specs.Texts.{direct_text, HasCall}
 
 -- ---- lines
 
-one_line : (clock : Clock) (calls : List LogCall) (call : LogCall) → flat_map (Line clock) (calls ++ call ∷ []) ≡ flat_map (Line clock) calls ++ Line clock call
-one_line clock calls call =
-    flat_map-append (Line clock) calls (call ∷ [])
-    ∙ ap (λ (r : List ℕ). flat_map (Line clock) calls ++ r) (flat_map-cons (Line clock) call [] ∙ append-nil (Line clock call))
+one_line : (clocks : List Clock) (calls : List LogCall) (call : LogCall) → flat_map (Line clocks) (calls ++ call ∷ []) ≡ flat_map (Line clocks) calls ++ Line clocks call
+one_line clocks calls call =
+    flat_map-append (Line clocks) calls (call ∷ [])
+    ∙ ap (λ (r : List ℕ). flat_map (Line clocks) calls ++ r) (flat_map-cons (Line clocks) call [] ∙ append-nil (Line clocks call))
 
 -- ---- the calls of a run
 
@@ -70,25 +70,25 @@ call_at_place run places i d are within =
 
 -- the lines of the first calls of a run
 abbrev pub first_lines : Recording → ℕ → List ℕ
-first_lines run i = flat_map (Line run.clock) (take i (in_order (calls_of run)))
+first_lines run i = flat_map (Line (run.clock ∷ [])) (take i (in_order (calls_of run)))
 
 -- and those of the others
 abbrev pub other_lines : Recording → ℕ → List ℕ
-other_lines run i = flat_map (Line run.clock) (drop i (in_order (calls_of run)))
+other_lines run i = flat_map (Line (run.clock ∷ [])) (drop i (in_order (calls_of run)))
 
 -- the lines up to one call, and that call's
-pub line_more : (run : Recording) (i : ℕ) (place : CallPlace) (at : CallAt run (in_order (calls_of run)) i place) → first_lines run (i + 1) ≡ first_lines run i ++ Line run.clock at.call
-line_more run i place at = ap (flat_map (Line run.clock)) at.more ∙ one_line run.clock (take i (in_order (calls_of run))) at.call
+pub line_more : (run : Recording) (i : ℕ) (place : CallPlace) (at : CallAt run (in_order (calls_of run)) i place) → first_lines run (i + 1) ≡ first_lines run i ++ Line (run.clock ∷ []) at.call
+line_more run i place at = ap (flat_map (Line (run.clock ∷ []))) at.more ∙ one_line (run.clock ∷ []) (take i (in_order (calls_of run))) at.call
 
 -- the lines of the first calls are followed by those of the others
 pub lines_cut : (run : Recording) (i : ℕ) → direct_text run ≡ first_lines run i ++ other_lines run i
 unfolding Direct
 lines_cut run i =
-    ap (flat_map (Line run.clock)) (sym (take-append-drop i (in_order (calls_of run))))
-    ∙ flat_map-append (Line run.clock) (take i (in_order (calls_of run))) (drop i (in_order (calls_of run)))
+    ap (flat_map (Line (run.clock ∷ []))) (sym (take-append-drop i (in_order (calls_of run))))
+    ∙ flat_map-append (Line (run.clock ∷ [])) (take i (in_order (calls_of run))) (drop i (in_order (calls_of run)))
 
 -- the lines of the first calls, and that of the next, are followed by those of the others
-pub lines_cut_behind : (run : Recording) (i : ℕ) (place : CallPlace) (at : CallAt run (in_order (calls_of run)) i place) → direct_text run ≡ first_lines run i ++ Line run.clock at.call ++ other_lines run (i + 1)
+pub lines_cut_behind : (run : Recording) (i : ℕ) (place : CallPlace) (at : CallAt run (in_order (calls_of run)) i place) → direct_text run ≡ first_lines run i ++ Line (run.clock ∷ []) at.call ++ other_lines run (i + 1)
 lines_cut_behind run i place at =
     lines_cut run (i + 1)
     ∙ ap (λ (text : List ℕ). text ++ other_lines run (i + 1)) (line_more run i place at)
@@ -97,7 +97,7 @@ lines_cut_behind run i place at =
 pub all_lines : (run : Recording) (places : List CallPlace) (i : ℕ) → places ≡ places_in_order run → length places ≤ i → first_lines run i ≡ direct_text run
 unfolding Direct
 all_lines run places i are past =
-    ap (flat_map (Line run.clock)) (take_all i (in_order (calls_of run)) (omega (arith, past, ap length are, length-map (in_order (calls_of run)) call_place)))
+    ap (flat_map (Line (run.clock ∷ []))) (take_all i (in_order (calls_of run)) (omega (arith, past, ap length are, length-map (in_order (calls_of run)) call_place)))
 
 -- ---- the call at a place
 
@@ -143,8 +143,8 @@ found_at seen run place calls call same recorded by at = subst (λ (r : Recordin
 -- the line that was appended is that of the call at the place
 pub called : (seen run : Recording) (place : CallPlace) (call : Call) (old new : List ℕ) → seen ≡ run
     → ((made : LogCall) → HasCall run made → place ≡ call_place made → log_call run.dictionary made.writer (made.ordinal, call) ≡ Some made)
-    → ((ordinal : ℕ) (made : LogCall) → log_call seen.dictionary place.writer (ordinal, call) ≡ Some made → new ≡ old ++ Line seen.clock made)
-    → (made : LogCall) → HasCall run made → place ≡ call_place made → new ≡ old ++ Line run.clock made
+    → ((ordinal : ℕ) (made : LogCall) → log_call seen.dictionary place.writer (ordinal, call) ≡ Some made → new ≡ old ++ Line (seen.clock ∷ []) made)
+    → (made : LogCall) → HasCall run made → place ≡ call_place made → new ≡ old ++ Line (run.clock ∷ []) made
 called seen run place call old new same found appended made has is =
-    let of_run = subst (λ (r : Recording). (ordinal : ℕ) (line : LogCall) → log_call r.dictionary place.writer (ordinal, call) ≡ Some line → new ≡ old ++ Line r.clock line) same appended in
+    let of_run = subst (λ (r : Recording). (ordinal : ℕ) (line : LogCall) → log_call r.dictionary place.writer (ordinal, call) ≡ Some line → new ≡ old ++ Line (r.clock ∷ []) line) same appended in
     of_run made.ordinal made (ap (λ (p : CallPlace). log_call run.dictionary p.writer (made.ordinal, call)) is ∙ found made has is)

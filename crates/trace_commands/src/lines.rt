@@ -1,6 +1,6 @@
 //! The lines of calls.
 
-ghost use Rattle.std.specs.Prelude.{◌≡◌, ◌≤◌, ◌++◌, ℕ, Some, OnOk, map};
+ghost use Rattle.std.specs.Prelude.{◌≡◌, ◌≤◌, [], ◌∷◌, ◌++◌, ℕ, Some, OnOk, map};
 ghost use Rattle.log_dictionary.specs.Calls.{LogCall};
 ghost use Rattle.direct_printf.specs.Lines.{Line, origin_text};
 ghost use Rattle.arg_records.specs.Calls.{IsCall, log_call};
@@ -31,7 +31,7 @@ fn append_line(
     requires origins { origins.now ≡ map origin_text dictionary.now }
     ensures { OnOk result ((ordinal : ℕ) (made : LogCall)
         → log_call dictionary.now writer (ordinal, call.now) ≡ Some made →
-        text.new.items ≡ text.old.items ++ Line clock.now made) }
+        text.new.items ≡ text.old.items ++ Line (clock.now ∷ []) made) }
 {
     let message = dictionary.message(call.id);
     line(
@@ -67,7 +67,7 @@ fn append_call(
     requires there { (call : LogCall) × HasCall run.now call × (place ≡ call_place call) }
     requires origins { origins.now ≡ map origin_text run.now.dictionary }
     ensures { OnOk result ((call : LogCall) → HasCall run.now call → place ≡ call_place call →
-        text.new.items ≡ text.old.items ++ Line run.now.clock call) }
+        text.new.items ≡ text.old.items ++ Line (run.now.clock ∷ []) call) }
 {
     let call = call_at(run, place);
     append_line(
