@@ -1,4 +1,4 @@
-//! What a line of the log says beside its time's clock.
+//! What a line of the log is made of.
 
 use log_dictionary::Message;
 

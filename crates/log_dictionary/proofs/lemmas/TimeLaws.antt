@@ -5,7 +5,7 @@ use Rattle.std.proofs.lemmas.List.Elements.{filter-append}
 use Rattle.std.specs.Prelude.{filter, option_map, unwrap_or}
 use Rattle.std.specs.List.{last_or}
 use Rattle.log_dictionary.specs.declared.clock.Clock.{Clock}
-use Rattle.log_dictionary.specs.Times.{Time, clock_at, clock_time}
+use Rattle.log_dictionary.specs.Times.{Time, clock_time}
 
 last_or-push : {X : Type 0} (o : Option X) (xs : List X) (x : X) → last_or o (xs ++ x ∷ []) ≡ Some x
 last_or-push o [] x = refl
