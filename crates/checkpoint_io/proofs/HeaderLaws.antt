@@ -1,5 +1,5 @@
 -- Headers that are read from a source.
-use Rattle.std.proofs.Common.{◌≡◌, ℕ, ◌-◌, ◌≤◌, List, [], ◌∷◌, ◌++◌, length, get_or, take, drop, Result, Ok, Err, refl, sym, ap, ◌∙◌, eq-eqb, arith}
+use Rattle.std.proofs.Common.{◌≡◌, ℕ, ◌-◌, ◌≤◌, List, [], ◌∷◌, ◌++◌, length, get_or, take, drop, true, Result, Ok, Err, refl, sym, ap, subst, ◌∙◌, eq-eqb, arith}
 use Rattle.std.proofs.lemmas.Bool.{le-leb}
 use Rattle.std.proofs.lemmas.List.{take_all}
 use Rattle.nibble_pack.specs.Parsing.{Parse, ◌>>=◌, first_byte, low_first, these_bytes}
@@ -8,30 +8,32 @@ use Rattle.checkpoint_io.specs.declared.cause.Cause.{Cause}
 use Rattle.checkpoint_io.specs.declared.cause.Cause.TheVariants as causes
 use Rattle.checkpoint_io.specs.declared.fault.BlockFault.{BlockFault}
 use Rattle.checkpoint_io.specs.declared.header.Header.{Header}
+use Rattle.checkpoint_io.specs.Versions.{is_known, writer_len, most_writers}
 use Rattle.checkpoint_io.specs.Reading.{header_rate_at, header_nanos_at, header_clock_at, header_writers_at, header_version_at, header_letters_at}
 use Rattle.checkpoint_io.specs.Places.{LogPlace, StandsBetween, Refuses, ReadsAs}
-use Rattle.checkpoint_io.proofs.ReadingForms.{byte_taken}
+use Rattle.checkpoint_io.proofs.ReadingForms.{version_again, byte_taken}
 use Rattle.checkpoint_io.proofs.StepLaws.{refused_then, refused_first, answers_then, answers_behind}
 
 -- where it is cut off behind the tick, and behind the nanoseconds
-pub nanos_refused : (writers tick : ℕ) (from mid : LogPlace) (left : Told) (fault : BlockFault) → StandsBetween (low_first 8 causes.Cut) tick from mid → Refuses (low_first 8 causes.Cut) mid left fault → Refuses (header_clock_at writers) from left fault
-nanos_refused writers tick from mid left fault ticks refused =
-    refused_then (low_first 8 causes.Cut) (λ tick. header_nanos_at writers tick.0 tick.1) tick from mid left fault ticks
-    (refused_first (low_first 8 causes.Cut) (λ nanos. header_rate_at writers tick nanos.0 nanos.1) mid left fault refused)
+pub nanos_refused : (version writers tick : ℕ) (from mid : LogPlace) (left : Told) (fault : BlockFault) → StandsBetween (low_first 8 causes.Cut) tick from mid → Refuses (low_first 8 causes.Cut) mid left fault → Refuses (header_clock_at version writers) from left fault
+nanos_refused version writers tick from mid left fault ticks refused =
+    refused_then (low_first 8 causes.Cut) (λ tick. header_nanos_at version writers tick.0 tick.1) tick from mid left fault ticks
+    (refused_first (low_first 8 causes.Cut) (λ nanos. header_rate_at version writers tick nanos.0 nanos.1) mid left fault refused)
 
-pub rate_refused : (writers tick nanos : ℕ) (from first mid : LogPlace) (left : Told) (fault : BlockFault) → StandsBetween (low_first 8 causes.Cut) tick from first → StandsBetween (low_first 8 causes.Cut) nanos first mid → Refuses (header_rate_at writers tick nanos) mid left fault → Refuses (header_clock_at writers) from left fault
-rate_refused writers tick nanos from first mid left fault ticks of_nanos refused =
-    refused_then (low_first 8 causes.Cut) (λ tick. header_nanos_at writers tick.0 tick.1) tick from first left fault ticks
-    (refused_then (low_first 8 causes.Cut) (λ nanos. header_rate_at writers tick nanos.0 nanos.1) nanos first mid left fault of_nanos refused)
+pub rate_refused : (version writers tick nanos : ℕ) (from first mid : LogPlace) (left : Told) (fault : BlockFault) → StandsBetween (low_first 8 causes.Cut) tick from first → StandsBetween (low_first 8 causes.Cut) nanos first mid → Refuses (header_rate_at version writers tick nanos) mid left fault → Refuses (header_clock_at version writers) from left fault
+rate_refused version writers tick nanos from first mid left fault ticks of_nanos refused =
+    refused_then (low_first 8 causes.Cut) (λ tick. header_nanos_at version writers tick.0 tick.1) tick from first left fault ticks
+    (refused_then (low_first 8 causes.Cut) (λ nanos. header_rate_at version writers tick nanos.0 nanos.1) nanos first mid left fault of_nanos refused)
 
-pub writers_answer : (r : Result Header BlockFault) (byte writers : ℕ) (from mid to : LogPlace) (left : Told) → writers ≡ byte → 1 ≤ writers → writers ≤ 64 → StandsBetween (first_byte causes.Cut) byte from mid → ReadsAs (header_clock_at writers) mid to left r → ReadsAs header_writers_at from to left r
-writers_answer r byte writers from mid to left is some few stands answers =
-    answers_then r (first_byte causes.Cut) _ (header_clock_at writers) byte from mid to left stands
-    (λ rest. rw (sym is, le-leb 1 writers some, le-leb writers 64 few) refl) answers
+pub writers_answer : (r : Result Header BlockFault) (version len n : ℕ) (from mid to : LogPlace) (left : Told) → len ≡ writer_len version → 1 ≤ n → n ≤ most_writers version → StandsBetween (low_first len causes.Cut) n from mid → ReadsAs (header_clock_at version n) mid to left r → ReadsAs (header_writers_at version) from to left r
+writers_answer r version len n from mid to left is some few stands answers =
+    answers_then r (low_first (writer_len version) causes.Cut) _ (header_clock_at version n) n from mid to left
+    (subst (λ (k : ℕ). StandsBetween (low_first k causes.Cut) n from mid) is stands)
+    (λ rest. rw (le-leb 1 n some, le-leb n (most_writers version) few) refl) answers
 
-pub version_answer : (r : Result Header BlockFault) (byte : ℕ) (from mid to : LogPlace) (left : Told) → byte ≡ 1 → StandsBetween (first_byte causes.Cut) byte from mid → ReadsAs header_writers_at mid to left r → ReadsAs header_version_at from to left r
-version_answer r byte from mid to left is stands answers =
-    answers_then r (first_byte causes.Cut) _ header_writers_at byte from mid to left stands (λ rest. rw (eq-eqb byte 1 is) refl) answers
+pub version_answer : (r : Result Header BlockFault) (version : ℕ) (from mid to : LogPlace) (left : Told) → is_known version ≡ true → StandsBetween (first_byte causes.Cut) version from mid → ReadsAs (header_writers_at version) mid to left r → ReadsAs header_version_at from to left r
+version_answer r version from mid to left known stands answers =
+    answers_then r (first_byte causes.Cut) _ (header_writers_at version) version from mid to left stands (λ rest. version_again version rest known) answers
 
 abbrev behind_letter : ℕ → List ℕ × List ℕ → Parse Cause (List ℕ)
 behind_letter letter behind = Ok (letter ∷ behind.0, behind.1)

@@ -23,14 +23,16 @@ use Rattle.checkpoint_io.specs.declared.cause.Cause.TheVariants as causes
 use Rattle.checkpoint_io.specs.declared.fault.BlockFault.{BlockFault}
 use Rattle.checkpoint_io.specs.declared.fault.BlockFault.TheVariants.{Damaged, ReadFault, NoMemory}
 use Rattle.checkpoint_io.specs.declared.header.Header.{Header}
+use Rattle.checkpoint_io.specs.declared.writers.WriterState.{WriterState}
 use Rattle.checkpoint_io.specs.declared.block.Block.{Block as ReadBlock}
 use Rattle.checkpoint_io.specs.declared.block.Block.TheVariants as read
 use Rattle.checkpoint_io.specs.Blocks.{Block, Fragment, Extent, Close, messages_of}
+use Rattle.checkpoint_io.specs.Versions.{most_body}
 use Rattle.checkpoint_io.specs.Validity.{records_of, last_stamp}
-use Rattle.checkpoint_io.specs.Reading.{entry_cause, message_at, new_message_at, new_messages_at, is_count, counted_at, open_writer_at, sized_body_at, long_body_at, writer_records_at, fragment_at, extent_at, tagged_at, block_at}
+use Rattle.checkpoint_io.specs.Reading.{entry_cause, message_at, new_message_at, new_messages_at, is_count, counted_at, open_writer_at, sized_body_at, long_body_at, writer_records_at, fragment_at, extent_at, close_at, tagged_at, block_at}
 use Rattle.checkpoint_io.specs.Places.{UnreadBytes, LogPlace, with_front, log_place, further, StandsBetween, IsNoDamage, Refuses, ReadsAs}
 use Rattle.checkpoint_io.specs.Entries.{TakesMessage, TakesMessages, TakesFragment}
-use Rattle.checkpoint_io.specs.Writers.{WriterStates, AreStatesOf}
+use Rattle.checkpoint_io.specs.Writers.{AreStatesOf}
 use Rattle.checkpoint_io.specs.NextBlocks.{TakesClose, TakesExtent, TakesBlock}
 use Rattle.checkpoint_io.proofs.lemmas.ValidityLaws.{messages-push}
 use Rattle.checkpoint_io.proofs.ReadingForms.{new_by_test}
@@ -156,7 +158,7 @@ body_refused messages tick last len cause from mid left behind same long breaks 
 
 -- ---- blocks
 
-pub fragment_block : (r : Result ReadBlock BlockFault) (header : Header) (before : List Block) (defined after : List Message) (states : WriterStates) (tag : ℕ) (from mid to : LogPlace) (left : Told) → tag ≡ 1 → defined ≡ messages_of before → AreStatesOf states header.clock.tick before → StandsBetween (first_byte causes.Cut) tag from mid
+pub fragment_block : (r : Result ReadBlock BlockFault) (header : Header) (before : List Block) (defined after : List Message) (states : List WriterState) (tag : ℕ) (from mid to : LogPlace) (left : Told) → tag ≡ 1 → defined ≡ messages_of before → AreStatesOf states header before → StandsBetween (first_byte causes.Cut) tag from mid
     → MatchResult r (λ block. TakesFragment defined block after mid to) (Refuses (fragment_at defined) mid left) → MatchResult r (λ block. TakesBlock header before block after states from to) (Refuses (block_at header before) from left)
 fragment_block (Ok told) header before defined after states tag from mid to left is known are stands takes =
     let block = Fragment takes.first takes.messages in
@@ -166,29 +168,29 @@ fragment_block (Ok told) header before defined after states tag from mid to left
       tells = takes.is;
       takes = stands_then (first_byte causes.Cut) _ tag block from mid to stands (subst (λ (t : ℕ). StandsBetween (tagged_at header before t) block mid to) (sym is) behind);
       defined = takes.added ∙ ap (λ (m : List Message). m ++ takes.messages) known ∙ sym (messages-push before block);
-      states = states_kept states header.clock.tick before block (λ writer. refl) (λ writer. refl) are;
+      states = states_kept states header before block (λ writer. refl) (λ writer. refl) are;
     }
 fragment_block (Err fault) header before defined after states tag from mid to left is known are stands refused =
     let behind : Refuses (fragment_at (messages_of before)) mid left fault = subst (λ (m : List Message). Refuses (fragment_at m) mid left fault) known refused in
     refused_then (first_byte causes.Cut) _ tag from mid left fault stands (subst (λ (t : ℕ). Refuses (tagged_at header before t) mid left fault) (sym is) behind)
 
-pub extent_block : (header : Header) (before : List Block) (defined : List Message) (writer same : ℕ) (entries : List Call) (after : WriterStates) (tag : ℕ) (from mid to : LogPlace) → tag ≡ 2 → same ≡ writer → defined ≡ messages_of before → StandsBetween (first_byte causes.Cut) tag from mid → TakesExtent header before writer entries after mid to → TakesBlock header before (read.Extent same entries) defined after from to
-extent_block header before defined writer same entries after tag from mid to is named known stands takes =
+pub extent_block : (header : Header) (before : List Block) (defined : List Message) (writer : ℕ) (entries : List Call) (after : List WriterState) (tag : ℕ) (from mid to : LogPlace) → tag ≡ 2 → defined ≡ messages_of before → StandsBetween (first_byte causes.Cut) tag from mid → TakesExtent header before writer entries after mid to → TakesBlock header before (read.Extent writer entries) defined after from to
+extent_block header before defined writer entries after tag from mid to is known stands takes =
     let block = Extent writer entries in
     record {
       block = block;
-      tells = ap (λ (n : ℕ). read.Extent n entries) named;
+      tells = refl;
       takes = stands_then (first_byte causes.Cut) _ tag block from mid to stands (subst (λ (t : ℕ). StandsBetween (tagged_at header before t) block mid to) (sym is) takes.takes);
       defined = known ∙ sym (messages-push before block ∙ append-nil (messages_of before));
       states = takes.states;
     }
 
-pub close_block : (header : Header) (before : List Block) (defined : List Message) (writer same : ℕ) (after : WriterStates) (tag : ℕ) (from mid to : LogPlace) → tag ≡ 4 → same ≡ writer → defined ≡ messages_of before → StandsBetween (first_byte causes.Cut) tag from mid → TakesClose header before writer after mid to → TakesBlock header before (read.Closed same) defined after from to
-close_block header before defined writer same after tag from mid to is named known stands takes =
+pub close_block : (header : Header) (before : List Block) (defined : List Message) (writer : ℕ) (after : List WriterState) (tag : ℕ) (from mid to : LogPlace) → tag ≡ 4 → defined ≡ messages_of before → StandsBetween (first_byte causes.Cut) tag from mid → TakesClose header before writer after mid to → TakesBlock header before (read.Closed writer) defined after from to
+close_block header before defined writer after tag from mid to is known stands takes =
     let block = Close writer in
     record {
       block = block;
-      tells = ap read.Closed named;
+      tells = refl;
       takes = stands_then (first_byte causes.Cut) _ tag block from mid to stands (subst (λ (t : ℕ). StandsBetween (tagged_at header before t) block mid to) (sym is) takes.takes);
       defined = known ∙ sym (messages-push before block ∙ append-nil (messages_of before));
       states = takes.states;
@@ -202,24 +204,37 @@ refused_behind header before tag same from mid left fault is stands refused =
 -- ---- extents
 
 -- a length, and the body
-pub long_body_answer : (r : Result (List Call) BlockFault) (messages : List Message) (tick last len : ℕ) (from mid to : LogPlace) (left : Told) → 1 ≤ len → len ≤ 65536 → StandsBetween (low_first 4 causes.Cut) len from mid → ReadsAs (sized_body_at messages tick last len) mid to left r → ReadsAs (long_body_at messages tick last) from to left r
-long_body_answer r messages tick last len from mid to left some short stands answers =
-    answers_then r (low_first 4 causes.Cut) _ (sized_body_at messages tick last len) len from mid to left stands (λ rest. rw (le-leb 1 len some, le-leb len 65536 short) refl) answers
+pub long_body_answer : (r : Result (List Call) BlockFault) (messages : List Message) (header : Header) (last len : ℕ) (from mid to : LogPlace) (left : Told) → 1 ≤ len → len ≤ most_body header.version → StandsBetween (low_first 4 causes.Cut) len from mid → ReadsAs (sized_body_at messages header.clock.tick last len) mid to left r → ReadsAs (long_body_at messages header last) from to left r
+long_body_answer r messages header last len from mid to left some short stands answers =
+    answers_then r (low_first 4 causes.Cut) _ (sized_body_at messages header.clock.tick last len) len from mid to left stands (λ rest. rw (le-leb 1 len some, le-leb len (most_body header.version) short) refl) answers
 
 -- what the reader keeps is what the blocks give
-same_body : (header : Header) (before : List Block) (messages : List Message) (last writer : ℕ) → messages ≡ messages_of before → last ≡ last_stamp header.clock.tick (records_of writer before) → (rest : List ℕ) → writer_records_at header before writer rest ≡ long_body_at messages header.clock.tick last rest
-same_body header before messages last writer known stamp rest = λ t. long_body_at (sym known t) header.clock.tick (sym stamp t) rest
+same_body : (header : Header) (before : List Block) (messages : List Message) (last writer : ℕ) → messages ≡ messages_of before → last ≡ last_stamp header.clock.tick (records_of writer before) → (rest : List ℕ) → writer_records_at header before writer rest ≡ long_body_at messages header last rest
+same_body header before messages last writer known stamp rest = λ t. long_body_at (sym known t) header (sym stamp t) rest
 
-pub extent_stands : (header : Header) (before : List Block) (messages : List Message) (last writer : ℕ) (entries : List Call) (from mid to : LogPlace) → messages ≡ messages_of before → last ≡ last_stamp header.clock.tick (records_of writer before) → StandsBetween (open_writer_at header before) writer from mid → StandsBetween (long_body_at messages header.clock.tick last) entries mid to → StandsBetween (extent_at header before) (Extent writer entries) from to
+pub extent_stands : (header : Header) (before : List Block) (messages : List Message) (last writer : ℕ) (entries : List Call) (from mid to : LogPlace) → messages ≡ messages_of before → last ≡ last_stamp header.clock.tick (records_of writer before) → StandsBetween (open_writer_at header before) writer from mid → StandsBetween (long_body_at messages header last) entries mid to → StandsBetween (extent_at header before) (Extent writer entries) from to
 extent_stands header before messages last writer entries from mid to known stamp writers records =
     let own : StandsBetween (writer_records_at header before writer) entries mid to = record { front = records.front; passes = records.passes; found = λ rest. same_body header before messages last writer known stamp (records.front ++ rest) ∙ records.found rest } in
     stands_then (open_writer_at header before) _ writer (Extent writer entries) from mid to writers (stands_last (writer_records_at header before writer) _ entries (Extent writer entries) mid to own (λ rest. refl))
 
-pub extent_refused : (header : Header) (before : List Block) (messages : List Message) (last writer : ℕ) (from mid : LogPlace) (left : Told) (fault : BlockFault) → messages ≡ messages_of before → last ≡ last_stamp header.clock.tick (records_of writer before) → StandsBetween (open_writer_at header before) writer from mid → Refuses (long_body_at messages header.clock.tick last) mid left fault → Refuses (extent_at header before) from left fault
+-- where the writer is refused
+pub writer_refused : (header : Header) (before : List Block) (from : LogPlace) (left : Told) (fault : BlockFault) → Refuses (open_writer_at header before) from left fault → Refuses (extent_at header before) from left fault
+writer_refused header before from left fault refused =
+    refused_first (open_writer_at header before) (λ w. writer_records_at header before w.0 w.1 >>= (λ entries. Ok (Extent w.0 entries.0, entries.1))) from left fault refused
+
+pub extent_refused : (header : Header) (before : List Block) (messages : List Message) (last writer : ℕ) (from mid : LogPlace) (left : Told) (fault : BlockFault) → messages ≡ messages_of before → last ≡ last_stamp header.clock.tick (records_of writer before) → StandsBetween (open_writer_at header before) writer from mid → Refuses (long_body_at messages header last) mid left fault → Refuses (extent_at header before) from left fault
 extent_refused header before messages last writer from mid left fault known stamp writers refused =
-    let own : Refuses (writer_records_at header before writer) mid left fault = subst (λ (l : List Message). Refuses (long_body_at l header.clock.tick (last_stamp header.clock.tick (records_of writer before))) mid left fault) known (subst (λ (n : ℕ). Refuses (long_body_at messages header.clock.tick n) mid left fault) stamp refused) in
+    let own : Refuses (writer_records_at header before writer) mid left fault = subst (λ (l : List Message). Refuses (long_body_at l header (last_stamp header.clock.tick (records_of writer before))) mid left fault) known (subst (λ (n : ℕ). Refuses (long_body_at messages header n) mid left fault) stamp refused) in
     refused_then (open_writer_at header before) (λ w. writer_records_at header before w.0 w.1 >>= (λ entries. Ok (Extent w.0 entries.0, entries.1))) writer from mid left fault writers
     (refused_first (writer_records_at header before writer) (λ entries. Ok (Extent writer entries.0, entries.1)) mid left fault own)
+
+-- ---- close marks
+
+pub close_stands : (header : Header) (before : List Block) (writer : ℕ) (from to : LogPlace) → StandsBetween (open_writer_at header before) writer from to → StandsBetween (close_at header before) (Close writer) from to
+close_stands header before writer from to stands = stands_last (open_writer_at header before) _ writer (Close writer) from to stands (λ rest. refl)
+
+pub close_refused : (header : Header) (before : List Block) (from : LogPlace) (left : Told) (fault : BlockFault) → Refuses (open_writer_at header before) from left fault → Refuses (close_at header before) from left fault
+close_refused header before from left fault refused = refused_first (open_writer_at header before) (λ w. Ok (Close w.0, w.1)) from left fault refused
 
 -- ---- fragments
 

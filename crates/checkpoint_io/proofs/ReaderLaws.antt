@@ -2,6 +2,7 @@
 use Rattle.std.proofs.Common.{Bool, false, ◌||◌, ◌≡◌, ℕ, ◌<◌, ◌≤◌, List, [], ◌∷◌, ◌++◌, length, Some, None, refl, sym, ap, subst, ◌∙◌, inl, inr, append_assoc, arith}
 use Rattle.std.specs.Prelude.{IfSome, Result, Ok, Err}
 use Rattle.std.specs.List.{list_any}
+use Rattle.std.proofs.lemmas.Bool.{cases_lt}
 use Rattle.std.proofs.lemmas.Bool.Decides.{eqb_tells}
 use Rattle.std.proofs.lemmas.List.{append-nil, length-append}
 use Rattle.nl_io.specs.Content.{Told, IsAtEnd}
@@ -11,19 +12,21 @@ use Rattle.checkpoint_io.specs.declared.cause.Cause.TheVariants as causes
 use Rattle.checkpoint_io.specs.declared.fault.BlockFault.{BlockFault}
 use Rattle.checkpoint_io.specs.declared.fault.BlockFault.TheVariants.{Damaged, ReadFault, NoMemory}
 use Rattle.checkpoint_io.specs.declared.header.Header.{Header}
+use Rattle.checkpoint_io.specs.declared.writers.WriterState.{WriterState}
 use Rattle.checkpoint_io.specs.declared.block.Block.{Block as ReadBlock}
 use Rattle.checkpoint_io.specs.Blocks.{Block, Fragment, Extent, Close, messages_of, SpellsBlock, FileOf}
 use Rattle.checkpoint_io.specs.Validity.{closes, IsRightAfter, AreRightAfter, Valid}
 use Rattle.checkpoint_io.specs.Reading.{block_at}
 use Rattle.checkpoint_io.specs.Fronts.{Break, at_block, IsCutAt}
 use Rattle.checkpoint_io.specs.Places.{UnreadBytes, LogPlace, with_front, log_place, StandsBetween, TookSuch, Refuses, TookFewer}
-use Rattle.checkpoint_io.specs.Writers.{WriterStates, AreStatesOf}
+use Rattle.checkpoint_io.specs.Writers.{closed_kept, AreStatesOf}
 use Rattle.checkpoint_io.specs.Readers.{ReaderState, StandsFor}
 use Rattle.checkpoint_io.specs.NextBlocks.{TakesBlock, TakesNext, EndsThere, StopsAt}
 use Rattle.checkpoint_io.proofs.lemmas.FileLaws.{with_front-both}
 use Rattle.checkpoint_io.proofs.lemmas.FrontLaws.{file_goes_on}
 use Rattle.checkpoint_io.proofs.lemmas.ValidityLaws.{goes_on, messages_differ}
 use Rattle.checkpoint_io.proofs.ReadingForms.{block_taken}
+use Rattle.checkpoint_io.proofs.WriterLaws.{far_kept}
 
 -- ---- the end
 
@@ -45,7 +48,7 @@ ends_there old new taken before left behind header messages writers offset start
     file = subst (λ (h : Header). FileOf h before.blocks taken) (sym header) before.file;
     valid = subst (λ (h : Header). Valid h before.blocks) (sym header) before.valid;
     messages = messages ∙ before.messages;
-    states = subst (λ (h : Header). AreStatesOf new.writers h.clock.tick before.blocks) (sym header) (subst (λ (w : WriterStates). AreStatesOf w old.header.clock.tick before.blocks) (sym writers) before.states);
+    states = subst (λ (h : Header). AreStatesOf new.writers h before.blocks) (sym header) (subst (λ (w : List WriterState). AreStatesOf w old.header before.blocks) (sym writers) before.states);
     offset = offset ∙ before.offset;
     at = start ∙ before.at;
     within = before.within;
@@ -57,15 +60,15 @@ ends_there old new taken before left behind header messages writers offset start
 
 -- the block that was taken is spelled by the bytes between, and is right
 record IsRight (header : Header) (before : List Block) (block : Block) (front : List ℕ) : Type 0 where
-  spelled : SpellsBlock (messages_of before) header.clock.tick block front
+  spelled : SpellsBlock (messages_of before) header block front
   right : IsRightAfter header before block
 
 is_right : (header : Header) (before : List Block) (block : Block) (from to : LogPlace) → Valid header before → (takes : StandsBetween (block_at header before) block from to) → IsRight header before block takes.front
 is_right header before block from to valid takes =
     let whole = ap (block_at header before) (sym (append-nil takes.front)) ∙ takes.found [] in
-    let read = block_taken header before takes.front block [] valid.header_right.few_writers (messages_differ header before valid).distinct takes.passes.small whole in
+    let read = block_taken header before takes.front block [] (messages_differ header before valid).distinct takes.passes.small whole in
     let same : read.front ≡ takes.front = sym (append-nil read.front) ∙ sym read.joined in
-    record { spelled = subst (SpellsBlock (messages_of before) header.clock.tick block) same read.spelled; right = read.right }
+    record { spelled = subst (SpellsBlock (messages_of before) header block) same read.spelled; right = read.right }
 
 pub takes_next : (old new : ReaderState) (taken : List ℕ) (before : StandsFor old taken) (told : ReadBlock) (mid : UnreadBytes) (left between behind : Told) → with_front mid.bytes between ≡ with_front old.waiting.bytes left → mid.offset ≡ old.waiting.offset → new.header ≡ old.header → new.offset ≡ new.waiting.offset → new.waiting.offset ≤ 134217728
     → TakesBlock old.header before.blocks told new.messages new.writers (log_place mid between) (log_place new.waiting behind) → TakesNext old new taken before told left behind
@@ -87,7 +90,7 @@ takes_next old new taken before told mid left between behind same start header o
         file = subst (λ (h : Header). FileOf h blocks (taken ++ front)) (sym header) (file_goes_on old.header before.blocks block taken front before.file is.spelled);
         valid = subst (λ (h : Header). Valid h blocks) (sym header) (goes_on old.header before.blocks block before.valid is.right);
         messages = takes.defined;
-        states = subst (λ (h : Header). AreStatesOf new.writers h.clock.tick blocks) (sym header) takes.states;
+        states = subst (λ (h : Header). AreStatesOf new.writers h blocks) (sym header) takes.states;
         offset = omega (arith, offset, passes, start, at, len, within);
         at = omega (arith, passes, start, at, len, within);
         within = omega (arith, passes, start, at, len, within);
@@ -138,7 +141,7 @@ cut_next old taken before mid left between behind same (bytes, split, reads) = (
 pub none_next : (header : Header) (blocks : List Block) (from : LogPlace) (left : Told) → TookFewer 1 from left → Refuses (block_at header blocks) from left ReadFault
 none_next header blocks from left (bytes, split, none) = (bytes, split, ap (block_at header blocks) (no_bytes bytes none))
 
-pub too_large : (old : ReaderState) (taken : List ℕ) (before : StandsFor old taken) (told : ReadBlock) (mid : UnreadBytes) (left between : Told) (to : LogPlace) (messages : List Message) (writers : WriterStates) → with_front mid.bytes between ≡ with_front old.waiting.bytes left → mid.offset ≡ old.waiting.offset → 134217728 < to.offset → TakesBlock old.header before.blocks told messages writers (log_place mid between) to
+pub too_large : (old : ReaderState) (taken : List ℕ) (before : StandsFor old taken) (told : ReadBlock) (mid : UnreadBytes) (left between : Told) (to : LogPlace) (messages : List Message) (writers : List WriterState) → with_front mid.bytes between ≡ with_front old.waiting.bytes left → mid.offset ≡ old.waiting.offset → 134217728 < to.offset → TakesBlock old.header before.blocks told messages writers (log_place mid between) to
     → IfSome (with_front (taken ++ old.waiting.bytes) left) (λ bytes. StopsAt bytes old.offset causes.TooLarge)
 too_large old taken before told mid left between to messages writers same start large takes =
     in_file taken old.waiting.bytes left (λ bytes. StopsAt bytes old.offset causes.TooLarge)
@@ -188,8 +191,9 @@ none_far header before (Close w ∷ blocks) writer right far =
       | inr differs ↦ ap (λ (b : Bool). b || list_any (closes writer) blocks) differs.0 ∙ none_far header _ blocks writer right.1 far
     ]
 
--- no mark of a number that names no writer was read
-pub far_is_open : (reader : ReaderState) (taken : List ℕ) (stands : StandsFor reader taken) (writer : ℕ) → 256 ≤ writer → false ≡ list_any (closes writer) stands.blocks
-far_is_open reader taken stands writer far =
-    let few : reader.header.writers ≤ 64 = stands.valid.header_right.few_writers in
-    sym (none_far reader.header [] stands.blocks writer stands.valid.blocks_right (omega (arith, few, far)))
+-- what is kept tells of each number whether its mark was read
+pub closed_answer : (reader : ReaderState) (taken : List ℕ) (stands : StandsFor reader taken) (writer : ℕ) → closed_kept reader.writers writer ≡ list_any (closes writer) stands.blocks
+closed_answer reader taken stands writer = elim (cases_lt writer reader.header.writers) [
+  | inl known ↦ stands.states.closed writer known
+  | inr far ↦ far_kept reader.writers writer (omega (arith, stands.states.many, far)) ∙ sym (none_far reader.header [] stands.blocks writer stands.valid.blocks_right far)
+]

@@ -18,35 +18,42 @@ use Rattle.log_dictionary.specs.BinaryEntries.{SpellsEntry}
 use Rattle.log_dictionary.specs.EntryReading.{entry_at}
 use Rattle.log_dictionary.proofs.lemmas.Distinct.{there_from_test, none_from_test, is_new, still_distinct}
 use Rattle.log_dictionary.proofs.lemmas.BinaryLaws.{entry_again, entry_taken, steady_entry}
-use Rattle.session_options.specs.declared.limits.TheConstants.{MAX_LOG_WRITERS}
 use Rattle.arg_records.specs.declared.call.Call.{Call}
 use Rattle.buffer_extent.specs.declared.fault.Cause.{Cause as BodyCause}
 use Rattle.buffer_extent.specs.Bodies.{IsBody, body_at}
 use Rattle.buffer_extent.proofs.lemmas.BodyLaws.{body_again, body_taken}
 use Rattle.checkpoint_io.specs.declared.cause.Cause.TheVariants as causes
 use Rattle.checkpoint_io.specs.declared.header.Header.{Header}
-use Rattle.checkpoint_io.specs.declared.heads.TheConstants.{MAX_FRAGMENT_MESSAGES, MAX_BODY}
-use Rattle.checkpoint_io.specs.Blocks.{Block, Fragment, Extent, Close, messages_of, header_bytes, fragment_head_bytes, extent_head_bytes, SpellsEntries, SpellsBlock}
+use Rattle.checkpoint_io.specs.declared.heads.TheConstants.{MAX_FRAGMENT_MESSAGES}
+use Rattle.checkpoint_io.specs.Versions.{is_known, writer_len, most_writers, most_body}
+use Rattle.checkpoint_io.specs.Blocks.{Block, Fragment, Extent, Close, messages_of, writer_bytes, header_bytes, fragment_head_bytes, extent_head_bytes, close_bytes, SpellsEntries, SpellsBlock}
 use Rattle.checkpoint_io.specs.Validity.{records_of, last_stamp, closes, MayStillWrite, ContinuesWriter, IsRightAfter, IsHeader}
-use Rattle.checkpoint_io.specs.Reading.{header_of, header_clock_at, header_version_at, header_at, entry_cause, message_at, new_message_at, new_messages_at, is_count, fragment_at, open_writer_at, long_body_at, writer_records_at, extent_at, close_at, tagged_at, block_at}
+use Rattle.checkpoint_io.specs.Reading.{header_of, header_clock_at, header_writers_at, header_version_at, header_at, entry_cause, message_at, new_message_at, new_messages_at, is_count, fragment_at, open_writer_at, long_body_at, writer_records_at, extent_at, close_at, tagged_at, block_at}
+use Rattle.checkpoint_io.proofs.lemmas.VersionLaws.{writers_fit, bodies_fit}
 use Rattle.checkpoint_io.proofs.lemmas.BlockLaws.{header_nested, fragment_nested, extent_nested}
 
 -- ---- more bytes behind
 
-steady_clock : (writers : ℕ) → IsSteady causes.Cut (header_clock_at writers)
-steady_clock writers =
+steady_clock : (version writers : ℕ) → IsSteady causes.Cut (header_clock_at version writers)
+steady_clock version writers =
     steady_then causes.Cut (low_first 8 causes.Cut) _ (steady_number causes.Cut 8) (λ tick.
     steady_then causes.Cut (low_first 8 causes.Cut) _ (steady_number causes.Cut 8) (λ nanos.
     steady_then causes.Cut (low_first 8 causes.Cut) _ (steady_number causes.Cut 8) (λ rate.
     steady_then causes.Cut (λ bytes. provided (nat_le 1 rate) causes.BadHeader (rate, bytes)) _ (steady_provided causes.Cut (nat_le 1 rate) causes.BadHeader rate) (λ ticking.
-    steady_done causes.Cut (header_of writers tick nanos ticking)))))
+    steady_done causes.Cut (header_of version writers tick nanos ticking)))))
+
+abbrev is_number : ℕ → ℕ → Bool
+is_number version writers = nat_le 1 writers && nat_le writers (most_writers version)
+
+steady_writers : (version : ℕ) → IsSteady causes.Cut (header_writers_at version)
+steady_writers version =
+    steady_then causes.Cut (low_first (writer_len version) causes.Cut) _ (steady_number causes.Cut (writer_len version)) (λ writers.
+    steady_then causes.Cut (λ bytes. provided (is_number version writers) causes.BadHeader (writers, bytes)) _ (steady_provided causes.Cut (is_number version writers) causes.BadHeader writers) (steady_clock version))
 
 steady_version : IsSteady causes.Cut header_version_at
 steady_version =
     steady_then causes.Cut (first_byte causes.Cut) _ (steady_byte causes.Cut) (λ version.
-    steady_then causes.Cut (λ bytes. provided (nat_eq version 1) causes.BadVersion (version, bytes)) _ (steady_provided causes.Cut (nat_eq version 1) causes.BadVersion version) (λ known.
-    steady_then causes.Cut (first_byte causes.Cut) _ (steady_byte causes.Cut) (λ writers.
-    steady_then causes.Cut (λ bytes. provided (nat_le 1 writers && nat_le writers MAX_LOG_WRITERS) causes.BadHeader (writers, bytes)) _ (steady_provided causes.Cut (nat_le 1 writers && nat_le writers MAX_LOG_WRITERS) causes.BadHeader writers) steady_clock)))
+    steady_then causes.Cut (λ bytes. provided (is_known version) causes.BadVersion (version, bytes)) _ (steady_provided causes.Cut (is_known version) causes.BadVersion version) steady_writers)
 
 pub steady_header : IsSteady causes.Cut header_at
 steady_header = steady_then causes.Cut (these_bytes causes.BadMagic causes.Cut (codes "NLOG")) (λ magic. header_version_at magic.1) (steady_these causes.Cut causes.BadMagic (codes "NLOG")) (λ magic. steady_version)
@@ -67,15 +74,18 @@ steady_fragment before =
 
 steady_writer : (header : Header) (before : List Block) → IsSteady causes.Cut (open_writer_at header before)
 steady_writer header before =
-    steady_then causes.Cut (first_byte causes.Cut) _ (steady_byte causes.Cut) (λ writer.
+    steady_then causes.Cut (low_first (writer_len header.version) causes.Cut) _ (steady_number causes.Cut (writer_len header.version)) (λ writer.
     steady_then causes.Cut (λ bytes. provided (nat_lt writer header.writers) causes.UnknownWriter (writer, bytes)) _ (steady_provided causes.Cut (nat_lt writer header.writers) causes.UnknownWriter writer) (λ known.
     steady_provided causes.Cut (not (list_any (closes known) before)) causes.AfterClose known))
 
-steady_body : (messages : List Message) (tick last : ℕ) → IsSteady causes.Cut (long_body_at messages tick last)
-steady_body messages tick last =
+abbrev is_length : Header → ℕ → Bool
+is_length header len = nat_le 1 len && nat_le len (most_body header.version)
+
+steady_body : (messages : List Message) (header : Header) (last : ℕ) → IsSteady causes.Cut (long_body_at messages header last)
+steady_body messages header last =
     steady_then causes.Cut (low_first 4 causes.Cut) _ (steady_number causes.Cut 4) (λ len.
-    steady_then causes.Cut (λ bytes. provided (nat_le 1 len && nat_le len MAX_BODY) causes.BadLength (len, bytes)) _ (steady_provided causes.Cut (nat_le 1 len && nat_le len MAX_BODY) causes.BadLength len) (λ short.
-    steady_then causes.Cut (so_many short causes.Cut) _ (steady_many causes.Cut short) (λ body. by_entries (body_at messages tick last body))))
+    steady_then causes.Cut (λ bytes. provided (is_length header len) causes.BadLength (len, bytes)) _ (steady_provided causes.Cut (is_length header len) causes.BadLength len) (λ short.
+    steady_then causes.Cut (so_many short causes.Cut) _ (steady_many causes.Cut short) (λ body. by_entries (body_at messages header.clock.tick last body))))
   where
     by_entries : (read : Result (List Call) BodyCause) → IsSteady causes.Cut (λ bytes. caused_by causes.Body read >>= (λ entries. Ok (entries, bytes)))
     by_entries (Ok entries) = steady_done causes.Cut entries
@@ -88,7 +98,7 @@ steady_tagged header before tag = by_tag (nat_eq tag 1) (nat_eq tag 2) (nat_eq t
     by_tag true two four = steady_fragment (messages_of before)
     by_tag false true four =
         steady_then causes.Cut (open_writer_at header before) _ (steady_writer header before) (λ writer.
-        steady_then causes.Cut (writer_records_at header before writer) _ (steady_body (messages_of before) header.clock.tick (last_stamp header.clock.tick (records_of writer before))) (λ entries.
+        steady_then causes.Cut (writer_records_at header before writer) _ (steady_body (messages_of before) header (last_stamp header.clock.tick (records_of writer before))) (λ entries.
         steady_done causes.Cut (Extent writer entries)))
     by_tag false false true = steady_then causes.Cut (open_writer_at header before) _ (steady_writer header before) (λ writer. steady_done causes.Cut (Close writer))
     by_tag false false false = steady_broken causes.Cut causes.BadBlock
@@ -98,17 +108,36 @@ steady_block header before = steady_then causes.Cut (first_byte causes.Cut) _ (s
 
 -- ---- right headers are read
 
-pub header_again : (header : Header) (rest : List ℕ) → IsHeader header → header_at (header_bytes header ++ rest) ≡ Ok (header, rest)
-header_again header rest right =
-    let behind : List ℕ = le_bytes 8 header.clock.nanos ++ (le_bytes 8 header.clock.rate ++ rest) in
-    ap header_at (header_nested header rest) ∙ rw (
+pub version_again : (version : ℕ) (rest : List ℕ) → is_known version ≡ true → header_version_at (version ∷ rest) ≡ header_writers_at version rest
+version_again version rest known = let first : ℕ × List ℕ = (version, rest) in ap (λ (t : Bool). provided t causes.BadVersion first >>= (λ known. header_writers_at known.0 known.1)) known
+
+writers_again : (header : Header) (rest : List ℕ) → IsHeader header → header_writers_at header.version (writer_bytes header.version header.writers ++ rest) ≡ header_clock_at header.version header.writers rest
+writers_again header rest right =
+    let fits = writers_fit header.version in
+    let few = right.few_writers in
+    rw (
+      number_again (writer_len header.version) causes.Cut header.writers rest (omega (arith, fits, few)),
       le-leb 1 header.writers right.some_writer,
-      le-leb header.writers 64 right.few_writers,
+      le-leb header.writers (most_writers header.version) right.few_writers,
+    ) refl
+
+clock_again : (header : Header) (rest : List ℕ) → IsHeader header → header_clock_at header.version header.writers (le_bytes 8 header.clock.tick ++ (le_bytes 8 header.clock.nanos ++ (le_bytes 8 header.clock.rate ++ rest))) ≡ Ok (header, rest)
+clock_again header rest right =
+    let behind : List ℕ = le_bytes 8 header.clock.nanos ++ (le_bytes 8 header.clock.rate ++ rest) in
+    rw (
       number_again 8 causes.Cut header.clock.tick behind right.tick_fits,
       number_again 8 causes.Cut header.clock.nanos (le_bytes 8 header.clock.rate ++ rest) right.nanos_fits,
       number_again 8 causes.Cut header.clock.rate rest right.rate_fits,
       le-leb 1 header.clock.rate right.rate,
     ) refl
+
+pub header_again : (header : Header) (rest : List ℕ) → IsHeader header → header_at (header_bytes header ++ rest) ≡ Ok (header, rest)
+header_again header rest right =
+    let clock : List ℕ = le_bytes 8 header.clock.tick ++ (le_bytes 8 header.clock.nanos ++ (le_bytes 8 header.clock.rate ++ rest)) in
+    ap header_at (header_nested header rest)
+    ∙ version_again header.version (writer_bytes header.version header.writers ++ clock) right.version_known
+    ∙ writers_again header clock right
+    ∙ clock_again header rest right
 
 -- ---- right fragments are read
 
@@ -148,32 +177,32 @@ fragment_again before messages first entries rest next distinct all some few fit
 
 -- ---- right extents and close marks are read
 
-writer_again : (header : Header) (before : List Block) (writer : ℕ) (rest : List ℕ) → MayStillWrite header before writer → open_writer_at header before (writer ∷ rest) ≡ Ok (writer, rest)
-writer_again header before writer rest right =
-    rw (lt-ltb writer header.writers right.known, false_of (list_any (closes writer) before) right.unclosed) refl
+writer_again : (header : Header) (before : List Block) (writer : ℕ) (rest : List ℕ) → MayStillWrite header before writer → writer < 256 ^ writer_len header.version → open_writer_at header before (writer_bytes header.version writer ++ rest) ≡ Ok (writer, rest)
+writer_again header before writer rest right fits =
+    rw (number_again (writer_len header.version) causes.Cut writer rest fits, lt-ltb writer header.writers right.known, false_of (list_any (closes writer) before) right.unclosed) refl
 
-extent_again : (header : Header) (before : List Block) (writer : ℕ) (entries : List Call) (body rest : List ℕ) → ContinuesWriter header before writer entries → 1 ≤ length body → length body ≤ 65536 → IsBody (messages_of before) header.clock.tick (last_stamp header.clock.tick (records_of writer before)) entries body
-    → extent_at header before (writer ∷ (le_bytes 4 (length body) ++ (body ++ rest))) ≡ Ok (Extent writer entries, rest)
-extent_again header before writer entries body rest right some short is =
+extent_again : (header : Header) (before : List Block) (writer : ℕ) (records : List Call) (body rest : List ℕ) → ContinuesWriter header before writer records → writer < 256 ^ writer_len header.version → 1 ≤ length body → length body ≤ most_body header.version → IsBody (messages_of before) header.clock.tick (last_stamp header.clock.tick (records_of writer before)) records body
+    → extent_at header before (writer_bytes header.version writer ++ (le_bytes 4 (length body) ++ (body ++ rest))) ≡ Ok (Extent writer records, rest)
+extent_again header before writer records body rest right fits some short is =
     rw (
-      writer_again header before writer (le_bytes 4 (length body) ++ (body ++ rest)) right.writer_open,
-      number_again 4 causes.Cut (length body) (body ++ rest) (omega (arith, short)),
+      writer_again header before writer (le_bytes 4 (length body) ++ (body ++ rest)) right.writer_open fits,
+      number_again 4 causes.Cut (length body) (body ++ rest) (omega (arith, short, bodies_fit header.version)),
       le-leb 1 (length body) some,
-      le-leb (length body) 65536 short,
+      le-leb (length body) (most_body header.version) short,
       so_many_again (length body) causes.Cut body rest refl,
-      body_again (messages_of before) header.clock.tick (last_stamp header.clock.tick (records_of writer before)) entries body is,
+      body_again (messages_of before) header.clock.tick (last_stamp header.clock.tick (records_of writer before)) records body is,
     ) refl
 
 -- a right block is read as what it is, whatever stands behind it
-pub block_again : (header : Header) (before : List Block) (block : Block) (front rest : List ℕ) → IsRightAfter header before block → SpellsBlock (messages_of before) header.clock.tick block front → block_at header before (front ++ rest) ≡ Ok (block, rest)
+pub block_again : (header : Header) (before : List Block) (block : Block) (front rest : List ℕ) → IsRightAfter header before block → SpellsBlock (messages_of before) header block front → block_at header before (front ++ rest) ≡ Ok (block, rest)
 block_again header before (Fragment first messages) front rest right spelled =
     ap (block_at header before) (ap (λ (f : List ℕ). f ++ rest) spelled.joined ∙ fragment_nested first (length messages) spelled.entries rest)
     ∙ fragment_again (messages_of before) messages first spelled.entries rest right.next right.distinct right.few spelled.some spelled.few spelled.first_fits spelled.entries_spelled
 block_again header before (Extent writer entries) front rest right spelled =
-    ap (block_at header before) (ap (λ (f : List ℕ). f ++ rest) spelled.joined ∙ extent_nested writer (length spelled.body) spelled.body rest)
-    ∙ extent_again header before writer entries spelled.body rest right spelled.some spelled.short (record { spelled = spelled.body_spelled; right = right.right; rising = right.rising })
+    ap (block_at header before) (ap (λ (f : List ℕ). f ++ rest) spelled.joined ∙ extent_nested header.version writer (length spelled.body) spelled.body rest)
+    ∙ extent_again header before writer entries spelled.body rest right spelled.writer_fits spelled.some spelled.short (record { spelled = spelled.body_spelled; right = right.right; rising = right.rising })
 block_again header before (Close writer) front rest right spelled =
-    ap (block_at header before) (ap (λ (f : List ℕ). f ++ rest) spelled.joined) ∙ rw (writer_again header before writer rest right) refl
+    ap (block_at header before) (ap (λ (f : List ℕ). f ++ rest) spelled.joined) ∙ rw (writer_again header before writer rest right spelled.writer_fits) refl
 
 -- ---- one reading
 
@@ -184,7 +213,7 @@ one_header a b rest more p q e =
     (ap (λ (p : Header × List ℕ). p.0) read, ap (λ (p : Header × List ℕ). p.1) read)
 
 -- two right blocks with which the same bytes begin are one
-pub one_block : (header : Header) (before : List Block) (a b : Block) (front other rest more : List ℕ) → IsRightAfter header before a → IsRightAfter header before b → SpellsBlock (messages_of before) header.clock.tick a front → SpellsBlock (messages_of before) header.clock.tick b other → front ++ rest ≡ other ++ more → (a ≡ b) × (front ≡ other)
+pub one_block : (header : Header) (before : List Block) (a b : Block) (front other rest more : List ℕ) → IsRightAfter header before a → IsRightAfter header before b → SpellsBlock (messages_of before) header a front → SpellsBlock (messages_of before) header b other → front ++ rest ≡ other ++ more → (a ≡ b) × (front ≡ other)
 one_block header before a b front other rest more a_right b_right p q e =
     let read : (a, rest) ≡ (b, more) = (given true causes.Cut (a, rest) (b, more) (sym (block_again header before a front rest a_right p) ∙ ap (block_at header before) e ∙ block_again header before b other more b_right q)).1 in
     let behind : rest ≡ more = ap (λ (p : Block × List ℕ). p.1) read in
@@ -217,8 +246,8 @@ letters_taken (letter ∷ letters) bytes front rest e =
     ∙ ap (λ (b : List ℕ). letter ∷ b) (letters_taken letters two.x.1 three.x.0 three.x.1 three.first)
     ∙ ap (λ (p : List ℕ × List ℕ). letter ∷ letters ++ p.1) same
 
-clock_taken : (writers : ℕ) (bytes rest : List ℕ) (header : Header) → AreBytes bytes → 1 ≤ writers → writers ≤ 64 → header_clock_at writers bytes ≡ Ok (header, rest) → IsHeaderRead (codes "NLOG" ++ (1 ∷ writers ∷ bytes)) header rest
-clock_taken writers bytes rest header small some few e =
+clock_taken : (version writers : ℕ) (bytes rest : List ℕ) (header : Header) → AreBytes bytes → is_known version ≡ true → 1 ≤ writers → writers ≤ most_writers version → header_clock_at version writers bytes ≡ Ok (header, rest) → IsHeaderRead (codes "NLOG" ++ (version ∷ (writer_bytes version writers ++ bytes))) header rest
+clock_taken version writers bytes rest header small known some few e =
     let tick = found (low_first 8 causes.Cut bytes) _ (header, rest) e in
     let nanos = found (low_first 8 causes.Cut tick.x.1) _ (header, rest) tick.second in
     let rate = found (low_first 8 causes.Cut nanos.x.1) _ (header, rest) nanos.second in
@@ -228,31 +257,39 @@ clock_taken writers bytes rest header small some few e =
     let first_small = back_bytes bytes (le_bytes 8 tick.x.0) tick.x.1 first.parts small in
     let second = number_taken 8 causes.Cut tick.x.1 nanos.x.0 nanos.x.1 first_small nanos.first in
     let third = number_taken 8 causes.Cut nanos.x.1 rate.x.0 rate.x.1 (back_bytes tick.x.1 (le_bytes 8 nanos.x.0) nanos.x.1 second.parts first_small) rate.first in
-    let read : Header = header_of writers tick.x.0 nanos.x.0 rate.x.0 in
-    let same : (read, rate.x.1) ≡ (header, rest) = ap (λ (p : ℕ × List ℕ). (header_of writers tick.x.0 nanos.x.0 p.0, p.1)) test.1 ∙ (given true causes.Cut (header_of writers tick.x.0 nanos.x.0 ticking.x.0, ticking.x.1) (header, rest) ticking.second).1 in
+    let read : Header = header_of version writers tick.x.0 nanos.x.0 rate.x.0 in
+    let same : (read, rate.x.1) ≡ (header, rest) = ap (λ (p : ℕ × List ℕ). (header_of version writers tick.x.0 nanos.x.0 p.0, p.1)) test.1 ∙ (given true causes.Cut (header_of version writers tick.x.0 nanos.x.0 ticking.x.0, ticking.x.1) (header, rest) ticking.second).1 in
     let parts : bytes ≡ le_bytes 8 tick.x.0 ++ (le_bytes 8 nanos.x.0 ++ (le_bytes 8 rate.x.0 ++ rate.x.1)) =
     first.parts ∙ ap (λ (b : List ℕ). le_bytes 8 tick.x.0 ++ b) (second.parts ∙ ap (λ (b : List ℕ). le_bytes 8 nanos.x.0 ++ b) third.parts) in
-    subst (λ (p : Header × List ℕ). IsHeaderRead (codes "NLOG" ++ (1 ∷ writers ∷ bytes)) p.0 p.1) same (record {
-      right = record { some_writer = some; few_writers = few; tick_fits = first.fits; nanos_fits = second.fits; rate_fits = third.fits; rate = leb-true 1 rate.x.0 test.0 };
-      joined = ap (λ (b : List ℕ). codes "NLOG" ++ (1 ∷ writers ∷ b)) parts ∙ sym (header_nested read rate.x.1);
+    subst (λ (p : Header × List ℕ). IsHeaderRead (codes "NLOG" ++ (version ∷ (writer_bytes version writers ++ bytes))) p.0 p.1) same (record {
+      right = record { version_known = known; some_writer = some; few_writers = few; tick_fits = first.fits; nanos_fits = second.fits; rate_fits = third.fits; rate = leb-true 1 rate.x.0 test.0 };
+      joined = ap (λ (b : List ℕ). codes "NLOG" ++ (version ∷ (writer_bytes version writers ++ b))) parts ∙ sym (header_nested read rate.x.1);
     })
+
+writers_taken : (version : ℕ) (bytes rest : List ℕ) (header : Header) → AreBytes bytes → is_known version ≡ true → header_writers_at version bytes ≡ Ok (header, rest) → IsHeaderRead (codes "NLOG" ++ (version ∷ bytes)) header rest
+writers_taken version bytes rest header small known e =
+    let writers = found (low_first (writer_len version) causes.Cut bytes) _ (header, rest) e in
+    let some = found (provided (is_number version writers.x.0) causes.BadHeader writers.x) _ (header, rest) writers.second in
+    let test = given (is_number version writers.x.0) causes.BadHeader writers.x some.x some.first in
+    let within = and_parts (nat_le 1 writers.x.0) (nat_le writers.x.0 (most_writers version)) test.0 in
+    let number = number_taken (writer_len version) causes.Cut bytes writers.x.0 writers.x.1 small writers.first in
+    let clock : header_clock_at version writers.x.0 writers.x.1 ≡ Ok (header, rest) = ap (λ (p : ℕ × List ℕ). header_clock_at version p.0 p.1) test.1 ∙ some.second in
+    let behind = back_bytes bytes (writer_bytes version writers.x.0) writers.x.1 number.parts small in
+    subst (λ (b : List ℕ). IsHeaderRead (codes "NLOG" ++ (version ∷ b)) header rest) (sym number.parts)
+    (clock_taken version writers.x.0 writers.x.1 rest header behind known (leb-true 1 writers.x.0 within.0) (leb-true writers.x.0 (most_writers version) within.1) clock)
 
 pub header_taken : (bytes : List ℕ) (header : Header) (rest : List ℕ) → AreBytes bytes → header_at bytes ≡ Ok (header, rest) → IsHeaderRead bytes header rest
 header_taken bytes header rest small e =
     let magic = found (these_bytes causes.BadMagic causes.Cut (codes "NLOG") bytes) (λ magic. header_version_at magic.1) (header, rest) e in
     let version = found (first_byte causes.Cut magic.x.1) _ (header, rest) magic.second in
-    let known = found (provided (nat_eq version.x.0 1) causes.BadVersion version.x) _ (header, rest) version.second in
-    let known_test = given (nat_eq version.x.0 1) causes.BadVersion version.x known.x known.first in
-    let writers = found (first_byte causes.Cut known.x.1) _ (header, rest) known.second in
-    let some = found (provided (nat_le 1 writers.x.0 && nat_le writers.x.0 MAX_LOG_WRITERS) causes.BadHeader writers.x) _ (header, rest) writers.second in
-    let some_test = given (nat_le 1 writers.x.0 && nat_le writers.x.0 MAX_LOG_WRITERS) causes.BadHeader writers.x some.x some.first in
-    let within = and_parts (nat_le 1 writers.x.0) (nat_le writers.x.0 MAX_LOG_WRITERS) some_test.0 in
-    let clock : header_clock_at writers.x.0 writers.x.1 ≡ Ok (header, rest) = ap (λ (p : ℕ × List ℕ). header_clock_at p.0 p.1) some_test.1 ∙ some.second in
-    let parts : bytes ≡ codes "NLOG" ++ (1 ∷ writers.x.0 ∷ writers.x.1) =
+    let known = found (provided (is_known version.x.0) causes.BadVersion version.x) _ (header, rest) version.second in
+    let test = given (is_known version.x.0) causes.BadVersion version.x known.x known.first in
+    let is : is_known known.x.0 ≡ true = ap (λ (p : ℕ × List ℕ). is_known p.0) (sym test.1) ∙ test.0 in
+    let parts : bytes ≡ codes "NLOG" ++ (known.x.0 ∷ known.x.1) =
     letters_taken (codes "NLOG") bytes magic.x.0 magic.x.1 magic.first ∙ ap (λ (b : List ℕ). codes "NLOG" ++ b)
-    (byte_taken magic.x.1 version.x.1 version.x.0 version.first ∙ ap (λ (b : ℕ). b ∷ version.x.1) (eqb-true version.x.0 1 known_test.0) ∙ ap (λ (p : ℕ × List ℕ). 1 ∷ p.1) known_test.1 ∙ ap (λ (b : List ℕ). 1 ∷ b) (byte_taken known.x.1 writers.x.1 writers.x.0 writers.first)) in
-    let behind = back_bytes bytes (codes "NLOG" ++ 1 ∷ writers.x.0 ∷ []) writers.x.1 parts small in
-    subst (λ (b : List ℕ). IsHeaderRead b header rest) (sym parts) (clock_taken writers.x.0 writers.x.1 rest header behind (leb-true 1 writers.x.0 within.0) (leb-true writers.x.0 64 within.1) clock)
+    (byte_taken magic.x.1 version.x.1 version.x.0 version.first ∙ ap (λ (p : ℕ × List ℕ). p.0 ∷ p.1) test.1) in
+    let behind = back_bytes bytes (codes "NLOG" ++ known.x.0 ∷ []) known.x.1 parts small in
+    subst (λ (b : List ℕ). IsHeaderRead b header rest) (sym parts) (writers_taken known.x.0 known.x.1 rest header behind is known.second)
 
 -- ---- fragments that are read are right
 
@@ -260,7 +297,7 @@ header_taken bytes header rest small e =
 pub record IsReadRight (header : Header) (before : List Block) (bytes : List ℕ) (block : Block) (rest : List ℕ) : Type 0 where
   pub front : List ℕ
   pub joined : bytes ≡ front ++ rest
-  pub spelled : SpellsBlock (messages_of before) header.clock.tick block front
+  pub spelled : SpellsBlock (messages_of before) header block front
   pub right : IsRightAfter header before block
 
 uncaused : {A E F : Type 0} (as_cause : E → F) (read : Result A E) (x : A) → caused_by as_cause read ≡ Ok x → read ≡ Ok x
@@ -338,72 +375,74 @@ front_bytes : (front back : List ℕ) → AreBytes (front ++ back) → AreBytes 
 front_bytes front back small = subst AreBytes (take_at front back (length front) refl) (All-take (λ (b : ℕ). b < 256) (length front) (front ++ back) small)
 
 record IsWriterRead (header : Header) (before : List Block) (bytes : List ℕ) (writer : ℕ) (rest : List ℕ) : Type 0 where
-  joined : bytes ≡ writer ∷ rest
+  joined : bytes ≡ writer_bytes header.version writer ++ rest
+  fits : writer < 256 ^ writer_len header.version
   right : MayStillWrite header before writer
 
-writer_taken : (header : Header) (before : List Block) (bytes : List ℕ) (writer : ℕ) (rest : List ℕ) → open_writer_at header before bytes ≡ Ok (writer, rest) → IsWriterRead header before bytes writer rest
-writer_taken header before bytes writer rest e =
-    let one = found (first_byte causes.Cut bytes) _ (writer, rest) e in
+writer_taken : (header : Header) (before : List Block) (bytes : List ℕ) (writer : ℕ) (rest : List ℕ) → AreBytes bytes → open_writer_at header before bytes ≡ Ok (writer, rest) → IsWriterRead header before bytes writer rest
+writer_taken header before bytes writer rest small e =
+    let one = found (low_first (writer_len header.version) causes.Cut bytes) _ (writer, rest) e in
     let two = found (provided (nat_lt one.x.0 header.writers) causes.UnknownWriter one.x) _ (writer, rest) one.second in
     let known = given (nat_lt one.x.0 header.writers) causes.UnknownWriter one.x two.x two.first in
     let unclosed = given (not (list_any (closes two.x.0) before)) causes.AfterClose two.x (writer, rest) two.second in
     let none = true_of (list_any (closes two.x.0) before) unclosed.0 in
-    subst (λ (p : ℕ × List ℕ). IsWriterRead header before bytes p.0 p.1) unclosed.1 (record {
-      joined = byte_taken bytes one.x.1 one.x.0 one.first ∙ ap (λ (p : ℕ × List ℕ). p.0 ∷ p.1) known.1;
+    let number = number_taken (writer_len header.version) causes.Cut bytes one.x.0 one.x.1 small one.first in
+    let read : IsWriterRead header before bytes two.x.0 two.x.1 = record {
+      joined = number.parts ∙ ap (λ (p : ℕ × List ℕ). writer_bytes header.version p.0 ++ p.1) known.1;
+      fits = subst (λ (p : ℕ × List ℕ). p.0 < 256 ^ writer_len header.version) known.1 number.fits;
       right = record {
         known = subst (λ (p : ℕ × List ℕ). p.0 < header.writers) known.1 (ltb-true one.x.0 header.writers known.0);
         unclosed = λ closed. true≢false (sym closed ∙ none);
       };
-    })
+    } in
+    subst (λ (p : ℕ × List ℕ). IsWriterRead header before bytes p.0 p.1) unclosed.1 read
 
-extent_taken : (header : Header) (before : List Block) (bytes : List ℕ) (block : Block) (rest : List ℕ) → header.writers ≤ 64 → AreBytes bytes → extent_at header before bytes ≡ Ok (block, rest) → IsReadRight header before (2 ∷ bytes) block rest
-extent_taken header before bytes block rest few small e =
+extent_taken : (header : Header) (before : List Block) (bytes : List ℕ) (block : Block) (rest : List ℕ) → AreBytes bytes → extent_at header before bytes ≡ Ok (block, rest) → IsReadRight header before (2 ∷ bytes) block rest
+extent_taken header before bytes block rest small e =
     let one = found (open_writer_at header before bytes) _ (block, rest) e in
     let writer = one.x.0 in
-    let read = writer_taken header before bytes writer one.x.1 one.first in
+    let read = writer_taken header before bytes writer one.x.1 small one.first in
     let last = last_stamp header.clock.tick (records_of writer before) in
     let records = found (writer_records_at header before writer one.x.1) _ (block, rest) one.second in
     let same : (Extent writer records.x.0, records.x.1) ≡ (block, rest) = (given true causes.Cut (Extent writer records.x.0, records.x.1) (block, rest) records.second).1 in
     let len = found (low_first 4 causes.Cut one.x.1) _ records.x records.first in
-    let short = found (provided (nat_le 1 len.x.0 && nat_le len.x.0 MAX_BODY) causes.BadLength len.x) _ records.x len.second in
-    let test = given (nat_le 1 len.x.0 && nat_le len.x.0 MAX_BODY) causes.BadLength len.x short.x short.first in
+    let short = found (provided (is_length header len.x.0) causes.BadLength len.x) _ records.x len.second in
+    let test = given (is_length header len.x.0) causes.BadLength len.x short.x short.first in
     let sized = found (so_many short.x.0 causes.Cut short.x.1) _ records.x short.second in
     let judged = found (caused_by causes.Body (body_at (messages_of before) header.clock.tick last sized.x.0)) _ records.x sized.second in
     let both : (judged.x, sized.x.1) ≡ records.x = (given true causes.Cut (judged.x, sized.x.1) records.x judged.second).1 in
-    let behind_small = back_bytes bytes (writer ∷ []) one.x.1 read.joined small in
+    let behind_small = back_bytes bytes (writer_bytes header.version writer) one.x.1 read.joined small in
     let number = number_taken 4 causes.Cut one.x.1 len.x.0 len.x.1 behind_small len.first in
     let body = so_many_taken short.x.0 causes.Cut short.x.1 sized.x.0 sized.x.1 sized.first in
     let parts : len.x.1 ≡ sized.x.0 ++ sized.x.1 = ap (λ (p : ℕ × List ℕ). p.1) test.1 ∙ body.parts in
     let size : length sized.x.0 ≡ len.x.0 = body.len ∙ sym (ap (λ (p : ℕ × List ℕ). p.0) test.1) in
     let body_small : AreBytes sized.x.0 = front_bytes sized.x.0 sized.x.1 (subst AreBytes parts (back_bytes one.x.1 (le_bytes 4 len.x.0) len.x.1 number.parts behind_small)) in
     let is = body_taken (messages_of before) header.clock.tick last judged.x sized.x.0 body_small (uncaused causes.Body (body_at (messages_of before) header.clock.tick last sized.x.0) judged.x judged.first) in
-    let within = and_parts (nat_le 1 len.x.0) (nat_le len.x.0 MAX_BODY) test.0 in
-    let known = read.right.known in
-    let joined : 2 ∷ bytes ≡ (extent_head_bytes writer (length sized.x.0) ++ sized.x.0) ++ sized.x.1 =
-    ap (λ (b : List ℕ). 2 ∷ b) (read.joined ∙ ap (λ (b : List ℕ). writer ∷ b) (number.parts ∙ (λ t. le_bytes 4 (sym size t) ++ parts t))) ∙ sym (extent_nested writer (length sized.x.0) sized.x.0 sized.x.1) in
+    let within = and_parts (nat_le 1 len.x.0) (nat_le len.x.0 (most_body header.version)) test.0 in
+    let joined : 2 ∷ bytes ≡ (extent_head_bytes header.version writer (length sized.x.0) ++ sized.x.0) ++ sized.x.1 =
+    ap (λ (b : List ℕ). 2 ∷ b) (read.joined ∙ ap (λ (b : List ℕ). writer_bytes header.version writer ++ b) (number.parts ∙ (λ t. le_bytes 4 (sym size t) ++ parts t))) ∙ sym (extent_nested header.version writer (length sized.x.0) sized.x.0 sized.x.1) in
     subst (λ (p : Block × List ℕ). IsReadRight header before (2 ∷ bytes) p.0 p.1) (ap (λ (p : List Call × List ℕ). (Extent writer p.0, p.1)) both ∙ same) (record {
-      front = extent_head_bytes writer (length sized.x.0) ++ sized.x.0;
+      front = extent_head_bytes header.version writer (length sized.x.0) ++ sized.x.0;
       joined = joined;
-      spelled = record { body = sized.x.0; some = omega (arith, size, leb-true 1 len.x.0 within.0); short = omega (arith, size, leb-true len.x.0 65536 within.1); writer_fits = omega (arith, known, few); body_spelled = is.spelled; joined = refl };
+      spelled = record { body = sized.x.0; some = omega (arith, size, leb-true 1 len.x.0 within.0); short = omega (arith, size, leb-true len.x.0 (most_body header.version) within.1); writer_fits = read.fits; body_spelled = is.spelled; joined = refl };
       right = record { writer_open = read.right; right = is.right; rising = is.rising };
     })
 
-close_taken : (header : Header) (before : List Block) (bytes : List ℕ) (block : Block) (rest : List ℕ) → header.writers ≤ 64 → close_at header before bytes ≡ Ok (block, rest) → IsReadRight header before (4 ∷ bytes) block rest
-close_taken header before bytes block rest few e =
+close_taken : (header : Header) (before : List Block) (bytes : List ℕ) (block : Block) (rest : List ℕ) → AreBytes bytes → close_at header before bytes ≡ Ok (block, rest) → IsReadRight header before (4 ∷ bytes) block rest
+close_taken header before bytes block rest small e =
     let one = found (open_writer_at header before bytes) _ (block, rest) e in
-    let read = writer_taken header before bytes one.x.0 one.x.1 one.first in
-    let known = read.right.known in
+    let read = writer_taken header before bytes one.x.0 one.x.1 small one.first in
     subst (λ (p : Block × List ℕ). IsReadRight header before (4 ∷ bytes) p.0 p.1) (given true causes.Cut (Close one.x.0, one.x.1) (block, rest) one.second).1 (record {
-      front = 4 ∷ one.x.0 ∷ [];
+      front = close_bytes header.version one.x.0;
       joined = ap (λ (b : List ℕ). 4 ∷ b) read.joined;
-      spelled = record { writer_fits = omega (arith, known, few); joined = refl };
+      spelled = record { writer_fits = read.fits; joined = refl };
       right = read.right;
     })
 
 -- a block that is read is right
-pub block_taken : (header : Header) (before : List Block) (bytes : List ℕ) (block : Block) (rest : List ℕ) → header.writers ≤ 64 → AreDistinct (messages_of before) → AreBytes bytes → block_at header before bytes ≡ Ok (block, rest) → IsReadRight header before bytes block rest
-block_taken header before [] block rest few distinct small e = absurd cc
-block_taken header before (tag ∷ bytes) block rest few distinct small e = by_tag (eqb tag 1) (eqb tag 2) (eqb tag 4) refl refl refl e
+pub block_taken : (header : Header) (before : List Block) (bytes : List ℕ) (block : Block) (rest : List ℕ) → AreDistinct (messages_of before) → AreBytes bytes → block_at header before bytes ≡ Ok (block, rest) → IsReadRight header before bytes block rest
+block_taken header before [] block rest distinct small e = absurd cc
+block_taken header before (tag ∷ bytes) block rest distinct small e = by_tag (eqb tag 1) (eqb tag 2) (eqb tag 4) refl refl refl e
   where
     behind : AreBytes bytes
     behind = back_bytes (tag ∷ bytes) (tag ∷ []) bytes refl small
@@ -414,6 +453,6 @@ block_taken header before (tag ∷ bytes) block rest few distinct small e = by_t
     by_tag : (one two four : Bool) → eqb tag 1 ≡ one → eqb tag 2 ≡ two → eqb tag 4 ≡ four
         → (if one then fragment_at (messages_of before) bytes else if two then extent_at header before bytes else if four then close_at header before bytes else Err causes.BadBlock) ≡ Ok (block, rest) → IsReadRight header before (tag ∷ bytes) block rest
     by_tag true two four p q r e = at 1 p (fragment_taken header before bytes block rest behind distinct e)
-    by_tag false true four p q r e = at 2 q (extent_taken header before bytes block rest few behind e)
-    by_tag false false true p q r e = at 4 r (close_taken header before bytes block rest few e)
+    by_tag false true four p q r e = at 2 q (extent_taken header before bytes block rest behind e)
+    by_tag false false true p q r e = at 4 r (close_taken header before bytes block rest behind e)
     by_tag false false false p q r e = absurd cc

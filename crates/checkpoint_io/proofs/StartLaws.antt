@@ -7,12 +7,14 @@ use Rattle.checkpoint_io.specs.declared.cause.Cause.{Cause}
 use Rattle.checkpoint_io.specs.declared.cause.Cause.TheVariants as causes
 use Rattle.checkpoint_io.specs.declared.fault.BlockFault.{BlockFault}
 use Rattle.checkpoint_io.specs.declared.fault.BlockFault.TheVariants.{ReadFault}
+use Rattle.checkpoint_io.specs.Versions.{header_len}
 use Rattle.checkpoint_io.specs.Blocks.{header_bytes}
 use Rattle.checkpoint_io.specs.Reading.{header_at}
 use Rattle.checkpoint_io.specs.Fronts.{Break, at_header}
 use Rattle.checkpoint_io.specs.Places.{UnreadBytes, with_front, log_place, StandsBetween, TookSuch, Refuses}
 use Rattle.checkpoint_io.specs.Writers.{AreStatesOf}
 use Rattle.checkpoint_io.specs.Readers.{ReaderState, StandsFor}
+use Rattle.checkpoint_io.proofs.lemmas.VersionLaws.{few_len}
 use Rattle.checkpoint_io.proofs.lemmas.BlockLaws.{length-header_bytes}
 use Rattle.checkpoint_io.proofs.lemmas.FileLaws.{with_front-both}
 use Rattle.checkpoint_io.proofs.lemmas.FrontLaws.{empty_file}
@@ -24,12 +26,13 @@ no_front : (told : Told) → with_front [] told ≡ told
 no_front None = refl
 no_front (Some content) = refl
 
-pub started : (reader : ReaderState) (none : UnreadBytes) (from to : Told) → none.bytes ≡ [] → none.offset ≡ 0 → reader.messages ≡ [] → AreStatesOf reader.writers reader.header.clock.tick [] → reader.offset ≡ reader.waiting.offset → StandsBetween header_at reader.header (log_place none from) (log_place reader.waiting to) → (taken : List ℕ) × (read : StandsFor reader taken) × (read.blocks ≡ []) × (from ≡ with_front (taken ++ reader.waiting.bytes) to)
+pub started : (reader : ReaderState) (none : UnreadBytes) (from to : Told) → none.bytes ≡ [] → none.offset ≡ 0 → reader.messages ≡ [] → AreStatesOf reader.writers reader.header [] → reader.offset ≡ reader.waiting.offset → StandsBetween header_at reader.header (log_place none from) (log_place reader.waiting to) → (taken : List ℕ) × (read : StandsFor reader taken) × (read.blocks ≡ []) × (from ≡ with_front (taken ++ reader.waiting.bytes) to)
 started reader none from to no_bytes front messages states offset takes =
     let header = reader.header in
     let read = header_taken takes.front header [] takes.passes.small (ap header_at (sym (append-nil takes.front)) ∙ takes.found []) in
     let is : takes.front ≡ header_bytes header = read.joined ∙ append-nil (header_bytes header) in
-    let len : length takes.front ≡ 30 = ap length is ∙ length-header_bytes header in
+    let len : length takes.front ≡ header_len header.version = ap length is ∙ length-header_bytes header in
+    let few = few_len header.version in
     let passes = takes.passes.offset in
     let start : from ≡ with_front none.bytes from = sym (ap (λ (b : List ℕ). with_front b from) no_bytes ∙ no_front from) in (
       header_bytes header,
@@ -39,9 +42,9 @@ started reader none from to no_bytes front messages states offset takes =
         valid = record { header_right = read.right; blocks_right = tt };
         messages = messages;
         states = states;
-        offset = omega (arith, offset, passes, front, len, length-header_bytes header);
-        at = omega (arith, passes, front, len, length-header_bytes header);
-        within = omega (arith, length-header_bytes header);
+        offset = omega (arith, offset, passes, front, len, few, length-header_bytes header);
+        at = omega (arith, passes, front, len, few, length-header_bytes header);
+        within = omega (arith, few, length-header_bytes header);
       },
       refl,
       start ∙ takes.passes.ahead ∙ ap (λ (b : List ℕ). with_front b (with_front reader.waiting.bytes to)) is ∙ sym (with_front-both (header_bytes header) reader.waiting.bytes to),

@@ -5,5 +5,6 @@ pub mod FrontLaws
 pub mod LimitLaws
 pub mod LogLaws
 pub mod ValidityLaws
+pub mod VersionLaws
 pub mod Wholeness
 pub mod Worked

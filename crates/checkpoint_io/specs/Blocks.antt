@@ -7,25 +7,26 @@ use Rattle.log_dictionary.specs.BinaryEntries.{SpellsEntry}
 use Rattle.arg_records.specs.declared.call.Call.{Call}
 use Rattle.buffer_extent.specs.Bodies.{SpellsRecords}
 use Rattle.checkpoint_io.specs.declared.header.Header.{Header}
-use Rattle.checkpoint_io.specs.declared.heads.TheConstants.{MAX_FRAGMENT_MESSAGES, MAX_BODY}
+use Rattle.checkpoint_io.specs.declared.heads.TheConstants.{MAX_FRAGMENT_MESSAGES}
+use Rattle.checkpoint_io.specs.Versions.{writer_len, most_body}
 
 -- a block: messages with ids that count from the first one, records of a writer, or the mark that closes a writer
 pub data Block : Type 0 where
   Fragment : (first : ℕ) (messages : List Message) → Block
-  Extent : (writer : ℕ) (entries : List Call) → Block
+  Extent : (writer : ℕ) (records : List Call) → Block
   Close : (writer : ℕ) → Block
 
 -- the block is one of messages
 abbrev pub IsFragment : Block → Type 0
 IsFragment (Fragment first messages) = Unit {0}
-IsFragment (Extent writer entries) = ⊥
+IsFragment (Extent writer records) = ⊥
 IsFragment (Close writer) = ⊥
 
 -- ---- what blocks say together
 
 abbrev pub block_messages : Block → List Message
 block_messages (Fragment first messages) = messages
-block_messages (Extent writer entries) = []
+block_messages (Extent writer records) = []
 block_messages (Close writer) = []
 
 -- the messages that blocks define, in the order of their ids
@@ -34,23 +35,27 @@ messages_of blocks = flat_map block_messages blocks
 
 -- ---- spellings
 
--- `NLOG`, the version, the number of writers, and the clock; numbers stand with the low byte first
+-- a writer, or a number of writers; numbers stand with the low byte first
+abbrev pub writer_bytes : ℕ → ℕ → List ℕ
+writer_bytes version writer = le_bytes (writer_len version) writer
+
+-- `NLOG`, the version, the number of writers, and the clock
 abbrev pub header_bytes : Header → List ℕ
 header_bytes header =
-    codes "NLOG" ++ 1 ∷ header.writers ∷ le_bytes 8 header.clock.tick ++ le_bytes 8 header.clock.nanos
-    ++ le_bytes 8 header.clock.rate
+    codes "NLOG" ++ header.version ∷ writer_bytes header.version header.writers ++ le_bytes 8 header.clock.tick
+    ++ le_bytes 8 header.clock.nanos ++ le_bytes 8 header.clock.rate
 
 -- in front of the entries: the tag 1, the first id and the number of messages
 abbrev pub fragment_head_bytes : ℕ → ℕ → List ℕ
 fragment_head_bytes first count = 1 ∷ le_bytes 4 first ++ le_bytes 2 count
 
 -- in front of a body: the tag 2, the writer and the length of the body
-abbrev pub extent_head_bytes : ℕ → ℕ → List ℕ
-extent_head_bytes writer len = 2 ∷ writer ∷ le_bytes 4 len
+abbrev pub extent_head_bytes : ℕ → ℕ → ℕ → List ℕ
+extent_head_bytes version writer len = 2 ∷ writer_bytes version writer ++ le_bytes 4 len
 
 -- the whole mark: the tag 4 and the writer
-abbrev pub close_bytes : ℕ → List ℕ
-close_bytes writer = 4 ∷ writer ∷ []
+abbrev pub close_bytes : ℕ → ℕ → List ℕ
+close_bytes version writer = 4 ∷ writer_bytes version writer
 
 -- the bytes are the entries of the messages, joined
 abbrev pub SpellsEntries : List Message → List ℕ → Type 0
@@ -68,37 +73,37 @@ pub record SpellsFragment (first : ℕ) (messages : List Message) (bytes : List 
   pub entries_spelled : SpellsEntries messages entries
   pub joined : bytes ≡ fragment_head_bytes first (length messages) ++ entries
 
--- the head, and a body of 1 to 65536 bytes, which is the records' spellings, joined; the first step counts from the
--- tick
-pub record SpellsExtent (messages : List Message) (tick writer : ℕ) (entries : List Call)
+-- the head, and a body of at least a byte, within the version's limit, which is the records' spellings, joined; the
+-- first step counts from the tick
+pub record SpellsExtent (messages : List Message) (header : Header) (writer : ℕ) (records : List Call)
     (bytes : List ℕ) : Type 0 where
   pub body : List ℕ
   pub some : 1 ≤ length body
-  pub short : length body ≤ MAX_BODY
-  pub writer_fits : writer < 2 ^ 8
-  pub body_spelled : SpellsRecords messages tick entries body
-  pub joined : bytes ≡ extent_head_bytes writer (length body) ++ body
+  pub short : length body ≤ most_body header.version
+  pub writer_fits : writer < 256 ^ writer_len header.version
+  pub body_spelled : SpellsRecords messages header.clock.tick records body
+  pub joined : bytes ≡ extent_head_bytes header.version writer (length body) ++ body
 
 -- the mark
-pub record SpellsClose (writer : ℕ) (bytes : List ℕ) : Type 0 where
-  pub writer_fits : writer < 2 ^ 8
-  pub joined : bytes ≡ close_bytes writer
+pub record SpellsClose (header : Header) (writer : ℕ) (bytes : List ℕ) : Type 0 where
+  pub writer_fits : writer < 256 ^ writer_len header.version
+  pub joined : bytes ≡ close_bytes header.version writer
 
--- the bytes spell the block, behind blocks that define these messages
-abbrev pub SpellsBlock : List Message → ℕ → Block → List ℕ → Type 0
-SpellsBlock messages tick (Fragment first added) bytes = SpellsFragment first added bytes
-SpellsBlock messages tick (Extent writer entries) bytes = SpellsExtent messages tick writer entries bytes
-SpellsBlock messages tick (Close writer) bytes = SpellsClose writer bytes
+-- the bytes spell the block, in a log of this header, behind blocks that define these messages
+abbrev pub SpellsBlock : List Message → Header → Block → List ℕ → Type 0
+SpellsBlock messages header (Fragment first added) bytes = SpellsFragment first added bytes
+SpellsBlock messages header (Extent writer records) bytes = SpellsExtent messages header writer records bytes
+SpellsBlock messages header (Close writer) bytes = SpellsClose header writer bytes
 
 -- the bytes are the spellings of the blocks, joined, behind other blocks
-abbrev pub SpellsBlocks : ℕ → List Block → List Block → List ℕ → Type 0
-SpellsBlocks tick before [] bytes = bytes ≡ []
-SpellsBlocks tick before (block ∷ blocks) bytes =
+abbrev pub SpellsBlocks : Header → List Block → List Block → List ℕ → Type 0
+SpellsBlocks header before [] bytes = bytes ≡ []
+SpellsBlocks header before (block ∷ blocks) bytes =
     (front : List ℕ) × (back : List ℕ) × (bytes ≡ front ++ back)
-    × SpellsBlock (messages_of before) tick block front × SpellsBlocks tick (before ++ block ∷ []) blocks back
+    × SpellsBlock (messages_of before) header block front × SpellsBlocks header (before ++ block ∷ []) blocks back
 
 -- the bytes are the spellings of the header and of the blocks, joined
 pub record FileOf (header : Header) (blocks : List Block) (bytes : List ℕ) : Type 0 where
   pub block_bytes : List ℕ
-  pub spelled : SpellsBlocks header.clock.tick [] blocks block_bytes
+  pub spelled : SpellsBlocks header [] blocks block_bytes
   pub joined : bytes ≡ header_bytes header ++ block_bytes

@@ -1,3 +1,4 @@
+pub mod Versions
 pub mod Blocks
 pub mod Validity
 pub mod Fronts

@@ -4,6 +4,7 @@ use Rattle.nl_io.specs.Content.{Told, IsAtEnd}
 use Rattle.log_dictionary.specs.declared.message.Message.{Message}
 use Rattle.arg_records.specs.declared.call.Call.{Call}
 use Rattle.checkpoint_io.specs.declared.header.Header.{Header}
+use Rattle.checkpoint_io.specs.declared.writers.WriterState.{WriterState}
 use Rattle.checkpoint_io.specs.declared.block.Block.{Block as ReadBlock}
 use Rattle.checkpoint_io.specs.declared.block.Block.TheVariants as read
 use Rattle.checkpoint_io.specs.Blocks.{Block, Fragment, Extent, Close, messages_of, FileOf}
@@ -13,35 +14,35 @@ use Rattle.checkpoint_io.specs.declared.heads.TheConstants.{MAX_LOG}
 use Rattle.checkpoint_io.specs.Reading.{extent_at, close_at, block_at}
 use Rattle.checkpoint_io.specs.Fronts.{BeginsWithLog, Break}
 use Rattle.checkpoint_io.specs.Places.{LogPlace, with_front, StandsBetween}
-use Rattle.checkpoint_io.specs.Writers.{WriterStates, AreStatesOf}
+use Rattle.checkpoint_io.specs.Writers.{AreStatesOf}
 use Rattle.checkpoint_io.specs.Readers.{ReaderState, StandsFor}
 
 -- the rest of the writer's close mark stands between the two places, and what is kept is that behind it
-pub record TakesClose (header : Header) (before : List Block) (writer : ℕ) (after : WriterStates)
+pub record TakesClose (header : Header) (before : List Block) (writer : ℕ) (after : List WriterState)
     (from to : LogPlace) : Type 0 where
   pub takes : StandsBetween (close_at header before) (Close writer) from to
-  pub states : AreStatesOf after header.clock.tick (before ++ Close writer ∷ [])
+  pub states : AreStatesOf after header (before ++ Close writer ∷ [])
 
 -- the rest of the writer's extent stands between the two places, and what is kept is that behind it
-pub record TakesExtent (header : Header) (before : List Block) (writer : ℕ) (entries : List Call)
-    (after : WriterStates) (from to : LogPlace) : Type 0 where
-  pub takes : StandsBetween (extent_at header before) (Extent writer entries) from to
-  pub states : AreStatesOf after header.clock.tick (before ++ Extent writer entries ∷ [])
+pub record TakesExtent (header : Header) (before : List Block) (writer : ℕ) (records : List Call)
+    (after : List WriterState) (from to : LogPlace) : Type 0 where
+  pub takes : StandsBetween (extent_at header before) (Extent writer records) from to
+  pub states : AreStatesOf after header (before ++ Extent writer records ∷ [])
 
 -- what is told of a block that was read
 abbrev pub Describes : ReadBlock → Block → Type 0
 Describes told (Fragment first messages) = told ≡ read.Fragment first (length messages)
-Describes told (Extent writer entries) = told ≡ read.Extent writer entries
+Describes told (Extent writer records) = told ≡ read.Extent writer records
 Describes told (Close writer) = told ≡ read.Closed writer
 
 -- the block stands between the two places, and what is kept is that behind it
 pub record TakesBlock (header : Header) (before : List Block) (told : ReadBlock) (messages : List Message)
-    (after : WriterStates) (from to : LogPlace) : Type 0 where
+    (after : List WriterState) (from to : LogPlace) : Type 0 where
   pub block : Block
   pub tells : Describes told block
   pub takes : StandsBetween (block_at header before) block from to
   pub defined : messages ≡ messages_of (before ++ block ∷ [])
-  pub states : AreStatesOf after header.clock.tick (before ++ block ∷ [])
+  pub states : AreStatesOf after header (before ++ block ∷ [])
 
 -- ---- the reader
 

@@ -2,17 +2,18 @@
 use Rattle.std.specs.Prelude.{◌≡◌, ℕ, ◌≤◌, Bool, List, length}
 use Rattle.log_dictionary.specs.declared.message.Message.{Message}
 use Rattle.checkpoint_io.specs.declared.header.Header.{Header}
+use Rattle.checkpoint_io.specs.declared.writers.WriterState.{WriterState}
 use Rattle.checkpoint_io.specs.Blocks.{Block, messages_of, FileOf}
 use Rattle.checkpoint_io.specs.Validity.{Valid}
 use Rattle.checkpoint_io.specs.declared.heads.TheConstants.{MAX_LOG}
 use Rattle.checkpoint_io.specs.Places.{UnreadBytes}
-use Rattle.checkpoint_io.specs.Writers.{WriterStates, AreStatesOf}
+use Rattle.checkpoint_io.specs.Writers.{AreStatesOf}
 
 pub record ReaderState : Type 0 where
   pub header : Header
   -- the messages that were defined so far
   pub messages : List Message
-  pub writers : WriterStates
+  pub writers : List WriterState
   -- bytes that came from the source and weren't read yet
   pub waiting : UnreadBytes
   -- where the next block begins, or the one that failed
@@ -25,7 +26,7 @@ pub record StandsFor (reader : ReaderState) (taken : List ℕ) : Type 0 where
   pub file : FileOf reader.header blocks taken
   pub valid : Valid reader.header blocks
   pub messages : reader.messages ≡ messages_of blocks
-  pub states : AreStatesOf reader.writers reader.header.clock.tick blocks
+  pub states : AreStatesOf reader.writers reader.header blocks
   pub offset : reader.offset ≡ length taken
   pub at : reader.waiting.offset ≡ length taken
   pub within : length taken ≤ MAX_LOG

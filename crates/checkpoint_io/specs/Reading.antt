@@ -8,47 +8,48 @@ use Rattle.log_dictionary.specs.declared.binary_entry.EntryCause.{EntryCause}
 use Rattle.log_dictionary.specs.declared.binary_entry.EntryCause.TheVariants as entries
 use Rattle.log_dictionary.specs.Messages.{is_same}
 use Rattle.log_dictionary.specs.EntryReading.{entry_at}
-use Rattle.session_options.specs.declared.limits.TheConstants.{MAX_LOG_WRITERS}
 use Rattle.arg_records.specs.declared.call.Call.{Call}
 use Rattle.buffer_extent.specs.Bodies.{body_at}
 use Rattle.checkpoint_io.specs.declared.cause.Cause.{Cause}
 use Rattle.checkpoint_io.specs.declared.cause.Cause.TheVariants as causes
 use Rattle.checkpoint_io.specs.declared.header.Header.{Header}
-use Rattle.checkpoint_io.specs.declared.heads.TheConstants.{MAX_FRAGMENT_MESSAGES, MAX_BODY}
+use Rattle.checkpoint_io.specs.declared.heads.TheConstants.{MAX_FRAGMENT_MESSAGES}
+use Rattle.checkpoint_io.specs.Versions.{is_known, writer_len, most_writers, most_body}
 use Rattle.checkpoint_io.specs.Blocks.{Block, Fragment, Extent, Close, messages_of}
 use Rattle.checkpoint_io.specs.Validity.{records_of, last_stamp, closes}
 
 -- ---- the header
 
-abbrev pub header_of : ℕ → ℕ → ℕ → ℕ → Header
-header_of writers tick nanos rate =
-    record { writers = writers; clock = record { tick = tick; nanos = nanos; rate = rate } }
+abbrev pub header_of : ℕ → ℕ → ℕ → ℕ → ℕ → Header
+header_of version writers tick nanos rate =
+    record { version = version; writers = writers; clock = record { tick = tick; nanos = nanos; rate = rate } }
 
 -- the clock of a header with so many writers: its tick, its nanoseconds and its rate
-abbrev pub header_rate_at : ℕ → ℕ → ℕ → List ℕ → Parse Cause Header
-header_rate_at writers tick nanos bytes = do
+abbrev pub header_rate_at : ℕ → ℕ → ℕ → ℕ → List ℕ → Parse Cause Header
+header_rate_at version writers tick nanos bytes = do
   rate ← low_first 8 causes.Cut bytes
   ticking ← provided (nat_le 1 rate.0) causes.BadHeader rate
-  Ok (header_of writers tick nanos ticking.0, ticking.1)
+  Ok (header_of version writers tick nanos ticking.0, ticking.1)
 
-abbrev pub header_nanos_at : ℕ → ℕ → List ℕ → Parse Cause Header
-header_nanos_at writers tick bytes =
-    low_first 8 causes.Cut bytes >>= (λ nanos. header_rate_at writers tick nanos.0 nanos.1)
+abbrev pub header_nanos_at : ℕ → ℕ → ℕ → List ℕ → Parse Cause Header
+header_nanos_at version writers tick bytes =
+    low_first 8 causes.Cut bytes >>= (λ nanos. header_rate_at version writers tick nanos.0 nanos.1)
 
-abbrev pub header_clock_at : ℕ → List ℕ → Parse Cause Header
-header_clock_at writers bytes = low_first 8 causes.Cut bytes >>= (λ tick. header_nanos_at writers tick.0 tick.1)
+abbrev pub header_clock_at : ℕ → ℕ → List ℕ → Parse Cause Header
+header_clock_at version writers bytes =
+    low_first 8 causes.Cut bytes >>= (λ tick. header_nanos_at version writers tick.0 tick.1)
 
-abbrev pub header_writers_at : List ℕ → Parse Cause Header
-header_writers_at bytes = do
-  writers ← first_byte causes.Cut bytes
-  few ← provided (nat_le 1 writers.0 && nat_le writers.0 MAX_LOG_WRITERS) causes.BadHeader writers
-  header_clock_at few.0 few.1
+abbrev pub header_writers_at : ℕ → List ℕ → Parse Cause Header
+header_writers_at version bytes = do
+  writers ← low_first (writer_len version) causes.Cut bytes
+  few ← provided (nat_le 1 writers.0 && nat_le writers.0 (most_writers version)) causes.BadHeader writers
+  header_clock_at version few.0 few.1
 
 abbrev pub header_version_at : List ℕ → Parse Cause Header
 header_version_at bytes = do
   version ← first_byte causes.Cut bytes
-  known ← provided (nat_eq version.0 1) causes.BadVersion version
-  header_writers_at known.1
+  known ← provided (is_known version.0) causes.BadVersion version
+  header_writers_at known.0 known.1
 
 -- a header, of which these letters are still to come
 abbrev pub header_letters_at : List ℕ → List ℕ → Parse Cause Header
@@ -103,7 +104,7 @@ fragment_at before bytes = do
 -- a writer that may still write
 abbrev pub open_writer_at : Header → List Block → List ℕ → Parse Cause ℕ
 open_writer_at header before bytes = do
-  writer ← first_byte causes.Cut bytes
+  writer ← low_first (writer_len header.version) causes.Cut bytes
   known ← provided (nat_lt writer.0 header.writers) causes.UnknownWriter writer
   provided (not (list_any (closes known.0) before)) causes.AfterClose known
 
@@ -111,27 +112,27 @@ open_writer_at header before bytes = do
 abbrev pub sized_body_at : List Message → ℕ → ℕ → ℕ → List ℕ → Parse Cause (List Call)
 sized_body_at messages tick last len bytes = do
   body ← so_many len causes.Cut bytes
-  entries ← caused_by causes.Body (body_at messages tick last body.0)
-  Ok (entries, body.1)
+  records ← caused_by causes.Body (body_at messages tick last body.0)
+  Ok (records, body.1)
 
 -- a body with its length in front
-abbrev pub long_body_at : List Message → ℕ → ℕ → List ℕ → Parse Cause (List Call)
-long_body_at messages tick last bytes = do
+abbrev pub long_body_at : List Message → Header → ℕ → List ℕ → Parse Cause (List Call)
+long_body_at messages header last bytes = do
   len ← low_first 4 causes.Cut bytes
-  short ← provided (nat_le 1 len.0 && nat_le len.0 MAX_BODY) causes.BadLength len
-  sized_body_at messages tick last short.0 short.1
+  short ← provided (nat_le 1 len.0 && nat_le len.0 (most_body header.version)) causes.BadLength len
+  sized_body_at messages header.clock.tick last short.0 short.1
 
 -- the records of a writer
 abbrev pub writer_records_at : Header → List Block → ℕ → List ℕ → Parse Cause (List Call)
 writer_records_at header before writer bytes =
-    long_body_at (messages_of before) header.clock.tick
+    long_body_at (messages_of before) header
     (last_stamp header.clock.tick (records_of writer before)) bytes
 
 abbrev pub extent_at : Header → List Block → List ℕ → Parse Cause Block
 extent_at header before bytes = do
   writer ← open_writer_at header before bytes
-  entries ← writer_records_at header before writer.0 writer.1
-  Ok (Extent writer.0 entries.0, entries.1)
+  records ← writer_records_at header before writer.0 writer.1
+  Ok (Extent writer.0 records.0, records.1)
 
 abbrev pub close_at : Header → List Block → List ℕ → Parse Cause Block
 close_at header before bytes = open_writer_at header before bytes >>= (λ writer. Ok (Close writer.0, writer.1))

@@ -7,14 +7,14 @@ use Rattle.arg_records.specs.declared.call.Call.{Call}
 use Rattle.arg_records.specs.Calls.{IsCall, NeverFalls}
 pub use Rattle.arg_records.specs.Calls.{last_stamp}
 use Rattle.log_dictionary.specs.declared.dictionary.TheConstants.{MAX_MESSAGES}
-use Rattle.session_options.specs.declared.limits.TheConstants.{MAX_LOG_WRITERS}
+use Rattle.checkpoint_io.specs.Versions.{is_known, most_writers}
 use Rattle.checkpoint_io.specs.declared.header.Header.{Header}
 use Rattle.checkpoint_io.specs.Blocks.{Block, Fragment, Extent, Close, messages_of}
 
 -- the records of a writer in a block
 abbrev pub block_records : ℕ → Block → List Call
 block_records writer (Fragment first messages) = []
-block_records writer (Extent w entries) = if w == writer then entries else []
+block_records writer (Extent w records) = if w == writer then records else []
 block_records writer (Close w) = []
 
 -- the records of a writer's extents, joined
@@ -24,7 +24,7 @@ records_of writer blocks = flat_map (block_records writer) blocks
 -- the block is the close mark of the writer
 abbrev pub closes : ℕ → Block → Bool
 closes writer (Fragment first messages) = false
-closes writer (Extent w entries) = false
+closes writer (Extent w records) = false
 closes writer (Close w) = w == writer
 
 -- a close mark of the writer stands among the blocks
@@ -34,7 +34,7 @@ IsClosed writer blocks = list_any (closes writer) blocks ≡ true
 -- the block is an extent or the close mark of the writer
 abbrev pub IsOf : ℕ → Block → Type 0
 IsOf writer (Fragment first messages) = ⊥
-IsOf writer (Extent w entries) = w ≡ writer
+IsOf writer (Extent w records) = w ≡ writer
 IsOf writer (Close w) = w ≡ writer
 
 -- the writer may still write: it is one of the log's, and no close mark of it stands before
@@ -50,15 +50,15 @@ pub record DefinesNext (before : List Block) (first : ℕ) (messages : List Mess
 
 -- The records are those of a writer that may still write. Each names a message that was defined before, and no stamp
 -- falls.
-pub record ContinuesWriter (header : Header) (before : List Block) (writer : ℕ) (entries : List Call) : Type 0 where
+pub record ContinuesWriter (header : Header) (before : List Block) (writer : ℕ) (records : List Call) : Type 0 where
   pub writer_open : MayStillWrite header before writer
-  pub right : AllByRecursion (IsCall (messages_of before)) entries
-  pub rising : NeverFalls (last_stamp header.clock.tick (records_of writer before)) entries
+  pub right : AllByRecursion (IsCall (messages_of before)) records
+  pub rising : NeverFalls (last_stamp header.clock.tick (records_of writer before)) records
 
 -- the block keeps the rules behind the blocks before it
 abbrev pub IsRightAfter : Header → List Block → Block → Type 0
 IsRightAfter header before (Fragment first messages) = DefinesNext before first messages
-IsRightAfter header before (Extent writer entries) = ContinuesWriter header before writer entries
+IsRightAfter header before (Extent writer records) = ContinuesWriter header before writer records
 IsRightAfter header before (Close writer) = MayStillWrite header before writer
 
 -- each of the blocks keeps the rules behind those before it
@@ -67,10 +67,12 @@ AreRightAfter header before [] = Unit {0}
 AreRightAfter header before (block ∷ blocks) =
     IsRightAfter header before block × AreRightAfter header (before ++ block ∷ []) blocks
 
--- there are 1 to 64 writers, the clock's numbers are below 2^64, and it ticks
+-- the version is known, there is a writer, there are no more than the version allows, the clock's numbers are below
+-- 2^64, and it ticks
 pub record IsHeader (header : Header) : Type 0 where
+  pub version_known : is_known header.version ≡ true
   pub some_writer : 1 ≤ header.writers
-  pub few_writers : header.writers ≤ MAX_LOG_WRITERS
+  pub few_writers : header.writers ≤ most_writers header.version
   pub tick_fits : header.clock.tick < 2 ^ 64
   pub nanos_fits : header.clock.nanos < 2 ^ 64
   pub rate_fits : header.clock.rate < 2 ^ 64

@@ -1,6 +1,6 @@
 //! Reading a block of a log.
 
-ghost use Rattle.std.specs.Prelude.{◌≡◌, ◌≤◌, List, length, take, IsErrOf, MatchResult};
+ghost use Rattle.std.specs.Prelude.{◌≡◌, ◌<◌, ◌≤◌, IfOk, List, length, take, IsErrOf, MatchResult};
 ghost use Rattle.nl_io.specs.Count.{Rose};
 ghost use Rattle.checkpoint_io.specs.Blocks.{Block as LogBlock, messages_of};
 ghost use Rattle.checkpoint_io.specs.Places.{log_place, Refuses, ReadsAs};
@@ -13,9 +13,10 @@ use crate::cause::Cause;
 use crate::fault::BlockFault;
 use crate::fragment_reading::read_fragment;
 use crate::header::Header;
-use crate::heads::{CLOSE, EXTENT, FRAGMENT, MAX_BODY};
+use crate::heads::{CLOSE, EXTENT, FRAGMENT};
 use crate::pending::Pending;
 use crate::steps::{take_byte, take_number};
+use crate::version::{most_body, writer_len};
 use crate::writers::Writers;
 use buffer_extent::{BodyFault, Records, read_body};
 use log_dictionary::Dictionary;
@@ -28,8 +29,9 @@ fn take_writer<S: Source>(
     source: &mut S,
     header: &Header,
     writers: &Writers,
-) -> Result<u8, BlockFault>
-    ensures read { (before : List LogBlock) → AreStatesOf writers.now header.now.clock.tick before
+) -> Result<u32, BlockFault>
+    ensures known { IfOk result (λ writer. writer < header.now.writers) }
+    ensures read { (before : List LogBlock) → AreStatesOf writers.now header.now before
         → ReadsAs (open_writer_at header.now before)
         (log_place pending.old (S.left source.old)) (log_place pending.new (S.left source.new)) (S.left source.new)
         result }
@@ -40,10 +42,11 @@ fn take_writer<S: Source>(
     ensures count { S.faults source.old ≤ S.faults source.new }
     ensures others { S.rest source.old source.new }
 {
-    let writer = take_byte(pending, source)?;
-    if u32::from(writer) >= header.writers {
+    let name = take_number(pending, source, writer_len(header.version))?;
+    if name >= u64::from(header.writers) {
         return Err(BlockFault::Damaged(Cause::UnknownWriter));
     }
+    let writer = name as u32;
     if writers.is_closed(writer) {
         return Err(BlockFault::Damaged(Cause::AfterClose));
     }
@@ -56,8 +59,8 @@ fn read_close<S: Source>(
     source: &mut S,
     header: &Header,
     writers: &mut Writers,
-) -> Result<u8, BlockFault>
-    ensures read { (before : List LogBlock) → AreStatesOf writers.old header.now.clock.tick before
+) -> Result<u32, BlockFault>
+    ensures read { (before : List LogBlock) → AreStatesOf writers.old header.now before
         → MatchResult result
         (λ writer. TakesClose header.now before writer writers.new
         (log_place pending.old (S.left source.old)) (log_place pending.new (S.left source.new)))
@@ -112,10 +115,10 @@ fn read_records<S: Source>(
     pending: &mut Pending,
     source: &mut S,
     dictionary: &Dictionary,
-    tick: u64,
+    header: &Header,
     last: u64,
 ) -> Result<Records, BlockFault>
-    ensures read { ReadsAs (long_body_at dictionary.now tick last)
+    ensures read { ReadsAs (long_body_at dictionary.now header.now last)
         (log_place pending.old (S.left source.old)) (log_place pending.new (S.left source.new)) (S.left source.new)
         result }
     ensures read_fault { IsErrOf result BlockFault.ReadFault
@@ -126,10 +129,18 @@ fn read_records<S: Source>(
     ensures others { S.rest source.old source.new }
 {
     let len = take_number(pending, source, 4)?;
-    if len == 0 || len > u64::from(MAX_BODY) {
+    if len == 0 || len > u64::from(most_body(header.version)) {
         return Err(BlockFault::Damaged(Cause::BadLength));
     }
-    take_body(alloc, pending, source, dictionary, tick, last, len as usize)
+    take_body(
+        alloc,
+        pending,
+        source,
+        dictionary,
+        header.clock.tick,
+        last,
+        len as usize,
+    )
 }
 
 // The writer and the records of the extent behind its tag. The stamp of the last one is kept.
@@ -140,9 +151,9 @@ fn read_extent<S: Source>(
     header: &Header,
     dictionary: &Dictionary,
     writers: &mut Writers,
-) -> Result<(u8, Records), BlockFault>
+) -> Result<(u32, Records), BlockFault>
     ensures read { (before : List LogBlock) → dictionary.now ≡ messages_of before
-        → AreStatesOf writers.old header.now.clock.tick before
+        → AreStatesOf writers.old header.now before
         → MatchResult result
         (λ extent. TakesExtent header.now before extent.0 extent.1 writers.new
         (log_place pending.old (S.left source.old)) (log_place pending.new (S.left source.new)))
@@ -156,7 +167,7 @@ fn read_extent<S: Source>(
 {
     let writer = take_writer(pending, source, header, writers)?;
     let last = writers.last(writer);
-    let records = read_records(alloc, pending, source, dictionary, header.clock.tick, last)?;
+    let records = read_records(alloc, pending, source, dictionary, header, last)?;
     writers.go_on(writer, &records);
     Ok((writer, records))
 }
@@ -172,7 +183,7 @@ pub fn read_block<S: Source>(
     writers: &mut Writers,
 ) -> Result<Block, BlockFault>
     ensures read { (before : List LogBlock) → dictionary.old ≡ messages_of before
-        → AreStatesOf writers.old header.now.clock.tick before
+        → AreStatesOf writers.old header.now before
         → MatchResult result
         (λ block. TakesBlock header.now before block dictionary.new writers.new
         (log_place pending.old (S.left source.old)) (log_place pending.new (S.left source.new)))
@@ -191,16 +202,11 @@ pub fn read_block<S: Source>(
     }
     if tag == EXTENT {
         let (writer, records) = read_extent(alloc, pending, source, header, dictionary, writers)?;
-        return Ok(Block::Extent {
-            writer: u32::from(writer),
-            records,
-        });
+        return Ok(Block::Extent { writer, records });
     }
     if tag == CLOSE {
         let writer = read_close(pending, source, header, writers)?;
-        return Ok(Block::Closed {
-            writer: u32::from(writer),
-        });
+        return Ok(Block::Closed { writer });
     }
     Err(BlockFault::Damaged(Cause::BadBlock))
 }

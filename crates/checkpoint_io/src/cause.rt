@@ -11,9 +11,9 @@ use buffer_extent::Cause as BodyCause;
 pub enum Cause {
     /// One of the first four bytes isn't that of `NLOG`.
     BadMagic,
-    /// The version isn't 1.
+    /// There is no such version.
     BadVersion,
-    /// There are no writers or more than 64, or the clock doesn't tick.
+    /// There are no writers or more than the version allows, or the clock doesn't tick.
     BadHeader,
     /// The file ends inside the header or the block.
     Cut,
@@ -28,7 +28,7 @@ pub enum Cause {
     /// The writer was closed before.
     AfterClose,
     /// A fragment has no messages, more than 16, or more than there are ids left, or a body has no
-    /// bytes or more than 65,536.
+    /// bytes or more than the version allows.
     BadLength,
     /// The body isn't whole records that keep the rules.
     Body(BodyCause),

@@ -1,4 +1,8 @@
+ghost use Rattle.std.specs.Prelude.{◌≡◌};
+ghost use Rattle.checkpoint_io.specs.declared.fault.BlockFault.TheVariants as faults;
+
 use crate::cause::Cause;
+use std::alloc::AllocError;
 
 /// Why no block was read.
 #[derive(Clone, Copy, Debug, PartialEq, Eq)]
@@ -8,4 +12,12 @@ pub enum BlockFault {
     /// A read failed.
     ReadFault,
     NoMemory,
+}
+
+impl From<AllocError> for BlockFault {
+    ghost from_gives = { λ _ fault. fault ≡ faults.NoMemory };
+
+    fn from(_error: AllocError) -> BlockFault {
+        BlockFault::NoMemory
+    }
 }

@@ -8,19 +8,20 @@ ghost use Rattle.checkpoint_io.specs.Reading.{header_clock_at, header_writers_at
 use crate::cause::Cause;
 use crate::fault::BlockFault;
 use crate::header::Header;
-use crate::heads::{MAGIC, VERSION};
+use crate::heads::MAGIC;
 use crate::pending::Pending;
 use crate::steps::{take_byte, take_number};
+use crate::version::{is_known, most_writers, writer_len};
 use log_dictionary::Clock;
 use nl_io::Source;
-use session_options::MAX_LOG_WRITERS;
 
 fn read_clock<S: Source>(
     pending: &mut Pending,
     source: &mut S,
+    version: u8,
     writers: u32,
 ) -> Result<Header, BlockFault>
-    ensures read { ReadsAs (header_clock_at writers)
+    ensures read { ReadsAs (header_clock_at version writers)
         (log_place pending.old (S.left source.old)) (log_place pending.new (S.left source.new)) (S.left source.new)
         result }
     ensures read_fault { IsErrOf result BlockFault.ReadFault
@@ -37,11 +38,19 @@ fn read_clock<S: Source>(
         return Err(BlockFault::Damaged(Cause::BadHeader));
     }
     let clock = Clock { tick, nanos, rate };
-    Ok(Header { writers, clock })
+    Ok(Header {
+        version,
+        writers,
+        clock,
+    })
 }
 
-fn read_writers<S: Source>(pending: &mut Pending, source: &mut S) -> Result<Header, BlockFault>
-    ensures read { ReadsAs header_writers_at
+fn read_writers<S: Source>(
+    pending: &mut Pending,
+    source: &mut S,
+    version: u8,
+) -> Result<Header, BlockFault>
+    ensures read { ReadsAs (header_writers_at version)
         (log_place pending.old (S.left source.old)) (log_place pending.new (S.left source.new)) (S.left source.new)
         result }
     ensures read_fault { IsErrOf result BlockFault.ReadFault
@@ -51,11 +60,11 @@ fn read_writers<S: Source>(pending: &mut Pending, source: &mut S) -> Result<Head
     ensures count { S.faults source.old ≤ S.faults source.new }
     ensures others { S.rest source.old source.new }
 {
-    let writers = u32::from(take_byte(pending, source)?);
-    if writers == 0 || writers > MAX_LOG_WRITERS {
+    let writers = take_number(pending, source, writer_len(version))?;
+    if writers == 0 || writers > u64::from(most_writers(version)) {
         return Err(BlockFault::Damaged(Cause::BadHeader));
     }
-    read_clock(pending, source, writers)
+    read_clock(pending, source, version, writers as u32)
 }
 
 fn read_version<S: Source>(pending: &mut Pending, source: &mut S) -> Result<Header, BlockFault>
@@ -69,10 +78,11 @@ fn read_version<S: Source>(pending: &mut Pending, source: &mut S) -> Result<Head
     ensures count { S.faults source.old ≤ S.faults source.new }
     ensures others { S.rest source.old source.new }
 {
-    if take_byte(pending, source)? != VERSION {
+    let version = take_byte(pending, source)?;
+    if !is_known(version) {
         return Err(BlockFault::Damaged(Cause::BadVersion));
     }
-    read_writers(pending, source)
+    read_writers(pending, source, version)
 }
 
 // The header, of which these letters are still to come.

@@ -1,6 +1,6 @@
 //! Laws over the definitions of logs. The functions do nothing: what they ensure is proved of the definitions.
 
-ghost use Rattle.std.specs.Prelude.{◌≡◌, ◌≢◌, ◌⊎◌, ℕ, ◌+◌, ◌<◌, ◌≤◌, ◌^◌, List, [], ◌∷◌, ◌++◌, length, map, take, slice_set, All, Contains, codes, Ok, Err};
+ghost use Rattle.std.specs.Prelude.{◌≡◌, ◌≢◌, ◌⊎◌, ℕ, ◌+◌, ◌<◌, ◌≤◌, ◌^◌, List, [], ◌∷◌, ◌++◌, length, map, take, slice_set, All, Contains, codes, Ok, Err, true, false};
 ghost use Rattle.nibble_pack.specs.Bytes.{AreBytes};
 ghost use Rattle.nibble_pack.specs.Parsing.{IsSteady};
 ghost use Rattle.std.specs.List.{AllByRecursion, range_with_len};
@@ -15,7 +15,8 @@ ghost use Rattle.arg_records.specs.Calls.{IsCall, NeverFalls};
 ghost use Rattle.checkpoint_io.specs.declared.cause.Cause.{Cause};
 ghost use Rattle.checkpoint_io.specs.declared.cause.Cause.TheVariants.{BadMagic, BadVersion, BadHeader, Cut, BadBlock, FragmentOrder, BadEntry, UnknownWriter, AfterClose, BadLength, Body, TooLarge};
 ghost use Rattle.checkpoint_io.specs.declared.header.Header.{Header};
-ghost use Rattle.checkpoint_io.specs.declared.heads.TheConstants.{MAX_FRAGMENT_MESSAGES, MAX_BODY, MAX_LOG};
+ghost use Rattle.checkpoint_io.specs.declared.heads.TheConstants.{MAX_FRAGMENT_MESSAGES, MAX_LOG};
+ghost use Rattle.checkpoint_io.specs.declared.version.TheConstants.{WRITTEN_VERSION, MAX_BODY, MAX_HEADER_LEN, MAX_EXTENT_HEAD_LEN, MAX_CLOSE_LEN};
 ghost use Rattle.checkpoint_io.specs.Blocks.{Block, Fragment, Extent, Close, IsFragment, messages_of, header_bytes, fragment_head_bytes, extent_head_bytes, close_bytes, SpellsEntries, SpellsFragment, SpellsExtent, SpellsClose, SpellsBlock, FileOf};
 ghost use Rattle.checkpoint_io.specs.Causes.{cause_number, cause_name};
 ghost use Rattle.checkpoint_io.specs.Fronts.{BeginsWithLog, Front, HasNoHeader, Break, BreaksByCutAlone, IsCutAt};
@@ -24,6 +25,7 @@ ghost use Rattle.checkpoint_io.specs.Reading.{header_at, block_at};
 ghost use Rattle.checkpoint_io.specs.Rows.{row_header, row_blocks, row_bytes, row_record, full_record, late_fragments};
 ghost use Rattle.arg_records.specs.Rows.{full_message};
 ghost use Rattle.log_dictionary.specs.Rows.{row_message};
+ghost use Rattle.checkpoint_io.specs.Versions.{is_known, writer_len, most_writers, most_body, header_len, extent_head_len, close_len};
 ghost use Rattle.checkpoint_io.specs.Validity.{records_of, last_stamp, IsClosed, IsOf, IsRightAfter, IsHeader, Valid};
 
 /// A log of 68 bytes: a message, a call of it, and a close mark.
@@ -31,20 +33,38 @@ pub fn worked_log()
     ensures length { length row_bytes ≡ 68 }
     ensures file { FileOf row_header row_blocks row_bytes }
     ensures valid { Valid row_header row_blocks }
-    ensures log { LogOf row_bytes ((row_record ∷ []) ∷ []) (row_message ∷ []) row_header.clock 4096 }
-    ensures log_of_small_batches { LogOf row_bytes ((row_record ∷ []) ∷ []) (row_message ∷ []) row_header.clock 1 }
+    ensures log { LogOf row_bytes ((row_record ∷ []) ∷ []) (row_message ∷ []) 1 (row_header.clock ∷ []) 4096 }
+    ensures log_of_small_batches { LogOf row_bytes ((row_record ∷ []) ∷ []) (row_message ∷ []) 1 (row_header.clock ∷ []) 1 }
 {}
 
-/// A header has 1 to 64 writers, numbers of 64 bits, and a clock that ticks.
+/// What depends on the version of a log: the bytes of the number of writers and of each writer, the most
+/// writers, the most bytes of a body, and the bytes of a header, of an extent's head and of a close
+/// mark. Version 1 alone is known, and is the one that is written.
+pub fn versions_have_a_table()
+    ensures known { (is_known 1 ≡ true) × ((version : ℕ) → is_known version ≡ true → version ≡ 1) }
+    ensures written { WRITTEN_VERSION ≡ 1 }
+    ensures numbers_of_1 { (writer_len 1 ≡ 1) × (most_writers 1 ≡ 64) × (most_body 1 ≡ 65536) }
+    ensures lengths_of_1 { (header_len 1 ≡ 30) × (extent_head_len 1 ≡ 6) × (close_len 1 ≡ 2) }
+    ensures numbers_of_2 { (writer_len 2 ≡ 2) × (most_writers 2 ≡ 1024) × (most_body 2 ≡ 1048576) }
+    ensures lengths_of_2 { (header_len 2 ≡ 31) × (extent_head_len 2 ≡ 7) × (close_len 2 ≡ 3) }
+    ensures within { (version : ℕ) → (header_len version ≤ MAX_HEADER_LEN)
+        × (extent_head_len version ≤ MAX_EXTENT_HEAD_LEN) × (close_len version ≤ MAX_CLOSE_LEN) }
+    ensures writers_fit { (version : ℕ) → most_writers version < 256 ^ writer_len version }
+    ensures bodies_fit { (version : ℕ) → most_body version < 2 ^ 32 }
+{}
+
+/// A header has a known version, a writer, no more of them than the version allows, numbers of 64 bits,
+/// and a clock that ticks.
 pub fn headers_are_within_limits()
-    ensures right { (header : Header) → 1 ≤ header.writers → header.writers ≤ 64
+    ensures right { (header : Header) → header.version ≡ 1 → 1 ≤ header.writers → header.writers ≤ 64
         → header.clock.tick < 2 ^ 64
         → header.clock.nanos < 2 ^ 64
         → header.clock.rate < 2 ^ 64
         → 1 ≤ header.clock.rate
         → IsHeader header }
+    ensures other_version { (header : Header) → is_known header.version ≡ false → ¬ (IsHeader header) }
     ensures no_writer { (header : Header) → header.writers ≡ 0 → ¬ (IsHeader header) }
-    ensures too_many_writers { (header : Header) → 64 < header.writers → ¬ (IsHeader header) }
+    ensures too_many_writers { (header : Header) → header.version ≡ 1 → 64 < header.writers → ¬ (IsHeader header) }
     ensures no_ticks { (header : Header) → header.clock.rate ≡ 0 → ¬ (IsHeader header) }
     ensures tick_fits { (header : Header) → IsHeader header → header.clock.tick < 2 ^ 64 }
     ensures nanos_fits { (header : Header) → IsHeader header → header.clock.nanos < 2 ^ 64 }
@@ -66,25 +86,28 @@ pub fn fragments_are_within_limits()
         → SpellsFragment first messages bytes → first < 2 ^ 32 }
 {}
 
-/// An extent has a record, and a body of 1 to 65,536 bytes behind a head of six. Its writer fits a
-/// byte, and so does that of a close mark.
+/// An extent has a record, and behind its head a body of at least a byte, within the version's limit. Its
+/// writer fits the bytes that the version has for it, and so does that of a close mark.
 pub fn extents_are_within_limits()
-    ensures right { (messages : List Message) (tick writer : ℕ) (entries : List Call) (body : List ℕ)
+    ensures right { (messages : List Message) (header : Header) (writer : ℕ) (records : List Call) (body : List ℕ)
         → 1 ≤ length body
-        → length body ≤ 65536
-        → writer < 2 ^ 8
-        → SpellsRecords messages tick entries body
-        → SpellsExtent messages tick writer entries (extent_head_bytes writer (length body) ++ body) }
-    ensures some { (messages : List Message) (tick writer : ℕ) (entries : List Call) (bytes : List ℕ)
-        → SpellsExtent messages tick writer entries bytes → 6 < length bytes }
-    ensures short { (messages : List Message) (tick writer : ℕ) (entries : List Call) (bytes : List ℕ)
-        → SpellsExtent messages tick writer entries bytes → length bytes ≤ 6 + 65536 }
-    ensures some_record { (messages : List Message) (tick writer : ℕ) (bytes : List ℕ)
-        → ¬ (SpellsExtent messages tick writer [] bytes) }
-    ensures fits { (messages : List Message) (tick writer : ℕ) (entries : List Call) (bytes : List ℕ)
-        → SpellsExtent messages tick writer entries bytes → writer < 2 ^ 8 }
-    ensures right_close { (writer : ℕ) → writer < 2 ^ 8 → SpellsClose writer (close_bytes writer) }
-    ensures close_fits { (writer : ℕ) (bytes : List ℕ) → SpellsClose writer bytes → writer < 2 ^ 8 }
+        → length body ≤ most_body header.version
+        → writer < 256 ^ writer_len header.version
+        → SpellsRecords messages header.clock.tick records body
+        → SpellsExtent messages header writer records (extent_head_bytes header.version writer (length body) ++ body) }
+    ensures some { (messages : List Message) (header : Header) (writer : ℕ) (records : List Call) (bytes : List ℕ)
+        → SpellsExtent messages header writer records bytes → extent_head_len header.version < length bytes }
+    ensures short { (messages : List Message) (header : Header) (writer : ℕ) (records : List Call) (bytes : List ℕ)
+        → SpellsExtent messages header writer records bytes
+        → length bytes ≤ extent_head_len header.version + most_body header.version }
+    ensures some_record { (messages : List Message) (header : Header) (writer : ℕ) (bytes : List ℕ)
+        → ¬ (SpellsExtent messages header writer [] bytes) }
+    ensures fits { (messages : List Message) (header : Header) (writer : ℕ) (records : List Call) (bytes : List ℕ)
+        → SpellsExtent messages header writer records bytes → writer < 256 ^ writer_len header.version }
+    ensures right_close { (header : Header) (writer : ℕ) → writer < 256 ^ writer_len header.version
+        → SpellsClose header writer (close_bytes header.version writer) }
+    ensures close_fits { (header : Header) (writer : ℕ) (bytes : List ℕ) → SpellsClose header writer bytes
+        → writer < 256 ^ writer_len header.version }
 {}
 
 /// The entries of a fragment stand one behind the other.
@@ -102,7 +125,7 @@ pub fn files_go_on()
     ensures empty { (header : Header) → FileOf header [] (header_bytes header) }
     ensures more { (header : Header) (blocks : List Block) (block : Block) (bytes spelled : List ℕ)
         → FileOf header blocks bytes
-        → SpellsBlock (messages_of blocks) header.clock.tick block spelled
+        → SpellsBlock (messages_of blocks) header block spelled
         → FileOf header (blocks ++ block ∷ []) (bytes ++ spelled) }
 {}
 
@@ -119,8 +142,8 @@ pub fn blocks_are_read_one_way()
     ensures { (header : Header) (before : List Block) (a b : Block)
         (front other rest more : List ℕ) → IsRightAfter header before a
         → IsRightAfter header before b
-        → SpellsBlock (messages_of before) header.clock.tick a front
-        → SpellsBlock (messages_of before) header.clock.tick b other
+        → SpellsBlock (messages_of before) header a front
+        → SpellsBlock (messages_of before) header b other
         → front ++ rest ≡ other ++ more
         → (a ≡ b) × (front ≡ other) }
 {}
@@ -147,13 +170,13 @@ pub fn fronts_end_where_no_block_goes_on()
         → FileOf header blocks bytes
         → Valid header blocks
         → ((block : Block) (front back : List ℕ) → IsRightAfter header blocks block
-        → SpellsBlock (messages_of blocks) header.clock.tick block front
+        → SpellsBlock (messages_of blocks) header block front
         → rest ≢ front ++ back)
         → Front (bytes ++ rest) header blocks (length bytes) }
 {}
 
 /// Bytes have no header exactly where no right header's spelling stands at their front. A header
-/// has 30 bytes.
+/// has at least 30 bytes.
 pub fn headers_stand_at_the_front()
     ensures some { (header : Header) (rest : List ℕ) → IsHeader header
         → ¬ (HasNoHeader (header_bytes header ++ rest)) }
@@ -177,12 +200,12 @@ pub fn logs_go_on()
         → AreDistinct (messages_of before ++ messages)
         → length (messages_of before ++ messages) ≤ 65536
         → IsRightAfter header before (Fragment (length (messages_of before)) messages) }
-    ensures extent { (header : Header) (before : List Block) (writer : ℕ) (entries : List Call)
+    ensures extent { (header : Header) (before : List Block) (writer : ℕ) (records : List Call)
         → writer < header.writers
         → ¬ (IsClosed writer before)
-        → AllByRecursion (IsCall (messages_of before)) entries
-        → NeverFalls (last_stamp header.clock.tick (records_of writer before)) entries
-        → IsRightAfter header before (Extent writer entries) }
+        → AllByRecursion (IsCall (messages_of before)) records
+        → NeverFalls (last_stamp header.clock.tick (records_of writer before)) records
+        → IsRightAfter header before (Extent writer records) }
     ensures close { (header : Header) (before : List Block) (writer : ℕ) → writer < header.writers
         → ¬ (IsClosed writer before)
         → IsRightAfter header before (Close writer) }
@@ -191,17 +214,17 @@ pub fn logs_go_on()
 /// A writer's records are those of its extents, in the order of the blocks, and its last stamp is
 /// that of the last of them.
 pub fn extents_have_the_records_of_their_writers()
-    ensures own { (writer : ℕ) (before : List Block) (entries : List Call) (others : List Block)
-        → records_of writer (before ++ Extent writer entries ∷ others)
-        ≡ records_of writer before ++ (entries ++ records_of writer others) }
-    ensures another { (writer another : ℕ) (before : List Block) (entries : List Call)
+    ensures own { (writer : ℕ) (before : List Block) (records : List Call) (others : List Block)
+        → records_of writer (before ++ Extent writer records ∷ others)
+        ≡ records_of writer before ++ (records ++ records_of writer others) }
+    ensures another { (writer another : ℕ) (before : List Block) (records : List Call)
         (others : List Block) → another ≢ writer
-        → records_of writer (before ++ Extent another entries ∷ others)
+        → records_of writer (before ++ Extent another records ∷ others)
         ≡ records_of writer before ++ records_of writer others }
     ensures worked { records_of 0 late_fragments ≡ row_record ∷ full_record ∷ [] }
     ensures no_stamp { (least : ℕ) → last_stamp least [] ≡ least }
-    ensures stamp { (least : ℕ) (entries : List Call) (entry : Call)
-        → last_stamp least (entries ++ entry ∷ []) ≡ entry.stamp }
+    ensures stamp { (least : ℕ) (records : List Call) (call : Call)
+        → last_stamp least (records ++ call ∷ []) ≡ call.stamp }
 {}
 
 /// No two messages of a log are equal, and there are at most 65,536. A fragment's ids go on where
@@ -219,9 +242,9 @@ pub fn messages_have_one_id()
 /// Each record of a log names a message that was defined before it and fits it. No writer's stamps
 /// fall, and none is below the clock's tick.
 pub fn records_are_right()
-    ensures defined { (header : Header) (before : List Block) (writer : ℕ) (entries : List Call)
-        (others : List Block) → Valid header (before ++ Extent writer entries ∷ others)
-        → AllByRecursion (IsCall (messages_of before)) entries }
+    ensures defined { (header : Header) (before : List Block) (writer : ℕ) (records : List Call)
+        (others : List Block) → Valid header (before ++ Extent writer records ∷ others)
+        → AllByRecursion (IsCall (messages_of before)) records }
     ensures fits { (header : Header) (blocks : List Block) (writer : ℕ) → Valid header blocks
         → AllByRecursion (IsCall (messages_of blocks)) (records_of writer blocks) }
     ensures rises { (header : Header) (blocks : List Block) (writer : ℕ) → Valid header blocks
@@ -239,7 +262,7 @@ pub fn close_marks_close_their_writer()
 
 /// Extents and close marks are of the log's writers, and none of a writer follows its close mark.
 pub fn closed_writers_write_no_more()
-    ensures of_extent { (writer : ℕ) (entries : List Call) → IsOf writer (Extent writer entries) }
+    ensures of_extent { (writer : ℕ) (records : List Call) → IsOf writer (Extent writer records) }
     ensures of_close { (writer : ℕ) → IsOf writer (Close writer) }
     ensures known { (header : Header) (writer : ℕ) (before : List Block) (block : Block)
         (others : List Block) → Valid header (before ++ block ∷ others)
@@ -256,8 +279,8 @@ pub fn extents_are_within_a_batch()
     ensures all { (dictionary : List Message) (batch : ℕ) (before blocks : List Block)
         → IsLaidOut dictionary batch before blocks
         → AllByRecursion (HasAtMost batch) blocks }
-    ensures extent { (batch writer : ℕ) (entries : List Call) → HasAtMost batch (Extent writer entries)
-        → length entries ≤ batch }
+    ensures extent { (batch writer : ℕ) (records : List Call) → HasAtMost batch (Extent writer records)
+        → length records ≤ batch }
 {}
 
 /// Blocks that are laid out behind blocks that are laid out are so together.
@@ -295,16 +318,16 @@ pub fn fragments_are_full_but_the_last()
 /// Records use the ids up to their greatest one. Of the messages of these ids those are new that
 /// stand behind the ones that are defined.
 pub fn records_want_the_messages_up_to_their_ids()
-    ensures below { (entries : List Call) → AllByRecursion (λ entry. entry.id < ids_used entries) entries }
-    ensures least { (entries : List Call) (count : ℕ)
-        → AllByRecursion (λ entry. entry.id < count) entries
-        → ids_used entries ≤ count }
-    ensures new { (defined wanted others : List Message) (entries : List Call)
-        → ids_used entries ≡ length (defined ++ wanted)
-        → new_messages (defined ++ wanted ++ others) (length defined) entries ≡ wanted }
-    ensures known { (dictionary : List Message) (defined : ℕ) (entries : List Call)
-        → ids_used entries ≤ defined
-        → new_messages dictionary defined entries ≡ [] }
+    ensures below { (records : List Call) → AllByRecursion (λ call. call.id < ids_used records) records }
+    ensures least { (records : List Call) (count : ℕ)
+        → AllByRecursion (λ call. call.id < count) records
+        → ids_used records ≤ count }
+    ensures new { (defined wanted others : List Message) (records : List Call)
+        → ids_used records ≡ length (defined ++ wanted)
+        → new_messages (defined ++ wanted ++ others) (length defined) records ≡ wanted }
+    ensures known { (dictionary : List Message) (defined : ℕ) (records : List Call)
+        → ids_used records ≤ defined
+        → new_messages dictionary defined records ≡ [] }
 {}
 
 /// In front of an extent stand the fragments of the messages that it wants, and no others. Behind
@@ -312,48 +335,52 @@ pub fn records_want_the_messages_up_to_their_ids()
 pub fn fragments_stand_in_front_of_their_extent()
     ensures worked { IsLaidOut (row_message ∷ full_message ∷ []) 2 [] late_fragments }
     ensures wanted { (dictionary : List Message) (batch : ℕ) (before fragments : List Block) (writer : ℕ)
-        (entries : List Call) (others : List Block)
-        → IsLaidOut dictionary batch before (fragments ++ Extent writer entries ∷ others)
+        (records : List Call) (others : List Block)
+        → IsLaidOut dictionary batch before (fragments ++ Extent writer records ∷ others)
         → AllByRecursion IsFragment fragments
         → AreFragments (length (messages_of before))
-        (new_messages dictionary (length (messages_of before)) entries) fragments }
+        (new_messages dictionary (length (messages_of before)) records) fragments }
     ensures behind { (dictionary : List Message) (batch : ℕ) (before fragments : List Block) (writer : ℕ)
-        (entries : List Call) (others : List Block)
-        → IsLaidOut dictionary batch before (fragments ++ Extent writer entries ∷ others)
+        (records : List Call) (others : List Block)
+        → IsLaidOut dictionary batch before (fragments ++ Extent writer records ∷ others)
         → AllByRecursion IsFragment fragments
-        → IsLaidOut dictionary batch (before ++ fragments ++ Extent writer entries ∷ []) others }
+        → IsLaidOut dictionary batch (before ++ fragments ++ Extent writer records ∷ []) others }
     ensures no_others { (dictionary : List Message) (batch : ℕ) (before fragments : List Block)
         → IsLaidOut dictionary batch before fragments
         → AllByRecursion IsFragment fragments
         → fragments ≡ [] }
 {}
 
-/// A log of a run tells of the run: its front is all of it, with the run's clock, its writers, the
-/// records of each, and messages from the front of the dictionary.
+/// A log of a run tells of the run: its front is all of it, with the run's version, its clocks, its
+/// writers, the records of each, and messages from the front of the dictionary.
 pub fn logs_tell_of_their_run()
-    ensures whole { (bytes : List ℕ) (taken : List (List Call)) (dictionary : List Message) (clock : Clock)
-        (batch : ℕ) (header : Header) (blocks : List Block) (count : ℕ)
-        → LogOf bytes taken dictionary clock batch → Front bytes header blocks count
+    ensures whole { (bytes : List ℕ) (taken : List (List Call)) (dictionary : List Message) (version : ℕ)
+        (clocks : List Clock) (batch : ℕ) (header : Header) (blocks : List Block) (count : ℕ)
+        → LogOf bytes taken dictionary version clocks batch → Front bytes header blocks count
         → count ≡ length bytes }
-    ensures clock { (bytes : List ℕ) (taken : List (List Call)) (dictionary : List Message) (clock : Clock)
-        (batch : ℕ) (header : Header) (blocks : List Block) (count : ℕ)
-        → LogOf bytes taken dictionary clock batch → Front bytes header blocks count
-        → header.clock ≡ clock }
-    ensures writers { (bytes : List ℕ) (taken : List (List Call)) (dictionary : List Message) (clock : Clock)
-        (batch : ℕ) (header : Header) (blocks : List Block) (count : ℕ)
-        → LogOf bytes taken dictionary clock batch → Front bytes header blocks count
+    ensures clocks { (bytes : List ℕ) (taken : List (List Call)) (dictionary : List Message) (version : ℕ)
+        (clocks : List Clock) (batch : ℕ) (header : Header) (blocks : List Block) (count : ℕ)
+        → LogOf bytes taken dictionary version clocks batch → Front bytes header blocks count
+        → header.clock ∷ [] ≡ clocks }
+    ensures version { (bytes : List ℕ) (taken : List (List Call)) (dictionary : List Message) (version : ℕ)
+        (clocks : List Clock) (batch : ℕ) (header : Header) (blocks : List Block) (count : ℕ)
+        → LogOf bytes taken dictionary version clocks batch → Front bytes header blocks count
+        → header.version ≡ version }
+    ensures writers { (bytes : List ℕ) (taken : List (List Call)) (dictionary : List Message) (version : ℕ)
+        (clocks : List Clock) (batch : ℕ) (header : Header) (blocks : List Block) (count : ℕ)
+        → LogOf bytes taken dictionary version clocks batch → Front bytes header blocks count
         → header.writers ≡ length taken }
-    ensures messages { (bytes : List ℕ) (taken : List (List Call)) (dictionary : List Message) (clock : Clock)
-        (batch : ℕ) (header : Header) (blocks : List Block) (count : ℕ)
-        → LogOf bytes taken dictionary clock batch → Front bytes header blocks count
+    ensures messages { (bytes : List ℕ) (taken : List (List Call)) (dictionary : List Message) (version : ℕ)
+        (clocks : List Clock) (batch : ℕ) (header : Header) (blocks : List Block) (count : ℕ)
+        → LogOf bytes taken dictionary version clocks batch → Front bytes header blocks count
         → (undefined : List Message) × (dictionary ≡ messages_of blocks ++ undefined) }
-    ensures records { (bytes : List ℕ) (taken : List (List Call)) (dictionary : List Message) (clock : Clock)
-        (batch : ℕ) (header : Header) (blocks : List Block) (count : ℕ)
-        → LogOf bytes taken dictionary clock batch → Front bytes header blocks count
+    ensures records { (bytes : List ℕ) (taken : List (List Call)) (dictionary : List Message) (version : ℕ)
+        (clocks : List Clock) (batch : ℕ) (header : Header) (blocks : List Block) (count : ℕ)
+        → LogOf bytes taken dictionary version clocks batch → Front bytes header blocks count
         → taken ≡ map (λ writer. records_of writer blocks) (range_with_len 0 (length taken)) }
-    ensures layout { (bytes : List ℕ) (taken : List (List Call)) (dictionary : List Message) (clock : Clock)
-        (batch : ℕ) (header : Header) (blocks : List Block) (count : ℕ)
-        → LogOf bytes taken dictionary clock batch → Front bytes header blocks count
+    ensures layout { (bytes : List ℕ) (taken : List (List Call)) (dictionary : List Message) (version : ℕ)
+        (clocks : List Clock) (batch : ℕ) (header : Header) (blocks : List Block) (count : ℕ)
+        → LogOf bytes taken dictionary version clocks batch → Front bytes header blocks count
         → IsLaidOut dictionary batch [] blocks }
 {}
 
@@ -378,7 +405,7 @@ pub fn right_blocks_are_read()
         → header_at (header_bytes header ++ rest) ≡ Ok (header, rest) }
     ensures block { (header : Header) (before : List Block) (block : Block) (front rest : List ℕ)
         → IsRightAfter header before block
-        → SpellsBlock (messages_of before) header.clock.tick block front
+        → SpellsBlock (messages_of before) header block front
         → block_at header before (front ++ rest) ≡ Ok (block, rest) }
 {}
 
@@ -389,7 +416,7 @@ pub fn what_is_read_is_right()
         → AreBytes bytes
         → block_at header before bytes ≡ Ok (block, rest)
         → (front : List ℕ) × (bytes ≡ front ++ rest)
-        × SpellsBlock (messages_of before) header.clock.tick block front
+        × SpellsBlock (messages_of before) header block front
         × IsRightAfter header before block }
 {}
 
@@ -483,22 +510,30 @@ pub fn causes_have_numbers_and_names()
         (cause, cause_number cause, cause_name cause) }
 {}
 
-/// A header has 30 bytes, with `NLOG`, the version 1 and the number of writers in front. A fragment's head has 7 with the
-/// tag 1, an extent's has 6 with the tag 2, and a close mark has 2 with the tag 4.
+/// A header begins with `NLOG`, the version and the number of writers. In version 1 it has 30 bytes, a
+/// fragment's head has 7 with the tag 1, an extent's has 6 with the tag 2, and a close mark has 2 with
+/// the tag 4.
 pub fn heads_have_lengths_and_tags()
-    ensures header { (header : Header) → length (header_bytes header) ≡ 30 }
-    ensures front { (header : Header) → take 6 (header_bytes header) ≡ codes "NLOG" ++ 1 ∷ header.writers ∷ [] }
+    ensures header { (header : Header) → length (header_bytes header) ≡ header_len header.version }
+    ensures magic { (header : Header) → take 5 (header_bytes header) ≡ codes "NLOG" ++ header.version ∷ [] }
+    ensures front { (header : Header) → header.version ≡ 1 → header.writers ≤ 64
+        → take 6 (header_bytes header) ≡ codes "NLOG" ++ 1 ∷ header.writers ∷ [] }
     ensures fragment { (first count : ℕ) → length (fragment_head_bytes first count) ≡ 7 }
     ensures fragment_tag { (first count : ℕ) → take 1 (fragment_head_bytes first count) ≡ 1 ∷ [] }
-    ensures extent { (writer len : ℕ) → length (extent_head_bytes writer len) ≡ 6 }
-    ensures extent_tag { (writer len : ℕ) → take 1 (extent_head_bytes writer len) ≡ 2 ∷ [] }
-    ensures close { (writer : ℕ) → length (close_bytes writer) ≡ 2 }
-    ensures close_tag { (writer : ℕ) → take 1 (close_bytes writer) ≡ 4 ∷ [] }
+    ensures extent { (version writer len : ℕ)
+        → length (extent_head_bytes version writer len) ≡ extent_head_len version }
+    ensures extent_tag { (version writer len : ℕ) → take 1 (extent_head_bytes version writer len) ≡ 2 ∷ [] }
+    ensures extent_writer { (writer len : ℕ) → writer < 256
+        → take 2 (extent_head_bytes 1 writer len) ≡ 2 ∷ writer ∷ [] }
+    ensures close { (version writer : ℕ) → length (close_bytes version writer) ≡ close_len version }
+    ensures close_tag { (version writer : ℕ) → take 1 (close_bytes version writer) ≡ 4 ∷ [] }
+    ensures close_writer { (writer : ℕ) → writer < 256 → close_bytes 1 writer ≡ 4 ∷ writer ∷ [] }
 {}
 
-/// At most 134,217,728 bytes of a log are read. A body has at most 65,536 of them, and a fragment at most 16 messages.
+/// At most 134,217,728 bytes of a log are read. A body that is written has at most 65,536 of them, and a fragment at most
+/// 16 messages.
 pub fn logs_have_limits()
     ensures log { MAX_LOG ≡ 134217728 }
-    ensures body { MAX_BODY ≡ 65536 }
+    ensures body { (MAX_BODY ≡ 65536) × (most_body WRITTEN_VERSION ≡ MAX_BODY) }
     ensures fragment { MAX_FRAGMENT_MESSAGES ≡ 16 }
 {}

@@ -13,6 +13,7 @@ pub mod laws;
 mod pending;
 mod reader;
 mod steps;
+mod version;
 mod writers;
 
 pub use block::Block;
@@ -20,7 +21,11 @@ pub use cause::Cause;
 pub use fault::BlockFault;
 pub use header::Header;
 pub use heads::{
-    CLOSE_LEN, EXTENT_HEAD_LEN, FRAGMENT_HEAD_LEN, HEADER_LEN, MAX_BODY, MAX_FRAGMENT_MESSAGES,
-    MAX_LOG, put_close, put_extent_head, put_fragment_head, put_header,
+    FRAGMENT_HEAD_LEN, MAX_FRAGMENT_MESSAGES, MAX_LOG, put_close, put_extent_head,
+    put_fragment_head, put_header,
 };
 pub use reader::Reader;
+pub use version::{
+    MAX_BODY, MAX_CLOSE_LEN, MAX_EXTENT_HEAD_LEN, MAX_HEADER_LEN, WRITTEN_VERSION, close_len,
+    extent_head_len, header_len, is_known, most_body, most_writers, writer_len,
+};

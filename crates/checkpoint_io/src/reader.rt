@@ -1,6 +1,6 @@
 //! The reader of a log.
 
-ghost use Rattle.std.specs.Prelude.{◌≡◌, ◌≤◌, List, [], ◌++◌, length, take, true, false, ◌<◌, get_or, IfOk, IfSome, IfNone, OnOk, OnErr, IsErrOf, Err, ℕ};
+ghost use Rattle.std.specs.Prelude.{◌≡◌, ◌≤◌, List, [], ◌++◌, length, take, true, false, ◌<◌, IfOk, IfSome, IfNone, OnOk, OnErr, IsErrOf, Err, ℕ};
 ghost use Rattle.std.specs.List.{list_any};
 ghost use Rattle.nl_io.specs.Count.{Rose};
 ghost use Rattle.nl_io.specs.Content.{IsAtEnd};
@@ -8,6 +8,7 @@ ghost use Rattle.checkpoint_io.specs.declared.cause.Cause.{Cause as LogCause};
 ghost use Rattle.checkpoint_io.specs.declared.cause.Cause.TheVariants.{Cut};
 ghost use Rattle.checkpoint_io.specs.Places.{with_front, TookSuch};
 ghost use Rattle.checkpoint_io.specs.Readers.{StandsFor};
+ghost use Rattle.checkpoint_io.specs.Writers.{closed_kept};
 ghost use Rattle.checkpoint_io.specs.Fronts.{Break, IsCutAt};
 ghost use Rattle.checkpoint_io.specs.Validity.{closes};
 ghost use Rattle.checkpoint_io.specs.NextBlocks.{AnswersNext, StopsAt};
@@ -80,11 +81,12 @@ impl Reader {
         let mut pending = Pending::none(alloc);
         let header = read_header(&mut pending, source)?;
         let offset = pending.offset();
+        let writers = Writers::make(alloc, header.writers, header.clock.tick)?;
         Ok(Reader {
             alloc,
             header,
             dictionary: Dictionary::make(alloc),
-            writers: Writers::make(header.clock.tick),
+            writers,
             pending,
             offset,
             failed: false,
@@ -206,11 +208,8 @@ impl Reader {
     pub fn is_closed(&self, writer: u32) -> bool
         ensures closed { (taken : List ℕ) (before : StandsFor self.now taken)
             → result ≡ list_any (closes writer) before.blocks }
-        ensures kept { writer < 256 → result ≡ get_or self.now.writers.closed writer false }
+        ensures kept { result ≡ closed_kept self.now.writers writer }
     {
-        match u8::try_from(writer) {
-            Ok(name) => self.writers.is_closed(name),
-            Err(_) => false,
-        }
+        self.writers.is_closed(writer)
     }
 }

@@ -1,76 +1,95 @@
 //! What is kept of the writers of a log while it is read.
 
-ghost use Rattle.std.specs.Prelude.{◌≡◌, ◌≢◌, ◌<◌, ℕ, get_or, true, false};
+ghost use Rattle.std.specs.Prelude.{◌≡◌, ◌≢◌, ◌<◌, ℕ, true, false, length, IfOk};
 ghost use Rattle.checkpoint_io.specs.Validity.{last_stamp};
+ghost use Rattle.checkpoint_io.specs.Writers.{last_kept, closed_kept};
 
 use buffer_extent::Records;
+use std::alloc::{AllocError, Global};
 use std::marker::Model;
 
-/// How many writers a byte can name.
-const NAMES: usize = 256;
+/// The stamp of a writer's last record, and whether it is closed.
+#[derive(Clone, Copy, Debug)]
+pub struct WriterState {
+    last: u64,
+    closed: bool,
+}
 
-/// The stamp of each writer's last record, and whether it is closed. Each byte has a place, also one
-/// that names no writer of the log.
+/// The state of each writer, by its number.
 #[derive(Debug, Drop)]
 pub struct Writers {
-    lasts: [u64; NAMES],
-    closed: [bool; NAMES],
+    states: Vec<WriterState>,
 }
 
 impl Model for Writers {
-    ghost use Rattle.checkpoint_io.specs.Writers.{WriterStates};
+    ghost use Rattle.std.specs.Prelude.{List};
+    ghost use Rattle.checkpoint_io.specs.declared.writers.WriterState.{WriterState};
 
-    ghost Value = { WriterStates };
+    ghost Value = { List WriterState };
 
-    ghost view = { λ w. record { lasts = w.lasts; closed = w.closed } };
+    ghost view = { λ w. w.states.items };
 }
 
 impl Writers {
-    /// None is closed, and each has this stamp.
-    pub fn make(stamp: u64) -> Writers
-        ensures lasts { (writer : ℕ) → writer < 256 → get_or result.lasts writer 0 ≡ stamp }
-        ensures closed { (writer : ℕ) → writer < 256 → get_or result.closed writer false ≡ false }
+    /// So many, of which none is closed, and each has this stamp.
+    pub fn make(alloc: Global, count: u32, stamp: u64) -> Result<Writers, AllocError>
+        ensures many { IfOk result (λ writers. length writers ≡ count) }
+        ensures lasts { IfOk result (λ writers. (writer : ℕ) → writer < count → last_kept writers writer ≡ stamp) }
+        ensures closed { IfOk result (λ writers. (writer : ℕ) → closed_kept writers writer ≡ false) }
     {
-        Writers {
-            lasts: [stamp; NAMES],
-            closed: [false; NAMES],
-        }
+        let state = WriterState {
+            last: stamp,
+            closed: false,
+        };
+        let states = Vec::from_elem(alloc, state, count as usize)?;
+        Ok(Writers { states })
     }
 
     /// The stamp of its last record.
-    pub fn last(&self, writer: u8) -> u64
-        ensures { result ≡ get_or self.now.lasts writer 0 }
+    pub fn last(&self, writer: u32) -> u64
+        ensures { result ≡ last_kept self.now writer }
     {
-        self.lasts[usize::from(writer)]
+        match self.states.get(writer as usize) {
+            Some(state) => state.last,
+            None => 0,
+        }
     }
 
     /// Whether it is closed.
-    pub fn is_closed(&self, writer: u8) -> bool
-        ensures { result ≡ get_or self.now.closed writer false }
+    pub fn is_closed(&self, writer: u32) -> bool
+        ensures { result ≡ closed_kept self.now writer }
     {
-        self.closed[usize::from(writer)]
+        match self.states.get(writer as usize) {
+            Some(state) => state.closed,
+            None => false,
+        }
     }
 
     /// Its records go on with these.
-    pub fn go_on(&mut self, writer: u8, records: &Records)
-        ensures own { get_or self.new.lasts writer 0
-            ≡ last_stamp (get_or self.old.lasts writer 0) records.now }
-        ensures others { (other : ℕ) → other ≢ writer
-            → get_or self.new.lasts other 0 ≡ get_or self.old.lasts other 0 }
-        ensures closed { self.new.closed ≡ self.old.closed }
+    pub fn go_on(&mut self, writer: u32, records: &Records)
+        ensures many { length self.new ≡ length self.old }
+        ensures own { writer < length self.old
+            → last_kept self.new writer ≡ last_stamp (last_kept self.old writer) records.now }
+        ensures others { (other : ℕ) → other ≢ writer → last_kept self.new other ≡ last_kept self.old other }
+        ensures closed { (other : ℕ) → closed_kept self.new other ≡ closed_kept self.old other }
     {
         if let Some(record) = records.last() {
-            self.lasts[usize::from(writer)] = record.stamp;
+            if let Some(state) = self.states.get_mut(writer as usize) {
+                state.last = record.stamp;
+            }
         }
     }
 
     /// Closes it.
-    pub fn close(&mut self, writer: u8)
-        ensures own { get_or self.new.closed writer false ≡ true }
-        ensures others { (other : ℕ) → other ≢ writer
-            → get_or self.new.closed other false ≡ get_or self.old.closed other false }
-        ensures lasts { self.new.lasts ≡ self.old.lasts }
+    pub fn close(&mut self, writer: u32)
+        ensures many { length self.new ≡ length self.old }
+        ensures own { writer < length self.old → closed_kept self.new writer ≡ true }
+        ensures others { (other : ℕ) → other ≢ writer → closed_kept self.new other ≡ closed_kept self.old other }
+        ensures lasts { (other : ℕ) → last_kept self.new other ≡ last_kept self.old other }
     {
-        self.closed[usize::from(writer)] = true;
+        let Some(state) = self.states.get_mut(writer as usize) else {
+            return;
+        };
+        state.closed = true;
     }
 }

@@ -1,12 +1,15 @@
 -- The bytes of headers and blocks, part by part.
-use Rattle.std.proofs.Common.{◌≡◌, ℕ, List, [], ◌∷◌, ◌++◌, length, refl, sym, ap, ◌∙◌, append_assoc, append-nil}
+use Rattle.std.proofs.Common.{◌≡◌, ℕ, zero, suc, ◌+◌, ◌%◌, ◌<◌, ◌≤◌, List, [], ◌∷◌, ◌++◌, length, take, refl, sym, ap, ◌∙◌, append_assoc, append-nil, arith}
 use Rattle.std.specs.Prelude.{codes}
 use Rattle.std.specs.Hash.{le_bytes}
-use Rattle.nibble_pack.specs.Bytes.{length-bytes_low_first}
+use Rattle.std.proofs.lemmas.List.{length-append}
+use Rattle.std.specs.Int.{byte_at, bytes_low_first}
+use Rattle.nibble_pack.specs.Bytes.{length-bytes_low_first, bytes_low_first-suc}
 use Rattle.log_dictionary.specs.declared.message.Message.{Message}
 use Rattle.log_dictionary.specs.BinaryEntries.{SpellsEntry}
 use Rattle.checkpoint_io.specs.declared.header.Header.{Header}
-use Rattle.checkpoint_io.specs.Blocks.{header_bytes, fragment_head_bytes, extent_head_bytes, SpellsEntries}
+use Rattle.checkpoint_io.specs.Versions.{writer_len, header_len, extent_head_len}
+use Rattle.checkpoint_io.specs.Blocks.{writer_bytes, header_bytes, fragment_head_bytes, extent_head_bytes, SpellsEntries}
 
 -- ---- numbers
 
@@ -14,26 +17,48 @@ pub le_length : (k n : ℕ) → length (le_bytes k n) ≡ k
 unfolding le_bytes
 le_length k n = length-bytes_low_first 0 k n
 
+-- fewer bytes of a number are its low ones
+pub take_low_first : (i k n x : ℕ) → k ≤ n → take k (bytes_low_first i n x) ≡ bytes_low_first i k x
+take_low_first i zero zero x within = refl
+take_low_first i zero (suc n) x within = refl
+take_low_first i (suc k) zero x within = absurd (omega (arith, within))
+take_low_first i (suc k) (suc n) x within = ap (λ (b : List ℕ). byte_at i x ∷ b) (take_low_first (suc i) k n x (omega (arith, within)))
+
+-- one byte holds a small number
+pub one_byte : (n : ℕ) → n < 256 → le_bytes 1 n ≡ n ∷ []
+unfolding le_bytes
+one_byte n small =
+    let same : n % 256 ≡ n = omega (arith, small) in
+    bytes_low_first-suc 0 n ∙ ap (λ (b : ℕ). b ∷ []) same
+
 -- ---- heads
 
--- a header has 30 bytes
-pub length-header_bytes : (header : Header) → length (header_bytes header) ≡ 30
-unfolding le_bytes
-length-header_bytes header = refl
+pub length-header_bytes : (header : Header) → length (header_bytes header) ≡ header_len header.version
+length-header_bytes header =
+    let writers : List ℕ = writer_bytes header.version header.writers in
+    let tick : List ℕ = le_bytes 8 header.clock.tick in
+    let nanos : List ℕ = le_bytes 8 header.clock.nanos in
+    let rate : List ℕ = le_bytes 8 header.clock.rate in
+    omega (arith, length-append (writers ++ tick ++ nanos) rate, length-append (writers ++ tick) nanos, length-append writers tick, le_length (writer_len header.version) header.writers, le_length 8 header.clock.tick, le_length 8 header.clock.nanos, le_length 8 header.clock.rate)
+
+pub length-extent_head_bytes : (version writer len : ℕ) → length (extent_head_bytes version writer len) ≡ extent_head_len version
+length-extent_head_bytes version writer len =
+    omega (arith, length-append (writer_bytes version writer) (le_bytes 4 len), le_length (writer_len version) writer, le_length 4 len)
 
 pub fragment_nested : (first count : ℕ) (entries back : List ℕ) → fragment_head_bytes first count ++ entries ++ back ≡ 1 ∷ (le_bytes 4 first ++ (le_bytes 2 count ++ (entries ++ back)))
 fragment_nested first count entries back =
     append_assoc (1 ∷ le_bytes 4 first ++ le_bytes 2 count) entries back ∙ append_assoc (1 ∷ le_bytes 4 first) (le_bytes 2 count) (entries ++ back)
 
-pub extent_nested : (writer len : ℕ) (body back : List ℕ) → extent_head_bytes writer len ++ body ++ back ≡ 2 ∷ writer ∷ (le_bytes 4 len ++ (body ++ back))
-extent_nested writer len body back = append_assoc (2 ∷ writer ∷ le_bytes 4 len) body back
+pub extent_nested : (version writer len : ℕ) (body back : List ℕ) → extent_head_bytes version writer len ++ body ++ back ≡ 2 ∷ (writer_bytes version writer ++ (le_bytes 4 len ++ (body ++ back)))
+extent_nested version writer len body back =
+    append_assoc (2 ∷ writer_bytes version writer ++ le_bytes 4 len) body back ∙ append_assoc (2 ∷ writer_bytes version writer) (le_bytes 4 len) (body ++ back)
 
-pub header_nested : (header : Header) (back : List ℕ) → header_bytes header ++ back ≡ codes "NLOG" ++ (1 ∷ header.writers ∷ (le_bytes 8 header.clock.tick ++ (le_bytes 8 header.clock.nanos ++ (le_bytes 8 header.clock.rate ++ back))))
+pub header_nested : (header : Header) (back : List ℕ) → header_bytes header ++ back ≡ codes "NLOG" ++ (header.version ∷ (writer_bytes header.version header.writers ++ (le_bytes 8 header.clock.tick ++ (le_bytes 8 header.clock.nanos ++ (le_bytes 8 header.clock.rate ++ back)))))
 header_nested header back =
-    let magic : List ℕ = codes "NLOG" ++ 1 ∷ header.writers ∷ [] in
-    append_assoc (magic ++ le_bytes 8 header.clock.tick ++ le_bytes 8 header.clock.nanos) (le_bytes 8 header.clock.rate) back
-    ∙ append_assoc (magic ++ le_bytes 8 header.clock.tick) (le_bytes 8 header.clock.nanos) (le_bytes 8 header.clock.rate ++ back)
-    ∙ append_assoc magic (le_bytes 8 header.clock.tick) (le_bytes 8 header.clock.nanos ++ (le_bytes 8 header.clock.rate ++ back))
+    let front : List ℕ = codes "NLOG" ++ header.version ∷ writer_bytes header.version header.writers in
+    append_assoc (front ++ le_bytes 8 header.clock.tick ++ le_bytes 8 header.clock.nanos) (le_bytes 8 header.clock.rate) back
+    ∙ append_assoc (front ++ le_bytes 8 header.clock.tick) (le_bytes 8 header.clock.nanos) (le_bytes 8 header.clock.rate ++ back)
+    ∙ append_assoc front (le_bytes 8 header.clock.tick) (le_bytes 8 header.clock.nanos ++ (le_bytes 8 header.clock.rate ++ back))
 
 -- ---- entries
 

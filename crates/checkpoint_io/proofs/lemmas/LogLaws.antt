@@ -168,5 +168,5 @@ laid_out_join dictionary batch _ _ more (close before writer others rest) q =
 -- ---- the run
 
 -- the front of a log of a run is the log
-pub front_of_run : (bytes : List ℕ) (taken : List (List Call)) (dictionary : List Message) (clock : Clock) (batch : ℕ) (header : Header) (blocks : List Block) (count : ℕ) → (log : LogOf bytes taken dictionary clock batch) → Front bytes header blocks count → (header ≡ log.header) × (blocks ≡ log.blocks) × (count ≡ length bytes)
-front_of_run bytes taken dictionary clock batch header blocks count log front = one_front bytes header log.header blocks log.blocks count (length bytes) front (whole_is_front log.header log.blocks bytes log.file log.valid)
+pub front_of_run : (bytes : List ℕ) (taken : List (List Call)) (dictionary : List Message) (version : ℕ) (clocks : List Clock) (batch : ℕ) (header : Header) (blocks : List Block) (count : ℕ) → (log : LogOf bytes taken dictionary version clocks batch) → Front bytes header blocks count → (header ≡ log.header) × (blocks ≡ log.blocks) × (count ≡ length bytes)
+front_of_run bytes taken dictionary version clocks batch header blocks count log front = one_front bytes header log.header blocks log.blocks count (length bytes) front (whole_is_front log.header log.blocks bytes log.file log.valid)

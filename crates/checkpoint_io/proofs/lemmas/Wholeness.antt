@@ -27,10 +27,10 @@ found_or_broken (Ok found) = inl (found.0, found.1, refl)
 found_or_broken (Err cause) = inr (cause, refl)
 
 -- a block has a byte
-some_byte : (messages : List Message) (tick : ℕ) (block : Block) (bytes : List ℕ) → SpellsBlock messages tick block bytes → 1 ≤ length bytes
-some_byte messages tick (Fragment first added) bytes spelled = omega (arith, ap length spelled.joined)
-some_byte messages tick (Extent writer entries) bytes spelled = omega (arith, ap length spelled.joined)
-some_byte messages tick (Close writer) bytes spelled = omega (arith, ap length spelled.joined)
+some_byte : (messages : List Message) (header : Header) (block : Block) (bytes : List ℕ) → SpellsBlock messages header block bytes → 1 ≤ length bytes
+some_byte messages header (Fragment first added) bytes spelled = omega (arith, ap length spelled.joined)
+some_byte messages header (Extent writer entries) bytes spelled = omega (arith, ap length spelled.joined)
+some_byte messages header (Close writer) bytes spelled = omega (arith, ap length spelled.joined)
 
 shorter : (front back bytes : List ℕ) (most : ℕ) → bytes ≡ front ++ back → 1 ≤ length front → length bytes ≤ suc most → length back ≤ most
 shorter front back bytes most joined some short = omega (arith, ap length joined, length-append front back, some, short)
@@ -42,8 +42,8 @@ behind_front bytes header blocks zero front (byte ∷ rest) short small joined f
 behind_front bytes header blocks (suc most) front (byte ∷ rest) short small joined file valid = elim (found_or_broken (block_at header blocks (byte ∷ rest))) [
   | inr (cause, reads) ↦ inr (length front, cause, at_block header blocks front (byte ∷ rest) cause joined file valid (omega arith) reads)
   | inl (block, back, reads) ↦
-      let read = block_taken header blocks (byte ∷ rest) block back valid.header_right.few_writers (messages_differ header blocks valid).distinct small reads in
-      behind_front bytes header (blocks ++ block ∷ []) most (front ++ read.front) back (shorter read.front back (byte ∷ rest) most read.joined (some_byte _ header.clock.tick block read.front read.spelled) short) (back_bytes (byte ∷ rest) read.front back read.joined small)
+      let read = block_taken header blocks (byte ∷ rest) block back (messages_differ header blocks valid).distinct small reads in
+      behind_front bytes header (blocks ++ block ∷ []) most (front ++ read.front) back (shorter read.front back (byte ∷ rest) most read.joined (some_byte _ header block read.front read.spelled) short) (back_bytes (byte ∷ rest) read.front back read.joined small)
       (joined ∙ ap (λ (b : List ℕ). front ++ b) read.joined ∙ sym (append_assoc front read.front back)) (file_goes_on header blocks block front read.front file read.spelled) (goes_on header blocks block valid read.right)
 ]
 

@@ -53,7 +53,7 @@ record_spelled = record {
 is_record : IsCall (row_message ∷ []) row_record
 is_record = record { message = row_message; known = refl; fits = (record { sfits = omega arith }, tt); short = lit≤ tt }
 
-extent_spelled : SpellsExtent (row_message ∷ []) 1000 0 (row_record ∷ []) row_extent_bytes
+extent_spelled : SpellsExtent (row_message ∷ []) row_header 0 (row_record ∷ []) row_extent_bytes
 unfolding le_bytes
 extent_spelled = record {
   body = row_body;
@@ -82,7 +82,7 @@ file = record {
 
 pub valid : Valid row_header row_blocks
 valid = record {
-  header_right = record { some_writer = lit≤ tt; few_writers = lit≤ tt; tick_fits = lit< tt; nanos_fits = lit< tt; rate_fits = lit< tt; rate = lit≤ tt };
+  header_right = record { version_known = refl; some_writer = lit≤ tt; few_writers = lit≤ tt; tick_fits = lit< tt; nanos_fits = lit< tt; rate_fits = lit< tt; rate = lit≤ tt };
   blocks_right = (
     record { next = refl; distinct = λ i j d earlier within. absurd (omega (arith, earlier, within)); few = lit≤ tt },
     (
@@ -92,13 +92,14 @@ valid = record {
   );
 }
 
-pub log : (batch : ℕ) → 1 ≤ batch → LogOf row_bytes ((row_record ∷ []) ∷ []) (row_message ∷ []) row_header.clock batch
+pub log : (batch : ℕ) → 1 ≤ batch → LogOf row_bytes ((row_record ∷ []) ∷ []) (row_message ∷ []) 1 (row_header.clock ∷ []) batch
 log batch some = record {
   header = row_header;
   blocks = row_blocks;
   file = file;
   valid = valid;
-  clock_is = refl;
+  version_is = refl;
+  clocks_are = refl;
   writers_are = refl;
   undefined = [];
   messages_are = refl;

@@ -12,7 +12,7 @@ returns-in_err-writer-clause-read g c before known are =
 
 pub returns-then-tag-eq-EXTENT-clause-read : goal.returns-then-tag-eq-EXTENT-clause-read
 returns-then-tag-eq-EXTENT-clause-read g c before known are =
-    extent_block c.args.header.now before c.args.dictionary.now c.in_ok-writer.writer _ c.in_ok-writer.records c.read_extent.new.writers c.in_ok-tag.tag _ _ _ c.if-tag-eq-EXTENT.true c.from.ensures known c.in_ok-tag.ensures.read (c.in_ok-writer.ensures.read before known are)
+    extent_block c.args.header.now before c.args.dictionary.now c.in_ok-writer.writer c.in_ok-writer.records c.read_extent.new.writers c.in_ok-tag.tag _ _ _ c.if-tag-eq-EXTENT.true known c.in_ok-tag.ensures.read (c.in_ok-writer.ensures.read before known are)
 
 pub returns-in_err-writer-2-clause-read : goal.returns-in_err-writer-2-clause-read
 returns-in_err-writer-2-clause-read g c before known are =
@@ -20,4 +20,4 @@ returns-in_err-writer-2-clause-read g c before known are =
 
 pub returns-then-tag-eq-CLOSE-clause-read : goal.returns-then-tag-eq-CLOSE-clause-read
 returns-then-tag-eq-CLOSE-clause-read g c before known are =
-    close_block c.args.header.now before c.args.dictionary.now c.in_ok-writer-2.writer _ c.read_close.new.writers c.in_ok-tag.tag _ _ _ c.if-tag-eq-CLOSE.true c.from-then-tag-eq-CLOSE.ensures known c.in_ok-tag.ensures.read (c.in_ok-writer-2.ensures.read before are)
+    close_block c.args.header.now before c.args.dictionary.now c.in_ok-writer-2.writer c.read_close.new.writers c.in_ok-tag.tag _ _ _ c.if-tag-eq-CLOSE.true known c.in_ok-tag.ensures.read (c.in_ok-writer-2.ensures.read before are)

@@ -10,12 +10,12 @@ use Rattle.checkpoint_io.proofs.header_reading.read_clock.Goals as goal
 
 pub returns-in_err-nanos-clause-read : goal.returns-in_err-nanos-clause-read
 returns-in_err-nanos-clause-read g c =
-    handed_on _ _ _ _ c.from_residual-in_err-nanos.ensures.1 (nanos_refused c.args.writers c.in_ok-tick.tick _ _ _ c.in_err-nanos.field-0.0 c.in_ok-tick.ensures.read c.in_err-nanos.ensures.read)
+    handed_on _ _ _ _ c.from_residual-in_err-nanos.ensures.1 (nanos_refused c.args.version c.args.writers c.in_ok-tick.tick _ _ _ c.in_err-nanos.field-0.0 c.in_ok-tick.ensures.read c.in_err-nanos.ensures.read)
 
 pub returns-in_err-rate-clause-read : goal.returns-in_err-rate-clause-read
 returns-in_err-rate-clause-read g c =
     let mid = log_place c.take_number-2.new.pending (g.S.Source.left c.take_number-2.new.source) in
-    handed_on _ _ _ _ c.from_residual-in_err-rate.ensures.1 (rate_refused c.args.writers c.in_ok-tick.tick c.in_ok-nanos.nanos _ _ mid _ c.in_err-rate.field-0.0 c.in_ok-tick.ensures.read c.in_ok-nanos.ensures.read
+    handed_on _ _ _ _ c.from_residual-in_err-rate.ensures.1 (rate_refused c.args.version c.args.writers c.in_ok-tick.tick c.in_ok-nanos.nanos _ _ mid _ c.in_err-rate.field-0.0 c.in_ok-tick.ensures.read c.in_ok-nanos.ensures.read
     (refused_first (low_first 8 causes.Cut) _ mid _ c.in_err-rate.field-0.0 c.in_err-rate.ensures.read))
 
 pub returns-clause-read : goal.returns-clause-read

@@ -1,14 +1,9 @@
-use Rattle.std.proofs.Common.{rules, ◌≡◌, ◌≤◌, ◌<◌, false, get_or, ◌∙◌}
-use Rattle.checkpoint_io.proofs.ReaderLaws.{far_is_open}
+use Rattle.std.proofs.Common.{rules, ◌≡◌, ◌∙◌}
+use Rattle.checkpoint_io.specs.Writers.{closed_kept}
+use Rattle.checkpoint_io.proofs.ReaderLaws.{closed_answer}
 use Rattle.checkpoint_io.proofs.reader.Reader.is_closed.Goals as goal
 
-pub returns-in-Err-clause-closed : goal.returns-in-Err-clause-closed
-returns-in-Err-clause-closed c taken before =
-    let far : 256 ≤ c.args.writer = search rules in
-    far_is_open c.args.self.now taken before c.args.writer far
-
-pub returns-in-Ok-clause-closed : goal.returns-in-Ok-clause-closed
-returns-in-Ok-clause-closed c taken before =
-    let fits : c.args.writer < 256 = search rules in
-    let here : c.is_closed.result ≡ get_or c.args.self.now.writers.closed c.args.writer false = search rules in
-    here ∙ before.states.closed c.args.writer fits
+pub returns-clause-closed : goal.returns-clause-closed
+returns-clause-closed c taken before =
+    let here : c.is_closed.result ≡ closed_kept c.args.self.now.writers c.args.writer = search rules in
+    here ∙ closed_answer c.args.self.now taken before c.args.writer

@@ -7,8 +7,8 @@ use Rattle.checkpoint_io.proofs.reader.Reader.start.Goals as goal
 
 pub returns-clause-ok : goal.returns-clause-ok
 returns-clause-ok g c =
-    started (record { header = c.in_ok-header.header; messages = c.make.result; writers = c.make-2.result; waiting = c.read_header.new.pending; offset = c.offset-offset.result; failed = false })
-    c.none-pending.result _ _ c.none-pending.ensures.bytes c.none-pending.ensures.offset c.make.ensures (record { lasts = c.make-2.ensures.lasts; closed = c.make-2.ensures.closed }) c.offset-offset.ensures c.in_ok-header.ensures.read
+    started (record { header = c.in_ok-header.header; messages = c.make-2.result; writers = c.in_ok-writers.writers; waiting = c.read_header.new.pending; offset = c.offset-offset.result; failed = false })
+    c.none-pending.result _ _ c.none-pending.ensures.bytes c.none-pending.ensures.offset c.make-2.ensures (record { many = c.in_ok-writers.ensures.many; lasts = c.in_ok-writers.ensures.lasts; closed = λ writer known. c.in_ok-writers.ensures.closed writer }) c.offset-offset.ensures c.in_ok-header.ensures.read
 
 pub returns-in_err-header-clause-damaged : goal.returns-in_err-header-clause-damaged
 returns-in_err-header-clause-damaged g c cause is =

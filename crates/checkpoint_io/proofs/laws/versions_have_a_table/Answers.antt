@@ -1,0 +1,18 @@
+use Rattle.std.proofs.Common.{ℕ, refl, arith}
+use Rattle.std.proofs.lemmas.Bool.{eqb-true}
+use Rattle.checkpoint_io.proofs.lemmas.VersionLaws.{few_len, writers_fit, bodies_fit}
+use Rattle.checkpoint_io.proofs.laws.versions_have_a_table.Goals as goal
+
+pub returns-clause-known : goal.returns-clause-known
+returns-clause-known c = (refl, λ version known. eqb-true version 1 known)
+
+pub returns-clause-within : goal.returns-clause-within
+returns-clause-within c version =
+    let few = few_len version in
+    (omega (arith, few), omega (arith, few), omega (arith, few))
+
+pub returns-clause-writers_fit : goal.returns-clause-writers_fit
+returns-clause-writers_fit c = writers_fit
+
+pub returns-clause-bodies_fit : goal.returns-clause-bodies_fit
+returns-clause-bodies_fit c = bodies_fit
