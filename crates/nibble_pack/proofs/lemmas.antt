@@ -3,4 +3,5 @@ pub mod Fronts
 pub mod SignedForms
 pub mod Parsing
 pub mod Steady
+pub mod Formats
 pub mod PackingLaws
