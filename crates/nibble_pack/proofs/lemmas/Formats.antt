@@ -1,14 +1,14 @@
 -- Formats: which bytes spell a thing, and the reader that reads it.
 use Rattle.std.proofs.Common.{◌≡◌, ◌⊎◌, inl, inr, ℕ, zero, suc, ◌<◌, ◌≤◌, ◌^◌, Bool, true, false, List, [], ◌∷◌, ◌++◌, length, Result, Ok, Err, refl, sym, ap, subst, ◌∙◌, append_assoc, append-nil, arith}
-use Rattle.std.specs.Prelude.{nat_eq, nat_le, if◌then◌else◌}
+use Rattle.std.specs.Prelude.{nat_eq, if◌then◌else◌}
 use Rattle.std.specs.Hash.{le_bytes}
 use Rattle.std.proofs.lemmas.Bool.{eqb-true, eq-eqb}
 use Rattle.std.proofs.lemmas.List.{take_at, append_cancel_right}
 use Rattle.std.proofs.lemmas.List.Elements.{All-take}
 use Rattle.nibble_pack.specs.Bytes.{AreBytes, back_bytes}
-use Rattle.nibble_pack.specs.Parsing.{Parse, ◌>>=◌, provided, caused_by, first_byte, so_many, low_first, these_bytes, so_many_times, each_of, IsSameBefore, IsSteady}
+use Rattle.nibble_pack.specs.Parsing.{Parse, ◌>>=◌, provided, caused_by, first_byte, so_many, low_first, these_bytes, so_many_times, each_of, IsSteady}
 use Rattle.nibble_pack.proofs.lemmas.Parsing.{found, given, so_many_again, so_many_taken}
-use Rattle.nibble_pack.proofs.lemmas.Steady.{steady_done, steady_broken, steady_provided, steady_then, steady_caused, steady_byte, steady_many, steady_number, steady_these, steady_times, number_again, number_taken, front_is_cut}
+use Rattle.nibble_pack.proofs.lemmas.Steady.{steady_done, steady_broken, steady_then, steady_caused, steady_byte, steady_many, steady_number, number_again, number_taken, front_is_cut}
 
 -- the bytes begin with a spelling of the thing, and this is behind it
 abbrev pub BeginWith : {A : Type 0} → (A → List ℕ → Type 0) → List ℕ → A → List ℕ → Type 0
@@ -127,11 +127,17 @@ chosen_format true first second =
 chosen_format false first second =
     respelled second (λ x front small spelled. inr (refl, spelled)) (λ x front. elim [ inl h ↦ absurd (let clash = h.0 in cc) | inr h ↦ h.1 ])
 
--- a format behind a test
-provided_format : {A B Cause : Type 0} {cut : Cause} {Spells : B → List ℕ → Type 0} (next : A → List ℕ → Parse Cause B) (test : Bool) (cause : Cause) (x : A)
+-- a format behind a test of what was read
+pub provided_format : {A B Cause : Type 0} {cut : Cause} {Spells : B → List ℕ → Type 0} (next : A → List ℕ → Parse Cause B) (test : Bool) (cause : Cause) (x : A)
     → (test ≡ true → IsFormat cut Spells (next x)) → IsFormat cut (λ y front. (test ≡ true) × Spells y front) (λ bytes. provided {A = A × List ℕ} test cause (x, bytes) >>= (λ found. next found.0 found.1))
 provided_format next true cause x format = respelled (format refl) (λ y front small spelled. (refl, spelled)) (λ y front h. h.1)
 provided_format next false cause x format = respelled (broken_format cause) (λ y front small none. absurd none) (λ y front h. absurd (let clash = h.0 in cc))
+
+-- a format behind a test of what was given
+pub given_format : {A B Cause : Type 0} {cut : Cause} {Spells : A → B → List ℕ → Type 0} {next : A → List ℕ → Parse Cause B} (test : Bool) (cause : Cause) (x : A)
+    → ((x : A) → IsFormat cut (Spells x) (next x)) → IsFormat cut (λ y front. (test ≡ true) × Spells x y front) (λ bytes. provided test cause x >>= (λ given. next given bytes))
+given_format true cause x format = respelled (format x) (λ y front small spelled. (refl, spelled)) (λ y front h. h.1)
+given_format false cause x format = respelled (broken_format cause) (λ y front small none. absurd none) (λ y front h. absurd (let clash = h.0 in cc))
 
 -- what was read passes a test, and what follows stands behind it
 pub tested_then : {A B Cause : Type 0} {cut : Cause} {First : A → List ℕ → Type 0} {Second : A → B → List ℕ → Type 0} {read : List ℕ → Parse Cause A} {next : A → List ℕ → Parse Cause B}
@@ -161,14 +167,23 @@ judged_format {B = B} {Cause = Cause} {cut = cut} judge format = made_by format 
     judged (Ok x) = respelled (done_format x) (λ y back small h. (ap Ok h.0, h.1)) (λ y back h. ((given true cut x y h.0).1, h.1))
     judged (Err cause) = respelled (broken_format cause) (λ y back small none. absurd none) (λ y back h. absurd (let clash = h.0 in cc))
 
+-- what passes a test
+pub passed_format : {A Cause : Type 0} {cut : Cause} (test : Bool) (cause : Cause) (x : A) → IsFormat cut (λ y back. ((test ≡ true) × (x ≡ y)) × (back ≡ [])) (λ bytes. provided test cause (x, bytes))
+passed_format true cause x = respelled (done_format x) (λ y back small h. ((refl, h.0), h.1)) (λ y back h. (h.0.1, h.1))
+passed_format false cause x = respelled (broken_format cause) (λ y back small none. absurd none) (λ y back h. absurd (let clash = h.0.0 in cc))
+
 -- what is made of what was read, which passes a test
 pub tested_format : {A B Cause : Type 0} {cut : Cause} {Spells : A → List ℕ → Type 0} {read : List ℕ → Parse Cause A} (test : A → Bool) (cause : Cause) (make : A → B)
     → IsFormat cut Spells read → IsFormat cut (λ y front. (x : A) × Spells x front × ((test x ≡ true) × (make x ≡ y))) (λ bytes. read bytes >>= (λ found. provided (test found.0) cause (make found.0, found.1)))
-tested_format {B = B} {Cause = Cause} {cut = cut} test cause make format = made_by format (λ x. tested (test x) (make x))
-  where
-    tested : (passes : Bool) (x : B) → IsFormat cut (λ y back. ((passes ≡ true) × (x ≡ y)) × (back ≡ [])) (λ bytes. provided passes cause (x, bytes))
-    tested true x = respelled (done_format x) (λ y back small h. ((refl, h.0), h.1)) (λ y back h. (h.0.1, h.1))
-    tested false x = respelled (broken_format cause) (λ y back small none. absurd none) (λ y back h. absurd (let clash = h.0.0 in cc))
+tested_format test cause make format = made_by format (λ x. passed_format (test x) cause (make x))
+
+-- what was read, which passes a test
+pub checked_format : {A Cause : Type 0} {cut : Cause} {Spells : A → List ℕ → Type 0} {read : List ℕ → Parse Cause A} (test : A → Bool) (cause : Cause)
+    → IsFormat cut Spells read → IsFormat cut (λ x front. Spells x front × (test x ≡ true)) (λ bytes. read bytes >>= (λ found. provided (test found.0) cause found))
+checked_format {A} {Spells = Spells} test cause format =
+    respelled (tested_format test cause (λ (x : A). x) format)
+    (λ x front small (found, spelled, (passes, is)). subst (λ (y : A). Spells y front × (test y ≡ true)) is (spelled, passes))
+    (λ x front (spelled, passes). (x, spelled, (passes, refl)))
 
 -- ---- bytes
 
