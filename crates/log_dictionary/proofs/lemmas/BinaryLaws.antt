@@ -2,12 +2,13 @@
 use Rattle.std.proofs.Common.{◌≡◌, ◌⊎◌, ℕ, ◌+◌, ◌<◌, ◌≤◌, ◌^◌, Bool, true, false, eqb, List, [], ◌∷◌, ◌++◌, length, take, drop, Result, Ok, Err, refl, sym, ap, subst, ◌∙◌, inl, inr, arith, append_assoc}
 use Rattle.std.specs.Prelude.{nat_le, ◌&&◌, if◌then◌else◌}
 use Rattle.std.specs.Hash.{le_bytes}
-use Rattle.std.proofs.lemmas.Bool.{cases_lt, le-leb, leb-true, eqb-true, and_parts}
-use Rattle.std.proofs.lemmas.List.{take_at, drop_at, length-append, append-nil}
-use Rattle.nibble_pack.specs.Bytes.{AreBytes, back_bytes}
-use Rattle.nibble_pack.specs.Parsing.{◌>>=◌, provided, so_many, low_first, IsSteady}
-use Rattle.nibble_pack.proofs.lemmas.Parsing.{found, given, so_many_again, so_many_taken}
-use Rattle.nibble_pack.proofs.lemmas.Steady.{steady_done, steady_broken, steady_provided, steady_then, steady_many, steady_number, stays_broken, front_is_cut, number_again, number_taken}
+use Rattle.std.proofs.lemmas.Bool.{cases_lt, le-leb, leb-true, eqb-true, and_parts, and_from}
+use Rattle.std.proofs.lemmas.List.{take_at, drop_at, length-append}
+use Rattle.nibble_pack.specs.Bytes.{AreBytes}
+use Rattle.nibble_pack.specs.Parsing.{IsSteady}
+use Rattle.nibble_pack.proofs.lemmas.Parsing.{given}
+use Rattle.nibble_pack.proofs.lemmas.Steady.{stays_broken}
+use Rattle.nibble_pack.proofs.lemmas.Formats.{IsFormat, then_format, tested_then, made_format, judged_format, respelled, byte_format, number_format, many_format, one_spelling as spelling_is_one, spelling_not_broken, front_of_spelling_is_cut}
 use Rattle.printf_grammar.specs.Pieces.{Parsed}
 use Rattle.printf_grammar.specs.Spelling.{Spells}
 use Rattle.printf_grammar.proofs.lemmas.Total.{SpellsOrBreaks, one_holds}
@@ -36,13 +37,9 @@ same_fronts a b r q long e = (
 
 -- ---- parts of an entry
 
-pub text_apart : (a r : List ℕ) → text_bytes a ++ r ≡ le_bytes 2 (length a) ++ (a ++ r)
-text_apart a r = append_assoc (le_bytes 2 (length a)) a r
-
--- an entry and what follows it, nested to the right
-pub nested : (raw : RawEntry) (rest : List ℕ) → raw_entry_bytes raw ++ rest ≡ entry_head_bytes raw.severity raw.line ++ (text_bytes raw.file ++ (text_bytes raw.format ++ rest))
-nested raw rest =
-    append_assoc (entry_head_bytes raw.severity raw.line ++ text_bytes raw.file) (text_bytes raw.format) rest ∙ append_assoc (entry_head_bytes raw.severity raw.line) (text_bytes raw.file) (text_bytes raw.format ++ rest)
+-- an entry, nested to the right
+nested : (raw : RawEntry) → raw_entry_bytes raw ≡ entry_head_bytes raw.severity raw.line ++ (text_bytes raw.file ++ text_bytes raw.format)
+nested raw = append_assoc (entry_head_bytes raw.severity raw.line) (text_bytes raw.file) (text_bytes raw.format)
 
 pub raw_length : (raw : RawEntry) → length (raw_entry_bytes raw) ≡ 9 + length raw.file + length raw.format
 raw_length raw =
@@ -63,11 +60,11 @@ after_text at text = omega (arith, two_long (length text), length-append (le_byt
 
 -- ---- fields
 
-severity_again : (severity : Severity) (rest : List ℕ) → severity_at (severity_number severity ∷ rest) ≡ Ok (severity, rest)
-severity_again Error rest = refl
-severity_again Warning rest = refl
-severity_again Notice rest = refl
-severity_again Debug rest = refl
+severity_again : (severity : Severity) → severity_of (severity_number severity) ≡ Ok severity
+severity_again Error = refl
+severity_again Warning = refl
+severity_again Notice = refl
+severity_again Debug = refl
 
 severity_is : (n : ℕ) (severity : Severity) → severity_of n ≡ Ok severity → n ≡ severity_number severity
 severity_is n severity is = by_tests (eqb n 1) (eqb n 2) (eqb n 3) (eqb n 4) refl refl refl refl is
@@ -83,74 +80,36 @@ severity_is n severity is = by_tests (eqb n 1) (eqb n 2) (eqb n 3) (eqb n 4) ref
     by_tests false false false true e f g h is = eqb-true n 4 h ∙ named Debug is
     by_tests false false false false e f g h is = absurd cc
 
-severity_taken : (bytes rest : List ℕ) (severity : Severity) → severity_at bytes ≡ Ok (severity, rest) → bytes ≡ severity_number severity ∷ rest
-severity_taken [] rest severity e = absurd cc
-severity_taken (byte ∷ bytes) rest severity e =
-    let one = found (severity_of byte) (λ s. Ok (s, bytes)) (severity, rest) e in
-    let same : (one.x, bytes) ≡ (severity, rest) = (given true Cut (one.x, bytes) (severity, rest) one.second).1 in
-    λ t. (severity_is byte one.x one.first ∙ ap (λ (p : Severity × List ℕ). severity_number p.0) same) t ∷ (ap (λ (p : Severity × List ℕ). p.1) same) t
+severity_format : IsFormat Cut (λ severity front. front ≡ severity_number severity ∷ []) severity_at
+severity_format =
+    respelled (judged_format severity_of (byte_format Cut))
+    (λ severity front small (byte, is, judged). is ∙ ap (λ (b : ℕ). b ∷ []) (severity_is byte severity judged))
+    (λ severity front is. (severity_number severity, is, severity_again severity))
 
-text_again : (least most : ℕ) (text rest : List ℕ) → least ≤ length text → length text ≤ most → most < 2 ^ 16 → sized_text_at least most (text_bytes text ++ rest) ≡ Ok (text, rest)
-text_again least most text rest long short fits =
-    rw (text_apart text rest, number_again 2 Cut (length text) (text ++ rest) (omega (arith, short, fits)), le-leb least (length text) long, le-leb (length text) most short, so_many_again (length text) Cut text rest refl) refl
+text_format : (least most : ℕ) → most < 2 ^ 16 → IsFormat Cut (λ text front. (front ≡ text_bytes text) × (least ≤ length text) × (length text ≤ most)) (sized_text_at least most)
+text_format least most fits =
+    respelled (tested_then (λ len. nat_le least len && nat_le len most) BadEntry (number_format 2 Cut) (λ len is. many_format len Cut))
+    (λ text front small (len, first, back, joined, (few, is), (within, (long, same))).
+    let both = and_parts (nat_le least len) (nat_le len most) within in
+    let least_is = leb-true least len both.0 in
+    let most_is = leb-true len most both.1 in
+    (joined ∙ (λ t. (is ∙ ap (le_bytes 2) (sym long)) t ++ same t), omega (arith, long, least_is), omega (arith, long, most_is)))
+    (λ text front (is, long, short). (length text, _, _, is, (omega (arith, short, fits), refl), (and_from _ _ (le-leb least (length text) long) (le-leb (length text) most short), (refl, refl))))
 
-record TakenText (least most : ℕ) (bytes text rest : List ℕ) : Type 0 where
-  parts : bytes ≡ text_bytes text ++ rest
-  long : least ≤ length text
-  short : length text ≤ most
+abbrev fields_of : Severity → ℕ → List ℕ → List ℕ → RawEntry
+fields_of severity line file format = record { severity = severity; line = line; file = file; format = format }
 
-text_taken : (least most : ℕ) (bytes text rest : List ℕ) → AreBytes bytes → sized_text_at least most bytes ≡ Ok (text, rest) → TakenText least most bytes text rest
-text_taken least most bytes text rest small e =
-    let one = found (low_first 2 Cut bytes) (λ len. provided (nat_le least len.0 && nat_le len.0 most) BadEntry len >>= (λ judged. so_many judged.0 Cut judged.1)) (text, rest) e in
-    let n = one.x.0 in
-    let two = found (provided (nat_le least n && nat_le n most) BadEntry one.x) (λ judged. so_many judged.0 Cut judged.1) (text, rest) one.second in
-    let judged = given (nat_le least n && nat_le n most) BadEntry one.x two.x two.first in
-    let within = and_parts (nat_le least n) (nat_le n most) judged.0 in
-    let number = number_taken 2 Cut bytes n one.x.1 small one.first in
-    let body = so_many_taken n Cut one.x.1 text rest (ap (λ (p : ℕ × List ℕ). so_many p.0 Cut p.1) judged.1 ∙ two.second) in
-    record {
-      parts = number.parts ∙ (λ t. le_bytes 2 (sym body.len t) ++ body.parts t) ∙ sym (text_apart text rest);
-      long = omega (arith, body.len, leb-true least n within.0);
-      short = omega (arith, body.len, leb-true n most within.1);
-    }
-
--- fields in range are read
-pub fields_again : (raw : RawEntry) (rest : List ℕ) → IsInRange raw → fields_at (raw_entry_bytes raw ++ rest) ≡ Ok (raw, rest)
-fields_again raw rest right =
-    let behind : List ℕ = text_bytes raw.file ++ (text_bytes raw.format ++ rest) in
-    ap fields_at (nested raw rest) ∙ rw (
-      severity_again raw.severity (le_bytes 4 raw.line ++ behind),
-      number_again 4 Cut raw.line behind right.line_fits,
-      text_again 1 MAX_FILE_NAME raw.file (text_bytes raw.format ++ rest) right.named right.short_name (omega arith),
-      text_again 0 4095 raw.format rest (omega arith) right.short_format (omega arith),
-    ) refl
-
--- fields that were read
-pub record TakenFields (bytes : List ℕ) (raw : RawEntry) (rest : List ℕ) : Type 0 where
-  pub parts : bytes ≡ raw_entry_bytes raw ++ rest
-  pub in_range : IsInRange raw
-
-pub fields_taken : (bytes : List ℕ) (raw : RawEntry) (rest : List ℕ) → AreBytes bytes → fields_at bytes ≡ Ok (raw, rest) → TakenFields bytes raw rest
-fields_taken bytes raw rest small e =
-    let severity = found (severity_at bytes) _ (raw, rest) e in
-    let line = found (low_first 4 Cut severity.x.1) _ (raw, rest) severity.second in
-    let file = found (sized_text_at 1 MAX_FILE_NAME line.x.1) _ (raw, rest) line.second in
-    let format = found (sized_text_at 0 4095 file.x.1) _ (raw, rest) file.second in
-    let read : RawEntry = record { severity = severity.x.0; line = line.x.0; file = file.x.0; format = format.x.0 } in
-    let same : (read, format.x.1) ≡ (raw, rest) = (given true Cut (read, format.x.1) (raw, rest) format.second).1 in
-    let first = severity_taken bytes severity.x.1 severity.x.0 severity.first in
-    let first_small = back_bytes bytes (severity_number severity.x.0 ∷ []) severity.x.1 first small in
-    let second = number_taken 4 Cut severity.x.1 line.x.0 line.x.1 first_small line.first in
-    let second_small = back_bytes severity.x.1 (le_bytes 4 line.x.0) line.x.1 second.parts first_small in
-    let third = text_taken 1 MAX_FILE_NAME line.x.1 file.x.0 file.x.1 second_small file.first in
-    let third_small = back_bytes line.x.1 (text_bytes file.x.0) file.x.1 third.parts second_small in
-    let fourth = text_taken 0 4095 file.x.1 format.x.0 format.x.1 third_small format.first in
-    let parts : bytes ≡ raw_entry_bytes read ++ format.x.1 =
-    first ∙ ap (λ (b : List ℕ). severity_number severity.x.0 ∷ b) (second.parts ∙ ap (λ (b : List ℕ). le_bytes 4 line.x.0 ++ b) (third.parts ∙ ap (λ (b : List ℕ). text_bytes file.x.0 ++ b) fourth.parts)) ∙ sym (nested read format.x.1) in
-    subst (λ (p : RawEntry × List ℕ). TakenFields bytes p.0 p.1) same (record {
-      parts = parts;
-      in_range = record { line_fits = second.fits; named = third.long; short_name = third.short; short_format = fourth.short };
-    })
+-- fields in range are read, and those that are read are in range
+pub fields_format : IsFormat Cut (λ raw front. (front ≡ raw_entry_bytes raw) × IsInRange raw) fields_at
+fields_format =
+    respelled (then_format severity_format (λ severity. then_format (number_format 4 Cut) (λ line. then_format (text_format 1 255 (omega arith)) (λ file.
+    made_format (λ format. fields_of severity line file format) (text_format 0 4095 (omega arith))))))
+    (λ raw front small (severity, a, b, ab, first, (line, c, d, cd, second, (file, e, f, ef, third, (format, last, made)))).
+    subst (λ (r : RawEntry). (front ≡ raw_entry_bytes r) × IsInRange r) made (
+      ab ∙ (λ t. first t ++ (cd ∙ (λ u. second.1 u ++ (ef ∙ (λ v. third.0 v ++ last.0 v)) u)) t) ∙ sym (nested (fields_of severity line file format)),
+      record { line_fits = second.0; named = third.1; short_name = third.2; short_format = last.2 },
+    ))
+    (λ raw front (is, right). (raw.severity, _, _, is ∙ nested raw, refl, (raw.line, _, _, refl, (right.line_fits, refl), (raw.file, _, _, refl, (refl, right.named, right.short_name), (raw.format, (refl, omega arith, right.short_format), refl)))))
 
 -- ---- messages
 
@@ -184,24 +143,24 @@ made_taken raw message (inr breaks) named short e = absurd cc
 pub entry_in_range : (bytes : List ℕ) (message : Message) → SpellsEntry bytes message → IsInRange (raw_of message)
 entry_in_range bytes message spelled = record { line_fits = spelled.line_fits; named = message.file_length.0; short_name = message.file_length.1; short_format = spelled.formed.short }
 
+pub entry_format : IsFormat Cut (λ message front. SpellsEntry front message) entry_at
+entry_format =
+    respelled (judged_format message_of fields_format)
+    (λ message front small (raw, (is, right), judged).
+    let made = made_taken raw message (one_holds raw.format) (cases_lt (length raw.file) 1) (cases_lt MAX_FILE_NAME (length raw.file)) judged in
+    record { spelled = is ∙ ap raw_entry_bytes made.0; line_fits = subst (λ (r : RawEntry). r.line < 2 ^ 32) made.0 right.line_fits; formed = made.1 })
+    (λ message front spelled. (raw_of message, (spelled.spelled, entry_in_range front message spelled), message_again message spelled.formed))
+
 -- an entry is read as its message, whatever stands behind it
 pub entry_again : (message : Message) (front rest : List ℕ) → SpellsEntry front message → entry_at (front ++ rest) ≡ Ok (message, rest)
-entry_again message front rest spelled =
-    rw (spelled.spelled, fields_again (raw_of message) rest (entry_in_range front message spelled), message_again message spelled.formed) refl
+entry_again = entry_format.again
 
 -- what was read is spelled so
 pub entry_taken : (message : Message) (bytes rest : List ℕ) → AreBytes bytes → entry_at bytes ≡ Ok (message, rest) → (front : List ℕ) × (bytes ≡ front ++ rest) × SpellsEntry front message
-entry_taken message bytes rest small e =
-    let fields = found (fields_at bytes) (λ fields. message_of fields.0 >>= (λ message. Ok (message, fields.1))) (message, rest) e in
-    let made = found (message_of fields.x.0) (λ message. Ok (message, fields.x.1)) (message, rest) fields.second in
-    let same : (made.x, fields.x.1) ≡ (message, rest) = (given true Cut (made.x, fields.x.1) (message, rest) made.second).1 in
-    let raw = fields.x.0 in
-    let taken = fields_taken bytes raw fields.x.1 small fields.first in
-    let of_raw = made_taken raw made.x (one_holds raw.format) (cases_lt (length raw.file) 1) (cases_lt MAX_FILE_NAME (length raw.file)) made.first in
-    let line_fits : made.x.line < 2 ^ 32 = subst (λ (r : RawEntry). r.line < 2 ^ 32) of_raw.0 taken.in_range.line_fits in
-    let spelled : SpellsEntry (entry_bytes made.x) made.x = record { spelled = refl; line_fits = line_fits; formed = of_raw.1 } in
-    let there : (front : List ℕ) × (bytes ≡ front ++ fields.x.1) × SpellsEntry front made.x = (entry_bytes made.x, taken.parts ∙ ap (λ (r : RawEntry). raw_entry_bytes r ++ fields.x.1) of_raw.0, spelled) in
-    subst (λ (p : Message × List ℕ). (front : List ℕ) × (bytes ≡ front ++ p.1) × SpellsEntry front p.0) same there
+entry_taken message bytes rest small e = entry_format.taken bytes message rest small e
+
+pub steady_entry : IsSteady Cut entry_at
+steady_entry = entry_format.steady
 
 -- bytes that don't begin with fields begin with no entry
 pub no_fields : (bytes : List ℕ) (cause : EntryCause) → fields_at bytes ≡ Err cause → entry_at bytes ≡ Err cause
@@ -212,7 +171,8 @@ pub entry_within : (bytes rest : List ℕ) (raw : RawEntry) (file format : List 
     → len ≡ length (raw_entry_bytes (record { severity = raw.severity; line = raw.line; file = file; format = format })) → len ≤ length bytes
 entry_within bytes rest raw file format len small fields of_file of_format len_is =
     let is : raw ≡ record { severity = raw.severity; line = raw.line; file = file; format = format } = rw (of_file, of_format) refl in
-    omega (arith, len_is, ap (λ (r : RawEntry). length (raw_entry_bytes r)) is, ap length (fields_taken bytes raw rest small fields).parts, length-append (raw_entry_bytes raw) rest)
+    let (front, parts, (spelled, range)) = fields_format.taken bytes raw rest small fields in
+    omega (arith, len_is, ap (λ (r : RawEntry). length (raw_entry_bytes r)) is, ap length parts, length-append front rest, ap length spelled)
 
 -- the message that was made of the fields
 pub entry_made : (bytes rest : List ℕ) (raw : RawEntry) (message : Message) (len : ℕ) → AreBytes bytes → fields_at bytes ≡ Ok (raw, rest) → message.severity ≡ raw.severity → message.line ≡ raw.line → message.file ≡ raw.file → message.format.bytes ≡ raw.format
@@ -220,47 +180,16 @@ pub entry_made : (bytes rest : List ℕ) (raw : RawEntry) (message : Message) (l
 entry_made bytes rest raw message len small fields severity line file format formed len_is =
     let is : raw ≡ raw_of message = rw (severity, line, file, format) refl in
     let own : Spells message.format.bytes message.format.pieces = subst (λ (f : List ℕ). Spells f message.format.pieces) (sym format) formed in
-    let parts : bytes ≡ entry_bytes message ++ rest = (fields_taken bytes raw rest small fields).parts ∙ ap (λ (r : RawEntry). raw_entry_bytes r ++ rest) is in
+    let (front, joined, (spelled, range)) = fields_format.taken bytes raw rest small fields in
+    let parts : bytes ≡ entry_bytes message ++ rest = joined ∙ ap (λ (b : List ℕ). b ++ rest) (spelled ∙ ap raw_entry_bytes is) in
     let behind : drop len bytes ≡ rest = ap (drop len) parts ∙ drop_at (entry_bytes message) rest len (sym len_is) in
     rw (fields, is, message_again message own, behind) refl
-
--- ---- more bytes behind
-
-steady_severity : IsSteady Cut severity_at
-steady_severity [] more = inl refl
-steady_severity (byte ∷ bytes) more = by_number (severity_of byte) bytes more
-  where
-    by_number : (read : Result Severity EntryCause) → IsSteady Cut (λ bytes. read >>= (λ severity. Ok (severity, bytes)))
-    by_number (Ok severity) = steady_done Cut severity
-    by_number (Err cause) = steady_broken Cut cause
-
-steady_text : (least most : ℕ) → IsSteady Cut (sized_text_at least most)
-steady_text least most =
-    steady_then Cut (low_first 2 Cut) _ (steady_number Cut 2) (λ len.
-    steady_then Cut (λ bytes. provided (nat_le least len && nat_le len most) BadEntry (len, bytes)) _ (steady_provided Cut (nat_le least len && nat_le len most) BadEntry len) (λ judged. steady_many Cut judged))
-
-steady_fields : IsSteady Cut fields_at
-steady_fields =
-    steady_then Cut severity_at _ steady_severity (λ severity.
-    steady_then Cut (low_first 4 Cut) _ (steady_number Cut 4) (λ line.
-    steady_then Cut (sized_text_at 1 MAX_FILE_NAME) _ (steady_text 1 MAX_FILE_NAME) (λ file.
-    steady_then Cut (sized_text_at 0 4095) _ (steady_text 0 4095) (λ format. steady_done Cut (record { severity = severity; line = line; file = file; format = format })))))
-
-pub steady_entry : IsSteady Cut entry_at
-steady_entry = steady_then Cut fields_at _ steady_fields (λ fields. by_message (message_of fields))
-  where
-    by_message : (read : Result Message EntryCause) → IsSteady Cut (λ bytes. read >>= (λ message. Ok (message, bytes)))
-    by_message (Ok message) = steady_done Cut message
-    by_message (Err cause) = steady_broken Cut cause
 
 -- ---- one entry
 
 -- bytes begin with one entry, of one message
 pub one_entry : (front other rest other_rest : List ℕ) (a b : Message) → SpellsEntry front a → SpellsEntry other b → front ++ rest ≡ other ++ other_rest → (a ≡ b) × (front ≡ other)
-one_entry front other rest other_rest a b first second e =
-    let read = sym (entry_again a front rest first) ∙ ap entry_at e ∙ entry_again b other other_rest second in
-    let same : a ≡ b = ap (λ (p : Message × List ℕ). p.0) (given true Cut (a, rest) (b, other_rest) read).1 in
-    (same, first.spelled ∙ ap entry_bytes same ∙ sym second.spelled)
+one_entry front other rest other_rest a b first second e = spelling_is_one entry_format a b front other rest other_rest first second e
 
 pub one_spelling : (front other rest other_rest : List ℕ) (a b : Message) → SpellsEntry front a → SpellsEntry other b → front ++ rest ≡ other ++ other_rest → (front ≡ other) × SameMessage a b
 one_spelling front other rest other_rest a b first second e =
@@ -275,8 +204,7 @@ one_spelling front other rest other_rest a b first second e =
     )
 
 pub begins_with_one : (bytes : List ℕ) (cause : EntryCause) → BeginsWithEntry bytes → entry_at bytes ≡ Err cause → ⊥
-begins_with_one bytes cause begins none =
-    let read = sym none ∙ ap entry_at begins.joined ∙ entry_again begins.message begins.front begins.rest begins.entry in cc
+begins_with_one bytes cause begins none = spelling_not_broken entry_format bytes begins.message begins.rest cause (begins.front, begins.joined, begins.entry) none
 
 -- one of the three holds
 pub entry_cases : (bytes : List ℕ) → AreBytes bytes → (entry_at bytes ≡ Err Cut) ⊎ (entry_at bytes ≡ Err BadEntry) ⊎ BeginsWithEntry bytes
@@ -289,9 +217,8 @@ entry_cases bytes small = by_read (entry_at bytes) refl
 
 -- each proper front of an entry is cut off
 pub front_of_entry_is_cut : (front more : List ℕ) (message : Message) → SpellsEntry (front ++ more) message → 1 ≤ length more → entry_at front ≡ Err Cut
-front_of_entry_is_cut front more message whole some =
-    front_is_cut Cut entry_at front more message [] steady_entry (ap entry_at (sym (append-nil (front ++ more))) ∙ entry_again message (front ++ more) [] whole) (omega (arith, some))
+front_of_entry_is_cut front more message whole some = front_of_spelling_is_cut entry_format front more message whole some
 
 -- what is wrong stays wrong
 pub stays_bad : (bytes more : List ℕ) → entry_at bytes ≡ Err BadEntry → entry_at (bytes ++ more) ≡ Err BadEntry
-stays_bad bytes more bad = stays_broken Cut BadEntry entry_at bytes more steady_entry (λ e. cc) bad
+stays_bad bytes more bad = stays_broken Cut BadEntry entry_at bytes more entry_format.steady (λ e. cc) bad
