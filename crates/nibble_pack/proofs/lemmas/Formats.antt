@@ -56,12 +56,17 @@ then_format {A} {B} {Cause} {cut} {First} {Second} {read} {next} first second = 
 -- ---- more that follows from a format
 
 module _ {A Cause : Type 0} {cut : Cause} {Spells : A → List ℕ → Type 0} {read : List ℕ → Parse Cause A} (format : IsFormat cut Spells read) where
-  -- the same bytes begin with one spelling, of one thing
+  -- the same bytes begin with one thing, and one rest is behind it
+  pub one_reading : (x y : A) (front other rest more : List ℕ) → Spells x front → Spells y other → front ++ rest ≡ other ++ more → (x ≡ y) × (rest ≡ more)
+  one_reading x y front other rest more first second e =
+      let same : (x, rest) ≡ (y, more) = (given true cut (x, rest) (y, more) (sym (format.again x front rest first) ∙ ap read e ∙ format.again y other more second)).1 in
+      (ap (λ (p : A × List ℕ). p.0) same, ap (λ (p : A × List ℕ). p.1) same)
+
+  -- by one spelling
   pub one_spelling : (x y : A) (front other rest more : List ℕ) → Spells x front → Spells y other → front ++ rest ≡ other ++ more → (x ≡ y) × (front ≡ other)
   one_spelling x y front other rest more first second e =
-      let same : (x, rest) ≡ (y, more) = (given true cut (x, rest) (y, more) (sym (format.again x front rest first) ∙ ap read e ∙ format.again y other more second)).1 in
-      let behind : rest ≡ more = ap (λ (p : A × List ℕ). p.1) same in
-      (ap (λ (p : A × List ℕ). p.0) same, append_cancel_right front other rest (e ∙ ap (λ (r : List ℕ). other ++ r) (sym behind)))
+      let read = one_reading x y front other rest more first second e in
+      (read.0, append_cancel_right front other rest (e ∙ ap (λ (r : List ℕ). other ++ r) (sym read.1)))
 
   -- each proper front of a spelling is cut off
   pub front_of_spelling_is_cut : (front more : List ℕ) (x : A) → Spells x (front ++ more) → 1 ≤ length more → read front ≡ Err cut
