@@ -11,7 +11,8 @@ abbrev pub row_record : Call
 row_record = row_call 7
 
 abbrev pub row_header : Header
-row_header = record { version = 1; writers = 1; clock = record { tick = 1000; nanos = 1514764800000000000; rate = 2000000000 } }
+row_header =
+    record { version = 1; writers = 1; clock = record { tick = 1000; nanos = 1514764800000000000; rate = 2000000000 } }
 
 abbrev pub row_blocks : List Block
 row_blocks = Fragment 0 (row_message ∷ []) ∷ Extent 0 (row_record ∷ []) ∷ Close 0 ∷ []

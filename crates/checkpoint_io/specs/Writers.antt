@@ -14,8 +14,8 @@ last_kept states writer = get_or (map (λ state. state.last) states) writer 0
 abbrev pub closed_kept : List WriterState → ℕ → Bool
 closed_kept states writer = get_or (map (λ state. state.closed) states) writer false
 
--- there is one for each writer of the header, and they are those that the blocks give; where a writer has no record, its
--- stamp is the tick
+-- there is one for each writer of the header, and they are those that the blocks give; where a writer has no record,
+-- its stamp is the tick
 pub record AreStatesOf (states : List WriterState) (header : Header) (blocks : List Block) : Type 0 where
   pub many : length states ≡ header.writers
   pub lasts : (writer : ℕ) → writer < header.writers

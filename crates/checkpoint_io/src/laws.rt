@@ -34,7 +34,8 @@ pub fn worked_log()
     ensures file { FileOf row_header row_blocks row_bytes }
     ensures valid { Valid row_header row_blocks }
     ensures log { LogOf row_bytes ((row_record ∷ []) ∷ []) (row_message ∷ []) 1 (row_header.clock ∷ []) 4096 }
-    ensures log_of_small_batches { LogOf row_bytes ((row_record ∷ []) ∷ []) (row_message ∷ []) 1 (row_header.clock ∷ []) 1 }
+    ensures log_of_small_batches { LogOf row_bytes ((row_record ∷ []) ∷ []) (row_message ∷ []) 1
+        (row_header.clock ∷ []) 1 }
 {}
 
 /// What depends on the version of a log: the bytes of the number of writers and of each writer, the most
@@ -530,8 +531,8 @@ pub fn heads_have_lengths_and_tags()
     ensures close_writer { (writer : ℕ) → writer < 256 → close_bytes 1 writer ≡ 4 ∷ writer ∷ [] }
 {}
 
-/// At most 134,217,728 bytes of a log are read. A body that is written has at most 65,536 of them, and a fragment at most
-/// 16 messages.
+/// At most 134,217,728 bytes of a log are read. A body that is written has at most 65,536 of them, and a
+/// fragment at most 16 messages.
 pub fn logs_have_limits()
     ensures log { MAX_LOG ≡ 134217728 }
     ensures body { (MAX_BODY ≡ 65536) × (most_body WRITTEN_VERSION ≡ MAX_BODY) }
