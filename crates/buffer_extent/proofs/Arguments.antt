@@ -1,9 +1,8 @@
 -- The arguments of a record that are read: their codes, their numbers and their texts.
-use Rattle.std.proofs.Common.{◌≡◌, ℕ, zero, suc, ◌+◌, ◌/◌, ◌^◌, ◌-◌, ◌<◌, ◌≤◌, true, false, List, [], ◌∷◌, ◌++◌, length, get_or, take, drop, map, Result, Ok, Err, is_ok, refl, sym, ap, subst, ◌∙◌, append_assoc, arith, rules}
+use Rattle.std.proofs.Common.{◌≡◌, ℕ, zero, suc, ◌+◌, ◌/◌, ◌^◌, ◌-◌, ◌<◌, ◌≤◌, true, false, List, [], ◌∷◌, ◌++◌, length, get_or, take, drop, map, Result, Ok, Err, is_ok, refl, sym, ap, subst, ◌∙◌, arith}
 use Rattle.std.specs.Prelude.{ℤ, pos, negsuc, ◌≢◌, ◌&&◌, not, nat_eq, MatchResult, ⊤, sum_by}
 use Rattle.std.specs.List.{flat_map, list_all, AllByRecursion}
 use Rattle.std.proofs.lemmas.Int.{ints}
-use Rattle.std.proofs.lemmas.List.Elements.{All-take}
 use Rattle.std.proofs.lemmas.List.Sums.{sum_by-cons}
 use Rattle.std.proofs.lemmas.Bool.{le-leb, leb-true, lt-ltb, ltb-true, and_parts, and_from, eqb-true, false_from_ne_true, eq-eqb, not-true, not_from_false}
 use Rattle.std.proofs.lemmas.List.{length-take-le, take-append-drop, drop_more, drop_all}
@@ -21,11 +20,12 @@ use Rattle.buffer_extent.specs.declared.fault.Cause.{Cause}
 use Rattle.buffer_extent.specs.declared.fault.Cause.TheVariants as causes
 use Rattle.buffer_extent.specs.declared.numbers.Number.{Number}
 use Rattle.buffer_extent.specs.declared.numbers.Number.TheVariants as numbers
-use Rattle.nibble_pack.specs.Parsing.{Parse, ◌>>=◌, provided, so_many}
+use Rattle.nibble_pack.specs.Parsing.{so_many}
 use Rattle.buffer_extent.specs.Records.{PackedNumber, kind_of, packed_value, PacksArguments, codes_of, packed_bytes, code_bytes}
-use Rattle.buffer_extent.specs.Reading.{is_between, MayStand, unsigned_at, signed_at, number_at, may_stand, argument_at, numbers_at, codes_in, is_code, are_codes, codes_at, coded_numbers_at, text_at, value_at, values_at, words_taken, number_words}
-use Rattle.nibble_pack.proofs.lemmas.Parsing.{found, given, so_many_again, so_many_taken}
-use Rattle.buffer_extent.proofs.PackedNumbers.{BeginsWithNumber, unsigned_again, unsigned_taken, signed_again, signed_taken, numbers_are_as_many}
+use Rattle.buffer_extent.specs.Reading.{is_between, MayStand, number_at, may_stand, argument_at, numbers_at, codes_in, is_code, are_codes, coded_numbers_at, text_at, value_at, values_at, words_taken, number_words}
+use Rattle.nibble_pack.proofs.lemmas.Parsing.{so_many_taken}
+use Rattle.nibble_pack.proofs.lemmas.Formats.{IsFormat, front_bytes, respelled, done_format, made_format, checked_format, tested_format, then_format, many_format, SpellEach, each_format}
+use Rattle.buffer_extent.proofs.PackedNumbers.{unsigned_format, signed_format}
 use Rattle.buffer_extent.proofs.lemmas.Codes.{AreCodes, padding, codes_again, bytes_again, length-code_bytes}
 
 -- the number that stands for an argument
@@ -33,22 +33,6 @@ abbrev pub number_for : Value → Number
 number_for (values.Signed z) = numbers.Signed z
 number_for (values.Unsigned n) = numbers.Unsigned n
 number_for (values.Text bytes) = numbers.Unsigned (length bytes)
-
-abbrev pub number_value : Number → ℤ
-number_value (numbers.Signed z) = z
-number_value (numbers.Unsigned n) = pos n
-
-abbrev the_value : Value × List ℕ → Parse Cause Value
-the_value pair = Ok pair
-
-abbrev the_values : List Value × List ℕ → Parse Cause (List Value)
-the_values pair = Ok pair
-
-abbrev the_number : Number × List ℕ → Parse Cause Number
-the_number pair = Ok pair
-
-abbrev the_numbers : List Number × List ℕ → Parse Cause (List Number)
-the_numbers pair = Ok pair
 
 -- ---- ranges
 
@@ -94,60 +78,42 @@ no_nul_found (byte ∷ bytes) test =
     let both = and_parts (not (nat_eq byte 0)) (list_all (λ byte. not (nat_eq byte 0)) bytes) test in
     ((λ is. let zero : nat_eq byte 0 ≡ true = eq-eqb byte 0 is in let other = not-true (nat_eq byte 0) both.0 in cc), no_nul_found bytes both.1)
 
-pub value_again : (type : ArgType) (value : Value) (rest : List ℕ) → FitsType value type → value_at type (number_for value) (text_of value ++ rest) ≡ Ok (value, rest)
-value_again types.Text (values.Text bytes) rest fits = rw (so_many_again (length bytes) causes.RecordCut bytes rest refl, no_nul bytes fits.no_nul) refl
-value_again types.Int (values.Signed z) rest fits = refl
-value_again types.Long (values.Signed z) rest fits = refl
-value_again types.Width (values.Signed z) rest fits = refl
-value_again types.Precision (values.Signed z) rest fits = refl
-value_again types.UInt (values.Unsigned n) rest fits = refl
-value_again types.ULong (values.Unsigned n) rest fits = refl
-value_again _ _ rest fits = absurd fits
+-- how an argument of the type stands there whose number this is
+abbrev pub SpellValue : ArgType → Number → Value → List ℕ → Type 0
+SpellValue types.Text (numbers.Unsigned n) value front =
+    (text : List ℕ) × (((length text ≡ n) × (front ≡ text)) × (list_all (λ byte. not (nat_eq byte 0)) text ≡ true)) × (values.Text text ≡ value)
+SpellValue type (numbers.Unsigned n) value front = (values.Unsigned n ≡ value) × (front ≡ [])
+SpellValue type (numbers.Signed z) value front = (values.Signed z ≡ value) × (front ≡ [])
 
-pub record TakenValue (type : ArgType) (number : Number) (bytes : List ℕ) (value : Value) (rest : List ℕ) : Type 0 where
-  pub parts : bytes ≡ text_of value ++ rest
-  pub fits : FitsType value type
-  pub numbered : number_for value ≡ number
+value_format : (type : ArgType) (number : Number) → IsFormat causes.RecordCut (SpellValue type number) (value_at type number)
+value_format types.Text (numbers.Unsigned n) = made_format values.Text (checked_format (list_all (λ byte. not (nat_eq byte 0))) causes.NulInText (many_format n causes.RecordCut))
+value_format type (numbers.Unsigned n) = done_format (values.Unsigned n)
+value_format type (numbers.Signed z) = done_format (values.Signed z)
 
-as_number : (type : ArgType) (found : Value) (bytes rest : List ℕ) (value : Value) → text_of found ≡ [] → FitsType found type → the_value (found, bytes) ≡ Ok (value, rest) → TakenValue type (number_for found) bytes value rest
-as_number type found bytes rest value none fits e =
-    let both : (found, bytes) ≡ (value, rest) = (given true causes.RecordCut (found, bytes) (value, rest) e).1 in
-    let same : found ≡ value = ap (λ (p : Value × List ℕ). p.0) both in
-    let back : bytes ≡ rest = ap (λ (p : Value × List ℕ). p.1) both in
-    record {
-      parts = back ∙ ap (λ (t : List ℕ). t ++ rest) (sym none ∙ ap text_of same);
-      fits = subst (λ (v : Value). FitsType v type) same fits;
-      numbered = ap number_for (sym same);
-    }
+value_spelled : (type : ArgType) (value : Value) → FitsType value type → SpellValue type (number_for value) value (text_of value)
+value_spelled types.Text (values.Text bytes) fits = (bytes, ((refl, refl), no_nul bytes fits.no_nul), refl)
+value_spelled types.Int (values.Signed z) fits = (refl, refl)
+value_spelled types.Long (values.Signed z) fits = (refl, refl)
+value_spelled types.Width (values.Signed z) fits = (refl, refl)
+value_spelled types.Precision (values.Signed z) fits = (refl, refl)
+value_spelled types.UInt (values.Unsigned n) fits = (refl, refl)
+value_spelled types.ULong (values.Unsigned n) fits = (refl, refl)
+value_spelled _ _ fits = absurd fits
 
-pub value_taken : (type : ArgType) (number : Number) (bytes rest : List ℕ) (value : Value) → may_stand type number ≡ true → value_at type number bytes ≡ Ok (value, rest) → TakenValue type number bytes value rest
-value_taken types.Text (numbers.Unsigned n) bytes rest value test e =
-    let one = found (text_at n bytes) (λ text. the_value (values.Text text.0, text.1)) (value, rest) e in
-    let two = found (so_many n causes.RecordCut bytes) (λ text. provided (list_all (λ byte. not (nat_eq byte 0)) text.0) causes.NulInText text) one.x one.first in
-    let taken = so_many_taken n causes.RecordCut bytes two.x.0 two.x.1 two.first in
-    let none = given (list_all (λ byte. not (nat_eq byte 0)) two.x.0) causes.NulInText two.x one.x two.second in
-    let both : (values.Text one.x.0, one.x.1) ≡ (value, rest) = (given true causes.RecordCut (values.Text one.x.0, one.x.1) (value, rest) one.second).1 in
-    let text : two.x.0 ≡ one.x.0 = ap (λ (p : List ℕ × List ℕ). p.0) none.1 in
-    let is : value ≡ values.Text two.x.0 = sym (ap (λ (p : Value × List ℕ). p.0) both) ∙ ap values.Text (sym text) in
-    let back : two.x.1 ≡ rest = ap (λ (p : List ℕ × List ℕ). p.1) none.1 ∙ ap (λ (p : Value × List ℕ). p.1) both in
-    subst (λ (v : Value). TakenValue types.Text (numbers.Unsigned n) bytes v rest) (sym is) (record {
-      parts = taken.parts ∙ ap (λ (r : List ℕ). two.x.0 ++ r) back;
-      fits = record { short = omega (arith, taken.len, leb-true n 4000 test); no_nul = no_nul_found two.x.0 none.0 };
-      numbered = ap numbers.Unsigned taken.len;
-    })
-value_taken types.Int (numbers.Signed z) bytes rest value test e = as_number types.Int (values.Signed z) bytes rest value refl (int_fits z test) e
-value_taken types.Long (numbers.Signed z) bytes rest value test e = as_number types.Long (values.Signed z) bytes rest value refl (long_fits z test) e
-value_taken types.Width (numbers.Signed z) bytes rest value test e = as_number types.Width (values.Signed z) bytes rest value refl (width_fits z test) e
-value_taken types.Precision (numbers.Signed z) bytes rest value test e = as_number types.Precision (values.Signed z) bytes rest value refl (precision_fits z test) e
-value_taken types.UInt (numbers.Unsigned n) bytes rest value test e = as_number types.UInt (values.Unsigned n) bytes rest value refl (ltb-true n (2 ^ 32) test) e
-value_taken types.ULong (numbers.Unsigned n) bytes rest value test e = as_number types.ULong (values.Unsigned n) bytes rest value refl (ltb-true n (2 ^ 64) test) e
-value_taken types.Text (numbers.Signed z) bytes rest value test e = absurd cc
-value_taken types.Int (numbers.Unsigned n) bytes rest value test e = absurd cc
-value_taken types.Long (numbers.Unsigned n) bytes rest value test e = absurd cc
-value_taken types.Width (numbers.Unsigned n) bytes rest value test e = absurd cc
-value_taken types.Precision (numbers.Unsigned n) bytes rest value test e = absurd cc
-value_taken types.UInt (numbers.Signed z) bytes rest value test e = absurd cc
-value_taken types.ULong (numbers.Signed z) bytes rest value test e = absurd cc
+-- the argument fits its type, and has this text and this number
+abbrev IsOf : ArgType → Number → List ℕ → Value → Type 0
+IsOf type number front value = (front ≡ text_of value) × FitsType value type × (number_for value ≡ number)
+
+value_fits : (type : ArgType) (number : Number) (value : Value) (front : List ℕ) → may_stand type number ≡ true → SpellValue type number value front → IsOf type number front value
+value_fits types.Text (numbers.Unsigned n) value front test (text, ((len, same), none), is) =
+    subst (IsOf types.Text (numbers.Unsigned n) front) is (same, record { short = omega (arith, len, leb-true n 4000 test); no_nul = no_nul_found text none }, ap numbers.Unsigned len)
+value_fits types.Int (numbers.Signed z) value front test (is, none) = subst (IsOf types.Int (numbers.Signed z) front) is (none, int_fits z test, refl)
+value_fits types.Long (numbers.Signed z) value front test (is, none) = subst (IsOf types.Long (numbers.Signed z) front) is (none, long_fits z test, refl)
+value_fits types.Width (numbers.Signed z) value front test (is, none) = subst (IsOf types.Width (numbers.Signed z) front) is (none, width_fits z test, refl)
+value_fits types.Precision (numbers.Signed z) value front test (is, none) = subst (IsOf types.Precision (numbers.Signed z) front) is (none, precision_fits z test, refl)
+value_fits types.UInt (numbers.Unsigned n) value front test (is, none) = subst (IsOf types.UInt (numbers.Unsigned n) front) is (none, ltb-true n (2 ^ 32) test, refl)
+value_fits types.ULong (numbers.Unsigned n) value front test (is, none) = subst (IsOf types.ULong (numbers.Unsigned n) front) is (none, ltb-true n (2 ^ 64) test, refl)
+value_fits _ _ value front test spelled = absurd cc
 
 -- ---- as it is told of a text that was cut off
 
@@ -165,102 +131,66 @@ text_found len bytes text rest enough is back good =
 
 -- ---- numbers
 
-pub argument_again : (type : ArgType) (value : Value) (code : ℕ) (front rest : List ℕ) → FitsType value type → Packed (kind_of type) (packed_value value) code front → argument_at type code (front ++ rest) ≡ Ok (number_for value, rest)
-argument_again types.Int (values.Signed z) code front rest fits packed = rw (signed_again z code front rest packed, stands types.Int (values.Signed z) fits) refl
-argument_again types.Long (values.Signed z) code front rest fits packed = rw (signed_again z code front rest packed, stands types.Long (values.Signed z) fits) refl
-argument_again types.Width (values.Signed z) code front rest fits packed = rw (signed_again z code front rest packed, stands types.Width (values.Signed z) fits) refl
-argument_again types.Precision (values.Signed z) code front rest fits packed = rw (signed_again z code front rest packed, stands types.Precision (values.Signed z) fits) refl
-argument_again types.UInt (values.Unsigned n) code front rest fits packed = rw (unsigned_again n code front rest packed, stands types.UInt (values.Unsigned n) fits) refl
-argument_again types.ULong (values.Unsigned n) code front rest fits packed = rw (unsigned_again n code front rest packed, stands types.ULong (values.Unsigned n) fits) refl
-argument_again types.Text (values.Text bytes) code front rest fits packed = rw (unsigned_again (length bytes) code front rest packed, stands types.Text (values.Text bytes) fits) refl
-argument_again _ _ code front rest fits packed = absurd fits
+-- the number of a code and a kind has these bytes
+abbrev pub PacksNumber : Kind → ℕ → Number → List ℕ → Type 0
+PacksNumber unsigned code (numbers.Unsigned n) front = Packed unsigned (pos n) code front
+PacksNumber signed code (numbers.Signed z) front = Packed signed z code front
+PacksNumber _ code _ front = ⊥
 
-pub numbers_again : (types : List ArgType) (args : List Value) (packed : List PackedNumber) (extra rest : List ℕ) → PacksArguments types args packed → Fits args types
-    → numbers_at types (codes_of packed ++ extra) (packed_bytes packed ++ rest) ≡ Ok (map number_for args, rest)
-numbers_again [] [] [] extra rest packs fits = refl
-numbers_again (type ∷ types) (arg ∷ args) (number ∷ packed) extra rest packs fits =
-    let more = numbers_again types args packed extra rest packs.1 fits.1 in
-    let first = argument_again type arg number.code number.bytes (packed_bytes packed ++ rest) fits.0 packs.0 in
-    rw (append_assoc number.bytes (packed_bytes packed) rest, first, more) refl
-numbers_again _ _ _ extra rest packs fits = absurd (search rules)
+packed_format : (kind : Kind) (code : ℕ) → IsFormat causes.RecordCut (PacksNumber kind code) (number_at kind code)
+packed_format unsigned code =
+    respelled (made_format numbers.Unsigned (unsigned_format code))
+    (λ number front are (n, packed, is). subst (λ (m : Number). PacksNumber unsigned code m front) is packed)
+    (elim [ numbers.Unsigned n ↦ λ front packed. (n, packed, refl) | numbers.Signed z ↦ λ front none. absurd none ])
+packed_format signed code =
+    respelled (made_format numbers.Signed (signed_format code))
+    (λ number front are (z, packed, is). subst (λ (m : Number). PacksNumber signed code m front) is packed)
+    (elim [ numbers.Signed z ↦ λ front packed. (z, packed, refl) | numbers.Unsigned n ↦ λ front none. absurd none ])
 
-number_taken : (kind : Kind) (code : ℕ) (bytes rest : List ℕ) (number : Number) → AreBytes bytes → number_at kind code bytes ≡ Ok (number, rest) → BeginsWithNumber kind code bytes (number_value number) rest
-number_taken unsigned code bytes rest number are_bytes e =
-    let one = found (unsigned_at code bytes) (λ n. the_number (numbers.Unsigned n.0, n.1)) (number, rest) e in
-    let both : (numbers.Unsigned one.x.0, one.x.1) ≡ (number, rest) = (given true causes.RecordCut (numbers.Unsigned one.x.0, one.x.1) (number, rest) one.second).1 in
-    subst (λ (p : Number × List ℕ). BeginsWithNumber unsigned code bytes (number_value p.0) p.1) both (unsigned_taken one.x.0 code bytes one.x.1 are_bytes one.first)
-number_taken signed code bytes rest number are_bytes e =
-    let one = found (signed_at code bytes) (λ z. the_number (numbers.Signed z.0, z.1)) (number, rest) e in
-    let both : (numbers.Signed one.x.0, one.x.1) ≡ (number, rest) = (given true causes.RecordCut (numbers.Signed one.x.0, one.x.1) (number, rest) one.second).1 in
-    subst (λ (p : Number × List ℕ). BeginsWithNumber signed code bytes (number_value p.0) p.1) both (signed_taken one.x.0 code bytes one.x.1 are_bytes one.first)
+-- the number of an argument of the type
+abbrev SpellNumber : ArgType → ℕ → Number → List ℕ → Type 0
+SpellNumber type code number front = PacksNumber (kind_of type) code number front × (may_stand type number ≡ true)
 
-argument_taken : (type : ArgType) (code : ℕ) (bytes rest : List ℕ) (number : Number) → AreBytes bytes → argument_at type code bytes ≡ Ok (number, rest) → BeginsWithNumber (kind_of type) code bytes (number_value number) rest
-argument_taken type code bytes rest number are_bytes e =
-    let one = found (number_at (kind_of type) code bytes) (λ n. provided (may_stand type n.0) causes.ArgRange n) (number, rest) e in
-    let test = given (may_stand type one.x.0) causes.ArgRange one.x (number, rest) one.second in
-    subst (λ (p : Number × List ℕ). BeginsWithNumber (kind_of type) code bytes (number_value p.0) p.1) test.1 (number_taken (kind_of type) code bytes one.x.1 one.x.0 are_bytes one.first)
-
--- the numbers may stand for arguments of their types
-pub numbers_stand : (types : List ArgType) (codes bytes rest : List ℕ) (numbers : List Number) → numbers_at types codes bytes ≡ Ok (numbers, rest) → MayStand types numbers
-numbers_stand [] codes bytes rest numbers e =
-    let both : ([], bytes) ≡ (numbers, rest) = (given true causes.RecordCut ([], bytes) (numbers, rest) e).1 in
-    subst (λ (p : List Number × List ℕ). MayStand [] p.0) both tt
-numbers_stand (type ∷ types) [] bytes rest numbers e = absurd cc
-numbers_stand (type ∷ types) (code ∷ codes) bytes rest numbers e =
-    let one = found (argument_at type code bytes) (λ here. numbers_at types codes here.1 >>= (λ others. the_numbers (here.0 ∷ others.0, others.1))) (numbers, rest) e in
-    let first = found (number_at (kind_of type) code bytes) (λ n. provided (may_stand type n.0) causes.ArgRange n) one.x one.first in
-    let test = given (may_stand type first.x.0) causes.ArgRange first.x one.x first.second in
-    let two = found (numbers_at types codes one.x.1) (λ others. the_numbers (one.x.0 ∷ others.0, others.1)) (numbers, rest) one.second in
-    let both : (one.x.0 ∷ two.x.0, two.x.1) ≡ (numbers, rest) = (given true causes.RecordCut (one.x.0 ∷ two.x.0, two.x.1) (numbers, rest) two.second).1 in
-    subst (λ (p : List Number × List ℕ). MayStand (type ∷ types) p.0) both
-    (ap (λ (p : Number × List ℕ). may_stand type p.0) (sym test.1) ∙ test.0, numbers_stand types codes one.x.1 two.x.1 two.x.0 two.first)
-
-pub coded_stand : (types : List ArgType) (bytes rest : List ℕ) (numbers : List Number) → coded_numbers_at types bytes ≡ Ok (numbers, rest) → MayStand types numbers
-coded_stand types bytes rest numbers e =
-    let one = found (codes_at types bytes) (λ codes. numbers_at types codes.0 codes.1) (numbers, rest) e in
-    numbers_stand types one.x.0 one.x.1 rest numbers one.second
+argument_format : (type : ArgType) (code : ℕ) → IsFormat causes.RecordCut (SpellNumber type code) (argument_at type code)
+argument_format type code = checked_format (may_stand type) causes.ArgRange (packed_format (kind_of type) code)
 
 -- the packed numbers are these, each packed as its type's kind
 abbrev pub PacksNumbers : List ArgType → List Number → List PackedNumber → Type 0
 PacksNumbers [] [] [] = ⊤
-PacksNumbers (type ∷ types) (number ∷ numbers) (packed ∷ others) =
-    Packed (kind_of type) (number_value number) packed.code packed.bytes × PacksNumbers types numbers others
+PacksNumbers (type ∷ types) (number ∷ numbers) (packed ∷ others) = PacksNumber (kind_of type) packed.code number packed.bytes × PacksNumbers types numbers others
 PacksNumbers _ _ _ = ⊥
 
-pub record TakenNumbers (types : List ArgType) (codes bytes : List ℕ) (numbers : List Number) (rest : List ℕ) : Type 0 where
-  pub packed : List PackedNumber
-  pub packs : PacksNumbers types numbers packed
-  pub codes_are : codes_of packed ≡ take (length types) codes
-  pub parts : bytes ≡ packed_bytes packed ++ rest
+-- numbers that may stand for arguments, with their packed forms
+record ArePacked (types : List ArgType) (codes : List ℕ) (numbers : List Number) (front : List ℕ) : Type 0 where
+  packed : List PackedNumber
+  packs : PacksNumbers types numbers packed
+  stand : MayStand types numbers
+  codes_are : codes_of packed ≡ take (length types) codes
+  spelled : front ≡ packed_bytes packed
 
-pub numbers_taken : (types : List ArgType) (codes bytes rest : List ℕ) (numbers : List Number) → AreBytes bytes → numbers_at types codes bytes ≡ Ok (numbers, rest) → TakenNumbers types codes bytes numbers rest
-numbers_taken [] codes bytes rest numbers are_bytes e =
-    let both : ([], bytes) ≡ (numbers, rest) = (given true causes.RecordCut ([], bytes) (numbers, rest) e).1 in
-    subst (λ (p : List Number × List ℕ). TakenNumbers [] codes bytes p.0 p.1) both (record { packed = []; packs = tt; codes_are = refl; parts = refl })
-numbers_taken (type ∷ types) [] bytes rest numbers are_bytes e = absurd cc
-numbers_taken (type ∷ types) (code ∷ codes) bytes rest numbers are_bytes e =
-    let one = found (argument_at type code bytes) (λ here. numbers_at types codes here.1 >>= (λ others. the_numbers (here.0 ∷ others.0, others.1))) (numbers, rest) e in
-    let first = argument_taken type code bytes one.x.1 one.x.0 are_bytes one.first in
-    let two = found (numbers_at types codes one.x.1) (λ others. the_numbers (one.x.0 ∷ others.0, others.1)) (numbers, rest) one.second in
-    let more = numbers_taken types codes one.x.1 two.x.1 two.x.0 (back_bytes bytes first.front one.x.1 first.parts are_bytes) two.first in
-    let both : (one.x.0 ∷ two.x.0, two.x.1) ≡ (numbers, rest) = (given true causes.RecordCut (one.x.0 ∷ two.x.0, two.x.1) (numbers, rest) two.second).1 in
-    subst (λ (p : List Number × List ℕ). TakenNumbers (type ∷ types) (code ∷ codes) bytes p.0 p.1) both (record {
-      packed = record { code = code; bytes = first.front } ∷ more.packed;
-      packs = (first.packed, more.packs);
-      codes_are = λ t. code ∷ more.codes_are t;
-      parts = first.parts ∙ ap (λ (r : List ℕ). first.front ++ r) more.parts ∙ sym (append_assoc first.front (packed_bytes more.packed) two.x.1);
-    })
+are_packed : (types : List ArgType) (codes : List ℕ) (numbers : List Number) (front : List ℕ) → SpellEach SpellNumber types codes numbers front → ArePacked types codes numbers front
+are_packed [] codes [] front none = record { packed = []; packs = tt; stand = tt; codes_are = refl; spelled = none }
+are_packed (type ∷ types) (code ∷ codes) (number ∷ numbers) front (first, back, joined, (here, stands), behind) =
+    let others = are_packed types codes numbers back behind in
+    record {
+      packed = record { code = code; bytes = first } ∷ others.packed;
+      packs = (here, others.packs);
+      stand = (stands, others.stand);
+      codes_are = λ t. code ∷ others.codes_are t;
+      spelled = joined ∙ ap (λ (r : List ℕ). first ++ r) others.spelled;
+    }
+are_packed _ _ _ front none = absurd none
 
-value_of_number : (arg : Value) → number_value (number_for arg) ≡ packed_value arg
-value_of_number (values.Signed z) = refl
-value_of_number (values.Unsigned n) = refl
-value_of_number (values.Text bytes) = refl
+packed_spelled : (types : List ArgType) (numbers : List Number) (packed : List PackedNumber) (extra : List ℕ) → PacksNumbers types numbers packed → MayStand types numbers
+    → SpellEach SpellNumber types (codes_of packed ++ extra) numbers (packed_bytes packed)
+packed_spelled [] [] [] extra packs stand = refl
+packed_spelled (type ∷ types) (number ∷ numbers) (one ∷ packed) extra packs stand = (one.bytes, packed_bytes packed, refl, (packs.0, stand.0), packed_spelled types numbers packed extra packs.1 stand.1)
+packed_spelled _ _ _ extra packs stand = absurd packs
 
-packs_numbers : (types : List ArgType) (args : List Value) (packed : List PackedNumber) → PacksArguments types args packed → PacksNumbers types (map number_for args) packed
-packs_numbers [] [] [] packs = tt
-packs_numbers (type ∷ types) (arg ∷ args) (number ∷ packed) packs =
-    (subst (λ (z : ℤ). Packed (kind_of type) z number.code number.bytes) (sym (value_of_number arg)) packs.0, packs_numbers types args packed packs.1)
-packs_numbers _ _ _ packs = absurd packs
+pub packed_as_many : (types : List ArgType) (numbers : List Number) (packed : List PackedNumber) → PacksNumbers types numbers packed → length (codes_of packed) ≡ length types
+packed_as_many [] [] [] packs = refl
+packed_as_many (type ∷ types) (number ∷ numbers) (one ∷ packed) packs = ap suc (packed_as_many types numbers packed packs.1)
+packed_as_many _ _ _ packs = absurd packs
 
 -- ---- codes
 
@@ -268,16 +198,22 @@ is_code_of : (kind : Kind) (code : ℕ) → IsCode kind code → is_code kind co
 is_code_of unsigned code known = le-leb code 8 known
 is_code_of signed code known = le-leb code 15 known
 
+PacksNumber-code : (kind : Kind) (code : ℕ) (number : Number) (front : List ℕ) → PacksNumber kind code number front → IsCode kind code
+PacksNumber-code unsigned code (numbers.Unsigned n) front packed = Packed-code unsigned (pos n) code front packed
+PacksNumber-code signed code (numbers.Signed z) front packed = Packed-code signed z code front packed
+PacksNumber-code _ code _ front none = absurd none
+
 are_codes_of : (types : List ArgType) (numbers : List Number) (packed : List PackedNumber) (extra : List ℕ) → PacksNumbers types numbers packed → list_all (λ code. nat_eq code 0) extra ≡ true → are_codes types (codes_of packed ++ extra) ≡ true
 are_codes_of [] [] [] extra packs none = none
 are_codes_of (type ∷ types) (number ∷ numbers) (one ∷ packed) extra packs none =
-    and_from _ _ (is_code_of (kind_of type) one.code (Packed-code (kind_of type) (number_value number) one.code one.bytes packs.0)) (are_codes_of types numbers packed extra packs.1 none)
+    and_from _ _ (is_code_of (kind_of type) one.code (PacksNumber-code (kind_of type) one.code number one.bytes packs.0)) (are_codes_of types numbers packed extra packs.1 none)
 are_codes_of _ _ _ extra packs none = absurd packs
 
 -- the codes of numbers that were read, where no other code stands behind them
 codes_read : (types : List ArgType) (codes bytes rest : List ℕ) (numbers : List Number) → AreBytes bytes → numbers_at types codes bytes ≡ Ok (numbers, rest) → are_codes [] (drop (length types) codes) ≡ true → are_codes types codes ≡ true
 codes_read types codes bytes rest numbers are_bytes e none =
-    let taken = numbers_taken types codes bytes rest numbers are_bytes e in
+    let (front, parts, each) = (each_format causes.RecordCut argument_format types codes).taken bytes numbers rest are_bytes e in
+    let taken = are_packed types codes numbers front each in
     ap (are_codes types) (sym (take-append-drop (length types) codes) ∙ ap (λ (front : List ℕ). front ++ drop (length types) codes) (sym taken.codes_are))
     ∙ are_codes_of types numbers taken.packed (drop (length types) codes) taken.packs none
 
@@ -286,24 +222,30 @@ padding_zero [] = refl
 padding_zero (code ∷ []) = refl
 padding_zero (low ∷ high ∷ codes) = padding_zero codes
 
-small_codes : (types : List ArgType) (args : List Value) (packed : List PackedNumber) → PacksArguments types args packed → AreCodes (codes_of packed)
+small_codes : (types : List ArgType) (numbers : List Number) (packed : List PackedNumber) → PacksNumbers types numbers packed → AreCodes (codes_of packed)
 small_codes [] [] [] packs = tt
-small_codes (type ∷ types) (arg ∷ args) (number ∷ packed) packs =
-    (IsCode-lt (kind_of type) number.code (Packed-code (kind_of type) (packed_value arg) number.code number.bytes packs.0), small_codes types args packed packs.1)
+small_codes (type ∷ types) (number ∷ numbers) (one ∷ packed) packs =
+    (IsCode-lt (kind_of type) one.code (PacksNumber-code (kind_of type) one.code number one.bytes packs.0), small_codes types numbers packed packs.1)
 small_codes _ _ _ packs = absurd packs
 
--- coded numbers are read again
-pub coded_again : (types : List ArgType) (args : List Value) (packed : List PackedNumber) (rest : List ℕ) → PacksArguments types args packed → Fits args types
-    → coded_numbers_at types (code_bytes (codes_of packed) ++ (packed_bytes packed ++ rest)) ≡ Ok (map number_for args, rest)
-coded_again types args packed rest packs fits =
+-- codes, and behind them the numbers that may stand for arguments
+abbrev pub SpellCoded : List ArgType → List Number → List ℕ → Type 0
+SpellCoded types numbers front = (packed : List PackedNumber) × PacksNumbers types numbers packed × MayStand types numbers × (front ≡ code_bytes (codes_of packed) ++ packed_bytes packed)
+
+pub coded_format : (types : List ArgType) → IsFormat causes.RecordCut (SpellCoded types) (coded_numbers_at types)
+coded_format types =
+    respelled (then_format (tested_format (λ text. are_codes types (codes_in text)) causes.BadNibble codes_in (many_format ((length types + 1) / 2) causes.RecordCut)) (λ codes. each_format causes.RecordCut argument_format types codes))
+    (λ numbers front are (codes, first, back, joined, (text, (len, same), (right, is)), each).
+    let all = are_packed types codes numbers back each in
+    let small : AreBytes text = subst AreBytes same (front_bytes first back (subst AreBytes joined are)) in
+    let of_codes : text ≡ code_bytes (codes_of all.packed) = sym (ap code_bytes (all.codes_are ∙ ap (take (length types)) (sym is)) ∙ bytes_again types text small len right) in
+    (all.packed, all.packs, all.stand, joined ∙ (λ t. (same ∙ of_codes) t ++ all.spelled t)))
+    (λ numbers front (packed, packs, stand, spelled).
     let codes : List ℕ = codes_of packed in
-    let behind : List ℕ = packed_bytes packed ++ rest in
-    let many = numbers_are_as_many types args packed packs in
-    let len : length (code_bytes codes) ≡ (length types + 1) / 2 = omega (arith, length-code_bytes codes, many) in
-    let read : codes_in (code_bytes codes) ≡ codes ++ padding codes = codes_again codes (small_codes types args packed packs) in
-    let right : are_codes types (codes_in (code_bytes codes)) ≡ true = ap (are_codes types) read ∙ are_codes_of types (map number_for args) packed (padding codes) (packs_numbers types args packed packs) (padding_zero codes) in
-    let numbers : numbers_at types (codes_in (code_bytes codes)) behind ≡ Ok (map number_for args, rest) = ap (λ (cs : List ℕ). numbers_at types cs behind) read ∙ numbers_again types args packed (padding codes) rest packs fits in
-    rw (so_many_again ((length types + 1) / 2) causes.RecordCut (code_bytes codes) behind len, right, numbers) refl
+    let read : codes_in (code_bytes codes) ≡ codes ++ padding codes = codes_again codes (small_codes types numbers packed packs) in
+    let len : length (code_bytes codes) ≡ (length types + 1) / 2 = omega (arith, length-code_bytes codes, packed_as_many types numbers packed packs) in
+    let right : are_codes types (codes_in (code_bytes codes)) ≡ true = ap (are_codes types) read ∙ are_codes_of types numbers packed (padding codes) packs (padding_zero codes) in
+    (codes ++ padding codes, code_bytes codes, packed_bytes packed, spelled, (code_bytes codes, (len, refl), (right, read)), packed_spelled types numbers packed (padding codes) packs stand))
 
 -- numbers that were read behind their codes
 pub coded_read : {B : Type 0} (now : B → List ℕ) (read : Result B Cause) (types : List ArgType) (bytes front rest : List ℕ) (numbers : List Number) → AreBytes bytes → so_many ((length types + 1) / 2) causes.RecordCut bytes ≡ Ok (front, rest) → are_codes [] (drop (length types) (codes_in front)) ≡ true → is_ok read ≡ true
@@ -315,68 +257,57 @@ coded_read now (Ok back) types bytes front rest numbers are_bytes split none ok 
     rw (split, right) is
 coded_read now (Err cause) types bytes front rest numbers are_bytes split none ok is = absurd cc
 
-pub record TakenCoded (types : List ArgType) (bytes : List ℕ) (numbers : List Number) (rest : List ℕ) : Type 0 where
-  pub packed : List PackedNumber
-  pub packs : PacksNumbers types numbers packed
-  pub parts : bytes ≡ code_bytes (codes_of packed) ++ (packed_bytes packed ++ rest)
-
-pub coded_taken : (types : List ArgType) (bytes rest : List ℕ) (numbers : List Number) → AreBytes bytes → coded_numbers_at types bytes ≡ Ok (numbers, rest) → TakenCoded types bytes numbers rest
-coded_taken types bytes rest numbers are_bytes e =
-    let one = found (codes_at types bytes) (λ codes. numbers_at types codes.0 codes.1) (numbers, rest) e in
-    let two = found (so_many ((length types + 1) / 2) causes.RecordCut bytes) (λ front. provided (are_codes types (codes_in front.0)) causes.BadNibble (codes_in front.0, front.1)) one.x one.first in
-    let taken = so_many_taken ((length types + 1) / 2) causes.RecordCut bytes two.x.0 two.x.1 two.first in
-    let test = given (are_codes types (codes_in two.x.0)) causes.BadNibble (codes_in two.x.0, two.x.1) one.x two.second in
-    let codes : one.x.0 ≡ codes_in two.x.0 = ap (λ (p : List ℕ × List ℕ). p.0) (sym test.1) in
-    let behind : one.x.1 ≡ two.x.1 = ap (λ (p : List ℕ × List ℕ). p.1) (sym test.1) in
-    let small : AreBytes two.x.0 = subst AreBytes (sym taken.is) (All-take (λ (b : ℕ). b < 256) ((length types + 1) / 2) bytes are_bytes) in
-    let rest_small : AreBytes one.x.1 = subst AreBytes (sym behind) (back_bytes bytes two.x.0 two.x.1 taken.parts are_bytes) in
-    let more = numbers_taken types one.x.0 one.x.1 rest numbers rest_small one.second in
-    let front : two.x.0 ≡ code_bytes (codes_of more.packed) = sym (ap code_bytes (more.codes_are ∙ ap (take (length types)) codes) ∙ bytes_again types two.x.0 small taken.len test.0) in
-    record {
-      packed = more.packed;
-      packs = more.packs;
-      parts = taken.parts ∙ (λ t. front t ++ (sym behind ∙ more.parts) t);
-    }
-
 -- ---- values
 
-pub values_again : (types : List ArgType) (args : List Value) (rest : List ℕ) → Fits args types → values_at types (map number_for args) (flat_map text_of args ++ rest) ≡ Ok (args, rest)
-values_again [] [] rest fits = refl
-values_again (type ∷ types) (arg ∷ args) rest fits =
-    rw (append_assoc (text_of arg) (flat_map text_of args) rest, value_again type arg (flat_map text_of args ++ rest) fits.0, values_again types args rest fits.1) refl
-values_again _ _ rest fits = absurd fits
+pub values_format : (types : List ArgType) (numbers : List Number) → IsFormat causes.RecordCut (SpellEach SpellValue types numbers) (values_at types numbers)
+values_format = each_format causes.RecordCut value_format
 
-pub record TakenValues (types : List ArgType) (numbers : List Number) (bytes : List ℕ) (args : List Value) (rest : List ℕ) : Type 0 where
-  pub parts : bytes ≡ flat_map text_of args ++ rest
-  pub fits : Fits args types
-  pub numbered : map number_for args ≡ numbers
+pub all_spelled : (types : List ArgType) (args : List Value) → Fits args types → SpellEach SpellValue types (map number_for args) args (flat_map text_of args)
+all_spelled [] [] fits = refl
+all_spelled (type ∷ types) (arg ∷ args) fits = (text_of arg, flat_map text_of args, refl, value_spelled type arg fits.0, all_spelled types args fits.1)
+all_spelled _ _ fits = absurd fits
 
-pub values_taken : (types : List ArgType) (numbers : List Number) (bytes rest : List ℕ) (args : List Value) → MayStand types numbers → values_at types numbers bytes ≡ Ok (args, rest) → TakenValues types numbers bytes args rest
-values_taken [] [] bytes rest args stand e =
-    let both : ([], bytes) ≡ (args, rest) = (given true causes.RecordCut ([], bytes) (args, rest) e).1 in
-    subst (λ (p : List Value × List ℕ). TakenValues [] [] bytes p.0 p.1) both (record { parts = refl; fits = tt; numbered = refl })
-values_taken (type ∷ types) (number ∷ numbers) bytes rest args stand e =
-    let one = found (value_at type number bytes) (λ here. values_at types numbers here.1 >>= (λ others. the_values (here.0 ∷ others.0, others.1))) (args, rest) e in
-    let first = value_taken type number bytes one.x.1 one.x.0 stand.0 one.first in
-    let two = found (values_at types numbers one.x.1) (λ others. the_values (one.x.0 ∷ others.0, others.1)) (args, rest) one.second in
-    let more = values_taken types numbers one.x.1 two.x.1 two.x.0 stand.1 two.first in
-    let both : (one.x.0 ∷ two.x.0, two.x.1) ≡ (args, rest) = (given true causes.RecordCut (one.x.0 ∷ two.x.0, two.x.1) (args, rest) two.second).1 in
-    subst (λ (p : List Value × List ℕ). TakenValues (type ∷ types) (number ∷ numbers) bytes p.0 p.1) both (record {
-      parts = first.parts ∙ ap (λ (r : List ℕ). text_of one.x.0 ++ r) more.parts ∙ sym (append_assoc (text_of one.x.0) (flat_map text_of two.x.0) two.x.1);
-      fits = (first.fits, more.fits);
-      numbered = λ t. first.numbered t ∷ more.numbered t;
-    })
-values_taken [] (number ∷ numbers) bytes rest args stand e = absurd stand
-values_taken (type ∷ types) [] bytes rest args stand e = absurd stand
+pub all_fit : (types : List ArgType) (numbers : List Number) (args : List Value) (front : List ℕ) → MayStand types numbers → SpellEach SpellValue types numbers args front
+    → (front ≡ flat_map text_of args) × Fits args types × (map number_for args ≡ numbers)
+all_fit [] [] [] front stand none = (none, tt, refl)
+all_fit (type ∷ types) (number ∷ numbers) (arg ∷ args) front stand (first, back, joined, here, behind) =
+    let one = value_fits type number arg first stand.0 here in
+    let others = all_fit types numbers args back stand.1 behind in
+    (joined ∙ (λ t. one.0 t ++ others.0 t), (one.1, others.1), λ t. one.2 t ∷ others.2 t)
+all_fit [] (number ∷ numbers) args front stand each = absurd stand
+all_fit _ _ _ front stand none = absurd none
 
 -- ---- arguments
+
+packs_value : (kind : Kind) (arg : Value) (code : ℕ) (front : List ℕ) → PacksNumber kind code (number_for arg) front → Packed kind (packed_value arg) code front
+packs_value unsigned (values.Unsigned n) code front packed = packed
+packs_value unsigned (values.Text bytes) code front packed = packed
+packs_value signed (values.Signed z) code front packed = packed
+packs_value _ _ code front none = absurd none
 
 -- the numbers of arguments stand for them
 pub packs_arguments : (types : List ArgType) (args : List Value) (packed : List PackedNumber) → PacksNumbers types (map number_for args) packed → PacksArguments types args packed
 packs_arguments [] [] [] packs = tt
-packs_arguments (type ∷ types) (arg ∷ args) (number ∷ packed) packs =
-    (subst (λ (z : ℤ). Packed (kind_of type) z number.code number.bytes) (value_of_number arg) packs.0, packs_arguments types args packed packs.1)
+packs_arguments (type ∷ types) (arg ∷ args) (number ∷ packed) packs = (packs_value (kind_of type) arg number.code number.bytes packs.0, packs_arguments types args packed packs.1)
 packs_arguments _ _ _ packs = absurd packs
+
+packs_number : (type : ArgType) (arg : Value) (code : ℕ) (front : List ℕ) → FitsType arg type → Packed (kind_of type) (packed_value arg) code front → PacksNumber (kind_of type) code (number_for arg) front
+packs_number types.Int (values.Signed z) code front fits packed = packed
+packs_number types.Long (values.Signed z) code front fits packed = packed
+packs_number types.Width (values.Signed z) code front fits packed = packed
+packs_number types.Precision (values.Signed z) code front fits packed = packed
+packs_number types.UInt (values.Unsigned n) code front fits packed = packed
+packs_number types.ULong (values.Unsigned n) code front fits packed = packed
+packs_number types.Text (values.Text bytes) code front fits packed = packed
+packs_number _ _ code front fits packed = absurd fits
+
+-- what packs arguments packs their numbers, which may stand for them
+pub packs_numbers : (types : List ArgType) (args : List Value) (packed : List PackedNumber) → PacksArguments types args packed → Fits args types → PacksNumbers types (map number_for args) packed × MayStand types (map number_for args)
+packs_numbers [] [] [] packs fits = (tt, tt)
+packs_numbers (type ∷ types) (arg ∷ args) (number ∷ packed) packs fits =
+    let others = packs_numbers types args packed packs.1 fits.1 in
+    ((packs_number type arg number.code number.bytes fits.0 packs.0, others.0), (stands type arg fits.0, others.1))
+packs_numbers _ _ _ packs fits = absurd packs
 
 words_of_one : (type : ArgType) (arg : Value) → FitsType arg type → number_words type (number_for arg) ≡ argument_words arg
 words_of_one types.Int (values.Signed z) fits = refl

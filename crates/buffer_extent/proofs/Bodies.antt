@@ -16,7 +16,7 @@ use Rattle.buffer_extent.specs.declared.fault.BodyFault.{BodyFault}
 use Rattle.buffer_extent.specs.declared.fault.BodyFault.TheVariants.{Damaged, NoMemory}
 use Rattle.nibble_pack.proofs.lemmas.Parsing.{IsReadSoFar, StandsAt, one_broken}
 use Rattle.arg_records.proofs.lemmas.CallLists.{last_stamp-push}
-use Rattle.buffer_extent.proofs.RecordForms.{record_taken, not_started}
+use Rattle.buffer_extent.proofs.RecordForms.{record_format, not_started}
 use Rattle.buffer_extent.proofs.lemmas.BodyLaws.{read_or_broken, record_first, first_record, first_read, some_byte, IsBody-not_broken, BodyBreak-unique}
 
 -- ---- damage
@@ -50,14 +50,14 @@ whole_front messages tick last body entries before least rest so_far =
 pub one_read : (messages : List Message) (tick last : ℕ) (body : List ℕ) (entries : List Call) (before least : ℕ) (rest : List ℕ) (entry : Call) (back : List ℕ) → AreReadSoFar messages tick last body entries before least rest → AreBytes body
     → record_at messages before least rest ≡ Ok (entry, back) → AreReadSoFar messages tick last body (entries ++ entry ∷ []) entry.stamp entry.stamp back
 one_read messages tick last body entries before least rest entry back so_far are_bytes read =
-    let taken = record_taken messages before least rest back entry (back_bytes body so_far.front rest so_far.joined are_bytes) read in
+    let (front, parts, here) = (record_format messages before least).taken rest entry back (back_bytes body so_far.front rest so_far.joined are_bytes) read in
     record {
-      front = so_far.front ++ taken.front;
-      joined = so_far.joined ∙ ap (λ (r : List ℕ). so_far.front ++ r) taken.parts ∙ sym (append_assoc so_far.front taken.front back);
+      front = so_far.front ++ front;
+      joined = so_far.joined ∙ ap (λ (r : List ℕ). so_far.front ++ r) parts ∙ sym (append_assoc so_far.front front back);
       so_far = λ more behind is.
-          let all = so_far.so_far (entry ∷ more) (taken.front ++ behind) (record_first messages before least entry more taken.front behind taken.spelled taken.right taken.rises is) in
-          let joined = subst (IsBody messages tick last (entries ++ entry ∷ more)) (sym (append_assoc so_far.front taken.front behind)) all in
-          subst (λ (es : List Call). IsBody messages tick last es ((so_far.front ++ taken.front) ++ behind)) (sym (append_assoc entries (entry ∷ []) more)) joined;
+          let all = so_far.so_far (entry ∷ more) (front ++ behind) (record_first messages before least entry more front behind here is) in
+          let joined = subst (IsBody messages tick last (entries ++ entry ∷ more)) (sym (append_assoc so_far.front front behind)) all in
+          subst (λ (es : List Call). IsBody messages tick last es ((so_far.front ++ front) ++ behind)) (sym (append_assoc entries (entry ∷ []) more)) joined;
       before_is = sym (last_stamp-push tick entries entry);
       least_is = sym (last_stamp-push last entries entry);
     }
@@ -114,7 +114,7 @@ no_records messages tick last body empty = record { spelled = empty; right = tt;
 pub read_shorter : (messages : List Message) (tick last : ℕ) (body : List ℕ) (entries : List Call) (before least : ℕ) (rest : List ℕ) (entry : Call) (back : List ℕ) → AreReadSoFar messages tick last body entries before least rest → AreBytes body
     → record_at messages before least rest ≡ Ok (entry, back) → length back < length rest
 read_shorter messages tick last body entries before least rest entry back so_far are_bytes read =
-    some_byte messages before least entry rest back (record_taken messages before least rest back entry (back_bytes body so_far.front rest so_far.joined are_bytes) read)
+    some_byte messages before least entry rest back ((record_format messages before least).taken rest entry back (back_bytes body so_far.front rest so_far.joined are_bytes) read)
 
 -- what gave a record started as one
 pub started : (messages : List Message) (before least : ℕ) (bytes back : List ℕ) (entry : Call) (cause : Cause) → record_at messages before least bytes ≡ Ok (entry, back) → start_at messages before least bytes ≡ Err cause → ⊥

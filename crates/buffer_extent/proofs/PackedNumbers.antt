@@ -1,10 +1,9 @@
 -- Numbers that are read, and their packed forms.
-use Rattle.std.proofs.Common.{◌≡◌, ◌↔◌, inl, inr, ℕ, zero, suc, ◌+◌, ◌-◌, ◌^◌, ◌<◌, ◌≤◌, Bool, true, false, cond, List, [], ◌∷◌, ◌++◌, length, take, drop, Result, Ok, Err, refl, sym, ap, subst, ◌∙◌, arith}
+use Rattle.std.proofs.Common.{◌≡◌, ◌↔◌, inl, inr, ℕ, zero, suc, ◌+◌, ◌-◌, ◌^◌, ◌<◌, ◌≤◌, true, false, List, [], ◌∷◌, length, take, drop, Result, Ok, Err, refl, sym, ap, subst, ◌∙◌, arith}
 use Rattle.std.specs.Prelude.{ℤ, pos, negsuc, ◌⊎◌, nat_le, nat_eq, FitsSigned}
 use Rattle.std.specs.Int.{w64, cast_signed, cast_unsigned, bytes_low_first}
-use Rattle.std.proofs.lemmas.Bool.{le-leb, leb-true, eqb-true, eqb-false, cases_lt, leb-false, false_from_ne_true}
+use Rattle.std.proofs.lemmas.Bool.{le-leb, leb-true, eqb-true, eqb-false, eq-eqb, cases_lt, leb-false, false_from_ne_true}
 use Rattle.std.proofs.lemmas.Int.{ints, to_z-of_z, of_z-to_z}
-use Rattle.std.proofs.lemmas.List.Elements.{All-take}
 use Rattle.std.proofs.lemmas.List.{take-append-drop, take_rest}
 use Rattle.std.proofs.Math.Nat.{pow-le-pow_right}
 use Rattle.printf_grammar.specs.declared.arg_type.ArgType.{ArgType}
@@ -13,14 +12,13 @@ use Rattle.nibble_pack.specs.Bytes.{AreBytes, number_of_bytes, length-bytes_low_
 use Rattle.nibble_pack.specs.declared.unpack.UnpackFault.{UnpackFault}
 use Rattle.nibble_pack.specs.declared.unpack.UnpackFault.TheVariants as faults
 use Rattle.nibble_pack.specs.Packing.{Kind, unsigned, signed, IsCode, byte_count, IsLeastCount, PacksSigned, small, negative, wide, IsWide, Packed, IsCut, IsNotShortest}
-use Rattle.nibble_pack.proofs.lemmas.PackingLaws.{IsLeastCount-zero, IsLeastCount-suc, wide_number, signed_count-low, signed_count-high, Packed-take}
+use Rattle.nibble_pack.proofs.lemmas.PackingLaws.{IsLeastCount-zero, IsLeastCount-suc, wide_number, signed_count-low, signed_count-high}
 use Rattle.nibble_pack.proofs.lemmas.SignedForms.{no_spelling_low, no_spelling_high, wide_in_range}
-use Rattle.buffer_extent.specs.declared.fault.Cause.{Cause}
 use Rattle.buffer_extent.specs.declared.fault.Cause.TheVariants as causes
-use Rattle.nibble_pack.specs.Parsing.{Parse, ◌>>=◌, provided, so_many}
 use Rattle.buffer_extent.specs.Records.{PackedNumber, PacksArguments, codes_of}
 use Rattle.buffer_extent.specs.Reading.{number_cause, is_shortest, unsigned_at, is_wide, wide_at, signed_at}
-use Rattle.nibble_pack.proofs.lemmas.Parsing.{found, given, so_many_again, so_many_taken}
+use Rattle.nibble_pack.proofs.lemmas.Fronts.{Packed-at_front}
+use Rattle.nibble_pack.proofs.lemmas.Formats.{IsFormat, respelled, given_format, tested_format, many_format, made_format, chosen_format}
 
 -- ---- codes of packed numbers
 
@@ -45,65 +43,38 @@ least_count (suc fewer) n below is = IsLeastCount-suc fewer n (leb-true (256 ^ f
 
 -- ---- unsigned numbers
 
--- the bytes begin with those of the number, and these bytes follow
-pub record BeginsWithNumber (kind : Kind) (code : ℕ) (bytes : List ℕ) (z : ℤ) (back : List ℕ) : Type 0 where
-  pub front : List ℕ
-  pub parts : bytes ≡ front ++ back
-  pub packed : Packed kind z code front
+-- the bytes are those of a number that so many bytes hold, and no fewer
+abbrev AreLeast : ℕ → ℕ → List ℕ → Type 0
+AreLeast code n front = (code ≤ 8) × IsLeastCount code n × (front ≡ bytes_low_first 0 code n)
 
--- bytes that hold a number in so many bytes are read again
-read_again : (count n : ℕ) (front rest : List ℕ) → count ≤ 8 → IsLeastCount count n → front ≡ bytes_low_first 0 count n → unsigned_at count (front ++ rest) ≡ Ok (n, rest)
-read_again count n front rest few least spelled =
-    let within : nat_le count 8 ≡ true = le-leb count 8 few in
-    let number : number_of_bytes front ≡ n = ap number_of_bytes spelled ∙ number_of_bytes-low_first count n least.holds in
-    let short : is_shortest count n ≡ true = shortest count n least in
-    rw (within, so_many_again count causes.RecordCut front rest (ap length spelled ∙ length-bytes_low_first 0 count n), number, short) refl
+least_format : (code : ℕ) → IsFormat causes.RecordCut (AreLeast code) (unsigned_at code)
+least_format code =
+    respelled (given_format (nat_le code 8) causes.BadNibble code (λ count.
+    tested_format (λ text. is_shortest count (number_of_bytes text)) causes.NotShortest number_of_bytes (many_format count causes.RecordCut)))
+    (λ n front are (few, (text, (len, same), (short, number))).
+    let text_are : AreBytes text = subst AreBytes same are in
+    let below : n < 256 ^ code = subst (λ (k : ℕ). n < 256 ^ k) len (subst (λ (m : ℕ). m < 256 ^ length text) number (number_of_bytes-lt text text_are)) in
+    (leb-true code 8 few, least_count code n below (ap (is_shortest code) (sym number) ∙ short), same ∙ sym (low_first-number_of_bytes text text_are) ∙ (λ t. bytes_low_first 0 (len t) (number t))))
+    (λ n front (few, least, spelled).
+    let number : number_of_bytes front ≡ n = ap number_of_bytes spelled ∙ number_of_bytes-low_first code n least.holds in
+    (le-leb code 8 few, (front, (ap length spelled ∙ length-bytes_low_first 0 code n, refl), (ap (is_shortest code) number ∙ shortest code n least, number))))
 
--- what is read of bytes, as the number that so many bytes hold
-record Held (code n : ℕ) (bytes rest : List ℕ) : Type 0 where
-  few : code ≤ 8
-  front : List ℕ
-  parts : bytes ≡ front ++ rest
-  least : IsLeastCount code n
-  spelled : front ≡ bytes_low_first 0 code n
-
-read_taken : (code n : ℕ) (bytes rest : List ℕ) → AreBytes bytes → unsigned_at code bytes ≡ Ok (n, rest) → Held code n bytes rest
-read_taken code n bytes rest are_bytes e =
-    let one = found (provided (nat_le code 8) causes.BadNibble code) (λ count. so_many count causes.RecordCut bytes >>= (λ front. provided (is_shortest count (number_of_bytes front.0)) causes.NotShortest (number_of_bytes front.0, front.1))) (n, rest) e in
-    let known = given (nat_le code 8) causes.BadNibble code one.x one.first in
-    let two = found (so_many one.x causes.RecordCut bytes) (λ front. provided (is_shortest one.x (number_of_bytes front.0)) causes.NotShortest (number_of_bytes front.0, front.1)) (n, rest) one.second in
-    let taken = so_many_taken one.x causes.RecordCut bytes two.x.0 two.x.1 two.first in
-    let short = given (is_shortest one.x (number_of_bytes two.x.0)) causes.NotShortest (number_of_bytes two.x.0, two.x.1) (n, rest) two.second in
-    let number : number_of_bytes two.x.0 ≡ n = ap (λ (p : ℕ × List ℕ). p.0) short.1 in
-    let back : two.x.1 ≡ rest = ap (λ (p : ℕ × List ℕ). p.1) short.1 in
-    let bytes_small : AreBytes two.x.0 = front_bytes one.x bytes two.x.0 are_bytes taken.is in
-    let len : length two.x.0 ≡ code = taken.len ∙ sym known.1 in
-    let below : n < 256 ^ code = subst (λ (k : ℕ). n < 256 ^ k) len (subst (λ (m : ℕ). m < 256 ^ length two.x.0) number (number_of_bytes-lt two.x.0 bytes_small)) in
-    let test : is_shortest code n ≡ true = (λ t. is_shortest (known.1 t) (sym number t)) ∙ short.0 in
-    record {
-      few = leb-true code 8 known.0;
-      front = two.x.0;
-      parts = taken.parts ∙ ap (λ (r : List ℕ). two.x.0 ++ r) back;
-      least = least_count code n below test;
-      spelled = sym (low_first-number_of_bytes two.x.0 bytes_small) ∙ (λ t. bytes_low_first 0 (len t) (number t));
-    }
-  where
-    front_bytes : (count : ℕ) (bytes front : List ℕ) → AreBytes bytes → front ≡ take count bytes → AreBytes front
-    front_bytes count bytes front all is = subst AreBytes (sym is) (All-take (λ (b : ℕ). b < 256) count bytes all)
-
-pub unsigned_again : (n code : ℕ) (front rest : List ℕ) → Packed unsigned (pos n) code front → unsigned_at code (front ++ rest) ≡ Ok (n, rest)
-unsigned_again n code front rest (m, is, packs) =
+pub unsigned_format : (code : ℕ) → IsFormat causes.RecordCut (λ n front. Packed unsigned (pos n) code front) (unsigned_at code)
+unsigned_format code =
+    respelled (least_format code)
+    (λ n front are (few, least, spelled).
+    let most = pow-le-pow_right {n = 256} (omega arith) {i = code} {j = 8} few in
+    let below = least.holds in
+    (n, refl, record { fits = omega arith; count = least; spelled = spelled }))
+    (λ n front (m, is, packs).
     let same : m ≡ n = cc in
-    read_again code m front rest (packs.count.least 8 (let fits = packs.fits in omega arith)) packs.count packs.spelled ∙ ap (λ (k : ℕ). Ok (k, rest)) same
-
-pub unsigned_taken : (n code : ℕ) (bytes rest : List ℕ) → AreBytes bytes → unsigned_at code bytes ≡ Ok (n, rest) → BeginsWithNumber unsigned code bytes (pos n) rest
-unsigned_taken n code bytes rest are_bytes e =
-    let held = read_taken code n bytes rest are_bytes e in
-    let most = pow-le-pow_right {n = 256} (omega arith) {i = code} {j = 8} held.few in
-    let below = held.least.holds in
-    record { front = held.front; parts = held.parts; packed = (n, refl, record { fits = omega arith; count = held.least; spelled = held.spelled }) }
+    let fits = packs.fits in
+    subst (λ (k : ℕ). AreLeast code k front) same (packs.count.least 8 (omega arith), packs.count, packs.spelled))
 
 -- ---- signed numbers
+
+above_false : (a b : ℕ) → b < a → nat_le a b ≡ false
+above_false a b h = false_from_ne_true (nat_le a b) (λ t. absurd (omega (arith, leb-true a b t)))
 
 wide_test : (z : ℤ) → IsWide z → is_wide z ≡ true
 wide_test (pos n) h = le-leb (2 ^ 56) n h.0
@@ -117,87 +88,47 @@ wide_fits m below is = by_sign (cast_signed w64 m) refl is
     by_sign (pos n) same is = (leb-true (2 ^ 56) n is, omega (arith, ints, same))
     by_sign (negsuc n) same is = (leb-true (2 ^ 48) n is, omega (arith, ints, same))
 
-pub signed_again : (z : ℤ) (code : ℕ) (front rest : List ℕ) → Packed signed z code front → signed_at code (front ++ rest) ≡ Ok (z, rest)
-signed_again z code front rest (small n is below least spelled) =
-    let low : code ≤ 7 = least.least 7 (omega arith) in
-    rw (le-leb code 7 low, read_again code n front rest (omega arith) least spelled, is) refl
-signed_again z code front rest (negative n count is below least of_code spelled) =
-    let low : count ≤ 6 = least.least 6 (omega arith) in
-    let not_low : nat_le code 7 ≡ false = false_from_ne_true (nat_le code 7) (λ t. absurd (omega (arith, leb-true code 7 t))) in
-    let not_wide : nat_eq code 8 ≡ false = false_from_ne_true (nat_eq code 8) (λ t. absurd (omega (arith, eqb-true code 8 t))) in
-    let count_is : code - 9 ≡ count = omega arith in
-    rw (not_low, not_wide, le-leb code 15 (omega arith), count_is, read_again count n front rest (omega arith) least spelled, is) refl
-signed_again z code front rest (wide is of_code spelled) =
+wide_format : IsFormat causes.RecordCut (λ z front. IsWide z × (front ≡ bytes_low_first 0 8 (cast_unsigned w64 z))) wide_at
+wide_format =
+    respelled (tested_format (λ text. is_wide (cast_signed w64 (number_of_bytes text))) causes.NotShortest (λ text. cast_signed w64 (number_of_bytes text)) (many_format 8 causes.RecordCut))
+    (λ z front are (text, (len, same), (test, number)).
+    let n : ℕ = number_of_bytes text in
+    let text_are : AreBytes text = subst AreBytes same are in
+    let below : n < 2 ^ 64 = subst (λ (k : ℕ). n < 256 ^ k) len (number_of_bytes-lt text text_are) in
+    let word : cast_unsigned w64 z ≡ n = ap (cast_unsigned w64) (sym number) ∙ of_z-to_z w64 n (omega arith) in
+    (subst IsWide number (wide_fits n below test), same ∙ sym (low_first-number_of_bytes text text_are) ∙ (λ t. bytes_low_first 0 (len t) (sym word t))))
+    (λ z front (is, spelled).
     let number : number_of_bytes front ≡ cast_unsigned w64 z = ap number_of_bytes spelled ∙ number_of_bytes-low_first 8 (cast_unsigned w64 z) (wide_number z is) in
     let value : cast_signed w64 (number_of_bytes front) ≡ z = ap (cast_signed w64) number ∙ to_z-of_z w64 z (wide_in_range z is) in
-    rw (of_code, so_many_again 8 causes.RecordCut front rest (ap length spelled ∙ length-bytes_low_first 0 8 (cast_unsigned w64 z)), value, wide_test z is) refl
+    (front, (ap length spelled ∙ length-bytes_low_first 0 8 (cast_unsigned w64 z), refl), (ap is_wide value ∙ wide_test z is, value)))
 
-abbrev from_zero : ℕ × List ℕ → Parse Cause ℤ
-from_zero n = Ok (pos n.0, n.1)
-
-abbrev below_zero : ℕ × List ℕ → Parse Cause ℤ
-below_zero n = Ok (negsuc n.0, n.1)
-
-pub signed_taken : (z : ℤ) (code : ℕ) (bytes rest : List ℕ) → AreBytes bytes → signed_at code bytes ≡ Ok (z, rest) → BeginsWithNumber signed code bytes z rest
-signed_taken z code bytes rest are_bytes e = by_low (nat_le code 7) refl e
-  where
-    as_wide : code ≡ 8 → wide_at bytes ≡ Ok (z, rest) → BeginsWithNumber signed code bytes z rest
-    as_wide is e =
-        let one = found (so_many 8 causes.RecordCut bytes) (λ front. provided (is_wide (cast_signed w64 (number_of_bytes front.0))) causes.NotShortest (cast_signed w64 (number_of_bytes front.0), front.1)) (z, rest) e in
-        let taken = so_many_taken 8 causes.RecordCut bytes one.x.0 one.x.1 one.first in
-        let n : ℕ = number_of_bytes one.x.0 in
-        let test = given (is_wide (cast_signed w64 n)) causes.NotShortest (cast_signed w64 n, one.x.1) (z, rest) one.second in
-        let number : cast_signed w64 n ≡ z = ap (λ (p : ℤ × List ℕ). p.0) test.1 in
-        let back : one.x.1 ≡ rest = ap (λ (p : ℤ × List ℕ). p.1) test.1 in
-        let all : AreBytes one.x.0 = subst AreBytes (sym taken.is) (All-take (λ (b : ℕ). b < 256) 8 bytes are_bytes) in
-        let below : n < 2 ^ 64 = subst (λ (k : ℕ). n < 256 ^ k) taken.len (number_of_bytes-lt one.x.0 all) in
-        let word : cast_unsigned w64 z ≡ n = ap (cast_unsigned w64) (sym number) ∙ of_z-to_z w64 n (omega arith) in
-        record {
-          front = one.x.0;
-          parts = taken.parts ∙ ap (λ (r : List ℕ). one.x.0 ++ r) back;
-          packed = wide (subst IsWide number (wide_fits n below test.0)) is (sym (low_first-number_of_bytes one.x.0 all) ∙ (λ t. bytes_low_first 0 (taken.len t) (sym word t)));
-        }
-
-    as_negative : 9 ≤ code → (provided (nat_le code 15) causes.BadNibble (code - 9) >>= (λ count. unsigned_at count bytes >>= below_zero)) ≡ Ok (z, rest) → BeginsWithNumber signed code bytes z rest
-    as_negative high e =
-        let one = found (provided (nat_le code 15) causes.BadNibble (code - 9)) (λ count. unsigned_at count bytes >>= below_zero) (z, rest) e in
-        let known = given (nat_le code 15) causes.BadNibble (code - 9) one.x one.first in
-        let most = leb-true code 15 known.0 in
-        let two = found (unsigned_at one.x bytes) below_zero (z, rest) one.second in
-        let held = read_taken one.x two.x.0 bytes two.x.1 are_bytes two.first in
-        let both : (negsuc two.x.0, two.x.1) ≡ (z, rest) = (given true causes.RecordCut (negsuc two.x.0, two.x.1) (z, rest) two.second).1 in
-        let count_is : code ≡ 9 + one.x = omega (arith, known.1) in
-        let power = pow-le-pow_right {n = 256} (omega arith) {i = one.x} {j = 6} (omega arith) in
-        let below = held.least.holds in
-        record {
-          front = held.front;
-          parts = held.parts ∙ ap (λ (p : ℤ × List ℕ). held.front ++ p.1) both;
-          packed = negative two.x.0 one.x (sym (ap (λ (p : ℤ × List ℕ). p.0) both)) (omega arith) held.least count_is held.spelled;
-        }
-
-    as_small : code ≤ 7 → (unsigned_at code bytes >>= from_zero) ≡ Ok (z, rest) → BeginsWithNumber signed code bytes z rest
-    as_small low e =
-        let one = found (unsigned_at code bytes) from_zero (z, rest) e in
-        let held = read_taken code one.x.0 bytes one.x.1 are_bytes one.first in
-        let both : (pos one.x.0, one.x.1) ≡ (z, rest) = (given true causes.RecordCut (pos one.x.0, one.x.1) (z, rest) one.second).1 in
-        let power = pow-le-pow_right {n = 256} (omega arith) {i = code} {j = 7} low in
-        let below = held.least.holds in
-        record {
-          front = held.front;
-          parts = held.parts ∙ ap (λ (p : ℤ × List ℕ). held.front ++ p.1) both;
-          packed = small one.x.0 (sym (ap (λ (p : ℤ × List ℕ). p.0) both)) (omega arith) held.least held.spelled;
-        }
-
-    by_wide : (test : Bool) → nat_eq code 8 ≡ test → 8 ≤ code
-        → cond test (wide_at bytes) (provided (nat_le code 15) causes.BadNibble (code - 9) >>= (λ count. unsigned_at count bytes >>= below_zero)) ≡ Ok (z, rest) → BeginsWithNumber signed code bytes z rest
-    by_wide true is high e = as_wide (eqb-true code 8 is) e
-    by_wide false is high e = as_negative (omega (arith, eqb-false code 8 is)) e
-
-    by_low : (test : Bool) → nat_le code 7 ≡ test
-        → cond test (unsigned_at code bytes >>= from_zero)
-        (cond (nat_eq code 8) (wide_at bytes) (provided (nat_le code 15) causes.BadNibble (code - 9) >>= (λ count. unsigned_at count bytes >>= below_zero))) ≡ Ok (z, rest) → BeginsWithNumber signed code bytes z rest
-    by_low true is e = as_small (leb-true code 7 is) e
-    by_low false is e = by_wide (nat_eq code 8) refl (omega (arith, leb-false code 7 is)) e
+pub signed_format : (code : ℕ) → IsFormat causes.RecordCut (λ z front. PacksSigned z code front) (signed_at code)
+signed_format code =
+    respelled (chosen_format (nat_le code 7) (made_format pos (least_format code)) (chosen_format (nat_eq code 8) wide_format
+    (given_format (nat_le code 15) causes.BadNibble (code - 9) (λ count. made_format negsuc (least_format count)))))
+    (λ z front are. elim [
+      | inl (low, (n, (few, least, spelled), is)) ↦
+          let power = pow-le-pow_right {n = 256} (omega arith) {i = code} {j = 7} (leb-true code 7 low) in
+          let below = least.holds in
+          small n (sym is) (omega arith) least spelled
+      | inr (high, inl (eight, (is, spelled))) ↦ wide is (eqb-true code 8 eight) spelled
+      | inr (high, inr (other, (most, (n, (few, least, spelled), is)))) ↦
+          let count_is : code ≡ 9 + (code - 9) = omega (arith, leb-false code 7 high, eqb-false code 8 other) in
+          let power = pow-le-pow_right {n = 256} (omega arith) {i = code - 9} {j = 6} (omega (arith, leb-true code 15 most)) in
+          let below = least.holds in
+          negative n (code - 9) (sym is) (omega arith) least count_is spelled
+    ])
+    (λ z front. elim [
+      | small n is below least spelled ↦
+          let low : code ≤ 7 = least.least 7 (omega arith) in
+          inl (le-leb code 7 low, (n, (omega arith, least, spelled), sym is))
+      | negative n count is below least of_code spelled ↦
+          let low : count ≤ 6 = least.least 6 (omega arith) in
+          let count_is : count ≡ code - 9 = omega arith in
+          let there = subst (λ (k : ℕ). AreLeast k n front) count_is (omega arith, least, spelled) in
+          inr (above_false code 7 (omega arith), inr (false_from_ne_true (nat_eq code 8) (λ t. absurd (omega (arith, eqb-true code 8 t))), (le-leb code 15 (omega arith), (n, there, sym is))))
+      | wide is of_code spelled ↦ inr (above_false code 7 (omega arith), inl (eq-eqb code 8 of_code, (is, spelled)))
+    ])
 
 -- ---- as `unpack_unsigned` and `unpack_signed` tell it
 
@@ -206,13 +137,6 @@ abbrev pub Breaks : Kind → UnpackFault → ℕ → List ℕ → Type 0
 Breaks kind faults.BadCode code bytes = ¬ IsCode kind code
 Breaks kind faults.Cut code bytes = IsCut kind code bytes
 Breaks kind faults.NotShortest code bytes = IsNotShortest kind code bytes
-
-at_front : (kind : Kind) (z : ℤ) (code : ℕ) (bytes rest : List ℕ) → BeginsWithNumber kind code bytes z rest → Packed kind z code (take (byte_count kind code) bytes)
-at_front kind z code bytes rest begins =
-    subst (Packed kind z code) (sym (ap (take (byte_count kind code)) begins.parts ∙ Packed-take kind z code begins.front rest begins.packed)) begins.packed
-
-above_false : (a b : ℕ) → b < a → nat_le a b ≡ false
-above_false a b h = false_from_ne_true (nat_le a b) (λ t. absurd (omega (arith, leb-true a b t)))
 
 pub unsigned_broken : (fault : UnpackFault) (code : ℕ) (bytes : List ℕ) → AreBytes bytes → Breaks unsigned fault code bytes → unsigned_at code bytes ≡ Err (number_cause fault)
 unsigned_broken faults.BadCode code bytes are_bytes none = rw (false_from_ne_true (nat_le code 8) (λ t. none (leb-true code 8 t))) refl
@@ -225,7 +149,8 @@ unsigned_broken faults.NotShortest code bytes are_bytes (known, enough, none) = 
     test : is_shortest code n ≡ false
     test = false_from_ne_true (is_shortest code n) (λ yes.
         let read : unsigned_at code bytes ≡ Ok (n, drop code bytes) = rw (le-leb code 8 known, le-leb code (length bytes) enough, yes) refl in
-        none (pos n) (at_front unsigned (pos n) code bytes (drop code bytes) (unsigned_taken n code bytes (drop code bytes) are_bytes read)))
+        let (front, parts, packed) = (unsigned_format code).taken bytes n (drop code bytes) are_bytes read in
+        none (pos n) (Packed-at_front unsigned (pos n) code bytes front (drop code bytes) packed parts))
 
 wide_broken : (fault : UnpackFault) (bytes : List ℕ) → AreBytes bytes → Breaks signed fault 8 bytes → wide_at bytes ≡ Err (number_cause fault)
 wide_broken faults.BadCode bytes are_bytes none = absurd (none (omega arith))
@@ -238,7 +163,8 @@ wide_broken faults.NotShortest bytes are_bytes (known, enough, none) = rw (le-le
     test : is_wide z ≡ false
     test = false_from_ne_true (is_wide z) (λ yes.
         let read : signed_at 8 bytes ≡ Ok (z, drop 8 bytes) = rw (le-leb 8 (length bytes) enough, yes) refl in
-        none z (at_front signed z 8 bytes (drop 8 bytes) (signed_taken z 8 bytes (drop 8 bytes) are_bytes read)))
+        let (front, parts, packed) = (signed_format 8).taken bytes z (drop 8 bytes) are_bytes read in
+        none z (Packed-at_front signed z 8 bytes front (drop 8 bytes) packed parts))
 
 pub signed_broken : (fault : UnpackFault) (code : ℕ) (bytes : List ℕ) → AreBytes bytes → Breaks signed fault code bytes → signed_at code bytes ≡ Err (number_cause fault)
 signed_broken fault code bytes are_bytes breaks = by_code (cases_lt code 8)
@@ -288,7 +214,7 @@ told kind most result faults.NotShortest code bytes within is bad cut long = lon
 
 pub unsigned_front : (n code : ℕ) (bytes : List ℕ) → Packed unsigned (pos n) code (take code bytes) → unsigned_at code bytes ≡ Ok (n, take (length bytes - code) (drop code bytes))
 unsigned_front n code bytes packed =
-    ap (unsigned_at code) (sym (take-append-drop code bytes)) ∙ unsigned_again n code (take code bytes) (drop code bytes) packed ∙ ap (λ (r : List ℕ). Ok (n, r)) (sym (take_rest bytes code))
+    ap (unsigned_at code) (sym (take-append-drop code bytes)) ∙ (unsigned_format code).again n (take code bytes) (drop code bytes) packed ∙ ap (λ (r : List ℕ). Ok (n, r)) (sym (take_rest bytes code))
 
 in_range : (z : ℤ) (code : ℕ) (bytes : List ℕ) → PacksSigned z code bytes → FitsSigned w64 z
 in_range z code bytes (small n is below least spelled) = subst (FitsSigned w64) (sym is) (record { sfits = omega arith })
@@ -300,5 +226,5 @@ pub signed_front : (z : ℤ) (code count : ℕ) (bytes : List ℕ) → count ≡
 signed_front z code count bytes is packed =
     let here : Packed signed z code (take count bytes) = subst (λ (n : ℕ). Packed signed z code (take n bytes)) (sym is) packed in
     let value = to_z-of_z w64 z (in_range z code (take count bytes) here) in
-    ap (signed_at code) (sym (take-append-drop count bytes)) ∙ signed_again z code (take count bytes) (drop count bytes) here
+    ap (signed_at code) (sym (take-append-drop count bytes)) ∙ (signed_format code).again z (take count bytes) (drop count bytes) here
     ∙ (λ t. Ok (sym value t, sym (take_rest bytes count) t))

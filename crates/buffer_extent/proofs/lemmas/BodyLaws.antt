@@ -1,7 +1,7 @@
 -- A body is one list of records, or it breaks by one cause.
 use Rattle.std.proofs.Common.{◌≡◌, inl, inr, ℕ, zero, suc, ◌<◌, ◌≤◌, true, List, [], ◌∷◌, ◌++◌, length, Ok, Err, refl, sym, ap, subst, ◌∙◌, append_assoc, append-nil, arith}
 use Rattle.std.specs.Prelude.{◌≢◌, ◌⊎◌}
-use Rattle.std.proofs.lemmas.List.{length-append, append_cancel_right}
+use Rattle.std.proofs.lemmas.List.{length-append}
 use Rattle.log_dictionary.specs.declared.message.Message.{Message}
 use Rattle.nibble_pack.specs.Bytes.{AreBytes, back_bytes}
 use Rattle.arg_records.specs.declared.call.Call.{Call}
@@ -12,14 +12,10 @@ use Rattle.nibble_pack.specs.Parsing.{Parse}
 use Rattle.buffer_extent.specs.Reading.{record_at}
 use Rattle.buffer_extent.specs.Bodies.{SpellsRecord, IsBody, BodyBreak, records_to_end, body_at}
 use Rattle.nibble_pack.proofs.lemmas.Parsing.{given}
-use Rattle.buffer_extent.proofs.RecordForms.{TakenRecord, record_again, record_taken}
+use Rattle.nibble_pack.proofs.lemmas.Formats.{BeginWith, one_reading, one_spelling}
+use Rattle.buffer_extent.proofs.RecordForms.{SpellRecord, record_format}
 
 -- ---- one reading
-
-one_reading : (read : Parse Cause Call) (a b : Call) (r s : List ℕ) → read ≡ Ok (a, r) → read ≡ Ok (b, s) → (a ≡ b) × (r ≡ s)
-one_reading read a b r s first second =
-    let same : (a, r) ≡ (b, s) = (given true causes.RecordCut (a, r) (b, s) (sym first ∙ second)).1 in
-    (ap (λ (p : Call × List ℕ). p.0) same, ap (λ (p : Call × List ℕ). p.1) same)
 
 pub read_or_broken : (read : Parse Cause Call) (a : Call) (r : List ℕ) (cause : Cause) → read ≡ Ok (a, r) → read ≡ Err cause → ⊥
 read_or_broken read a r cause first second = let clash : Ok (a, r) ≡ Err cause = sym first ∙ second in cc
@@ -29,17 +25,17 @@ pub SpellsRecord-unique : (messages : List Message) (before : ℕ) (a b : Call) 
     → IsCall messages b → SpellsRecord messages before a x → SpellsRecord messages before b y → x ++ r ≡ y ++ s
     → (a ≡ b) × (x ≡ y) × (r ≡ s)
 SpellsRecord-unique messages before a b x y r s right right_too p q same =
-    let first = record_again messages before 0 a x r p right (omega arith) in
-    let second = record_again messages before 0 b y s q right_too (omega arith) in
-    let one = one_reading (record_at messages before 0 (x ++ r)) a b r s first (ap (record_at messages before 0) same ∙ second) in
-    (one.0, append_cancel_right x y r (same ∙ ap (λ (e : List ℕ). y ++ e) (sym one.1)), one.1)
+    let first : SpellRecord messages before 0 a x = (p, right, omega arith) in
+    let second : SpellRecord messages before 0 b y = (q, right_too, omega arith) in
+    let read = one_reading (record_format messages before 0) a b x y r s first second same in
+    (read.0, (one_spelling (record_format messages before 0) a b x y r s first second same).1, read.1)
 
 -- ---- a record in front of others
 
 -- a record, and a body behind it
-pub record_first : (messages : List Message) (before least : ℕ) (entry : Call) (more : List Call) (front behind : List ℕ) → SpellsRecord messages before entry front → IsCall messages entry → least ≤ entry.stamp
+pub record_first : (messages : List Message) (before least : ℕ) (entry : Call) (more : List Call) (front behind : List ℕ) → SpellRecord messages before least entry front
     → IsBody messages entry.stamp entry.stamp more behind → IsBody messages before least (entry ∷ more) (front ++ behind)
-record_first messages before least entry more front behind spelled right rises body =
+record_first messages before least entry more front behind (spelled, right, rises) body =
     record { spelled = (front, behind, refl, spelled, body.spelled); right = (right, body.right); rising = (rises, body.rising) }
 
 -- what a body with a record begins with
@@ -47,21 +43,19 @@ pub record FirstRecord (messages : List Message) (before least : ℕ) (entry : C
   pub front : List ℕ
   pub back : List ℕ
   pub parts : bytes ≡ front ++ back
-  pub spelled : SpellsRecord messages before entry front
-  pub right : IsCall messages entry
-  pub rises : least ≤ entry.stamp
+  pub here : SpellRecord messages before least entry front
   pub rest : IsBody messages entry.stamp entry.stamp more back
 
 pub first_record : (messages : List Message) (before least : ℕ) (entry : Call) (more : List Call) (bytes : List ℕ) → IsBody messages before least (entry ∷ more) bytes → FirstRecord messages before least entry more bytes
 first_record messages before least entry more bytes is =
     let (front, back, parts, spelled, rest) = is.spelled in
-    record { front = front; back = back; parts = parts; spelled = spelled; right = is.right.0; rises = is.rising.0; rest = record { spelled = rest; right = is.right.1; rising = is.rising.1 } }
+    record { front = front; back = back; parts = parts; here = (spelled, is.right.0, is.rising.0); rest = record { spelled = rest; right = is.right.1; rising = is.rising.1 } }
 
 -- it is read
 pub first_read : (messages : List Message) (before least : ℕ) (entry : Call) (more : List Call) (bytes extra : List ℕ) → (first : FirstRecord messages before least entry more bytes) → record_at messages before least (bytes ++ extra) ≡ Ok (entry, first.back ++ extra)
 first_read messages before least entry more bytes extra first =
     ap (record_at messages before least) (ap (λ (b : List ℕ). b ++ extra) first.parts ∙ append_assoc first.front first.back extra)
-    ∙ record_again messages before least entry first.front (first.back ++ extra) first.spelled first.right first.rises
+    ∙ (record_format messages before least).again entry first.front (first.back ++ extra) first.here
 
 no_record : (messages : List Message) (before least : ℕ) (entry : Call) (more : List Call) → IsBody messages before least (entry ∷ more) [] → ⊥
 no_record messages before least entry more is =
@@ -71,8 +65,11 @@ no_record messages before least entry more is =
 -- ---- one list, one cause
 
 -- a record has a byte
+pub some_byte : (messages : List Message) (before least : ℕ) (entry : Call) (bytes back : List ℕ) → BeginWith (SpellRecord messages before least) bytes entry back → length back < length bytes
+some_byte messages before least entry bytes back (front, parts, here) = omega (arith, ap length parts, length-append front back, ap length here.0.spelled.joined)
+
 less_behind : (messages : List Message) (before least : ℕ) (entry : Call) (more : List Call) (bytes : List ℕ) → (first : FirstRecord messages before least entry more bytes) → length first.back < length bytes
-less_behind messages before least entry more bytes first = omega (arith, ap length first.parts, length-append first.front first.back, ap length first.spelled.spelled.joined)
+less_behind messages before least entry more bytes first = some_byte messages before least entry bytes first.back (first.front, first.parts, first.here)
 
 -- whole records that keep the rules are read
 records_again : (most : ℕ) (messages : List Message) (before least : ℕ) (entries : List Call) (body : List ℕ) → IsBody messages before least entries body → length body ≤ most → records_to_end most messages before least body ≡ Ok entries
@@ -133,31 +130,22 @@ BodyBreak-unique messages tick last a b body p q =
 
 -- ---- one of the two
 
-pub some_byte : (messages : List Message) (before least : ℕ) (entry : Call) (bytes back : List ℕ) → (taken : TakenRecord messages before least bytes entry back) → length back < length bytes
-some_byte messages before least entry bytes back taken = by_front taken.front refl
-  where
-    by_front : (front : List ℕ) → taken.front ≡ front → length back < length bytes
-    by_front [] none =
-        absurd (no_record messages before least entry [] (subst (λ (f : List ℕ). IsBody messages before least (entry ∷ []) f) (ap (λ (f : List ℕ). f ++ []) none)
-        (record_first messages before least entry [] taken.front [] taken.spelled taken.right taken.rises (record { spelled = refl; right = tt; rising = tt }))))
-    by_front (byte ∷ front) is = omega (arith, ap length taken.parts, length-append taken.front back, ap length is)
-
 abbrev pub OneOfTwo : (messages : List Message) (tick last : ℕ) (body : List ℕ) → Type 0
 OneOfTwo messages tick last body = ((entries : List Call) × IsBody messages tick last entries body) ⊎ ((cause : Cause) × BodyBreak messages tick last body cause)
 
 -- what a record is in front of
-in_front : (messages : List Message) (tick last : ℕ) (body back : List ℕ) (entry : Call) → TakenRecord messages tick last body entry back → OneOfTwo messages entry.stamp entry.stamp back → OneOfTwo messages tick last body
-in_front messages tick last body back entry taken (inl (entries, is)) =
-    inl (entry ∷ entries, subst (IsBody messages tick last (entry ∷ entries)) (sym taken.parts) (record_first messages tick last entry entries taken.front back taken.spelled taken.right taken.rises is))
-in_front messages tick last body back entry taken (inr (cause, broken)) =
+in_front : (messages : List Message) (tick last : ℕ) (body back : List ℕ) (entry : Call) → BeginWith (SpellRecord messages tick last) body entry back → OneOfTwo messages entry.stamp entry.stamp back → OneOfTwo messages tick last body
+in_front messages tick last body back entry (front, parts, here) (inl (entries, is)) =
+    inl (entry ∷ entries, subst (IsBody messages tick last (entry ∷ entries)) (sym parts) (record_first messages tick last entry entries front back here is))
+in_front messages tick last body back entry (front, parts, here) (inr (cause, broken)) =
     inr (
       cause,
       record {
         entries = entry ∷ broken.entries;
-        front = taken.front ++ broken.front;
+        front = front ++ broken.front;
         rest = broken.rest;
-        joined = taken.parts ∙ ap (λ (r : List ℕ). taken.front ++ r) broken.joined ∙ sym (append_assoc taken.front broken.front broken.rest);
-        whole = record_first messages tick last entry broken.entries taken.front broken.front taken.spelled taken.right taken.rises broken.whole;
+        joined = parts ∙ ap (λ (r : List ℕ). front ++ r) broken.joined ∙ sym (append_assoc front broken.front broken.rest);
+        whole = record_first messages tick last entry broken.entries front broken.front here broken.whole;
         more = broken.more;
         breaks = broken.breaks;
       },
@@ -168,8 +156,8 @@ by_record : (messages : List Message) (tick last : ℕ) (body : List ℕ) → bo
 by_record messages tick last body some are_bytes (Err cause) is again =
     inr (cause, record { entries = []; front = []; rest = body; joined = refl; whole = record { spelled = refl; right = tt; rising = tt }; more = some; breaks = is })
 by_record messages tick last body some are_bytes (Ok (entry, back)) is again =
-    let taken = record_taken messages tick last body back entry are_bytes is in
-    in_front messages tick last body back entry taken (again entry back (some_byte messages tick last entry body back taken) (back_bytes body taken.front back taken.parts are_bytes))
+    let taken = (record_format messages tick last).taken body entry back are_bytes is in
+    in_front messages tick last body back entry taken (again entry back (some_byte messages tick last entry body back taken) (back_bytes body taken.0 back taken.1 are_bytes))
 
 some_reading : (fuel : ℕ) (messages : List Message) (tick last : ℕ) (body : List ℕ) → length body ≤ fuel → AreBytes body → OneOfTwo messages tick last body
 some_reading fuel messages tick last [] within are_bytes = inl ([], record { spelled = refl; right = tt; rising = tt })
