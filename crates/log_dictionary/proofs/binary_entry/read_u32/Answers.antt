@@ -1,11 +1,5 @@
-use Rattle.std.proofs.Common.{◌∙◌, ap, arith}
-use Rattle.nibble_pack.specs.Parsing.{low_first}
-use Rattle.nibble_pack.proofs.lemmas.Steady.{number_again}
-use Rattle.log_dictionary.specs.declared.binary_entry.EntryCause.TheVariants.{Cut}
 use Rattle.log_dictionary.proofs.BinaryNumbers.{four_read}
 use Rattle.log_dictionary.proofs.binary_entry.read_u32.Goals as goal
 
 pub returns-in-len4-up : goal.returns-in-len4-up
-returns-in-len4-up c =
-    ap (low_first 4 Cut) (four_read c.args.bytes.now c.from_le_bytes.result (c.type_inv.bytes 0).fits (c.type_inv.bytes 1).fits (c.type_inv.bytes 2).fits (c.type_inv.bytes 3).fits c.in-len4-up.len_at_least c.from_le_bytes.ensures)
-    ∙ number_again 4 Cut c.from_le_bytes.result _ (omega arith)
+returns-in-len4-up c = four_read c.args.bytes.now c.from_le_bytes.result c.in-len4-up.len_at_least c.from_le_bytes.ensures
