@@ -187,7 +187,7 @@ packed_spelled [] [] [] extra packs stand = refl
 packed_spelled (type ∷ types) (number ∷ numbers) (one ∷ packed) extra packs stand = (one.bytes, packed_bytes packed, refl, (packs.0, stand.0), packed_spelled types numbers packed extra packs.1 stand.1)
 packed_spelled _ _ _ extra packs stand = absurd packs
 
-pub packed_as_many : (types : List ArgType) (numbers : List Number) (packed : List PackedNumber) → PacksNumbers types numbers packed → length (codes_of packed) ≡ length types
+packed_as_many : (types : List ArgType) (numbers : List Number) (packed : List PackedNumber) → PacksNumbers types numbers packed → length (codes_of packed) ≡ length types
 packed_as_many [] [] [] packs = refl
 packed_as_many (type ∷ types) (number ∷ numbers) (one ∷ packed) packs = ap suc (packed_as_many types numbers packed packs.1)
 packed_as_many _ _ _ packs = absurd packs
