@@ -8,7 +8,7 @@ use Rattle.nl_io.proofs.lemmas.Contents.{with_end-none}
 use Rattle.log_dictionary.specs.declared.message.Message.{Message}
 use Rattle.log_dictionary.specs.Messages.{AreDistinct}
 use Rattle.arg_records.specs.declared.call.Call.{Call}
-use Rattle.checkpoint_io.specs.declared.heads.TheConstants.{MAX_BODY}
+use Rattle.checkpoint_io.specs.declared.version.TheConstants.{MAX_BODY}
 use Rattle.checkpoint_io.specs.Blocks.{extent_head_bytes, close_bytes}
 use Rattle.checkpoint_io.specs.Validity.{IsClosed}
 use Rattle.ring_core.specs.Plans.{Plan, AreFramesOf}
@@ -40,19 +40,19 @@ same_run_then old mid new first second = record {
 -- what is sent for a draft
 abbrev pub SendsFor : {S T E : Type 0} → Result T E → Roamer S → ℕ → Draft → List ℕ → Told → Told → ℕ → ℕ → Type 0
 SendsFor r roamer writer draft body p q f g =
-    SendsExtent r (roamer_messages roamer) (roamer_progress roamer).defined (behind_draft roamer draft).defined writer (take draft.len body) p q f g
+    SendsExtent r (roamer_messages roamer) 1 (roamer_progress roamer).defined (behind_draft roamer draft).defined writer (take draft.len body) p q f g
 
 pub sends_of_old : {S T E : Type 0} (old mid : Roamer S) (writer : ℕ) (draft : Draft) (body : List ℕ) (r : Result T E) (p q : Told) (f g : ℕ) → KeepsLog old mid → SendsFor r mid writer draft body p q f g → SendsFor r old writer draft body p q f g
 sends_of_old old mid writer draft body r p q f g keeps sent =
-    subst (λ (ms : List Message). SendsExtent r ms (roamer_progress old).defined (behind_draft old draft).defined writer (take draft.len body) p q f g) keeps.same_run.messages
-    (subst (λ (o : LogProgress). SendsExtent r (roamer_messages mid) o.defined (max o.defined draft.ids) writer (take draft.len body) p q f g) keeps.progress sent)
+    subst (λ (ms : List Message). SendsExtent r ms 1 (roamer_progress old).defined (behind_draft old draft).defined writer (take draft.len body) p q f g) keeps.same_run.messages
+    (subst (λ (o : LogProgress). SendsExtent r (roamer_messages mid) 1 o.defined (max o.defined draft.ids) writer (take draft.len body) p q f g) keeps.progress sent)
 
 module _ {S : Type 0} (got : S → List (List ℕ)) (ended : S → Bool) (loads : S → ℕ) (pair : S → List ℕ) (plan : S → Plan) (old mid new : Roamer S) (writer : ℕ) (draft : Draft) (all : Bool) (body : List ℕ)
     (one : ChangesOne (ends_of old) (ends_of mid) writer (Collected got ended loads pair plan old draft all body)) (keeps : KeepsLog old mid) (same_ends : ends_of new ≡ ends_of mid) where
   module _ (few_ends : length (ends_of old) ≤ 64) (room : length body ≤ 65536) (some : 1 ≤ draft.records) {T E : Type 0} (r : Result T E) (p q : Told) (f g : ℕ) (sends : SendsFor r mid writer draft body p q f g) where
     pub writes_extent : false ≡ is_err r → ChangesOne (ends_of old) (ends_of new) writer (λ before after. WritesExtent got ended loads old writer draft.records p q before after)
     writes_extent passed =
-        let sent = extent_sent r _ _ _ _ _ p q f g passed (sends_of_old old mid writer draft body r p q f g keeps sends) in
+        let sent = extent_sent r _ _ _ _ _ _ p q f g passed (sends_of_old old mid writer draft body r p q f g keeps sends) in
         let gathers = one.step.0 in
         let drafted = gathers.drafted in
         let defined = (roamer_progress old).defined in
@@ -69,14 +69,14 @@ module _ {S : Type 0} (got : S → List (List ℕ)) (ended : S → Bool) (loads 
             fragments = sent.fragments;
             defining = subst (λ (ms : List Message). FragmentsFor defined ms sent.fragments) (wanted_new (roamer_messages old) defined gathers.entries draft.ids drafted.ids) sent.spelled;
             extent = sent.extent;
-            spelled = spells_extent (roamer_messages old) (roamer_clock old).tick writer gathers.entries draft body sent.extent drafted some (omega (arith, inside, few_ends)) room sent.extent_is;
+            spelled = spells_extent old writer gathers.entries draft body sent.extent drafted some (omega (arith, inside, few_ends)) room sent.extent_is;
             puts = sent.put_is;
             stops = subst (λ (n : ℕ). StopsTaking got ended loads (roamer_batch old) draft.records (MAX_BODY - n) one.before one.after) (sym (length-take-le draft.len body drafted.within)) one.step.2;
           };
         }
 
     module _ (now : is_begun old ≡ true) (unfaulted : is_faulted old ≡ false) (run : IsSameRun mid new) (same_begun : is_begun new ≡ is_begun mid) (distinct : AreDistinct (roamer_messages mid)) (few_messages : length (roamer_messages mid) ≤ 65536) (few : draft.records ≤ roamer_batch old) where
-      extent_log : (fragments extent : List ℕ) → FragmentsFor (roamer_progress old).defined (drop (roamer_progress old).defined (take (behind_draft old draft).defined (roamer_messages old))) fragments → extent ≡ extent_head_bytes writer (length (take draft.len body)) ++ take draft.len body
+      extent_log : (fragments extent : List ℕ) → FragmentsFor (roamer_progress old).defined (drop (roamer_progress old).defined (take (behind_draft old draft).defined (roamer_messages old))) fragments → extent ≡ extent_head_bytes 1 writer (length (take draft.len body)) ++ take draft.len body
           → (wrote : List ℕ) → RoamerStandsFor got ended old wrote → IsLogOfEnds got ended new (behind_draft old draft) (wrote ++ (fragments ++ extent))
       extent_log fragments extent spelled extent_is wrote stood =
           let same = keeps.same_run.messages in
@@ -87,7 +87,7 @@ module _ {S : Type 0} (got : S → List (List ℕ)) (ended : S → Bool) (loads 
 
       pub extent_appended : false ≡ is_err r → roamer_progress new ≡ behind_draft mid draft → AppendsToLog got ended old new p q
       extent_appended passed progress =
-          let sent = extent_sent r _ _ _ _ _ p q f g passed (sends_of_old old mid writer draft body r p q f g keeps sends) in
+          let sent = extent_sent r _ _ _ _ _ _ p q f g passed (sends_of_old old mid writer draft body r p q f g keeps sends) in
           appended got ended old new (behind_draft old draft) (sent.fragments ++ sent.extent) p q (same_begun ∙ keeps.begun ∙ now) (progress ∙ ap (λ (o : LogProgress). record { defined = max o.defined draft.ids; closed = o.closed }) keeps.progress) sent.put_is
           (extent_log sent.fragments sent.extent sent.spelled sent.extent_is)
 
@@ -108,18 +108,18 @@ module _ {S : Type 0} (got : S → List (List ℕ)) (ended : S → Bool) (loads 
         (idle_stands got ended old new writer one.before one.after draft body moved_on none (λ own over. one.step.1.none none ∙ (one.step.1.stays_ended over).1))
 
     module _ (unclosed : get_or (roamer_progress mid).closed writer false ≡ false) (marks : length (ends_of old) ≤ length (roamer_progress mid).closed) (over : all ≡ true) where
-      mark_log : (wrote : List ℕ) → RoamerStandsFor got ended old wrote → IsLogOfEnds got ended new (progress_closing (roamer_progress old) writer) (wrote ++ close_bytes writer)
+      mark_log : (wrote : List ℕ) → RoamerStandsFor got ended old wrote → IsLogOfEnds got ended new (progress_closing (roamer_progress old) writer) (wrote ++ close_bytes 1 writer)
       mark_log =
           let closed_is = ap (λ (o : LogProgress). o.closed) keeps.progress in
           mark_stands got ended old new writer one.before one.after draft body moved_on none (ap (λ (l : List Bool). get_or l writer false) (sym closed_is) ∙ unclosed) (one.step.1.none none ∙ over) (omega (arith, marks, ap length closed_is))
 
-      pub mark_appended : (p q : Told) → roamer_progress new ≡ progress_closing (roamer_progress mid) writer → q ≡ with_end (close_bytes writer) p → AppendsToLog got ended old new p q
+      pub mark_appended : (p q : Told) → roamer_progress new ≡ progress_closing (roamer_progress mid) writer → q ≡ with_end (close_bytes 1 writer) p → AppendsToLog got ended old new p q
       mark_appended p q progress puts =
-          appended got ended old new (progress_closing (roamer_progress old) writer) (close_bytes writer) p q (same_begun ∙ keeps.begun ∙ now) (progress ∙ ap (λ (o : LogProgress). progress_closing o writer) keeps.progress) puts mark_log
+          appended got ended old new (progress_closing (roamer_progress old) writer) (close_bytes 1 writer) p q (same_begun ∙ keeps.begun ∙ now) (progress ∙ ap (λ (o : LogProgress). progress_closing o writer) keeps.progress) puts mark_log
 
-      pub mark_cut : (p q : Told) → is_faulted new ≡ true → PutsFront (close_bytes writer) p q → AppendsToLog got ended old new p q
-      mark_cut p q faulted puts = cut_short got ended old new (progress_closing (roamer_progress old) writer) (close_bytes writer) p q (same_begun ∙ keeps.begun ∙ now) faulted puts
-          (nothing_more got ended old new (progress_closing (roamer_progress old) writer) (close_bytes writer) mark_log)
+      pub mark_cut : (p q : Told) → is_faulted new ≡ true → PutsFront (close_bytes 1 writer) p q → AppendsToLog got ended old new p q
+      mark_cut p q faulted puts = cut_short got ended old new (progress_closing (roamer_progress old) writer) (close_bytes 1 writer) p q (same_begun ∙ keeps.begun ∙ now) faulted puts
+          (nothing_more got ended old new (progress_closing (roamer_progress old) writer) (close_bytes 1 writer) mark_log)
 
 -- ---- after a fault
 

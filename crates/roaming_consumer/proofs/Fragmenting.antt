@@ -76,7 +76,7 @@ part_then items first count up_to within =
 pub none_for : (dictionary : List Message) (first up_to : ℕ) → up_to ≤ first → FragmentsFor first (drop first (take up_to dictionary)) []
 none_for dictionary first up_to below =
     let none : drop first (take up_to dictionary) ≡ [] = drop_all first (take up_to dictionary) (omega (arith, below, length-take up_to dictionary)) in
-    record { blocks = []; are = none; spelled = λ tick before. refl }
+    record { blocks = []; are = none; spelled = λ header before. refl }
 
 -- one fragment, and those behind it
 pub fragment_then : (dictionary : List Message) (first count up_to : ℕ) (front back : List ℕ) → first + count ≤ up_to → up_to ≤ length dictionary → (count ≡ 16) ⊎ (first + count ≡ up_to) → SpellsFragment first (take count (drop first dictionary)) front → FragmentsFor (first + count) (drop (first + count) (take up_to dictionary)) back
@@ -93,7 +93,7 @@ fragment_then dictionary first count up_to front back within known full spelled 
     record {
       blocks = Fragment first messages ∷ others.blocks;
       are = (rest, refl, part_then dictionary first count up_to within, full_or_last, subst (λ (n : ℕ). AreFragments (first + n) rest others.blocks) (sym many) others.are);
-      spelled = λ tick before. (front, back, refl, spelled, others.spelled tick (before ++ Fragment first messages ∷ []));
+      spelled = λ header before. (front, back, refl, spelled, others.spelled header (before ++ Fragment first messages ∷ []));
     }
 
 -- as many as a fragment takes, and no more than are left

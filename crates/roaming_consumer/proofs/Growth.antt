@@ -1,5 +1,5 @@
 -- How the log of a run grows.
-use Rattle.std.proofs.Common.{◌≡◌, ℕ, ◌+◌, ◌-◌, ◌<◌, ◌≤◌, Bool, true, false, ◌||◌, List, [], ◌∷◌, ◌++◌, length, map, get_or, take, drop, refl, sym, ap, subst, ◌∙◌, append_assoc, inl, inr, arith, true≢false}
+use Rattle.std.proofs.Common.{◌≡◌, ℕ, ◌+◌, ◌-◌, ◌<◌, ◌≤◌, ◌^◌, Bool, true, false, ◌||◌, List, [], ◌∷◌, ◌++◌, length, map, get_or, take, drop, refl, sym, ap, subst, ◌∙◌, append_assoc, inl, inr, arith, true≢false}
 use Rattle.std.specs.Prelude.{max, slice_set, replicate}
 use Rattle.std.specs.List.{AllByRecursion, list_any, range_with_len}
 use Rattle.std.proofs.Math.ListN.{length-set}
@@ -16,11 +16,13 @@ use Rattle.arg_records.specs.declared.call.Call.{Call}
 use Rattle.arg_records.specs.Calls.{IsCall, NeverFalls, last_stamp}
 use Rattle.buffer_extent.specs.Bodies.{SpellsRecords}
 use Rattle.checkpoint_io.specs.declared.header.Header.{Header}
-use Rattle.checkpoint_io.specs.Blocks.{Block, Fragment, Extent, Close, block_messages, messages_of, header_bytes, close_bytes, SpellsBlocks, SpellsExtent, SpellsClose, FileOf}
+use Rattle.checkpoint_io.specs.Versions.{writer_len, most_body}
+use Rattle.checkpoint_io.specs.Blocks.{Block, Fragment, Extent, Close, block_messages, messages_of, header_bytes, extent_head_bytes, close_bytes, SpellsBlocks, SpellsExtent, SpellsClose, FileOf}
 use Rattle.checkpoint_io.specs.Validity.{block_records, records_of, closes, IsClosed, DefinesNext, AreRightAfter, IsHeader, Valid}
 use Rattle.checkpoint_io.specs.Logs.{ids_used, new_messages, AreFragments, IsLaidOut, ends, extent, close, LogOf}
 use Rattle.checkpoint_io.proofs.lemmas.FrontLaws.{empty_file, file_goes_on}
 use Rattle.checkpoint_io.proofs.lemmas.LogLaws.{messages_of-AreFragments, laid_out_join}
+use Rattle.checkpoint_io.proofs.lemmas.VersionLaws.{writers_fit}
 use Rattle.checkpoint_io.proofs.lemmas.ValidityLaws.{messages-push, records-push, AreRightAfter-append, goes_on}
 use Rattle.roaming_consumer.specs.Growth.{LogProgress, IsLogSoFar, with_calls, IsNext, progress_behind, progress_closing}
 use Rattle.roaming_consumer.proofs.Used.{distinct_front, new_behind, ids_known, calls_of_front, spelled_with_front}
@@ -29,7 +31,7 @@ use Rattle.roaming_consumer.proofs.Lists.{at_one, more_at_one, none_each}
 -- ---- several blocks more
 
 -- a file goes on with blocks
-pub file_goes_on_with : (header : Header) (blocks more : List Block) (bytes spelled : List ℕ) → FileOf header blocks bytes → SpellsBlocks header.clock.tick blocks more spelled → FileOf header (blocks ++ more) (bytes ++ spelled)
+pub file_goes_on_with : (header : Header) (blocks more : List Block) (bytes spelled : List ℕ) → FileOf header blocks bytes → SpellsBlocks header blocks more spelled → FileOf header (blocks ++ more) (bytes ++ spelled)
 file_goes_on_with header blocks [] bytes spelled file none =
     subst (λ (b : List Block). FileOf header b (bytes ++ spelled)) (sym (append-nil blocks)) (subst (FileOf header blocks) (sym (ap (λ (l : List ℕ). bytes ++ l) none ∙ append-nil bytes)) file)
 file_goes_on_with header blocks (block ∷ more) bytes spelled file (front, back, joined, is, others) =
@@ -126,16 +128,16 @@ closed_now writer blocks fragments first messages are =
     list_any-append (closes writer) blocks fragments ∙ ap (λ (b : Bool). list_any (closes writer) blocks || b) (fragments_close_none writer first messages fragments are)
     ∙ or-false (list_any (closes writer) blocks)
 
-same_taken : (wrote : List ℕ) (taken : List (List Call)) (dictionary : List Message) (clock : Clock) (batch writer : ℕ) → (log : LogOf wrote taken dictionary clock batch) → writer < length taken → get_or taken writer [] ≡ records_of writer log.blocks
-same_taken wrote taken dictionary clock batch writer log known =
+same_taken : (wrote : List ℕ) (taken : List (List Call)) (dictionary : List Message) (version : ℕ) (clocks : List Clock) (batch writer : ℕ) → (log : LogOf wrote taken dictionary version clocks batch) → writer < length taken → get_or taken writer [] ≡ records_of writer log.blocks
+same_taken wrote taken dictionary version clocks batch writer log known =
     ap (λ (l : List (List Call)). get_or l writer []) log.records_are ∙ get_or-map-range_with_len (λ w. records_of w log.blocks) 0 (length taken) writer writer [] known (omega arith)
 
-pub grown : (wrote : List ℕ) (taken : List (List Call)) (dictionary : List Message) (clock : Clock) (batch : ℕ) (progress : LogProgress) (writer : ℕ) (entries : List Call) (fragments extent_bytes : List ℕ) → IsLogSoFar wrote taken dictionary clock batch progress → AreDistinct dictionary → length dictionary ≤ 65536
-    → IsNext taken dictionary clock.tick batch progress writer entries fragments extent_bytes
-    → IsLogSoFar (wrote ++ fragments ++ extent_bytes) (with_calls taken writer entries) dictionary clock batch (progress_behind progress entries)
-grown wrote taken dictionary clock batch progress writer entries fragments extent_bytes so_far distinct few next =
+pub grown : (wrote : List ℕ) (taken : List (List Call)) (dictionary : List Message) (header : Header) (batch : ℕ) (progress : LogProgress) (writer : ℕ) (entries : List Call) (fragments extent_bytes : List ℕ) → IsLogSoFar wrote taken dictionary header.version (header.clock ∷ []) batch progress → AreDistinct dictionary → length dictionary ≤ 65536
+    → IsNext taken dictionary header batch progress writer entries fragments extent_bytes
+    → IsLogSoFar (wrote ++ fragments ++ extent_bytes) (with_calls taken writer entries) dictionary header.version (header.clock ∷ []) batch (progress_behind progress entries)
+grown wrote taken dictionary header batch progress writer entries fragments extent_bytes so_far distinct few next =
     let log = so_far.log in
-    let header = log.header in
+    let own = log.header in
     let blocks = log.blocks in
     let front = next.fragments_spelled.blocks in
     let are = next.fragments_spelled.are in
@@ -146,30 +148,32 @@ grown wrote taken dictionary clock batch progress writer entries fragments exten
     let fronts : messages_of (blocks ++ front) ≡ messages_of blocks ++ new = messages_now blocks front first new are in
     let all_messages : messages_of (with_extent blocks front writer entries) ≡ messages_of blocks ++ new =
     messages-push (blocks ++ front) (Extent writer entries) ∙ append-nil (messages_of (blocks ++ front)) ∙ fronts in
-    let tick : header.clock.tick ≡ clock.tick = ap (λ (c : Clock). c.tick) log.clock_is in
+    let tick : own.clock.tick ≡ header.clock.tick = ap (λ (clocks : List Clock). (get_or clocks 0 header.clock).tick) log.clocks_are in
     let same_calls : get_or taken writer [] ≡ records_of writer (blocks ++ front) =
-    same_taken wrote taken dictionary clock batch writer log next.known ∙ sym (records_now writer blocks front first new are) in
+    same_taken wrote taken dictionary header.version (header.clock ∷ []) batch writer log next.known ∙ sym (records_now writer blocks front first new are) in
     let unclosed : ¬ (IsClosed writer (blocks ++ front)) =
     λ closed. true≢false (sym closed ∙ closed_now writer blocks front first new are ∙ sym (so_far.closed writer next.known) ∙ next.not_closed) in
     let distinct_fronts : AreDistinct (messages_of blocks ++ new) = distinct_front (messages_of blocks ++ new) grow.undefined (subst AreDistinct grow.whole distinct) in
     let few_fronts : length (messages_of blocks ++ new) ≤ 65536 = omega (arith, few, ap length grow.whole, length-append (messages_of blocks ++ new) grow.undefined) in
-    let front_valid : Valid header (blocks ++ front) = record {
+    let front_valid : Valid own (blocks ++ front) = record {
       header_right = log.valid.header_right;
-      blocks_right = AreRightAfter-append header [] blocks front log.valid.blocks_right (fragments_right header first new front blocks are so_far.defined distinct_fronts few_fronts);
+      blocks_right = AreRightAfter-append own [] blocks front log.valid.blocks_right (fragments_right own first new front blocks are so_far.defined distinct_fronts few_fronts);
     } in
     let used : ids_used entries ≤ length (messages_of (blocks ++ front)) = omega (arith, grow.used, ap length fronts) in
     let whole : dictionary ≡ messages_of (blocks ++ front) ++ grow.undefined = grow.whole ∙ ap (λ (l : List Message). l ++ grow.undefined) (sym fronts) in
     let right = calls_of_front (messages_of (blocks ++ front)) grow.undefined entries used (subst (λ (l : List Message). AllByRecursion (IsCall l) entries) whole next.right) in
-    let rising : NeverFalls (last_stamp header.clock.tick (records_of writer (blocks ++ front))) entries =
+    let rising : NeverFalls (last_stamp own.clock.tick (records_of writer (blocks ++ front))) entries =
     subst (λ (n : ℕ). NeverFalls (last_stamp n (records_of writer (blocks ++ front))) entries) (sym tick)
-    (subst (λ (l : List Call). NeverFalls (last_stamp clock.tick l) entries) same_calls (falls_behind clock.tick (get_or taken writer []) entries next.rising)) in
+    (subst (λ (l : List Call). NeverFalls (last_stamp header.clock.tick l) entries) same_calls (falls_behind header.clock.tick (get_or taken writer []) entries next.rising)) in
     let e = next.extent_spelled in
-    let body_spelled : SpellsRecords (messages_of (blocks ++ front)) header.clock.tick entries e.body =
-    spelled_with_front (messages_of (blocks ++ front)) grow.undefined header.clock.tick entries e.body used
+    let body_spelled : SpellsRecords (messages_of (blocks ++ front)) own.clock.tick entries e.body =
+    spelled_with_front (messages_of (blocks ++ front)) grow.undefined own.clock.tick entries e.body used
     (subst (λ (n : ℕ). SpellsRecords (messages_of (blocks ++ front) ++ grow.undefined) n entries e.body) (sym tick)
-    (subst (λ (l : List Message). SpellsRecords l clock.tick entries e.body) whole e.body_spelled)) in
-    let extent_spelled : SpellsExtent (messages_of (blocks ++ front)) header.clock.tick writer entries extent_bytes =
-    record { body = e.body; some = e.some; short = e.short; writer_fits = e.writer_fits; body_spelled = body_spelled; joined = e.joined } in
+    (subst (λ (l : List Message). SpellsRecords l header.clock.tick entries e.body) whole e.body_spelled)) in
+    let (short, writer_fits, joined) =
+    subst (λ (v : ℕ). (length e.body ≤ most_body v) × (writer < 256 ^ writer_len v) × (extent_bytes ≡ extent_head_bytes v writer (length e.body) ++ e.body)) (sym log.version_is) (e.short, e.writer_fits, e.joined) in
+    let extent_spelled : SpellsExtent (messages_of (blocks ++ front)) own writer entries extent_bytes =
+    record { body = e.body; some = e.some; short = short; writer_fits = writer_fits; body_spelled = body_spelled; joined = joined } in
     let length_now : length (with_calls taken writer entries) ≡ length taken = length-set taken writer (get_or taken writer [] ++ entries) in
     let records_all : (w : ℕ) → records_of w (with_extent blocks front writer entries) ≡ records_of w blocks ++ at_one writer entries w =
     λ w. records-push w (blocks ++ front) (Extent writer entries) ∙ ap (λ (l : List Call). l ++ at_one writer entries w) (records_now w blocks front first new are) in
@@ -184,11 +188,12 @@ grown wrote taken dictionary clock batch progress writer entries fragments exten
     subst (IsLaidOut dictionary batch []) (sym (append_assoc blocks front (Extent writer entries ∷ []))) (laid_out_join dictionary batch [] blocks (front ++ Extent writer entries ∷ []) log.laid_out laid) in
     record {
       log = record {
-        header = header;
+        header = own;
         blocks = with_extent blocks front writer entries;
-        file = file_goes_on header (blocks ++ front) (Extent writer entries) (wrote ++ fragments) extent_bytes (file_goes_on_with header blocks front wrote fragments log.file (next.fragments_spelled.spelled header.clock.tick blocks)) extent_spelled;
-        valid = goes_on header (blocks ++ front) (Extent writer entries) front_valid (record { writer_open = record { known = subst (λ (n : ℕ). writer < n) (sym log.writers_are) next.known; unclosed = unclosed }; right = right; rising = rising });
-        clock_is = log.clock_is;
+        file = file_goes_on own (blocks ++ front) (Extent writer entries) (wrote ++ fragments) extent_bytes (file_goes_on_with own blocks front wrote fragments log.file (next.fragments_spelled.spelled own blocks)) extent_spelled;
+        valid = goes_on own (blocks ++ front) (Extent writer entries) front_valid (record { writer_open = record { known = subst (λ (n : ℕ). writer < n) (sym log.writers_are) next.known; unclosed = unclosed }; right = right; rising = rising });
+        version_is = log.version_is;
+        clocks_are = log.clocks_are;
         writers_are = log.writers_are ∙ sym length_now;
         undefined = grow.undefined;
         messages_are = grow.whole ∙ ap (λ (l : List Message). l ++ grow.undefined) (sym all_messages);
@@ -214,8 +219,8 @@ closed_behind closed blocks writer w within before =
           ∙ sym (list_any-append (closes w) blocks (Close writer ∷ []) ∙ ap (λ (b : Bool). list_any (closes w) blocks || (b || false)) differs.0 ∙ or-false (list_any (closes w) blocks))
     ]
 
-pub closing : (wrote : List ℕ) (taken : List (List Call)) (dictionary : List Message) (clock : Clock) (batch : ℕ) (progress : LogProgress) (writer : ℕ) → IsLogSoFar wrote taken dictionary clock batch progress → writer < length taken → get_or progress.closed writer false ≡ false → writer < length progress.closed → IsLogSoFar (wrote ++ close_bytes writer) taken dictionary clock batch (progress_closing progress writer)
-closing wrote taken dictionary clock batch progress writer so_far known not_closed within =
+pub closing : (wrote : List ℕ) (taken : List (List Call)) (dictionary : List Message) (version : ℕ) (clocks : List Clock) (batch : ℕ) (progress : LogProgress) (writer : ℕ) → IsLogSoFar wrote taken dictionary version clocks batch progress → writer < length taken → get_or progress.closed writer false ≡ false → writer < length progress.closed → IsLogSoFar (wrote ++ close_bytes version writer) taken dictionary version clocks batch (progress_closing progress writer)
+closing wrote taken dictionary version clocks batch progress writer so_far known not_closed within =
     let log = so_far.log in
     let header = log.header in
     let blocks = log.blocks in
@@ -223,14 +228,16 @@ closing wrote taken dictionary clock batch progress writer so_far known not_clos
     let messages : messages_of (blocks ++ Close writer ∷ []) ≡ messages_of blocks = messages-push blocks (Close writer) ∙ append-nil (messages_of blocks) in
     let records : (w : ℕ) → records_of w (blocks ++ Close writer ∷ []) ≡ records_of w blocks = λ w. records-push w blocks (Close writer) ∙ append-nil (records_of w blocks) in
     let unclosed : ¬ (IsClosed writer blocks) = λ closed. true≢false (sym closed ∙ sym (so_far.closed writer known) ∙ not_closed) in
-    let spelled : SpellsClose writer (close_bytes writer) = record { writer_fits = omega (arith, known, log.writers_are, few); joined = refl } in
+    let fits : writer < 256 ^ writer_len header.version = omega (arith, known, log.writers_are, few, writers_fit header.version) in
+    let spelled : SpellsClose header writer (close_bytes version writer) = record { writer_fits = fits; joined = ap (λ (v : ℕ). close_bytes v writer) (sym log.version_is) } in
     record {
       log = record {
         header = header;
         blocks = blocks ++ Close writer ∷ [];
-        file = file_goes_on header blocks (Close writer) wrote (close_bytes writer) log.file spelled;
+        file = file_goes_on header blocks (Close writer) wrote (close_bytes version writer) log.file spelled;
         valid = goes_on header blocks (Close writer) log.valid (record { known = subst (λ (n : ℕ). writer < n) (sym log.writers_are) known; unclosed = unclosed });
-        clock_is = log.clock_is;
+        version_is = log.version_is;
+        clocks_are = log.clocks_are;
         writers_are = log.writers_are;
         undefined = log.undefined;
         messages_are = log.messages_are ∙ ap (λ (l : List Message). l ++ log.undefined) (sym messages);
@@ -243,7 +250,7 @@ closing wrote taken dictionary clock batch progress writer so_far known not_clos
 
 -- ---- a header
 
-pub beginning : (header : Header) (dictionary : List Message) (batch : ℕ) (closed : List Bool) → IsHeader header → ((writer : ℕ) → get_or closed writer false ≡ false) → IsLogSoFar (header_bytes header) (replicate header.writers []) dictionary header.clock batch (record { defined = 0; closed = closed })
+pub beginning : (header : Header) (dictionary : List Message) (batch : ℕ) (closed : List Bool) → IsHeader header → ((writer : ℕ) → get_or closed writer false ≡ false) → IsLogSoFar (header_bytes header) (replicate header.writers []) dictionary header.version (header.clock ∷ []) batch (record { defined = 0; closed = closed })
 beginning header dictionary batch closed right none_closed =
     let none : List (List Call) = replicate header.writers [] in
     let count : length none ≡ header.writers = length-replicate header.writers [] in
@@ -254,7 +261,8 @@ beginning header dictionary batch closed right none_closed =
         blocks = [];
         file = empty_file header;
         valid = record { header_right = right; blocks_right = tt };
-        clock_is = refl;
+        version_is = refl;
+        clocks_are = refl;
         writers_are = sym count;
         undefined = dictionary;
         messages_are = refl;

@@ -29,13 +29,13 @@ use Rattle.roaming_consumer.proofs.Used.{ids_known}
 use Rattle.roaming_consumer.proofs.lemmas.OnePlace.{get_set_other, get_set_same, zip_at, zip_set, zip_step, zip_weaker}
 use Rattle.roaming_consumer.proofs.Growth.{grown, closing, beginning}
 
-same_log : (wrote others : List ℕ) (taken : List (List Call)) (messages names : List Message) (clock watch : Clock) (batch size : ℕ) (progress now : LogProgress) → wrote ≡ others → messages ≡ names → clock ≡ watch → batch ≡ size → progress ≡ now → IsLogSoFar wrote taken messages clock batch progress → IsLogSoFar others taken names watch size now
+same_log : (wrote others : List ℕ) (taken : List (List Call)) (messages names : List Message) (clock watch : Clock) (batch size : ℕ) (progress now : LogProgress) → wrote ≡ others → messages ≡ names → clock ≡ watch → batch ≡ size → progress ≡ now → IsLogSoFar wrote taken messages 1 (clock ∷ []) batch progress → IsLogSoFar others taken names 1 (watch ∷ []) size now
 same_log wrote others taken messages names clock watch batch size progress now bytes same_messages same_clock same_batch same_progress log =
-    subst (λ (w : List ℕ). IsLogSoFar w taken names watch size now) bytes
-    (subst (λ (m : List Message). IsLogSoFar wrote taken m watch size now) same_messages
-    (subst (λ (c : Clock). IsLogSoFar wrote taken messages c size now) same_clock
-    (subst (λ (b : ℕ). IsLogSoFar wrote taken messages clock b now) same_batch
-    (subst (λ (p : LogProgress). IsLogSoFar wrote taken messages clock batch p) same_progress log))))
+    subst (λ (w : List ℕ). IsLogSoFar w taken names 1 (watch ∷ []) size now) bytes
+    (subst (λ (m : List Message). IsLogSoFar wrote taken m 1 (watch ∷ []) size now) same_messages
+    (subst (λ (c : Clock). IsLogSoFar wrote taken messages 1 (c ∷ []) size now) same_clock
+    (subst (λ (b : ℕ). IsLogSoFar wrote taken messages 1 (clock ∷ []) b now) same_batch
+    (subst (λ (p : LogProgress). IsLogSoFar wrote taken messages 1 (clock ∷ []) batch p) same_progress log))))
 
 -- ---- what was taken from the ends
 
@@ -131,16 +131,18 @@ none_came messages tick before after draft body was none =
 -- ---- an extent
 
 -- the records of a draft, behind the head of an extent
-abbrev pub spells_extent : (messages : List Message) (tick writer : ℕ) (entries : List Call) (draft : Draft) (body extent : List ℕ) → IsDraft messages tick entries draft body → 1 ≤ draft.records → writer < 64 → length body ≤ 65536 → extent ≡ extent_head_bytes writer (length (take draft.len body)) ++ take draft.len body → SpellsExtent messages tick writer entries extent
-spells_extent messages tick writer entries draft body extent drafted some known room is =
+abbrev pub spells_extent : {S : Type 0} (roamer : Roamer S) (writer : ℕ) (entries : List Call) (draft : Draft) (body extent : List ℕ) → IsDraft (roamer_messages roamer) (roamer_clock roamer).tick entries draft body → 1 ≤ draft.records → writer < 64 → length body ≤ 65536 → extent ≡ extent_head_bytes 1 writer (length (take draft.len body)) ++ take draft.len body → SpellsExtent (roamer_messages roamer) (roamer_header roamer) writer entries extent
+spells_extent roamer writer entries draft body extent drafted some known room is =
     let records = drafted.records in
     let within = drafted.within in
     let long = length-take-le draft.len body within in
+    let short : length (take draft.len body) ≤ 65536 = omega (arith, long, within, room) in
+    let fits : writer < 256 = omega (arith, known) in
     record {
       body = take draft.len body;
-      some = body_some messages tick entries (take draft.len body) (omega (arith, some, records)) drafted.spelled;
-      short = omega (arith, long, within, room);
-      writer_fits = omega (arith, known);
+      some = body_some (roamer_messages roamer) (roamer_clock roamer).tick entries (take draft.len body) (omega (arith, some, records)) drafted.spelled;
+      short = short;
+      writer_fits = fits;
       body_spelled = drafted.spelled;
       joined = is;
     }
@@ -190,7 +192,7 @@ behind_draft roamer draft = record (roamer_progress roamer) { defined = max (roa
 
 pub extent_stands : {S : Type 0} (got : S → List (List ℕ)) (ended : S → Bool) (old new : Roamer S) (writer : ℕ) (before after : S) (draft : Draft) (body fragments extent : List ℕ) (moved : Moved got ended old new writer before after draft body) → 1 ≤ draft.records → draft.records ≤ roamer_batch old → (ended before ≡ true → draft.records ≡ 0) → AreDistinct (roamer_messages old) → length (roamer_messages old) ≤ 65536 → length (ends_of old) ≤ 64 → length body ≤ 65536
     → FragmentsFor (roamer_progress old).defined (new_messages (roamer_messages old) (roamer_progress old).defined moved.gathers.entries) fragments
-    → extent ≡ extent_head_bytes writer (length (take draft.len body)) ++ take draft.len body
+    → extent ≡ extent_head_bytes 1 writer (length (take draft.len body)) ++ take draft.len body
     → (wrote : List ℕ) → RoamerStandsFor got ended old wrote → IsLogOfEnds got ended new (behind_draft old draft) (wrote ++ (fragments ++ extent))
 extent_stands {S} got ended old new writer before after draft body fragments extent moved some few going distinct few_messages few_ends room spelled extent_is wrote stood =
     let log = stood.lawful moved.begun moved.unfaulted in
@@ -206,16 +208,16 @@ extent_stands {S} got ended old new writer before after draft body fragments ext
     let open_writer : get_or (roamer_progress old).closed writer false ≡ false =
     false_from_ne_true (get_or (roamer_progress old).closed writer false) (λ closed. omega (arith, some, going (log.closed writer before moved.was closed))) in
     let records = drafted.records in
-    let next : IsNext log.taken (roamer_messages old) (roamer_clock old).tick (roamer_batch old) (roamer_progress old) writer entries fragments extent = record {
+    let next : IsNext log.taken (roamer_messages old) (roamer_header old) (roamer_batch old) (roamer_progress old) writer entries fragments extent = record {
       known = known;
       not_closed = open_writer;
       few = omega (arith, few, records);
       right = moved.gathers.right;
       rising = now.rising;
       fragments_spelled = spelled;
-      extent_spelled = spells_extent (roamer_messages old) (roamer_clock old).tick writer entries draft body extent drafted some (omega (arith, inside, few_ends)) room extent_is;
+      extent_spelled = spells_extent old writer entries draft body extent drafted some (omega (arith, inside, few_ends)) room extent_is;
     } in
-    let more = grown wrote log.taken (roamer_messages old) (roamer_clock old) (roamer_batch old) (roamer_progress old) writer entries fragments extent log.log distinct few_messages next in
+    let more = grown wrote log.taken (roamer_messages old) (roamer_header old) (roamer_batch old) (roamer_progress old) writer entries fragments extent log.log distinct few_messages next in
     let progress_is : progress_behind (roamer_progress old) entries ≡ behind_draft old draft =
     ap (λ (n : ℕ). record { defined = max (roamer_progress old).defined n; closed = (roamer_progress old).closed }) (sym drafted.ids) in
     record {
@@ -245,19 +247,19 @@ idle_stands {S} got ended old new writer before after draft body moved none stay
 
 -- the close mark was written
 pub mark_stands : {S : Type 0} (got : S → List (List ℕ)) (ended : S → Bool) (old new : Roamer S) (writer : ℕ) (before after : S) (draft : Draft) (body : List ℕ) → Moved got ended old new writer before after draft body → draft.records ≡ 0 → get_or (roamer_progress old).closed writer false ≡ false → ended after ≡ true → length (ends_of old) ≤ length (roamer_progress old).closed
-    → (wrote : List ℕ) → RoamerStandsFor got ended old wrote → IsLogOfEnds got ended new (progress_closing (roamer_progress old) writer) (wrote ++ close_bytes writer)
+    → (wrote : List ℕ) → RoamerStandsFor got ended old wrote → IsLogOfEnds got ended new (progress_closing (roamer_progress old) writer) (wrote ++ close_bytes 1 writer)
 mark_stands {S} got ended old new writer before after draft body moved none unclosed over room wrote stood =
     let log = stood.lawful moved.begun moved.unfaulted in
     let plan = plan_of_roamer old in
     let size = taken_length plan got (ends_of old) log.taken log.frames in
     let inside = slice_get_within (ends_of old) writer before moved.was in
     let same = none_came (roamer_messages old) (roamer_clock old).tick (got before) (got after) draft body moved.gathers none in
-    let more = closing wrote log.taken (roamer_messages old) (roamer_clock old) (roamer_batch old) (roamer_progress old) writer log.log (omega (arith, size, inside)) unclosed (omega (arith, inside, room)) in
+    let more = closing wrote log.taken (roamer_messages old) 1 (roamer_clock old ∷ []) (roamer_batch old) (roamer_progress old) writer log.log (omega (arith, size, inside)) unclosed (omega (arith, inside, room)) in
     record {
       taken = log.taken;
       frames = move_ends (λ p es. FramesAreTaken p got es log.taken) old new writer after moved.ends moved.same_run (taken_still plan got (ends_of old) log.taken writer before after log.frames moved.was same);
       log =
-          same_log (wrote ++ close_bytes writer) (wrote ++ close_bytes writer) log.taken (roamer_messages old) (roamer_messages new) (roamer_clock old) (roamer_clock new) (roamer_batch old) (roamer_batch new) (progress_closing (roamer_progress old) writer) (progress_closing (roamer_progress old) writer) refl (sym moved.same_run.messages) (sym moved.same_run.clock) (sym moved.same_run.batch) refl more;
+          same_log (wrote ++ close_bytes 1 writer) (wrote ++ close_bytes 1 writer) log.taken (roamer_messages old) (roamer_messages new) (roamer_clock old) (roamer_clock new) (roamer_batch old) (roamer_batch new) (progress_closing (roamer_progress old) writer) (progress_closing (roamer_progress old) writer) refl (sym moved.same_run.messages) (sym moved.same_run.clock) (sym moved.same_run.batch) refl more;
       closed = λ w end there closed.
           elim (eqb_tells w writer) [
             | inl here ↦

@@ -10,7 +10,7 @@ use Rattle.roaming_consumer.specs.declared.draft.Draft.{Draft}
 use Rattle.roaming_consumer.specs.declared.roamer.Roamer.{Roamer}
 use Rattle.roaming_consumer.specs.Gathering.{StopsTaking}
 use Rattle.roaming_consumer.specs.Gathering.StopsTaking.{batch_is_full, body_is_full, nothing_is_there, all_has_ended}
-use Rattle.roaming_consumer.specs.Roamers.{ends_of, roamer_messages, roamer_clock, roamer_batch, roamer_progress, KeepsLog, EndAfterTaking, ChangesOne}
+use Rattle.roaming_consumer.specs.Roamers.{ends_of, roamer_batch, roamer_progress, KeepsLog, EndAfterTaking, ChangesOne}
 use Rattle.roaming_consumer.specs.Visits.{VisitStops}
 use Rattle.roaming_consumer.proofs.lemmas.Sending.{err_of}
 use Rattle.roaming_consumer.proofs.Standing.{spells_extent}
@@ -46,7 +46,7 @@ stopped_in_extent got ended loads pair plan old mid ends_now writer draft all bo
           extent = sent.extent;
           behind = elim sent.behind [
             | inl none ↦ inl none
-            | inr both ↦ inr (both.0 ∙ end, spells_extent (roamer_messages old) (roamer_clock old).tick writer gathers.entries draft body sent.extent drafted some known room both.1)
+            | inr both ↦ inr (both.0 ∙ end, spells_extent old writer gathers.entries draft body sent.extent drafted some known room both.1)
           ];
           joined = refl;
         };

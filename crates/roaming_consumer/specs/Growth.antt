@@ -5,6 +5,7 @@ use Rattle.log_dictionary.specs.declared.clock.Clock.{Clock}
 use Rattle.log_dictionary.specs.declared.message.Message.{Message}
 use Rattle.arg_records.specs.declared.call.Call.{Call}
 use Rattle.arg_records.specs.Calls.{IsCall, NeverFalls}
+use Rattle.checkpoint_io.specs.declared.header.Header.{Header}
 use Rattle.checkpoint_io.specs.Blocks.{Block, messages_of, SpellsBlocks, SpellsExtent}
 use Rattle.checkpoint_io.specs.Validity.{closes}
 use Rattle.checkpoint_io.specs.Logs.{ids_used, new_messages, AreFragments, LogOf}
@@ -17,9 +18,9 @@ pub record LogProgress : Type 0 where
   pub closed : List Bool
 
 -- The bytes are the log of the calls that were taken, and this is kept of it.
-pub record IsLogSoFar (wrote : List ℕ) (taken : List (List Call)) (dictionary : List Message) (clock : Clock)
-    (batch : ℕ) (progress : LogProgress) : Type 0 where
-  pub log : LogOf wrote taken dictionary clock batch
+pub record IsLogSoFar (wrote : List ℕ) (taken : List (List Call)) (dictionary : List Message) (version : ℕ)
+    (clocks : List Clock) (batch : ℕ) (progress : LogProgress) : Type 0 where
+  pub log : LogOf wrote taken dictionary version clocks batch
   pub defined : progress.defined ≡ length (messages_of log.blocks)
   pub closed : (writer : ℕ) → writer < length taken
       → get_or progress.closed writer false ≡ list_any (closes writer) log.blocks
@@ -33,19 +34,19 @@ with_calls taken writer entries = slice_set taken writer (get_or taken writer []
 pub record FragmentsFor (first : ℕ) (messages : List Message) (bytes : List ℕ) : Type 0 where
   pub blocks : List Block
   pub are : AreFragments first messages blocks
-  pub spelled : (tick : ℕ) (before : List Block) → SpellsBlocks tick before blocks bytes
+  pub spelled : (header : Header) (before : List Block) → SpellsBlocks header before blocks bytes
 
 -- Behind the log of these calls so many records of an open writer may be put: they name messages and fit them, and its
 -- stamps go on without falling. In front of their extent stand the fragments of the messages that it wants.
-pub record IsNext (taken : List (List Call)) (dictionary : List Message) (tick batch : ℕ) (progress : LogProgress)
-    (writer : ℕ) (entries : List Call) (fragments extent : List ℕ) : Type 0 where
+pub record IsNext (taken : List (List Call)) (dictionary : List Message) (header : Header) (batch : ℕ)
+    (progress : LogProgress) (writer : ℕ) (entries : List Call) (fragments extent : List ℕ) : Type 0 where
   pub known : writer < length taken
   pub not_closed : get_or progress.closed writer false ≡ false
   pub few : length entries ≤ batch
   pub right : AllByRecursion (IsCall dictionary) entries
-  pub rising : NeverFalls tick (get_or taken writer [] ++ entries)
+  pub rising : NeverFalls header.clock.tick (get_or taken writer [] ++ entries)
   pub fragments_spelled : FragmentsFor progress.defined (new_messages dictionary progress.defined entries) fragments
-  pub extent_spelled : SpellsExtent dictionary tick writer entries extent
+  pub extent_spelled : SpellsExtent dictionary header writer entries extent
 
 -- what is kept behind an extent of these records
 abbrev pub progress_behind : LogProgress → List Call → LogProgress

@@ -1,5 +1,5 @@
 -- What a roamer keeps, and the bytes for which it stands.
-use Rattle.std.specs.Prelude.{◌≡◌, ◌<◌, ◌≤◌, ℕ, Bool, true, false, List, [], ◌++◌, get_or, All, Some, slice_get, slice_set, length}
+use Rattle.std.specs.Prelude.{◌≡◌, ◌<◌, ◌≤◌, ℕ, Bool, true, false, List, [], ◌∷◌, ◌++◌, get_or, All, Some, slice_get, slice_set, length}
 use Rattle.std.specs.List.{AllZip}
 use Rattle.nl_io.specs.Count.{Rose}
 use Rattle.nl_io.specs.Content.{Told, with_end}
@@ -98,7 +98,7 @@ pub record IsLogOfEnds {S : Type 0} (got : S → List (List ℕ)) (ended : S →
     (progress : LogProgress) (wrote : List ℕ) : Type 0 where
   pub taken : List (List Call)
   pub frames : FramesAreTaken (plan_of_roamer roamer) got (ends_of roamer) taken
-  pub log : IsLogSoFar wrote taken (roamer_messages roamer) (roamer_clock roamer) (roamer_batch roamer) progress
+  pub log : IsLogSoFar wrote taken (roamer_messages roamer) 1 (roamer_clock roamer ∷ []) (roamer_batch roamer) progress
   pub closed : HaveEnded ended (ends_of roamer) progress.closed
 
 -- The bytes are the front of a log. It is that of the first calls whose frames were taken from the ends. A writer whose
@@ -108,7 +108,7 @@ pub record IsCutLogOfEnds {S : Type 0} (got : S → List (List ℕ)) (ended : S 
   pub taken : List (List Call)
   pub frames : FramesWereTaken (plan_of_roamer roamer) got (ends_of roamer) taken
   pub rest : List ℕ
-  pub log : LogOf (wrote ++ rest) taken (roamer_messages roamer) (roamer_clock roamer) (roamer_batch roamer)
+  pub log : LogOf (wrote ++ rest) taken (roamer_messages roamer) 1 (roamer_clock roamer ∷ []) (roamer_batch roamer)
   pub closed : (writer : ℕ) (end : S) → slice_get (ends_of roamer) writer ≡ Some end → IsClosed writer log.blocks
       → (ended end ≡ true) × AreFramesOf (plan_of_roamer roamer) (got end) (get_or taken writer [])
 
@@ -116,7 +116,7 @@ pub record IsCutLogOfEnds {S : Type 0} (got : S → List (List ℕ)) (ended : S 
 pub record IsClosedLogOfEnds {S : Type 0} (got : S → List (List ℕ)) (roamer : Roamer S) (wrote : List ℕ) : Type 0 where
   pub taken : List (List Call)
   pub frames : FramesAreTaken (plan_of_roamer roamer) got (ends_of roamer) taken
-  pub log : LogOf wrote taken (roamer_messages roamer) (roamer_clock roamer) (roamer_batch roamer)
+  pub log : LogOf wrote taken (roamer_messages roamer) 1 (roamer_clock roamer ∷ []) (roamer_batch roamer)
   pub closed : (writer : ℕ) → writer < length taken → IsClosed writer log.blocks
 
 -- The roamer's calls have put these bytes. Before the header there are none, and nothing was taken, defined or closed;
@@ -152,7 +152,7 @@ pub record KeepsLog {S : Type 0} (old new : Roamer S) : Type 0 where
 
 -- the header of the roamer's log
 abbrev pub roamer_header : {S : Type 0} → Roamer S → Header
-roamer_header roamer = record { writers = length (ends_of roamer); clock = roamer_clock roamer }
+roamer_header roamer = record { version = 1; writers = length (ends_of roamer); clock = roamer_clock roamer }
 
 -- The sink took some bytes. Where the roamer stood for others, it stands for them with these behind them.
 pub record AppendsToLog {S : Type 0} (got : S → List (List ℕ)) (ended : S → Bool) (old new : Roamer S)

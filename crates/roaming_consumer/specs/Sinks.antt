@@ -31,15 +31,15 @@ pub record SendsFragments {T E : Type 0} (outcome : Result T E) (dictionary : Li
 -- The sink took the fragments of the messages up to the greatest id that is used, if they aren't defined yet, and behind
 -- them the extent. Where the call failed it took some bytes, from the front, of some of the fragments, or of all of them
 -- and the extent. Behind what it was to take the rest of the fragments and the extent may stand.
-pub record SendsExtent {T E : Type 0} (outcome : Result T E) (dictionary : List Message) (first end writer : ℕ)
-    (body : List ℕ) (put put_after : Told) (faults faults_after : ℕ) : Type 0 where
+pub record SendsExtent {T E : Type 0} (outcome : Result T E) (dictionary : List Message)
+    (version first end writer : ℕ) (body : List ℕ) (put put_after : Told) (faults faults_after : ℕ) : Type 0 where
   pub up_to : ℕ
   pub within : up_to ≤ end
   pub fragments : List ℕ
   pub spelled : FragmentsFor first (drop first (take up_to dictionary)) fragments
   pub extent : List ℕ
-  pub behind : (extent ≡ []) ⊎ ((up_to ≡ end) × (extent ≡ extent_head_bytes writer (length body) ++ body))
-  pub whole : OnOk outcome ((up_to ≡ end) × (extent ≡ extent_head_bytes writer (length body) ++ body))
+  pub behind : (extent ≡ []) ⊎ ((up_to ≡ end) × (extent ≡ extent_head_bytes version writer (length body) ++ body))
+  pub whole : OnOk outcome ((up_to ≡ end) × (extent ≡ extent_head_bytes version writer (length body) ++ body))
   pub goes_on : (rest : List ℕ) × (all : List ℕ) × FragmentsFor first (drop first (take end dictionary)) all
-      × (all ++ (extent_head_bytes writer (length body) ++ body) ≡ (fragments ++ extent) ++ rest)
+      × (all ++ (extent_head_bytes version writer (length body) ++ body) ≡ (fragments ++ extent) ++ rest)
   pub sent : Sends outcome (fragments ++ extent) put put_after faults faults_after

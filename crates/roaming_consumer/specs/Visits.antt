@@ -5,7 +5,8 @@ use Rattle.nl_io.specs.Content.{Told, with_end, PutsFront}
 use Rattle.log_dictionary.specs.declared.message.Message.{Message}
 use Rattle.arg_records.specs.declared.call.Call.{Call}
 use Rattle.arg_records.specs.Calls.{IsCall}
-use Rattle.checkpoint_io.specs.declared.heads.TheConstants.{MAX_BODY}
+use Rattle.checkpoint_io.specs.declared.version.TheConstants.{MAX_BODY}
+use Rattle.checkpoint_io.specs.declared.header.Header.{Header}
 use Rattle.checkpoint_io.specs.Blocks.{SpellsExtent, close_bytes}
 use Rattle.checkpoint_io.specs.Logs.{ids_used, new_messages}
 use Rattle.ring_core.specs.Plans.{Plan}
@@ -15,7 +16,7 @@ use Rattle.roaming_consumer.specs.declared.visit.SinkFault.{SinkFault}
 use Rattle.roaming_consumer.specs.declared.roamer.Roamer.{Roamer}
 use Rattle.roaming_consumer.specs.Growth.{FragmentsFor}
 use Rattle.roaming_consumer.specs.Gathering.{FramesCame, CallsCame, FindsNothing, StopsTaking}
-use Rattle.roaming_consumer.specs.Roamers.{roamer_messages, roamer_clock, roamer_batch, roamer_progress, is_faulted, is_marked, plan_of_roamer}
+use Rattle.roaming_consumer.specs.Roamers.{roamer_messages, roamer_batch, roamer_progress, roamer_header, is_faulted, is_marked, plan_of_roamer}
 
 -- what the answer says of the end: how many frames were taken, or that there was none, or that all had ended
 abbrev pub VisitTells : {S : Type 0} → (S → List (List ℕ)) → (S → Bool) → (S → ℕ) → Visit → S → S → Type 0
@@ -70,7 +71,7 @@ pub record WritesExtent {S : Type 0} (got : S → List (List ℕ)) (ended : S �
   pub defining : FragmentsFor (roamer_progress roamer).defined
       (new_messages (roamer_messages roamer) (roamer_progress roamer).defined entries) fragments
   pub extent : List ℕ
-  pub spelled : SpellsExtent (roamer_messages roamer) (roamer_clock roamer).tick writer entries extent
+  pub spelled : SpellsExtent (roamer_messages roamer) (roamer_header roamer) writer entries extent
   pub puts : put_after ≡ with_end (fragments ++ extent) put
   pub stops : StopsTaking got ended loads (roamer_batch roamer) taken (MAX_BODY - length spelled.body) before after
 
@@ -84,13 +85,13 @@ VisitWrites got ended loads roamer writer put put_after (Wrote n) before after =
 VisitWrites got ended loads roamer writer put put_after Idle before after = put_after ≡ put
 VisitWrites got ended loads roamer writer put put_after Ended before after =
     put_after ≡ (if is_faulted roamer then put
-    else if is_marked roamer writer then put else with_end (close_bytes writer) put)
+    else if is_marked roamer writer then put else with_end (close_bytes 1 writer) put)
 VisitWrites got ended loads roamer writer put put_after (Discarded n) before after =
     (put_after ≡ put) × StopsTaking got ended loads (roamer_batch roamer) n MAX_BODY before after
 
 -- The bytes of an extent of these records and of the fragments that it wants, behind a log that defines so many messages;
 -- or those of fragments alone, of the messages up to some end.
-pub record AreBytesFor (messages : List Message) (tick defined writer : ℕ) (entries : List Call)
+pub record AreBytesFor (messages : List Message) (header : Header) (defined writer : ℕ) (entries : List Call)
     (bytes : List ℕ) : Type 0 where
   pub up_to : ℕ
   pub within : up_to ≤ max defined (ids_used entries)
@@ -98,7 +99,7 @@ pub record AreBytesFor (messages : List Message) (tick defined writer : ℕ) (en
   pub spelled : FragmentsFor defined (drop defined (take up_to messages)) fragments
   pub extent : List ℕ
   pub behind : (extent ≡ [])
-      ⊎ ((up_to ≡ max defined (ids_used entries)) × SpellsExtent messages tick writer entries extent)
+      ⊎ ((up_to ≡ max defined (ids_used entries)) × SpellsExtent messages header writer entries extent)
   pub joined : bytes ≡ fragments ++ extent
 
 -- Frames of these calls were taken, and the sink took some bytes, from the front, of what was to be written of them.
@@ -110,8 +111,8 @@ pub record StopsInExtent {S : Type 0} (got : S → List (List ℕ)) (roamer : Ro
   pub some : 1 ≤ length entries
   pub few : length entries ≤ roamer_batch roamer
   pub bytes : List ℕ
-  pub are : AreBytesFor (roamer_messages roamer) (roamer_clock roamer).tick
-      (roamer_progress roamer).defined writer entries bytes
+  pub are : AreBytesFor (roamer_messages roamer) (roamer_header roamer) (roamer_progress roamer).defined writer entries
+      bytes
   pub puts : PutsFront bytes put put_after
 
 -- No frame was taken, all had ended, and the sink took some bytes, from the front, of the writer's close mark, which
@@ -121,7 +122,7 @@ pub record StopsInMark {S : Type 0} (got : S → List (List ℕ)) (ended : S →
   pub none : got after ≡ got before
   pub over : ended after ≡ true
   pub unmarked : is_marked roamer writer ≡ false
-  pub puts : PutsFront (close_bytes writer) put put_after
+  pub puts : PutsFront (close_bytes 1 writer) put put_after
 
 -- how far a visit came of which a write failed
 abbrev pub VisitStops : {S : Type 0} → (S → List (List ℕ)) → (S → Bool) → Roamer S → ℕ → Told → Told → S → S → Type 0

@@ -9,7 +9,7 @@ ghost use Rattle.roaming_consumer.specs.Roamers.{ends_of, is_begun, is_faulted, 
 use crate::blocks::write_header;
 use crate::roamer::Roamer;
 use crate::visit::SinkFault;
-use checkpoint_io::Header;
+use checkpoint_io::{Header, WRITTEN_VERSION};
 use nl_io::Sink;
 use ring_core::StageOut;
 
@@ -20,6 +20,7 @@ impl<'d, S> Roamer<'d, S> {
         ensures right { IsHeader (roamer_header self.now) }
     {
         Header {
+            version: WRITTEN_VERSION,
             writers: self.ends.len() as u32,
             clock: self.clock,
         }

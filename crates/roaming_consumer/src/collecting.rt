@@ -4,7 +4,7 @@ ghost use Rattle.std.specs.Prelude.{◌≡◌, ◌+◌, ◌-◌, ◌<◌, ◌≤
 ghost use Rattle.log_dictionary.specs.declared.dictionary.TheConstants.{MAX_MESSAGES};
 ghost use Rattle.log_dictionary.specs.Messages.{AreDistinct};
 ghost use Rattle.session_options.specs.declared.limits.TheConstants.{MAX_LOG_WRITERS};
-ghost use Rattle.checkpoint_io.specs.declared.heads.TheConstants.{MAX_BODY};
+ghost use Rattle.checkpoint_io.specs.declared.version.TheConstants.{MAX_BODY};
 ghost use Rattle.checkpoint_io.specs.Blocks.{close_bytes};
 ghost use Rattle.roaming_consumer.specs.Gathering.{FramesCame, DraftsFrames, StopsTaking};
 ghost use Rattle.roaming_consumer.specs.Growth.{progress_closing};
@@ -16,7 +16,7 @@ use crate::draft::Draft;
 use crate::fragments::write_fragments;
 use crate::gathering::{Gathered, Thrown, gather, throw_away};
 use crate::roamer::Roamer;
-use checkpoint_io::MAX_BODY;
+use checkpoint_io::{MAX_BODY, WRITTEN_VERSION};
 use nl_io::{Failed, Sink};
 use ring_core::StageOut;
 use session_options::MAX_LOG_WRITERS;
@@ -74,7 +74,7 @@ impl<'d, S> Roamer<'d, S> {
         requires some { 1 ≤ draft.len }
         requires short { draft.len ≤ MAX_BODY }
         requires ids { draft.ids ≤ length (roamer_messages self.old) }
-        ensures sent { SendsExtent result (roamer_messages self.old) (roamer_progress self.old).defined
+        ensures sent { SendsExtent result (roamer_messages self.old) 1 (roamer_progress self.old).defined
             (max (roamer_progress self.old).defined draft.ids) writer (take draft.len self.old.body.items)
             (K.put sink.old) (K.put sink.new) (K.faults sink.old) (K.faults sink.new) }
         ensures others { K.rest sink.old sink.new }
@@ -99,7 +99,7 @@ impl<'d, S> Roamer<'d, S> {
             &mut self.fragment,
             sink,
         )?;
-        write_extent(writer, &self.body[..draft.len], sink)?;
+        write_extent(WRITTEN_VERSION, writer, &self.body[..draft.len], sink)?;
         self.defined = defined;
         Ok(())
     }
@@ -107,7 +107,7 @@ impl<'d, S> Roamer<'d, S> {
     /// Writes the close mark of the writer.
     pub(crate) fn write_mark<K: Sink>(&mut self, writer: u32, sink: &mut K) -> Result<(), Failed>
         requires known { writer < MAX_LOG_WRITERS }
-        ensures sent { Sends result (close_bytes writer)
+        ensures sent { Sends result (close_bytes 1 writer)
             (K.put sink.old) (K.put sink.new) (K.faults sink.old) (K.faults sink.new) }
         ensures others { K.rest sink.old sink.new }
         ensures ok { OnOk result (roamer_progress self.new ≡ progress_closing (roamer_progress self.old) writer) }
@@ -117,7 +117,7 @@ impl<'d, S> Roamer<'d, S> {
         ensures same_flags { (is_begun self.new ≡ is_begun self.old)
             × (is_faulted self.new ≡ is_faulted self.old) }
     {
-        write_close(writer, sink)?;
+        write_close(WRITTEN_VERSION, writer, sink)?;
         self.closed[writer as usize] = true;
         Ok(())
     }

@@ -3,7 +3,7 @@
 ghost use Rattle.std.specs.Prelude.{◌≡◌, ◌+◌, ◌-◌, ◌<◌, ◌≤◌, true, false, length};
 ghost use Rattle.nl_io.specs.Count.{Rose};
 ghost use Rattle.buffer_extent.specs.declared.put.TheConstants.{RECORD_ROOM};
-ghost use Rattle.checkpoint_io.specs.declared.heads.TheConstants.{MAX_BODY};
+ghost use Rattle.checkpoint_io.specs.declared.version.TheConstants.{MAX_BODY};
 ghost use Rattle.ring_core.specs.Plans.{plan_of};
 ghost use Rattle.roaming_consumer.specs.Gathering.{FramesCame, DraftsFrames, StopsTaking};
 

@@ -1,14 +1,14 @@
 //! Laws over the definitions of a log that grows. The functions do nothing: what they ensure is proved of the
 //! definitions.
 
-ghost use Rattle.std.specs.Prelude.{◌≡◌, ◌⊎◌, ◌<◌, ◌≤◌, ◌++◌, [], ℕ, Bool, true, false, List, length, get_or, replicate};
+ghost use Rattle.std.specs.Prelude.{◌≡◌, ◌⊎◌, ◌<◌, ◌≤◌, ◌++◌, [], ◌∷◌, ℕ, Bool, true, false, List, length, get_or, replicate};
 ghost use Rattle.nl_io.specs.Count.{Rose};
 ghost use Rattle.log_dictionary.specs.declared.clock.Clock.{Clock};
 ghost use Rattle.log_dictionary.specs.declared.message.Message.{Message};
 ghost use Rattle.log_dictionary.specs.Messages.{AreDistinct};
 ghost use Rattle.arg_records.specs.declared.call.Call.{Call};
 ghost use Rattle.buffer_extent.specs.declared.put.TheConstants.{RECORD_ROOM};
-ghost use Rattle.checkpoint_io.specs.declared.heads.TheConstants.{MAX_BODY};
+ghost use Rattle.checkpoint_io.specs.declared.version.TheConstants.{MAX_BODY};
 ghost use Rattle.checkpoint_io.specs.declared.header.Header.{Header};
 ghost use Rattle.checkpoint_io.specs.Blocks.{header_bytes, close_bytes};
 ghost use Rattle.checkpoint_io.specs.Validity.{IsHeader};
@@ -22,14 +22,14 @@ use ring_core::StageOut;
 /// The log of a run grows by an extent of a writer, in front of which stand the fragments that it wants. Then it is the
 /// log of as many calls more.
 pub fn logs_grow_by_extents()
-    ensures { (wrote : List ℕ) (taken : List (List Call)) (dictionary : List Message) (clock : Clock) (batch : ℕ)
+    ensures { (wrote : List ℕ) (taken : List (List Call)) (dictionary : List Message) (header : Header) (batch : ℕ)
         (progress : LogProgress) (writer : ℕ) (entries : List Call) (fragments extent : List ℕ)
-        → IsLogSoFar wrote taken dictionary clock batch progress
+        → IsLogSoFar wrote taken dictionary header.version (header.clock ∷ []) batch progress
         → AreDistinct dictionary
         → length dictionary ≤ 65536
-        → IsNext taken dictionary clock.tick batch progress writer entries fragments extent
-        → IsLogSoFar (wrote ++ fragments ++ extent) (with_calls taken writer entries) dictionary clock batch
-        (progress_behind progress entries) }
+        → IsNext taken dictionary header batch progress writer entries fragments extent
+        → IsLogSoFar (wrote ++ fragments ++ extent) (with_calls taken writer entries) dictionary header.version
+        (header.clock ∷ []) batch (progress_behind progress entries) }
 {}
 
 /// The header alone is the log of no calls.
@@ -37,19 +37,19 @@ pub fn logs_begin_with_their_header()
     ensures { (header : Header) (dictionary : List Message) (batch : ℕ) (closed : List Bool)
         → IsHeader header
         → ((writer : ℕ) → get_or closed writer false ≡ false)
-        → IsLogSoFar (header_bytes header) (replicate header.writers []) dictionary header.clock batch
-        (record { defined = 0; closed = closed }) }
+        → IsLogSoFar (header_bytes header) (replicate header.writers []) dictionary header.version
+        (header.clock ∷ []) batch (record { defined = 0; closed = closed }) }
 {}
 
 /// Behind the close mark of a writer that was open it is the log of the same calls.
 pub fn logs_grow_by_close_marks()
-    ensures { (wrote : List ℕ) (taken : List (List Call)) (dictionary : List Message) (clock : Clock) (batch : ℕ)
-        (progress : LogProgress) (writer : ℕ)
-        → IsLogSoFar wrote taken dictionary clock batch progress
+    ensures { (wrote : List ℕ) (taken : List (List Call)) (dictionary : List Message) (version : ℕ)
+        (clocks : List Clock) (batch : ℕ) (progress : LogProgress) (writer : ℕ)
+        → IsLogSoFar wrote taken dictionary version clocks batch progress
         → writer < length taken
         → get_or progress.closed writer false ≡ false
         → writer < length progress.closed
-        → IsLogSoFar (wrote ++ close_bytes writer) taken dictionary clock batch
+        → IsLogSoFar (wrote ++ close_bytes version writer) taken dictionary version clocks batch
         (progress_closing progress writer) }
 {}
 

@@ -2,7 +2,7 @@
 
 ghost use Rattle.std.specs.Prelude.{◌≡◌, ◌<◌, ◌≤◌, ◌^◌, length, vec_len};
 ghost use Rattle.session_options.specs.declared.limits.TheConstants.{MAX_LOG_WRITERS};
-ghost use Rattle.checkpoint_io.specs.declared.heads.TheConstants.{MAX_BODY};
+ghost use Rattle.checkpoint_io.specs.declared.version.TheConstants.{MAX_BODY};
 ghost use Rattle.roaming_consumer.specs.declared.fragments.TheConstants.{MAX_FRAGMENT};
 
 use crate::fragments::MAX_FRAGMENT;

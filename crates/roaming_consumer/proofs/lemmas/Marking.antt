@@ -1,5 +1,5 @@
 -- Close marks, from call to call.
-use Rattle.std.proofs.Common.{◌≡◌, ℕ, ◌<◌, Bool, true, false, List, length, get_or, refl, sym, ap, subst, ◌∙◌, arith}
+use Rattle.std.proofs.Common.{◌≡◌, ℕ, ◌<◌, Bool, true, false, List, [], ◌∷◌, length, get_or, refl, sym, ap, subst, ◌∙◌, arith}
 use Rattle.std.specs.Prelude.{slice_set, Result, Ok}
 use Rattle.std.proofs.lemmas.Bool.{both_ways}
 use Rattle.std.proofs.lemmas.List.{get_or-set_same, get_or-set_other}
@@ -53,7 +53,7 @@ closed_log got ended roamer wrote stood now unfaulted marked =
 -- the log of messages, a clock and a batch, with what its close marks say of their writers
 abbrev pub MarkedLog : (ℕ → Type 0) → List ℕ → List (List Call) → List Message × Clock × ℕ → Type 0
 MarkedLog Says bytes taken (messages, clock, batch) =
-    (log : LogOf bytes taken messages clock batch) × ((writer : ℕ) → IsClosed writer log.blocks → Says writer)
+    (log : LogOf bytes taken messages 1 (clock ∷ []) batch) × ((writer : ℕ) → IsClosed writer log.blocks → Says writer)
 
 -- the log of other messages, of another clock and batch, which are the same
 pub same_marked_log : (Says : ℕ → Type 0) (bytes : List ℕ) (taken : List (List Call)) (messages names : List Message) (clock watch : Clock) (batch size : ℕ) → messages ≡ names → clock ≡ watch → batch ≡ size

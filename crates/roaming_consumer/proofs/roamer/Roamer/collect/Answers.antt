@@ -1,7 +1,7 @@
 use Rattle.std.proofs.Common.{◌≡◌, ◌-◌, ℕ, List, length, drop, refl, sym, subst, rules, arith}
 use Rattle.std.proofs.lemmas.List.{take_at}
 use Rattle.std.proofs.lemmas.Option.{slice_get_read}
-use Rattle.checkpoint_io.specs.declared.heads.TheConstants.{MAX_BODY}
+use Rattle.checkpoint_io.specs.declared.version.TheConstants.{MAX_BODY}
 use Rattle.roaming_consumer.specs.Gathering.{DraftsFrames, StopsTaking}
 use Rattle.roaming_consumer.specs.Roamers.{roamer_messages, roamer_clock, roamer_batch}
 use Rattle.roaming_consumer.proofs.roamer.Roamer.collect.Goals as goal

@@ -1,5 +1,5 @@
 use Rattle.std.proofs.Common.{ℕ, refl, sym, subst}
-use Rattle.checkpoint_io.specs.declared.heads.TheConstants.{MAX_BODY}
+use Rattle.checkpoint_io.specs.declared.version.TheConstants.{MAX_BODY}
 use Rattle.roaming_consumer.specs.Gathering.{StopsTaking}
 use Rattle.roaming_consumer.specs.Roamers.{roamer_batch}
 use Rattle.roaming_consumer.proofs.Additions.{threw}
