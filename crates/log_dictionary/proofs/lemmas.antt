@@ -1,6 +1,7 @@
 pub mod Appending
 pub mod BinaryLaws
 pub mod BinaryWorked
+pub mod ClockLists
 pub mod Distinct
 pub mod FieldLemmas
 pub mod LineLaws

@@ -1,5 +1,6 @@
 pub mod Severities
 pub mod Times
+pub mod Clocks
 pub mod Texts
 pub mod TextRuns
 pub mod Numbers

@@ -7,6 +7,8 @@ ghost use Rattle.std.specs.Fmt.{decimal, signed_decimal};
 ghost use Rattle.nibble_pack.specs.Bytes.{AreBytes};
 ghost use Rattle.log_dictionary.specs.declared.binary_entry.EntryCause.{EntryCause as NoEntry};
 ghost use Rattle.log_dictionary.specs.declared.clock.Clock.{Clock};
+ghost use Rattle.log_dictionary.specs.declared.clocks.ClockFault.{ClockFault as NoClock};
+ghost use Rattle.log_dictionary.specs.Clocks.{StopsClock};
 ghost use Rattle.log_dictionary.specs.declared.message.Message.{Message};
 ghost use Rattle.log_dictionary.specs.Additions.{ReadsLine};
 ghost use Rattle.log_dictionary.specs.Severities.{severity_name, severity_number};
@@ -22,6 +24,7 @@ ghost use Rattle.log_dictionary.specs.Times.{Time};
 
 use crate::binary_entry::EntryCause;
 use crate::clock::Clock;
+use crate::clocks::{ClockFault, Clocks};
 use crate::dictionary::{Dictionary, LineFault};
 use crate::message::Message;
 use crate::numbers::Integer;
@@ -192,11 +195,30 @@ pub fn later_clocks_count_from_their_ticks()
         → Time (clocks ++ clock ∷ []) stamp ≡ clock.nanos + (stamp - clock.tick) * 1000000000 / clock.rate }
 {}
 
+/// Worked clocks that aren't added: at the tick of the last one, and with no rate. Of the two causes the first counts.
+pub fn worked_clocks()
+    ensures same_tick { StopsClock (row_clock ∷ []) row_clock ClockFault.Order }
+    ensures no_rate { StopsClock (row_clock ∷ []) (record { tick = 1001; nanos = 0; rate = 0 }) ClockFault.Rate }
+    ensures both { StopsClock (row_clock ∷ []) (record { tick = 1000; nanos = 0; rate = 0 }) ClockFault.Order }
+    ensures none { (fault : NoClock) → ¬ (StopsClock (row_clock ∷ []) later_clock fault) }
+{}
+
+/// There are too many clocks with 256, whatever clock is to follow, and no sooner. One cause counts.
+pub fn worked_clock_limits()
+    ensures full { (clocks : List Clock) (clock : Clock) → length clocks ≡ 256
+        → StopsClock clocks clock ClockFault.TooMany }
+    ensures room { (clocks : List Clock) (clock : Clock) → length clocks ≡ 255
+        → ¬ (StopsClock clocks clock ClockFault.TooMany) }
+    ensures one_cause { (clocks : List Clock) (clock : Clock) (fault other : NoClock)
+        → StopsClock clocks clock fault → StopsClock clocks clock other → fault ≡ other }
+{}
+
 /// What a program logs with goes from thread to thread, and threads share it.
 pub fn threads() {
     crosses_threads::<Message>();
     crosses_threads::<Dictionary>();
     crosses_threads::<Clock>();
+    crosses_threads::<Clocks>();
     crosses_threads::<Severity>();
 }
 

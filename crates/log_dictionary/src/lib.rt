@@ -3,6 +3,7 @@
 
 mod binary_entry;
 mod clock;
+mod clocks;
 mod dictionary;
 mod fields;
 mod formats;
@@ -17,6 +18,7 @@ mod writing;
 
 pub use binary_entry::{EntryFault, MAX_ENTRY, entry_len, put, put_entry, read_entry};
 pub use clock::Clock;
+pub use clocks::{ClockFault, Clocks, MAX_CLOCKS};
 pub use dictionary::{AddFault, Added, Dictionary, LineFault, MAX_MESSAGES};
 pub use fields::{ends_field, first_field, split_at_byte};
 pub use message::{MAX_FILE_NAME, Message};
