@@ -8,11 +8,15 @@ use Rattle.std.proofs.lemmas.Option.{slice_get_within, get_or_from_slice_get}
 use Rattle.log_dictionary.specs.declared.message.Message.{Message}
 use Rattle.log_dictionary.specs.BinaryEntries.{entry_bytes}
 use Rattle.arg_records.specs.declared.call.Call.{Call}
+use Rattle.checkpoint_io.specs.declared.header.Header.{Header}
+use Rattle.checkpoint_io.specs.Versions.{extent_head_len}
 use Rattle.checkpoint_io.specs.Blocks.{Block, Fragment, Extent, Close, SpellsEntries, SpellsBlocks, fragment_head_bytes, extent_head_bytes}
 use Rattle.checkpoint_io.specs.Logs.{AreFragments}
-use Rattle.checkpoint_io.proofs.lemmas.BlockLaws.{le_length}
+use Rattle.checkpoint_io.proofs.lemmas.BlockLaws.{le_length, length-extent_head_bytes}
+use Rattle.checkpoint_io.specs.declared.heads.TheConstants.{FRAGMENT_HEAD_LEN}
+use Rattle.roaming_consumer.specs.declared.roamer.Roamer.{Roamer}
+use Rattle.roaming_consumer.specs.Roamers.{roamer_messages, roamer_progress, roamer_header}
 use Rattle.roaming_consumer.specs.Visits.{AreBytesFor}
-use Rattle.checkpoint_io.specs.declared.heads.TheConstants.{FRAGMENT_HEAD_LEN, EXTENT_HEAD_LEN}
 use Rattle.log_ends.specs.Rooms.{definitions_len, visit_len}
 
 sum_at : {A : Type 0} (f : A → ℕ) (xs : List A) (i : ℕ) (x : A) → slice_get xs i ≡ Some x → sum_by f (take (i + 1) xs) ≡ sum_by f (take i xs) + f x
@@ -47,17 +51,18 @@ definitions_append front back messages joined = ap definitions_len joined ∙ su
 head_long : (first count : ℕ) (entries : List ℕ) → length (fragment_head_bytes first count ++ entries) ≡ FRAGMENT_HEAD_LEN + length entries
 head_long first count entries = simp length-append (omega (arith, le_length 4 first, le_length 2 count))
 
-extent_long : (writer : ℕ) (body : List ℕ) → length (extent_head_bytes writer (length body) ++ body) ≡ EXTENT_HEAD_LEN + length body
-extent_long writer body = simp length-append (omega (arith, le_length 4 (length body)))
+extent_long : (version writer : ℕ) (body : List ℕ) → length (extent_head_bytes version writer (length body) ++ body) ≡ extent_head_len version + length body
+extent_long version writer body =
+    length-append (extent_head_bytes version writer (length body)) body ∙ ap (λ (n : ℕ). n + length body) (length-extent_head_bytes version writer (length body))
 
-fragments_fit : (first tick : ℕ) (messages : List Message) (before blocks : List Block) (bytes : List ℕ) → AreFragments first messages blocks → SpellsBlocks tick before blocks bytes → length bytes ≤ definitions_len messages
-fragments_fit first tick messages before [] bytes are spelled = omega (arith, ap length spelled)
-fragments_fit first tick messages before (Fragment id front ∷ blocks) bytes (back, id_is, parted, full, others) (one, more, joined, fragment, rest) =
+fragments_fit : (first : ℕ) (header : Header) (messages : List Message) (before blocks : List Block) (bytes : List ℕ) → AreFragments first messages blocks → SpellsBlocks header before blocks bytes → length bytes ≤ definitions_len messages
+fragments_fit first header messages before [] bytes are spelled = omega (arith, ap length spelled)
+fragments_fit first header messages before (Fragment id front ∷ blocks) bytes (back, id_is, parted, full, others) (one, more, joined, fragment, rest) =
     let here = entries_and_head_fit front fragment.entries fragment.some fragment.entries_spelled in
-    let there = fragments_fit (first + length front) tick back (before ++ Fragment id front ∷ []) blocks more others rest in
+    let there = fragments_fit (first + length front) header back (before ++ Fragment id front ∷ []) blocks more others rest in
     omega (arith, ap length joined, length-append one more, ap length fragment.joined, head_long id (length front) fragment.entries, definitions_append front back messages parted, here, there)
-fragments_fit first tick messages before (Extent writer entries ∷ blocks) bytes are spelled = absurd are
-fragments_fit first tick messages before (Close writer ∷ blocks) bytes are spelled = absurd are
+fragments_fit first header messages before (Extent writer entries ∷ blocks) bytes are spelled = absurd are
+fragments_fit first header messages before (Close writer ∷ blocks) bytes are spelled = absurd are
 
 part_fits : (messages : List Message) (n m : ℕ) → definitions_len (drop n (take m messages)) ≤ definitions_len messages
 unfolding definitions_len
@@ -66,11 +71,16 @@ part_fits messages n m =
     omega (arith, sum_by-take-le f messages m, sum_by-take-drop f (take m messages) n)
 
 -- what a visit was to write
-pub visit_fits : (messages : List Message) (tick defined writer : ℕ) (entries : List Call) (bytes : List ℕ) → AreBytesFor messages tick defined writer entries bytes → length bytes ≤ visit_len messages
-visit_fits messages tick defined writer entries bytes are =
-    let fragments = fragments_fit defined tick _ [] are.spelled.blocks are.fragments are.spelled.are (are.spelled.spelled tick []) in
+pub visit_fits : {S : Type 0} (roamer : Roamer S) (writer : ℕ) (entries : List Call) (bytes : List ℕ) → AreBytesFor (roamer_messages roamer) (roamer_header roamer) (roamer_progress roamer).defined writer entries bytes → length bytes ≤ visit_len (roamer_messages roamer)
+visit_fits roamer writer entries bytes are =
+    let messages = roamer_messages roamer in
+    let defined = (roamer_progress roamer).defined in
+    let fragments = fragments_fit defined (roamer_header roamer) _ [] are.spelled.blocks are.fragments are.spelled.are (are.spelled.spelled (roamer_header roamer) []) in
     let part = part_fits messages defined are.up_to in
     elim are.behind [
       | inl none ↦ omega (arith, ap length are.joined, length-append are.fragments are.extent, ap length none, fragments, part)
-      | inr extent ↦ omega (arith, ap length are.joined, length-append are.fragments are.extent, ap length extent.1.joined, extent_long writer extent.1.body, extent.1.short, fragments, part)
+      | inr extent ↦
+          let short : length extent.1.body ≤ 65536 = extent.1.short in
+          let long : length are.extent ≡ 6 + length extent.1.body = ap length extent.1.joined ∙ extent_long 1 writer extent.1.body in
+          omega (arith, ap length are.joined, length-append are.fragments are.extent, long, short, fragments, part)
     ]

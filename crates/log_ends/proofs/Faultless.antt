@@ -1,5 +1,5 @@
 -- No visit finds too little room.
-use Rattle.std.proofs.Common.{◌≡◌, ℕ, ◌<◌, ◌≤◌, true, false, List, [], ◌++◌, length, take, Some, ap, ◌∙◌, inl, inr, length-drop, arith}
+use Rattle.std.proofs.Common.{◌≡◌, ℕ, suc, ◌<◌, ◌≤◌, true, false, List, [], ◌++◌, length, take, Some, ap, ◌∙◌, inl, inr, length-drop, arith}
 use Rattle.std.specs.Prelude.{Result, Ok, Err, OnOk, OnErr}
 use Rattle.std.specs.Result.{is_err}
 use Rattle.std.proofs.lemmas.List.{length-append, length-take}
@@ -9,7 +9,7 @@ use Rattle.nl_io.specs.Content.{PutsFront}
 use Rattle.word_ring.specs.Ends.{WordRoamerEnd}
 use Rattle.checkpoint_io.specs.declared.header.Header.{Header}
 use Rattle.checkpoint_io.specs.Blocks.{header_bytes, close_bytes}
-use Rattle.checkpoint_io.proofs.lemmas.BlockLaws.{length-header_bytes}
+use Rattle.checkpoint_io.proofs.lemmas.BlockLaws.{le_length, length-header_bytes}
 use Rattle.roaming_consumer.specs.declared.roamer.Roamer.{Roamer}
 use Rattle.roaming_consumer.specs.declared.visit.Visit.{Visit}
 use Rattle.roaming_consumer.specs.declared.visit.SinkFault.{SinkFault}
@@ -18,7 +18,7 @@ use Rattle.roaming_consumer.specs.Sinks.{Sends}
 use Rattle.roaming_consumer.specs.Visits.{VisitStops}
 use Rattle.log_ends.specs.declared.backlog.Backlog.{Backlog}
 use Rattle.log_ends.specs.Backlogs.{held_back, room_len, IsSameRoom}
-use Rattle.checkpoint_io.specs.declared.heads.TheConstants.{HEADER_LEN}
+use Rattle.checkpoint_io.specs.Versions.{header_len}
 use Rattle.log_ends.specs.Rooms.{visit_len}
 use Rattle.log_ends.proofs.Bounds.{visit_fits}
 use Rattle.log_ends.proofs.Backs.{all_given}
@@ -51,9 +51,11 @@ visit_succeeds old new backlog backlog_after writer (Ok visit) none unrefused ro
 visit_succeeds old new backlog backlog_after writer (Err fault) none unrefused roomy same rose stops =
     elim stops.step [
       | inl extent ↦
-          let few = visit_fits _ _ _ _ _ extent.bytes extent.are in
+          let few = visit_fits old _ _ extent.bytes extent.are in
           roomy_puts extent.bytes backlog backlog_after none unrefused same extent.puts (omega (arith, few, roomy)) rose
-      | inr mark ↦ roomy_puts (close_bytes writer) backlog backlog_after none unrefused same mark.puts (omega (arith, roomy)) rose
+      | inr mark ↦
+          let long : length (close_bytes 1 writer) ≡ 2 = ap suc (le_length 1 writer) in
+          roomy_puts (close_bytes 1 writer) backlog backlog_after none unrefused same mark.puts (omega (arith, long, roomy)) rose
     ]
 
 pub stays_unfaulted : (old new : Roamer WordRoamerEnd) (outcome : Result Visit SinkFault) → OnErr outcome ⊥ → OnOk outcome (is_faulted new ≡ is_faulted old) → is_faulted old ≡ false → is_faulted new ≡ false
@@ -65,7 +67,7 @@ stays_unrefused backlog backlog_after (Ok visit) never same before = same ∙ be
 stays_unrefused backlog backlog_after (Err fault) never same before = absurd never
 
 -- nor does the header
-pub header_succeeds : (backlog backlog_after : Backlog) (header : Header) (outcome : Result (Unit {0}) SinkFault) → held_back backlog ≡ [] → backlog.refused ≡ 0 → HEADER_LEN < room_len backlog → IsSameRoom backlog backlog_after
+pub header_succeeds : (backlog backlog_after : Backlog) (header : Header) (outcome : Result (Unit {0}) SinkFault) → held_back backlog ≡ [] → backlog.refused ≡ 0 → header_len header.version < room_len backlog → IsSameRoom backlog backlog_after
     → Sends outcome (header_bytes header) (Some (held_back backlog)) (Some (held_back backlog_after)) backlog.refused backlog_after.refused
     → OnErr outcome ⊥
 header_succeeds backlog backlog_after header (Ok done) none unrefused roomy same sends = tt

@@ -2,7 +2,9 @@
 use Rattle.std.specs.Prelude.{ℕ, ◌+◌, List, length, sum_by}
 use Rattle.log_dictionary.specs.declared.message.Message.{Message}
 use Rattle.log_dictionary.specs.BinaryEntries.{entry_bytes}
-use Rattle.checkpoint_io.specs.declared.heads.TheConstants.{MAX_BODY, FRAGMENT_HEAD_LEN, EXTENT_HEAD_LEN}
+use Rattle.checkpoint_io.specs.declared.heads.TheConstants.{FRAGMENT_HEAD_LEN}
+use Rattle.checkpoint_io.specs.declared.version.TheConstants.{MAX_BODY}
+use Rattle.checkpoint_io.specs.Versions.{extent_head_len}
 
 -- the bytes of the messages' entries, each in a fragment of its own
 unfoldable pub definitions_len : List Message → ℕ
@@ -10,4 +12,4 @@ definitions_len messages = sum_by (λ message. FRAGMENT_HEAD_LEN + length (entry
 
 -- the most bytes that one visit gives: the fragments of all messages, and an extent
 abbrev pub visit_len : List Message → ℕ
-visit_len messages = definitions_len messages + EXTENT_HEAD_LEN + MAX_BODY
+visit_len messages = definitions_len messages + extent_head_len 1 + MAX_BODY

@@ -1,11 +1,11 @@
-use Rattle.std.proofs.Common.{refl, arith}
+use Rattle.std.proofs.Common.{arith}
 use Rattle.log_ends.specs.Rooms.{definitions_len}
 use Rattle.log_ends.proofs.Bounds.{one_more_definition}
 use Rattle.log_ends.proofs.rooms.room_of.Goals as goal
 
 pub loop-id-init : goal.loop-id-init
 unfolding definitions_len
-loop-id-init c = record { summed = refl; bounded = omega arith }
+loop-id-init c = record { summed = omega (arith, c.extent_head_len.ensures, c.header_len.ensures); bounded = omega (arith, c.extent_head_len.ensures, c.header_len.ensures) }
 
 pub loop-id-preserved : goal.loop-id-preserved
 loop-id-preserved c =
