@@ -127,7 +127,7 @@ frames_counted got (d ∷ left) (calls ∷ taken) same =
 
 -- the log of calls, of a dictionary, a clock and a batch, with a close mark of each writer
 abbrev LogWith : List ℕ → List (List Call) × List Message × Clock × ℕ → Type 0
-LogWith bytes (taken, messages, clock, batch) = (log : LogOf bytes taken messages clock batch) × ((writer : ℕ) → writer < length taken → IsClosed writer log.blocks)
+LogWith bytes (taken, messages, clock, batch) = (log : LogOf bytes taken messages 1 (clock ∷ []) batch) × ((writer : ℕ) → writer < length taken → IsClosed writer log.blocks)
 
 pub whole_log : {S O D : Type 0} (sent : S → List (List ℕ)) (closed : S → Bool) (got : O → List (List ℕ)) (ended : O → Bool) (pair : O → List ℕ) (plan : O → Plan) (sent_left got_left : D → List (List ℕ)) (closed_left ended_left : D → Bool)
     (run : Recording) (options : Options) (works : List Work) (old new : Roamer O) (put put_after : Told) (faults faults_after : ℕ) (bytes : List ℕ) (writers : List (WriterView S)) (left : List D) (taken : List (List Call))
