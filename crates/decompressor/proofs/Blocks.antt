@@ -11,7 +11,7 @@ use Rattle.checkpoint_io.proofs.lemmas.ValidityLaws.{records-push, AreRightAfter
 use Rattle.stamp_merge.specs.declared.merger.ListState.{ListState}
 use Rattle.direct_printf.specs.Lines.{in_order}
 use Rattle.decompressor.specs.Settling.{closed_by, settled_calls}
-use Rattle.decompressor.specs.Waiting.{HasHeads, MayStillCome, closed_behind, TakesRecords}
+use Rattle.decompressor.specs.Waiting.{records_at, HasHeads, MayStillCome, closed_behind, TakesRecords}
 use Rattle.decompressor.specs.Decompressors.{PrinterState, count_of, no_more_come, HasToPrint, HasTaken, HasLast}
 use Rattle.decompressor.proofs.WriterLists.{own}
 use Rattle.decompressor.proofs.Printed.{settled_printed}
@@ -40,34 +40,38 @@ or_nothing : (b : Bool) → (b || false) ≡ b
 or_nothing true = refl
 or_nothing false = refl
 
-module _ (state : PrinterState) (first : List Block) (block : Block) (read : HasTaken state first block) where
+module _ {state : PrinterState} {first : List Block} {block : Block} (read : HasTaken state first block) where
   abbrev header : Header
   header = state.reader.header
 
   abbrev all : List Block
   all = first ++ block ∷ []
 
-  pub come : MayStillCome (closed_by first) (length state.waiting) block
-  come w of =
-      let both = may_come header first block (AreRightAfter-split header [] first (block ∷ []) read.valid.blocks_right).1.0 w of in
-      (omega (arith, both.0, read.are_waiting.count), both.1)
+  -- the block may be added to what waits
+  pub may_add : {waiting : List (List Call)} → waiting ≡ state.waiting → MayStillCome (closed_by first) (length waiting) block × HasHeads (closed_by first) state.lists waiting
+  may_add same = (
+    λ w of.
+        let both = may_come header first block (AreRightAfter-split header [] first (block ∷ []) read.valid.blocks_right).1.0 w of in
+        (omega (arith, both.0, read.are_waiting.count, ap length same), both.1),
+    subst (HasHeads (closed_by first) state.lists) (sym same) read.heads,
+  )
 
   -- ---- what is ready to be printed
 
-  module _ (changed : List (List Call)) (new : List ListState) (took : TakesRecords (closed_by first) block state.waiting changed new) where
-    few_printed : (w : ℕ) → count_of w (in_order (settled_calls header first)) ≤ length (records_of w first)
-    few_printed w =
-        let was : Valid header first = front_valid header first (block ∷ []) read.valid in
-        let settled = settled_printed header first (has_calls header first was) in
-        omega (
-          arith,
-          ap length (settled.whole w),
-          length-append (own w (in_order (settled_calls header first))) (settled.rest w),
-          no_more_calls header first was w,
-        )
+  few_printed : (w : ℕ) → count_of w (in_order (settled_calls header first)) ≤ length (records_of w first)
+  few_printed w =
+      let was : Valid header first = front_valid header first (block ∷ []) read.valid in
+      let settled = settled_printed header first (has_calls header first was) in
+      omega (
+        arith,
+        ap length (settled.whole w),
+        length-append (own w (in_order (settled_calls header first))) (settled.rest w),
+        no_more_calls header first was w,
+      )
 
-    pub ready : HasToPrint false state.reader first all changed new
-    ready = record {
+  module _ {waiting changed shown : List (List Call)} {new : List ListState} (same : waiting ≡ state.waiting) (is : shown ≡ changed) (took : TakesRecords (closed_by first) block waiting changed new) where
+    pub ready : HasToPrint false state.reader first all shown new
+    ready = subst (λ (w : List (List Call)). HasToPrint false state.reader first all w new) (sym is) (record {
       more = block ∷ [];
       joined = refl;
       valid = read.valid;
@@ -76,23 +80,23 @@ module _ (state : PrinterState) (first : List Block) (block : Block) (read : Has
       known = read.known ∙ sym (append-nil (messages_of all));
       closed = read.closed;
       are_waiting = record {
-        count = took.count ∙ read.are_waiting.count;
+        count = took.count ∙ ap length same ∙ read.are_waiting.count;
         each = λ w known.
             let n = count_of w (in_order (settled_calls header first)) in
             took.waiting w
-            ∙ ap (λ (entries : List Call). entries ++ block_records w block) (read.are_waiting.each w known)
+            ∙ ap (λ (entries : List Call). entries ++ block_records w block) (ap (λ (ws : List (List Call)). records_at ws w) same ∙ read.are_waiting.each w known)
             ∙ sym (drop-append-le n (records_of w first) (block_records w block) (few_printed w))
             ∙ ap (drop n) (sym (records-push w first block));
       };
       heads = heads_by (closed_behind (closed_by first) block) new changed took.heads (no_more_come false all)
           (λ w known. sym (list_any-append (closes w) first (block ∷ []) ∙ ap (λ (b : Bool). closed_by first w || b) (or_nothing (closes w block))));
-    }
+    })
 
 -- ---- nothing more comes
 
-module _ (state : PrinterState) (blocks : List Block) (last : HasLast state blocks) where
-  pub all_ready_now : (new : List ListState) → HasHeads (λ writer. true) new state.waiting → HasToPrint true state.reader blocks blocks state.waiting new
-  all_ready_now new heads = record {
+module _ {state : PrinterState} {blocks : List Block} (last : HasLast state blocks) where
+  pub all_ready_now : {new : List ListState} → HasHeads (λ writer. true) new state.waiting → HasToPrint true state.reader blocks blocks state.waiting new
+  all_ready_now heads = record {
     more = [];
     joined = sym (append-nil blocks);
     valid = last.valid;

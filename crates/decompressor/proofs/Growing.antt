@@ -3,7 +3,6 @@ use Rattle.std.proofs.Common.{◌≡◌, ℕ, true, List, [], ◌∷◌, ◌++�
 use Rattle.std.specs.List.{AllByRecursion, flat_map, list_all}
 use Rattle.std.proofs.lemmas.List.{append-nil}
 use Rattle.std.proofs.lemmas.Grind.{flat_map-append}
-use Rattle.log_dictionary.specs.declared.clock.Clock.{Clock}
 use Rattle.log_dictionary.specs.Calls.{LogCall}
 use Rattle.checkpoint_io.specs.declared.header.Header.{Header}
 use Rattle.checkpoint_io.specs.Blocks.{Block}
@@ -12,8 +11,8 @@ use Rattle.checkpoint_io.proofs.lemmas.ValidityLaws.{AreRightAfter-split}
 use Rattle.stamp_merge.proofs.lemmas.Ordering.{NoneBefore, IsRising}
 use Rattle.direct_printf.specs.Lines.{call_before, in_order, Line, Direct}
 use Rattle.direct_printf.proofs.lemmas.Sorting.{call_order}
-use Rattle.decompressor.specs.Decompression.{CallsOf, all_calls}
-use Rattle.decompressor.specs.Settling.{open_writers, reaches, closed_by, is_settled, settled_calls}
+use Rattle.decompressor.specs.Decompression.{CallsOf, all_calls, clock_of, lines_of, whole_text}
+use Rattle.decompressor.specs.Settling.{open_writers, reaches, closed_by, is_settled, settled_calls, settled_text}
 use Rattle.decompressor.proofs.Rising.{all_both, all_second, all_so, all_as, all_pass, rising_both, rising_second, rising_across}
 use Rattle.decompressor.proofs.WriterLists.{own}
 use Rattle.decompressor.proofs.Settled.{reaches_more, behind_reached, IsReached, settled_if, reached_if}
@@ -88,13 +87,17 @@ module _ (header : Header) where
 
   -- ---- the lines
 
-  pub text_is : (clock : Clock) (calls : List LogCall) → Direct clock calls ≡ flat_map (Line clock) (in_order calls)
+  -- the lines of calls, one after the other
+  abbrev pub in_turn : List Block → List LogCall → List ℕ
+  in_turn blocks calls = flat_map (Line (clock_of header blocks)) calls
+
+  pub text_is : (blocks : List Block) (calls : List LogCall) → lines_of header blocks calls ≡ in_turn blocks (in_order calls)
   unfolding Direct
-  text_is clock calls = refl
+  text_is blocks calls = refl
 
   -- calls that go on in order are printed so
-  pub lines_go_on : (clock : Clock) (calls printed more : List LogCall) → in_order calls ≡ printed ++ more → Direct clock calls ≡ flat_map (Line clock) printed ++ flat_map (Line clock) more
-  lines_go_on clock calls printed more joined = text_is clock calls ∙ ap (flat_map (Line clock)) joined ∙ flat_map-append (Line clock) printed more
+  pub lines_go_on : (blocks : List Block) (calls printed more : List LogCall) → in_order calls ≡ printed ++ more → lines_of header blocks calls ≡ in_turn blocks printed ++ in_turn blocks more
+  lines_go_on blocks calls printed more joined = text_is blocks calls ∙ ap (in_turn blocks) joined ∙ flat_map-append (Line (clock_of header blocks)) printed more
 
   -- ---- lines that are settled stay
 
@@ -108,19 +111,19 @@ module _ (header : Header) where
     settled_there : IsPrinted header longer (closed_by longer) settled
     settled_there = printed_on blocks more settled valid (settled_printed header blocks (has_calls header blocks (front_valid header blocks more valid)))
 
-    lines_first : (calls others : List LogCall) → in_order calls ≡ settled ++ others → (rest : List ℕ) × (Direct header.clock calls ≡ Direct header.clock (settled_calls header blocks) ++ rest)
+    lines_first : (calls others : List LogCall) → in_order calls ≡ settled ++ others → (rest : List ℕ) × (lines_of header longer calls ≡ settled_text header blocks ++ rest)
     lines_first calls others joined =
-        let rest = flat_map (Line header.clock) others in
-        (rest, lines_go_on header.clock calls settled others joined ∙ ap (λ (text : List ℕ). text ++ rest) (sym (text_is header.clock (settled_calls header blocks))))
+        let rest = in_turn longer others in
+        (rest, lines_go_on longer calls settled others joined ∙ ap (λ (text : List ℕ). text ++ rest) (sym (text_is blocks (settled_calls header blocks))))
 
     -- the lines of any longer log begin with theirs
-    pub settled_first : (rest : List ℕ) × (Direct header.clock (all_calls header (blocks ++ more)) ≡ Direct header.clock (settled_calls header blocks) ++ rest)
+    pub settled_first : (rest : List ℕ) × (whole_text header (blocks ++ more) ≡ settled_text header blocks ++ rest)
     settled_first =
         let has = has_calls header longer valid in
         lines_first (all_calls header longer) (later header longer has (closed_by longer) settled settled_there) (goes_on header longer has (closed_by longer) settled settled_there)
 
     -- so do those that are settled by it
-    pub settled_more : (rest : List ℕ) × (Direct header.clock (settled_calls header (blocks ++ more)) ≡ Direct header.clock (settled_calls header blocks) ++ rest)
+    pub settled_more : (rest : List ℕ) × (settled_text header (blocks ++ more) ≡ settled_text header blocks ++ rest)
     settled_more =
         let has = has_calls header longer valid in
         lines_first (settled_calls header longer) (settled_later header longer has (closed_by longer) settled settled_there refl) (settled_go_on header longer has (closed_by longer) settled settled_there refl)

@@ -1,9 +1,9 @@
 -- The text of records that are printed one after the other.
 use Rattle.std.proofs.Common.{◌≡◌, ◌≢◌, ℕ, ◌+◌, ◌<◌, ◌≤◌, Bool, true, false, Some, List, [], ◌∷◌, ◌++◌, length, drop, Result, Ok, Err, refl, ap, sym, subst, ◌∙◌, append_assoc, arith}
-use Rattle.std.specs.Prelude.{slice_get, slice_set, sum_by}
-use Rattle.std.specs.List.{AllByRecursion, flat_map}
+use Rattle.std.specs.Prelude.{slice_get, slice_set, get_or, position, All, sum_by}
+use Rattle.std.specs.List.{AllByRecursion}
 use Rattle.std.specs.Result.{IsErrAnd}
-use Rattle.std.proofs.lemmas.List.{append-nil, length-append}
+use Rattle.std.proofs.lemmas.List.{append-nil, length-append, get_or_default}
 use Rattle.std.proofs.lemmas.List.Sorted.{length_permutation}
 use Rattle.std.proofs.lemmas.Grind.{flat_map-append}
 use Rattle.nl_io.specs.Content.{Told, with_end}
@@ -18,16 +18,18 @@ use Rattle.checkpoint_io.specs.Blocks.{Block, messages_of}
 use Rattle.checkpoint_io.specs.Validity.{Valid}
 use Rattle.checkpoint_io.specs.Readers.{ReaderState}
 use Rattle.stamp_merge.specs.declared.merger.ListState.{ListState}
+use Rattle.stamp_merge.specs.declared.merger.Next.{Next}
+use Rattle.stamp_merge.specs.declared.merger.Next.TheVariants.{Take, Want, Done}
 use Rattle.stamp_merge.specs.Merging.{merge_order}
-use Rattle.stamp_merge.specs.Mergers.{list_at, wants, NoneWants, heads_of, without_head}
-use Rattle.direct_printf.specs.Lines.{in_order, Line, Direct}
+use Rattle.stamp_merge.specs.Mergers.{list_at, wants, NoneWants, IsSpent, heads_of, without_head}
+use Rattle.direct_printf.specs.Lines.{in_order, Line}
 use Rattle.direct_printf.proofs.lemmas.Sorting.{in_order-permutation}
 use Rattle.decompressor.specs.declared.fault.DecodeFault.{DecodeFault}
 use Rattle.decompressor.specs.declared.fault.DecodeFault.TheVariants.{WriteFault, NoMemory}
-use Rattle.decompressor.specs.Decompression.{all_calls}
-use Rattle.decompressor.specs.Settling.{closed_by, settled_calls}
-use Rattle.decompressor.specs.Waiting.{list_of, records_at}
-use Rattle.decompressor.specs.Decompressors.{AreWaiting, no_more_come, ready_calls, HasToPrint, HasMore, CutsMore, PrintsReady}
+use Rattle.decompressor.specs.Decompression.{all_calls, clock_of}
+use Rattle.decompressor.specs.Settling.{closed_by, settled_calls, settled_text}
+use Rattle.decompressor.specs.Waiting.{list_of}
+use Rattle.decompressor.specs.Decompressors.{AreWaiting, no_more_come, ready_calls, ready_text, HasToPrint, HasMore, CutsMore, PrintsReady}
 use Rattle.decompressor.specs.Printing.{CutsText}
 use Rattle.decompressor.proofs.RecordCalls.{IsCallOf, line_is}
 use Rattle.decompressor.proofs.Rising.{all_as}
@@ -35,8 +37,8 @@ use Rattle.decompressor.proofs.WriterLists.{IsOf}
 use Rattle.decompressor.proofs.Settled.{IsReached}
 use Rattle.decompressor.proofs.Printed.{HasCalls, IsPrinted, rest_mine, settled_later, settled_go_on, later, goes_on, settled_printed}
 use Rattle.decompressor.proofs.Calls.{has_calls}
-use Rattle.decompressor.proofs.Growing.{printed_on, front_valid, text_is, lines_go_on}
-use Rattle.decompressor.proofs.Turns.{IsAt, calls_there, Takes, takes, taken, wishes, fewer, more_is, either_false}
+use Rattle.decompressor.proofs.Growing.{printed_on, front_valid, in_turn, text_is, lines_go_on}
+use Rattle.decompressor.proofs.Turns.{IsAt, calls_there, Takes, takes, taken, wishes, fewer, more_is, either_false, all_ready}
 
 many : (calls : List LogCall) → length (in_order calls) ≡ length calls
 many calls = sym (length_permutation (in_order calls) calls (in_order-permutation calls))
@@ -61,11 +63,11 @@ pub record HasLines (ended : Bool) (header : Header) (first all : List Block) (v
   pub printed : List LogCall
   pub at : IsAt header all valid (no_more_come ended all) printed waiting lists
   pub text : List ℕ
-  pub joined : flat_map (Line header.clock) printed ≡ Direct header.clock (settled_calls header first) ++ text
+  pub joined : in_turn header all printed ≡ settled_text header first ++ text
   pub carries : Carries text was is held
   pub many : length (settled_calls header first) + lines ≡ length printed
 
-module _ (ended : Bool) (reader : ReaderState) (first all : List Block) (waiting : List (List Call)) (lists : List ListState) (ready : HasToPrint ended reader first all waiting lists) where
+module _ {ended : Bool} {reader : ReaderState} {first all : List Block} {waiting : List (List Call)} {lists : List ListState} (ready : HasToPrint ended reader first all waiting lists) where
   abbrev pub header : Header
   header = reader.header
 
@@ -76,26 +78,26 @@ module _ (ended : Bool) (reader : ReaderState) (first all : List Block) (waiting
       ended_more header all (closed_by all) (no_more_come ended all) (in_order (settled_calls header first)) (λ w is_open. (either_false ended (closed_by all w) is_open).1)
       (subst (λ (blocks : List Block). IsPrinted header blocks (closed_by blocks) (in_order (settled_calls header first))) (sym ready.joined) (printed_on header first ready.more (in_order (settled_calls header first)) valid settled))
 
-  pub begin_lines : (was : Told) (held : List ℕ) → Carries [] was was held → HasLines ended header first all ready.valid 0 was was held waiting lists
-  begin_lines was held carries = record {
+  pub begin_lines : {was : Told} {held : List ℕ} → Carries [] was was held → HasLines ended header first all ready.valid 0 was was held waiting lists
+  begin_lines carries = record {
     printed = in_order (settled_calls header first);
     at = record { is = begun; are_waiting = ready.are_waiting; heads = ready.heads };
     text = [];
-    joined = sym (text_is header header.clock (settled_calls header first)) ∙ sym (append-nil (Direct header.clock (settled_calls header first)));
+    joined = sym (text_is header first (settled_calls header first)) ∙ sym (append-nil (settled_text header first));
     carries = carries;
     many = omega (arith, many (settled_calls header first));
   }
 
   -- what stands behind the lines so far
-  pub lines_behind : (printed : List LogCall) (text : List ℕ) → IsPrinted header all (no_more_come ended all) printed → flat_map (Line header.clock) printed ≡ Direct header.clock (settled_calls header first) ++ text
-      → (rest : List ℕ) × (Direct header.clock (ready_calls ended header all) ≡ Direct header.clock (settled_calls header first) ++ (text ++ rest))
+  pub lines_behind : (printed : List LogCall) (text : List ℕ) → IsPrinted header all (no_more_come ended all) printed → in_turn header all printed ≡ settled_text header first ++ text
+      → (rest : List ℕ) × (ready_text ended header all ≡ settled_text header first ++ (text ++ rest))
   lines_behind printed text is joined =
       let more = ready_go_on ended header all printed (has_calls header all ready.valid) is in
-      let rest = flat_map (Line header.clock) more.0 in (
+      let rest = in_turn header all more.0 in (
         rest,
-        lines_go_on header header.clock (ready_calls ended header all) printed more.0 more.1
+        lines_go_on header all (ready_calls ended header all) printed more.0 more.1
             ∙ ap (λ (bytes : List ℕ). bytes ++ rest) joined
-            ∙ append_assoc (Direct header.clock (settled_calls header first)) text rest,
+            ∙ append_assoc (settled_text header first) text rest,
       )
 
   -- no more calls are printed than there are
@@ -113,7 +115,7 @@ module _ (ended : Bool) (reader : ReaderState) (first all : List Block) (waiting
 
   -- the printing was cut off
   pub cut_lines : (printed : List LogCall) (text : List ℕ) (was is : Told) (before after : ℕ) (fault : DecodeFault) (answer : Result ℕ DecodeFault) (changed : List (List Call)) (new : List ListState)
-      → IsErrAnd answer (λ e. e ≡ fault) → IsPrinted header all (no_more_come ended all) printed → flat_map (Line header.clock) printed ≡ Direct header.clock (settled_calls header first) ++ text
+      → IsErrAnd answer (λ e. e ≡ fault) → IsPrinted header all (no_more_come ended all) printed → in_turn header all printed ≡ settled_text header first ++ text
       → ((whole rest : List ℕ) → whole ≡ text ++ rest → CutsText whole was is before after fault) → PrintsReady ended header first all was is before after changed new answer
   cut_lines printed text was is before after fault (Ok lines) changed new same is_printed joined cut = absurd same
   cut_lines printed text was is before after fault (Err e) changed new same is_printed joined cut =
@@ -121,12 +123,12 @@ module _ (ended : Bool) (reader : ReaderState) (first all : List Block) (waiting
       subst (CutsMore ended header first all was is before after) (sym same) (record { rest = text ++ behind.0; joined = behind.1; cut = cut (text ++ behind.0) behind.0 refl })
 
   -- all that can be printed was
-  pub all_lines : (printed : List LogCall) (text : List ℕ) (lines : ℕ) (was is : Told) (changed : List (List Call)) (new : List ListState) → (at : IsAt header all ready.valid (no_more_come ended all) printed changed new) → flat_map (Line header.clock) printed ≡ Direct header.clock (settled_calls header first) ++ text
+  pub all_lines : (printed : List LogCall) (text : List ℕ) (lines : ℕ) (was is : Told) (changed : List (List Call)) (new : List ListState) → (at : IsAt header all ready.valid (no_more_come ended all) printed changed new) → in_turn header all printed ≡ settled_text header first ++ text
       → length (settled_calls header first) + lines ≡ length printed → printed ≡ in_order (ready_calls ended header all) → is ≡ with_end text was → HasMore ended header first all lines was is changed new
   all_lines printed text lines was is changed new at joined counted printed_are put = record {
     text = text;
     put = put;
-    joined = text_is header header.clock (ready_calls ended header all) ∙ ap (flat_map (Line header.clock)) (sym printed_are) ∙ joined;
+    joined = text_is header all (ready_calls ended header all) ∙ ap (in_turn header all) (sym printed_are) ∙ joined;
     lines_are = counted ∙ ap length printed_are ∙ many (ready_calls ended header all);
     are_waiting = subst (λ (calls : List LogCall). AreWaiting header all calls changed) printed_are at.are_waiting;
     heads = at.heads;
@@ -134,16 +136,16 @@ module _ (ended : Bool) (reader : ReaderState) (first all : List Block) (waiting
 
   -- ---- a turn
 
-  module _ (lines : ℕ) (was is : Told) (held : List ℕ) (now : List (List Call)) (heads : List ListState) (so_far : HasLines ended header first all ready.valid lines was is held now heads) (writer : ℕ)
-      (none : NoneWants heads) (least : slice_get (merge_order (heads_of heads)) 0 ≡ Some writer) where
+  module _ {lines : ℕ} {was is : Told} {held : List ℕ} {now : List (List Call)} {heads : List ListState} (so_far : HasLines ended header first all ready.valid lines was is held now heads) {writer : ℕ}
+      (top : NoneWants heads × (slice_get (merge_order (heads_of heads)) 0 ≡ Some writer)) where
     abbrev pub turn : Takes header all ready.valid (no_more_come ended all) so_far.printed now heads so_far.at writer
-    turn = takes header all ready.valid (no_more_come ended all) so_far.printed now heads so_far.at writer none least
+    turn = takes header all ready.valid (no_more_come ended all) so_far.printed now heads so_far.at writer top.0 top.1
 
     abbrev pub call : LogCall
     call = turn.first.call
 
     abbrev pub clock : Clock
-    clock = header.clock
+    clock = clock_of header all
 
     pub within : writer < length now
     within = omega (arith, turn.known, so_far.at.are_waiting.count)
@@ -153,22 +155,26 @@ module _ (ended : Bool) (reader : ReaderState) (first all : List Block) (waiting
     longer = so_far.printed ++ call ∷ []
 
     abbrev after_turn : (changed : List (List Call)) (new : List ListState) → changed ≡ slice_set now writer turn.entries → new ≡ slice_set (without_head heads writer) writer (list_of (no_more_come ended all writer) turn.entries) → IsAt header all ready.valid (no_more_come ended all) longer changed new
-    after_turn = taken header all ready.valid (no_more_come ended all) so_far.printed now heads so_far.at writer none least turn
+    after_turn = taken header all ready.valid (no_more_come ended all) so_far.printed now heads so_far.at writer top.0 top.1 turn
 
     pub longer_is : IsPrinted header all (no_more_come ended all) longer
     longer_is = (after_turn (slice_set now writer turn.entries) (slice_set (without_head heads writer) writer (list_of (no_more_come ended all writer) turn.entries)) refl refl).is
 
-    module _ (queue : List Call) (queue_is : queue ≡ records_at now writer) where
+    -- the writer's records, where an index is read with some default
+    module _ (default : List Call) where
+      abbrev queue : List Call
+      queue = get_or now writer default
+
       queue_at : queue ≡ turn.entry ∷ turn.entries
-      queue_at = queue_is ∙ turn.there
+      queue_at = get_or_default now writer default [] within ∙ turn.there
 
       pub some_first : queue ≢ []
       some_first empty = let wrong = sym queue_at ∙ empty in cc
 
-      pub rest_is : drop 1 queue ≡ turn.entries
+      rest_is : drop 1 queue ≡ turn.entries
       rest_is = ap (drop 1) queue_at
 
-      module _ (entry : Call) (first_is : slice_get queue 0 ≡ Some entry) where
+      module _ {entry : Call} (first_is : slice_get queue 0 ≡ Some entry) where
         entry_is : turn.entry ≡ entry
         entry_is = let same = sym (ap (λ (q : List Call). slice_get q 0) queue_at) ∙ first_is in cc
 
@@ -178,61 +184,69 @@ module _ (ended : Bool) (reader : ReaderState) (first all : List Block) (waiting
             (more_is (messages_of all) clock.tick ready.others call entry (subst (IsCallOf (messages_of all) clock.tick call) entry_is turn.first.is))
 
         -- the line of the record is that of the call
-        pub line_said : (before grown : List ℕ) → ((message : Message) (ordinal : ℕ) → slice_get reader.messages entry.id ≡ Some message → grown ≡ before ++ Line clock (record { writer = writer; ordinal = ordinal; stamp = entry.stamp; message = message; args = entry.args }))
-            → grown ≡ before ++ Line clock call
-        line_said before grown pushed =
-            pushed call.message call.ordinal said.message
-            ∙ ap (λ (line : List ℕ). before ++ line) (line_is clock reader.messages call entry writer said (subst (AllByRecursion (IsOf writer)) turn.first.there (rest_mine header all (calls_there header all ready.valid) (no_more_come ended all) so_far.printed so_far.at.is writer)).0)
+        pub line_said : {line : List ℕ} → ((message : Message) (ordinal : ℕ) → slice_get reader.messages entry.id ≡ Some message → line ≡ Line clock (record { writer = writer; ordinal = ordinal; stamp = entry.stamp; message = message; args = entry.args }))
+            → line ≡ Line clock call
+        line_said made =
+            made call.message call.ordinal said.message
+            ∙ line_is clock reader.messages call entry writer said (subst (AllByRecursion (IsOf writer)) turn.first.there (rest_mine header all (calls_there header all ready.valid) (no_more_come ended all) so_far.printed so_far.at.is writer)).0
 
-        joined_next : flat_map (Line clock) longer ≡ Direct clock (settled_calls header first) ++ (so_far.text ++ Line clock call)
-        joined_next =
-            flat_map-append (Line clock) so_far.printed (call ∷ [])
-            ∙ (λ i. so_far.joined i ++ append-nil (Line clock call) i)
-            ∙ append_assoc (Direct clock (settled_calls header first)) so_far.text (Line clock call)
+    -- the line stands behind those so far
+    module _ {line : List ℕ} (line_of : line ≡ Line clock call) where
+      abbrev text_next : List ℕ
+      text_next = so_far.text ++ Line clock call
 
-        pub next_lines : (grown : List ℕ) (put : Told) (left : List ℕ) (changed : List (List Call)) (new : List ListState) → grown ≡ held ++ Line clock call → Carries grown is put left → changed ≡ slice_set now writer (drop 1 queue)
-            → new ≡ slice_set (without_head heads writer) writer (list_of (no_more_come ended all writer) (drop 1 queue)) → HasLines ended header first all ready.valid (lines + 1) was put left changed new
-        next_lines grown put left changed new grown_is carried changed_is new_is = record {
-          printed = longer;
-          at = after_turn changed new (changed_is ∙ ap (slice_set now writer) rest_is) (new_is ∙ ap (λ (entries : List Call). slice_set (without_head heads writer) writer (list_of (no_more_come ended all writer) entries)) rest_is);
-          text = so_far.text ++ Line clock call;
-          joined = joined_next;
-          carries = carries_more (so_far.text ++ Line clock call) so_far.text (Line clock call) held left was is put refl so_far.carries (subst (λ (bytes : List ℕ). Carries bytes is put left) grown_is carried);
-          many = omega (arith, so_far.many, length-append so_far.printed (call ∷ []));
-        }
+      joined_next : in_turn header all longer ≡ settled_text header first ++ text_next
+      joined_next =
+          flat_map-append (Line clock) so_far.printed (call ∷ [])
+          ∙ (λ i. so_far.joined i ++ append-nil (Line clock call) i)
+          ∙ append_assoc (settled_text header first) so_far.text (Line clock call)
 
-        -- the text was cut off with the line
-        pub line_cut : (grown : List ℕ) (put : Told) (low mid high : ℕ) (answer : Result ℕ DecodeFault) (changed : List (List Call)) (new : List ListState) → IsErrAnd answer (λ e. e ≡ WriteFault) → grown ≡ held ++ Line clock call → mid ≡ low → IsCutOff grown is put mid high
-            → PrintsReady ended header first all was put low high changed new answer
-        line_cut grown put low mid high answer changed new same grown_is counted cut =
-            cut_lines longer (so_far.text ++ Line clock call) was put low high WriteFault answer changed new same longer_is joined_next
-            (λ whole rest whole_is. cut_more whole so_far.text (Line clock call) rest held was is put low mid high whole_is so_far.carries counted (subst (λ (bytes : List ℕ). IsCutOff bytes is put mid high) grown_is cut))
+      pub next_lines : (default : List Call) {put : Told} {left : List ℕ} {changed : List (List Call)} {new : List ListState} → Carries (held ++ line) is put left → changed ≡ slice_set now writer (drop 1 (queue default))
+          → new ≡ slice_set (without_head heads writer) writer (list_of (no_more_come ended all writer) (drop 1 (queue default))) → HasLines ended header first all ready.valid (lines + 1) was put left changed new
+      next_lines default {put} {left} {changed} {new} carried changed_is new_is = record {
+        printed = longer;
+        at = after_turn changed new (changed_is ∙ ap (slice_set now writer) (rest_is default)) (new_is ∙ ap (λ (entries : List Call). slice_set (without_head heads writer) writer (list_of (no_more_come ended all writer) entries)) (rest_is default));
+        text = text_next;
+        joined = joined_next;
+        carries = carries_more text_next so_far.text (Line clock call) held left was is put refl so_far.carries (subst (λ (bytes : List ℕ). Carries (held ++ bytes) is put left) line_of carried);
+        many = omega (arith, so_far.many, length-append so_far.printed (call ∷ []));
+      }
 
-      -- one less waits
-      pub less_waits : sum_by length (slice_set now writer (drop 1 queue)) < sum_by length now
-      less_waits =
-          subst (λ (entries : List Call). sum_by length (slice_set now writer entries) < sum_by length now) (sym rest_is)
-          (fewer header all ready.valid (no_more_come ended all) so_far.printed now heads so_far.at writer none least turn)
+      -- the text was cut off with the line
+      pub line_cut : (low mid high : ℕ) (put : Told) (answer : Result ℕ DecodeFault) (changed : List (List Call)) (new : List ListState) → IsErrAnd answer (λ e. e ≡ WriteFault) → mid ≡ low → IsCutOff (held ++ line) is put mid high
+          → PrintsReady ended header first all was put low high changed new answer
+      line_cut low mid high put answer changed new same counted cut =
+          cut_lines longer text_next was put low high WriteFault answer changed new same longer_is joined_next
+          (λ whole rest whole_is. cut_more whole so_far.text (Line clock call) rest held was is put low mid high whole_is so_far.carries counted (subst (λ (bytes : List ℕ). IsCutOff (held ++ bytes) is put mid high) line_of cut))
+
+    -- one less waits
+    pub less_waits : (default : List Call) → sum_by length (slice_set now writer (drop 1 (queue default))) < sum_by length now
+    less_waits default =
+        subst (λ (entries : List Call). sum_by length (slice_set now writer entries) < sum_by length now) (sym (rest_is default))
+        (fewer header all ready.valid (no_more_come ended all) so_far.printed now heads so_far.at writer top.0 top.1 turn)
 
     -- the list from which the head was taken wants one
-    pub wished : (new : List ListState) → new ≡ without_head heads writer → wants (list_at new writer) ≡ true
-    wished new new_is = ap (λ (lists : List ListState). wants (list_at lists writer)) new_is ∙ wishes header all ready.valid (no_more_come ended all) so_far.printed now heads so_far.at writer none least turn
+    pub wished : {new : List ListState} → new ≡ without_head heads writer → wants (list_at new writer) ≡ true
+    wished new_is = ap (λ (lists : List ListState). wants (list_at lists writer)) new_is ∙ wishes header all ready.valid (no_more_come ended all) so_far.printed now heads so_far.at writer top.0 top.1 turn
 
     -- there is a place for one line more
     pub few_next : lines + 1 ≤ 134217728
     few_next = few_lines longer (lines + 1) longer_is (omega (arith, so_far.many, length-append so_far.printed (call ∷ [])))
 
   -- memory was wanting for a line, or what is held back was cut off
-  module _ (lines : ℕ) (was is : Told) (held : List ℕ) (now : List (List Call)) (heads : List ListState) (so_far : HasLines ended header first all ready.valid lines was is held now heads) where
+  module _ {lines : ℕ} {was is : Told} {held : List ℕ} {now : List (List Call)} {heads : List ListState} (so_far : HasLines ended header first all ready.valid lines was is held now heads) where
     pub lacked : (low high : ℕ) (answer : Result ℕ DecodeFault) (changed : List (List Call)) (new : List ListState) → IsErrAnd answer (λ e. e ≡ NoMemory) → high ≡ low → PrintsReady ended header first all was is low high changed new answer
     lacked low high answer changed new same counted =
         cut_lines so_far.printed so_far.text was is low high NoMemory answer changed new same so_far.at.is so_far.joined
         (λ whole rest whole_is. (carries_front whole so_far.text rest held was is whole_is so_far.carries, counted))
 
-    pub held_cut : (put : Told) (low mid high : ℕ) (answer : Result ℕ DecodeFault) (changed : List (List Call)) (new : List ListState) → IsErrAnd answer (λ e. e ≡ WriteFault) → mid ≡ low → IsCutOff held is put mid high → PrintsReady ended header first all was put low high changed new answer
-    held_cut put low mid high answer changed new same counted cut =
+    pub held_cut : (low mid high : ℕ) (put : Told) (answer : Result ℕ DecodeFault) (changed : List (List Call)) (new : List ListState) → IsErrAnd answer (λ e. e ≡ WriteFault) → mid ≡ low → IsCutOff held is put mid high → PrintsReady ended header first all was put low high changed new answer
+    held_cut low mid high put answer changed new same counted cut =
         cut_lines so_far.printed so_far.text was put low high WriteFault answer changed new same so_far.at.is so_far.joined
         (λ whole rest whole_is. cut_held whole so_far.text rest held was is put low mid high whole_is so_far.carries counted cut)
 
-    pub all_out : (put : Told) → so_far.printed ≡ in_order (ready_calls ended header all) → put ≡ with_end held is → HasMore ended header first all lines was put now heads
-    all_out put printed_are flushed = all_lines so_far.printed so_far.text lines was put now heads so_far.at so_far.joined so_far.many printed_are (carries_all so_far.text held was is put so_far.carries flushed)
+    -- where the merger takes no record what is held back ends all that can be printed
+    pub all_out : {put : Told} (answer : Next) → ((w : ℕ) → ¬ (answer ≡ Take w)) → ((w : ℕ) → answer ≡ Want w → position wants heads ≡ Some w) → (answer ≡ Done → All IsSpent heads) → put ≡ with_end held is → HasMore ended header first all lines was put now heads
+    all_out {put} answer none want done flushed =
+        all_lines so_far.printed so_far.text lines was put now heads so_far.at so_far.joined so_far.many
+        (all_ready header all ready.valid ended so_far.printed now heads so_far.at answer none want done) (carries_all so_far.text held was is put so_far.carries flushed)

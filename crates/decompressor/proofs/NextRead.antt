@@ -1,23 +1,20 @@
 -- What reading one block at most says of the text of the whole file.
-use Rattle.std.proofs.Common.{◌≡◌, ℕ, List, [], ◌++◌, length, Some, Result, Ok, Err, refl, ap, sym, subst, inl, inr}
+use Rattle.std.proofs.Common.{◌≡◌, ℕ, List, ◌++◌, Result, Ok, Err, sym, subst, inl, inr}
 use Rattle.std.specs.Prelude.{IfSome}
 use Rattle.nl_io.specs.Content.{Told}
-use Rattle.checkpoint_io.specs.declared.block.Block.{Block as ReadBlock}
 use Rattle.checkpoint_io.specs.Places.{with_front}
 use Rattle.checkpoint_io.specs.Readers.{ReaderState, StandsFor}
-use Rattle.checkpoint_io.specs.NextBlocks.{TakesNext}
 use Rattle.checkpoint_io.proofs.lemmas.FileLaws.{file_on, file_begins}
 use Rattle.log_scan.proofs.lemmas.Ends.{some_of, begins_within}
-use Rattle.direct_printf.specs.Lines.{Direct}
 use Rattle.decompressor.specs.declared.fault.DecodeFault.TheVariants.{WriteFault, Damaged, ReadFault, NoMemory}
 use Rattle.decompressor.specs.declared.report.Report.{Report}
 use Rattle.decompressor.specs.declared.fault.DecodeFault.{DecodeFault}
 use Rattle.decompressor.specs.Decompressing.{IsTextOfSettled, ReadsText}
 use Rattle.decompressor.specs.Decompressors.{SettlesNext, ReadsNext}
-use Rattle.decompressor.specs.Settling.{settled_calls}
+use Rattle.decompressor.specs.Settling.{settled_text}
 
 -- the text that is settled by what was read is one of the file
-settled_by : (reader : ReaderState) (taken text : List ℕ) (left : Told) (read : StandsFor reader taken) → text ≡ Direct reader.header.clock (settled_calls reader.header read.blocks) → IfSome (with_front (taken ++ reader.waiting.bytes) left) (λ bytes. IsTextOfSettled bytes text)
+settled_by : (reader : ReaderState) (taken text : List ℕ) (left : Told) (read : StandsFor reader taken) → text ≡ settled_text reader.header read.blocks → IfSome (with_front (taken ++ reader.waiting.bytes) left) (λ bytes. IsTextOfSettled bytes text)
 settled_by reader taken text left read text_is =
     some_of (with_front (taken ++ reader.waiting.bytes) left) (λ bytes. (rest : List ℕ) × (bytes ≡ taken ++ rest)) (λ bytes. IsTextOfSettled bytes text)
     (λ bytes front. record {

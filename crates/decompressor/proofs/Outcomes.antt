@@ -56,13 +56,13 @@ no_parts : (xs ys : List ℕ) → xs ++ ys ≡ [] → ys ≡ []
 no_parts [] ys none = none
 no_parts (x ∷ xs) ys none = absurd cc
 
-module _ (file was : Told) (old : PrinterState) (left put : Told) (on : IsOn file was old left put) (new : PrinterState) (behind is : Told) where
+module _ {file was : Told} {old : PrinterState} {left put : Told} (on : IsOn file was old left put) where
   abbrev taken : List ℕ
   taken = on.taken
 
   -- ---- a step that goes on
 
-  module _ (next : Advances old new on.taken on.text on.printed left behind put is) where
+  module _ {new : PrinterState} {behind is : Told} (next : Advances old new on.taken on.text on.printed left behind put is) where
     pub on_next : IsOn file was new behind is
     on_next = record {
       taken = taken ++ next.front;
@@ -89,7 +89,7 @@ module _ (file was : Told) (old : PrinterState) (left put : Told) (on : IsOn fil
 
   -- ---- the last step
 
-  module _ (before after : ℕ) where
+  module _ (new : PrinterState) (behind is : Told) (before after : ℕ) where
     abbrev Stepped : Result Report DecodeFault → Type 0
     Stepped answer = PrintsWhole old new taken on.text on.printed left behind before after put is answer
 
@@ -111,8 +111,9 @@ module _ (file was : Told) (old : PrinterState) (left put : Told) (on : IsOn fil
       reads = whole_file (on.text ++ cut.rest) cut.read cut.reads;
     }
 
-    pub ended : (report : Report) → Steps old new on.taken on.text on.printed left behind before after put is (Ok (End report)) → Decompresses file behind before after was is (Ok report)
-    ended report stepped = ends (Ok report) stepped
+    -- the step was the last one, and no read had failed before it
+    pub ended : {start : ℕ} → before ≡ start → (report : Report) → Steps old new on.taken on.text on.printed left behind before after put is (Ok (End report)) → Decompresses file behind start after was is (Ok report)
+    ended counted report stepped = subst (λ (n : ℕ). Decompresses file behind n after was is (Ok report)) counted (ends (Ok report) stepped)
 
     failed : (fault : DecodeFault) → Steps old new on.taken on.text on.printed left behind before after put is (Err fault) → Decompresses file behind before after was is (Err fault)
     failed WriteFault (cut, some) = (is_cut cut, λ none. some (no_parts on.text cut.rest none))
@@ -120,6 +121,8 @@ module _ (file was : Told) (old : PrinterState) (left put : Told) (on : IsOn fil
     failed (Damaged offset cause) stepped = ends (Err (Damaged offset cause)) stepped
     failed ReadFault stepped = ends (Err ReadFault) stepped
 
-    pub failed_as : (fault : DecodeFault) (answer : Result Report DecodeFault) → IsErrAnd answer (λ e. e ≡ fault) → Steps old new on.taken on.text on.printed left behind before after put is (Err fault) → Decompresses file behind before after was is answer
-    failed_as fault (Ok report) same stepped = absurd same
-    failed_as fault (Err e) same stepped = subst (λ (f : DecodeFault). Decompresses file behind before after was is (Err f)) (sym same) (failed fault stepped)
+    pub failed_as : {start : ℕ} → before ≡ start → (fault : DecodeFault) (answer : Result Report DecodeFault) → IsErrAnd answer (λ e. e ≡ fault) → Steps old new on.taken on.text on.printed left behind before after put is (Err fault) → Decompresses file behind start after was is answer
+    failed_as counted fault (Ok report) same stepped = absurd same
+    failed_as counted fault (Err e) same stepped =
+        subst (λ (n : ℕ). Decompresses file behind n after was is (Err e)) counted
+        (subst (λ (f : DecodeFault). Decompresses file behind before after was is (Err f)) (sym same) (failed fault stepped))

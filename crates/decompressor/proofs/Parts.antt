@@ -15,7 +15,7 @@ use Rattle.decompressor.specs.declared.fault.DecodeFault.TheVariants.{NoMemory}
 use Rattle.decompressor.specs.Decompression.{all_calls}
 use Rattle.decompressor.specs.Settling.{is_settled, settled_calls}
 use Rattle.decompressor.specs.Waiting.{HasHeads}
-use Rattle.decompressor.specs.Decompressors.{PrinterState, AreWaiting, no_more_come, ready_calls, HasMore, CutsMore, PrintsReady, PrintsTo}
+use Rattle.decompressor.specs.Decompressors.{PrinterState, AreWaiting, no_more_come, ready_calls, HasMore, CutsMore, PrintsOn, PrintsTo}
 use Rattle.decompressor.proofs.Growing.{settled_more}
 
 kept_few : {X : Type 0} (test : X → Bool) (xs : List X) → length (filter test xs) ≤ length xs
@@ -30,31 +30,27 @@ ready_few : (ended : Bool) (header : Header) (all : List Block) → length (read
 ready_few true header all = omega arith
 ready_few false header all = kept_few (is_settled header all) (all_calls header all)
 
-module _ (ended : Bool) (state : PrinterState) (first all : List Block) (counted : state.lines ≡ length (settled_calls state.reader.header first)) where
-  -- the count of lines fits
-  pub lines_fit : (lines : ℕ) (was is : Told) (waiting : List (List Call)) (lists : List ListState) → length (all_calls state.reader.header all) ≤ 134217728 → HasMore ended state.reader.header first all lines was is waiting lists → state.lines + lines ≤ 134217728
-  lines_fit lines was is waiting lists few more = omega (arith, counted, more.lines_are, ready_few ended state.reader.header all, few)
+-- the count of lines fits
+pub lines_fit : {ended : Bool} {header : Header} {first all : List Block} {count lines : ℕ} {was is : Told} {waiting : List (List Call)} {lists : List ListState} → count ≡ length (settled_calls header first) → HasMore ended header first all lines was is waiting lists → length (all_calls header all) ≤ 134217728 → count + lines ≤ 134217728
+lines_fit {ended} {header} {first} {all} counted more few = omega (arith, counted, more.lines_are, ready_few ended header all, few)
 
-  pub prints_on : (lines : ℕ) (was is : Told) (before after : ℕ) (waiting changed : List (List Call)) (lists : List ListState) → changed ≡ waiting → PrintsReady ended state.reader.header first all was is before after waiting lists (Ok lines)
-      → PrintsTo ended state (record { reader = state.reader; waiting = changed; lists = lists; lines = state.lines + lines }) first all was is before after (Ok tt)
-  prints_on lines was is before after waiting changed lists same (more, faults) = (
-    record {
-      text = more.text;
-      put = more.put;
-      joined = more.joined;
-      lines = ap (λ (n : ℕ). n + lines) counted ∙ more.lines_are;
-      are_waiting = subst (AreWaiting state.reader.header all (in_order (ready_calls ended state.reader.header all))) (sym same) more.are_waiting;
-      heads = subst (HasHeads (no_more_come ended all) lists) (sym same) more.heads;
-    },
-    faults,
-  )
+pub prints_on : {ended : Bool} {state : PrinterState} {first all : List Block} {lines : ℕ} {was is : Told} {waiting changed : List (List Call)} {lists : List ListState} → state.lines ≡ length (settled_calls state.reader.header first)
+    → HasMore ended state.reader.header first all lines was is waiting lists → changed ≡ waiting → PrintsOn ended state (record { reader = state.reader; waiting = changed; lists = lists; lines = state.lines + lines }) first all was is
+prints_on {ended} {state} {first} {all} {lines} {lists = lists} counted more same = record {
+  text = more.text;
+  put = more.put;
+  joined = more.joined;
+  lines = ap (λ (n : ℕ). n + lines) counted ∙ more.lines_are;
+  are_waiting = subst (AreWaiting state.reader.header all (in_order (ready_calls ended state.reader.header all))) (sym same) more.are_waiting;
+  heads = subst (HasHeads (no_more_come ended all) lists) (sym same) more.heads;
+}
 
-  pub prints_cut : (new : PrinterState) (was is : Told) (before after : ℕ) (result : Result ⊤ DecodeFault) (fault : DecodeFault) → IsErrAnd result (λ e. e ≡ fault) → CutsMore ended state.reader.header first all was is before after fault → PrintsTo ended state new first all was is before after result
-  prints_cut new was is before after (Ok done) fault same cut = absurd same
-  prints_cut new was is before after (Err e) fault same cut = subst (CutsMore ended state.reader.header first all was is before after) (sym same) cut
+pub prints_cut : {ended : Bool} (state new : PrinterState) {first all : List Block} {was is : Told} {before after : ℕ} (result : Result ⊤ DecodeFault) {fault : DecodeFault} → IsErrAnd result (λ e. e ≡ fault) → CutsMore ended state.reader.header first all was is before after fault → PrintsTo ended state new first all was is before after result
+prints_cut state new (Ok done) err cut = absurd err
+prints_cut {ended} state new {first} {all} {was} {is} {before} {after} (Err e) err cut = subst (CutsMore ended state.reader.header first all was is before after) (sym err) cut
 
 -- memory was wanting before anything was printed
-pub none_put : (header : Header) (first : List Block) (block : Block) (was : Told) (before : ℕ) → Valid header (first ++ block ∷ []) → CutsMore false header first (first ++ block ∷ []) was was before before NoMemory
-none_put header first block was before valid =
+pub none_put : {header : Header} (first : List Block) (block : Block) {was : Told} {before : ℕ} → Valid header (first ++ block ∷ []) → CutsMore false header first (first ++ block ∷ []) was was before before NoMemory
+none_put {header} first block {was} valid =
     let on = settled_more header first (block ∷ []) valid in
     record { rest = on.0; joined = on.1; cut = ((0, omega arith, with_end-none on.0 was), refl) }

@@ -3,7 +3,6 @@ use Rattle.std.proofs.Common.{◌≡◌, ℕ, zero, suc, ◌+◌, ◌<◌, false
 use Rattle.std.specs.Prelude.{filter}
 use Rattle.std.specs.List.{flat_map, range_with_len}
 use Rattle.std.proofs.lemmas.List.{length-replicate, get_or-replicate}
-use Rattle.log_dictionary.specs.declared.clock.Clock.{Clock}
 use Rattle.log_dictionary.specs.Calls.{LogCall}
 use Rattle.arg_records.specs.declared.call.Call.{Call}
 use Rattle.checkpoint_io.specs.declared.header.Header.{Header}
@@ -13,8 +12,8 @@ use Rattle.stamp_merge.specs.declared.merger.ListState.{ListState}
 use Rattle.stamp_merge.specs.Ordering.{in_order_by}
 use Rattle.stamp_merge.specs.Mergers.{fresh_list, no_list}
 use Rattle.direct_printf.specs.Lines.{in_order, Direct}
-use Rattle.decompressor.specs.Decompression.{CallsOf}
-use Rattle.decompressor.specs.Settling.{closed_by, is_settled, settled_calls}
+use Rattle.decompressor.specs.Decompression.{CallsOf, lines_of}
+use Rattle.decompressor.specs.Settling.{closed_by, is_settled, settled_calls, settled_text}
 use Rattle.decompressor.specs.Waiting.{list_of, HasHeads}
 use Rattle.decompressor.specs.Decompressors.{AreWaiting, HasPrinted}
 
@@ -25,9 +24,9 @@ no_calls from (suc n) = no_calls (from + 1) n
 none_settled : (header : Header) → settled_calls header [] ≡ []
 none_settled header = ap (filter (is_settled header [])) (no_calls 0 header.writers)
 
-no_text : (clock : Clock) → Direct clock [] ≡ []
+no_text : (header : Header) → lines_of header [] [] ≡ []
 unfolding in_order_by Direct
-no_text clock = refl
+no_text header = refl
 
 nothing_behind : {A : Type 0} (n : ℕ) (xs : List A) → xs ≡ [] → drop n xs ≡ []
 nothing_behind zero xs none = none
@@ -54,7 +53,7 @@ started reader taken waiting lists right read none waiting_is lists_is = (
   record {
     right = right;
     read = read;
-    text_is = sym (ap (λ (bs : List Block). Direct reader.header.clock (settled_calls reader.header bs)) none ∙ ap (Direct reader.header.clock) (none_settled reader.header) ∙ no_text reader.header.clock);
+    text_is = sym (ap (λ (bs : List Block). settled_text reader.header bs) none ∙ ap (lines_of reader.header []) (none_settled reader.header) ∙ no_text reader.header);
     lines = sym (ap (λ (bs : List Block). length (settled_calls reader.header bs)) none ∙ ap length (none_settled reader.header));
     waiting = subst (λ (bs : List Block). AreWaiting reader.header bs (in_order (settled_calls reader.header bs)) waiting) (sym none) (subst (AreWaiting reader.header [] (in_order (settled_calls reader.header []))) (sym waiting_is) (none_wait reader.header (in_order (settled_calls reader.header []))));
     heads = subst (λ (bs : List Block). HasHeads (closed_by bs) lists waiting) (sym none)

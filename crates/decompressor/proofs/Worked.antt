@@ -6,17 +6,17 @@ use Rattle.stamp_merge.specs.Ordering.{insert_by, in_order_by}
 use Rattle.direct_printf.specs.Lines.{Line, Direct}
 use Rattle.checkpoint_io.specs.Rows.{row_header, row_blocks, row_bytes}
 use Rattle.checkpoint_io.proofs.lemmas.Worked.{file, valid}
-use Rattle.decompressor.specs.Decompression.{all_calls, Decompressed}
+use Rattle.decompressor.specs.Decompression.{whole_text, Decompressed}
 use Rattle.decompressor.proofs.lemmas.DecompressionLaws.{whole_is_text}
 use Rattle.decompressor.specs.Rows.{row_line, three_writers, mixed_blocks, mixed_lines}
 
-one_line : Direct row_header.clock (all_calls row_header row_blocks) ≡ row_line
+one_line : whole_text row_header row_blocks ≡ row_line
 unfolding digits Digits Field pieces_text Text Line insert_by in_order_by Direct
 one_line = refl
 
 pub one_call : Decompressed row_bytes row_line
 one_call = subst (Decompressed row_bytes) one_line (whole_is_text row_header row_blocks row_bytes file valid)
 
-pub mixed : Direct three_writers.clock (all_calls three_writers mixed_blocks) ≡ mixed_lines
+pub mixed : whole_text three_writers mixed_blocks ≡ mixed_lines
 unfolding digits Digits Field pieces_text Text Line insert_by in_order_by Direct
 mixed = refl

@@ -6,28 +6,21 @@ use Rattle.checkpoint_io.specs.declared.cause.Cause.{Cause}
 use Rattle.checkpoint_io.specs.declared.fault.BlockFault.{BlockFault}
 use Rattle.checkpoint_io.specs.declared.fault.BlockFault.TheVariants as reading
 use Rattle.checkpoint_io.specs.declared.heads.TheConstants.{MAX_LOG}
-use Rattle.checkpoint_io.specs.declared.header.Header.{Header}
-use Rattle.checkpoint_io.specs.Blocks.{Block}
 use Rattle.checkpoint_io.specs.Places.{TookSuch}
-use Rattle.direct_printf.specs.Lines.{Direct}
 use Rattle.log_scan.specs.Parts.{LogPart}
 use Rattle.log_scan.specs.Scans.{BeginsWithin, IsWholeScan, IsDamagedScan, IsCutScan}
 use Rattle.decompressor.specs.declared.report.Report.{Report}
 use Rattle.decompressor.specs.declared.fault.DecodeFault.{DecodeFault}
 use Rattle.decompressor.specs.declared.fault.DecodeFault.TheVariants.{WriteFault, Damaged, ReadFault, NoMemory}
-use Rattle.decompressor.specs.Decompression.{all_calls, Decompressed}
-use Rattle.decompressor.specs.Settling.{open_writers, settled_calls}
+use Rattle.decompressor.specs.Decompression.{all_calls, whole_text, Decompressed}
+use Rattle.decompressor.specs.Settling.{open_writers, settled_text}
 
 -- ---- the text of a part of a file
-
--- the lines of the calls of blocks
-abbrev pub lines_of : Header → List Block → List ℕ
-lines_of header blocks = Direct header.clock (all_calls header blocks)
 
 -- the lines of the calls of what was read of a file; without a header there are none
 abbrev pub text_read : Option LogPart → List ℕ
 text_read None = []
-text_read (Some part) = lines_of part.header part.blocks
+text_read (Some part) = whole_text part.header part.blocks
 
 -- ---- how reading ends
 
@@ -61,7 +54,7 @@ pub record IsTextOfSettled (bytes text : List ℕ) : Type 0 where
   pub part : LogPart
   pub offset : ℕ
   pub begins : BeginsWithin bytes (Some part) offset
-  pub text_is : text ≡ Direct part.header.clock (settled_calls part.header part.blocks)
+  pub text_is : text ≡ settled_text part.header part.blocks
 
 -- How the reading ended whose text this is, as it is answered where all of the text goes out. The count of faults rose
 -- only where a read failed. The text is that of the bytes that were taken then, behind which stands what is left. A

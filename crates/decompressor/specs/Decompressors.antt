@@ -10,19 +10,19 @@ use Rattle.checkpoint_io.specs.declared.header.Header.{Header}
 use Rattle.checkpoint_io.specs.Blocks.{Block, messages_of}
 use Rattle.checkpoint_io.specs.Validity.{records_of, Valid}
 use Rattle.checkpoint_io.specs.Fronts.{IsCutAt}
-use Rattle.checkpoint_io.specs.NextBlocks.{TakesNext}
+use Rattle.checkpoint_io.specs.NextBlocks.{Describes, TakesNext}
 use Rattle.checkpoint_io.specs.Places.{with_front, TookSuch}
 use Rattle.checkpoint_io.specs.Readers.{ReaderState, StandsFor}
 use Rattle.stamp_merge.specs.declared.merger.ListState.{ListState}
-use Rattle.direct_printf.specs.Lines.{in_order, Direct}
+use Rattle.direct_printf.specs.Lines.{in_order}
 use Rattle.decompressor.specs.declared.fault.DecodeFault.{DecodeFault}
 use Rattle.decompressor.specs.declared.fault.DecodeFault.TheVariants.{WriteFault, Damaged, ReadFault, NoMemory}
 use Rattle.decompressor.specs.declared.step.Step.{Step}
 use Rattle.decompressor.specs.declared.step.Step.TheVariants.{More, End}
 use Rattle.decompressor.specs.declared.report.Report.{Report}
-use Rattle.decompressor.specs.Decompression.{all_calls}
+use Rattle.decompressor.specs.Decompression.{all_calls, lines_of}
 use Rattle.decompressor.specs.Decompressing.{ReadsText}
-use Rattle.decompressor.specs.Settling.{closed_by, settled_calls}
+use Rattle.decompressor.specs.Settling.{closed_by, settled_calls, settled_text}
 use Rattle.decompressor.specs.Waiting.{records_at, HasHeads}
 use Rattle.decompressor.specs.Printing.{CutsText}
 
@@ -56,11 +56,22 @@ pub record AreWaiting (header : Header) (blocks : List Block) (printed : List Lo
 pub record HasPrinted (printer : PrinterState) (taken text : List ℕ) : Type 0 where
   pub right : printer.reader.failed ≡ false
   pub read : StandsFor printer.reader taken
-  pub text_is : text ≡ Direct printer.reader.header.clock (settled_calls printer.reader.header read.blocks)
+  pub text_is : text ≡ settled_text printer.reader.header read.blocks
   pub lines : printer.lines ≡ length (settled_calls printer.reader.header read.blocks)
   pub waiting : AreWaiting printer.reader.header read.blocks
       (in_order (settled_calls printer.reader.header read.blocks)) printer.waiting
   pub heads : HasHeads (closed_by read.blocks) printer.lists printer.waiting
+
+-- Nothing was printed, and no blocks were read: this is so of bytes that were taken, behind which stands what is left.
+abbrev pub IsStarted : PrinterState → (left behind : Told) → Type 0
+IsStarted printer left behind =
+    (taken : List ℕ) × (printed : HasPrinted printer taken [])
+    × (printed.read.blocks ≡ [])
+    × (left ≡ with_front (taken ++ printer.reader.waiting.bytes) behind)
+
+-- the printer stands for some bytes and some text, so a step can follow
+abbrev pub CanStep : PrinterState → Type 0
+CanStep printer = (taken text : List ℕ) × HasPrinted printer taken text
 
 -- ---- records that are printed
 
@@ -72,6 +83,10 @@ no_more_come ended blocks writer = ended || closed_by blocks writer
 abbrev pub ready_calls : Bool → Header → List Block → List LogCall
 ready_calls true header blocks = all_calls header blocks
 ready_calls false header blocks = settled_calls header blocks
+
+-- the lines that can be printed
+abbrev pub ready_text : Bool → Header → List Block → List ℕ
+ready_text ended header blocks = lines_of header blocks (ready_calls ended header blocks)
 
 -- The calls that were settled by the first blocks were printed, and the records of all blocks wait but for theirs.
 pub record HasToPrint (ended : Bool) (reader : ReaderState) (first all : List Block) (waiting : List (List Call))
@@ -92,8 +107,7 @@ pub record HasMore (ended : Bool) (header : Header) (first all : List Block) (li
     (waiting : List (List Call)) (lists : List ListState) : Type 0 where
   pub text : List ℕ
   pub put : is ≡ with_end text was
-  pub joined : Direct header.clock (ready_calls ended header all)
-      ≡ Direct header.clock (settled_calls header first) ++ text
+  pub joined : ready_text ended header all ≡ settled_text header first ++ text
   pub lines_are : length (settled_calls header first) + lines ≡ length (ready_calls ended header all)
   pub are_waiting : AreWaiting header all (in_order (ready_calls ended header all)) waiting
   pub heads : HasHeads (no_more_come ended all) lists waiting
@@ -102,8 +116,7 @@ pub record HasMore (ended : Bool) (header : Header) (first all : List Block) (li
 pub record CutsMore (ended : Bool) (header : Header) (first all : List Block) (was is : Told) (before after : ℕ)
     (fault : DecodeFault) : Type 0 where
   pub rest : List ℕ
-  pub joined : Direct header.clock (ready_calls ended header all)
-      ≡ Direct header.clock (settled_calls header first) ++ rest
+  pub joined : ready_text ended header all ≡ settled_text header first ++ rest
   pub cut : CutsText rest was is before after fault
 
 abbrev pub PrintsReady : Bool → Header → List Block → List Block → Told → Told → ℕ → ℕ → List (List Call)
@@ -127,6 +140,10 @@ pub record HasTaken (printer : PrinterState) (first : List Block) (block : Block
       printer.waiting
   pub heads : HasHeads (closed_by first) printer.lists printer.waiting
 
+-- a block that is told so was read behind some blocks
+abbrev pub HasNext : PrinterState → ReadBlock → Type 0
+HasNext printer told = (first : List Block) × (block : Block) × Describes told block × HasTaken printer first block
+
 -- Nothing stands behind these blocks, or it can't be read, but for some of its messages.
 pub record HasLast (printer : PrinterState) (blocks : List Block) : Type 0 where
   pub valid : Valid printer.reader.header blocks
@@ -138,12 +155,15 @@ pub record HasLast (printer : PrinterState) (blocks : List Block) : Type 0 where
       printer.waiting
   pub heads : HasHeads (closed_by blocks) printer.lists printer.waiting
 
+-- nothing more stands behind some blocks
+abbrev pub HasRest : PrinterState → Type 0
+HasRest printer = (blocks : List Block) × HasLast printer blocks
+
 -- all that can be printed was, and the other records wait
 pub record PrintsOn (ended : Bool) (old new : PrinterState) (first all : List Block) (was is : Told) : Type 0 where
   pub text : List ℕ
   pub put : is ≡ with_end text was
-  pub joined : Direct old.reader.header.clock (ready_calls ended old.reader.header all)
-      ≡ Direct old.reader.header.clock (settled_calls old.reader.header first) ++ text
+  pub joined : ready_text ended old.reader.header all ≡ settled_text old.reader.header first ++ text
   pub lines : new.lines ≡ length (ready_calls ended old.reader.header all)
   pub are_waiting : AreWaiting old.reader.header all (in_order (ready_calls ended old.reader.header all)) new.waiting
   pub heads : HasHeads (no_more_come ended all) new.lists new.waiting
@@ -154,6 +174,17 @@ PrintsTo ended old new first all was is before after (Ok done) =
     PrintsOn ended old new first all was is × (after ≡ before)
 PrintsTo ended old new first all was is before after (Err fault) =
     CutsMore ended old.reader.header first all was is before after fault
+
+-- so it is behind a block that was read, whatever blocks stand in front of it
+abbrev pub PrintsNext : (old new : PrinterState) → ReadBlock → (was is : Told) → ℕ → ℕ → Result ⊤ DecodeFault → Type 0
+PrintsNext old new told was is before after result =
+    (first : List Block) (block : Block) → Describes told block → HasTaken old first block
+    → PrintsTo false old new first (first ++ block ∷ []) was is before after result
+
+-- and where nothing more stands behind the blocks
+abbrev pub PrintsRest : (old new : PrinterState) → (was is : Told) → ℕ → ℕ → Result ⊤ DecodeFault → Type 0
+PrintsRest old new was is before after result =
+    (blocks : List Block) → HasLast old blocks → PrintsTo true old new blocks blocks was is before after result
 
 -- ---- a step
 
@@ -181,9 +212,9 @@ IsLastStep (End report) = ⊤
 abbrev pub SettlesNext : (old new : ReaderState) (taken : List ℕ) → StandsFor old taken → (left behind : Told) → List ℕ
     → Type 0
 SettlesNext old new taken read left behind text =
-    ((new.offset ≡ old.offset) × (text ≡ Direct old.header.clock (settled_calls old.header read.blocks)))
+    ((new.offset ≡ old.offset) × (text ≡ settled_text old.header read.blocks))
     ⊎ ((told : ReadBlock) × (next : TakesNext old new taken read told left behind)
-    × (text ≡ Direct new.header.clock (settled_calls new.header next.stands.blocks)))
+    × (text ≡ settled_text new.header next.stands.blocks))
 
 -- How reading ended where no more is read than the block behind the bytes that were taken, as it is answered where all
 -- of the text goes out: nothing stands there; the block breaks, and none that follows it; or it is cut off by the end

@@ -6,7 +6,7 @@ use Rattle.checkpoint_io.specs.declared.header.Header.{Header}
 use Rattle.checkpoint_io.specs.Blocks.{Block}
 use Rattle.checkpoint_io.specs.Validity.{closes}
 use Rattle.direct_printf.specs.Lines.{call_before}
-use Rattle.decompressor.specs.Decompression.{CallsOf, all_calls}
+use Rattle.decompressor.specs.Decompression.{CallsOf, all_calls, lines_of}
 
 -- a close mark of the writer stands among the blocks
 abbrev pub closed_by : List Block → ℕ → Bool
@@ -27,3 +27,7 @@ is_settled header blocks call = list_all (λ writer. reaches (CallsOf blocks wri
 -- the settled calls of all writers, writer by writer, those of each in its order
 abbrev pub settled_calls : Header → List Block → List LogCall
 settled_calls header blocks = filter (is_settled header blocks) (all_calls header blocks)
+
+-- the lines of the settled calls
+abbrev pub settled_text : Header → List Block → List ℕ
+settled_text header blocks = lines_of header blocks (settled_calls header blocks)

@@ -1,13 +1,13 @@
 //! Decompressing a log block by block.
 
-ghost use Rattle.std.specs.Prelude.{◌≡◌, ◌≤◌, ◌++◌, ℕ, List, [], false, true, Ok, IfOk, IfSome, IsErrOf, IsOkAnd, Err};
+ghost use Rattle.std.specs.Prelude.{◌≡◌, ◌≤◌, false, true, Ok, IfOk, IfSome, IsErrOf, IsOkAnd, Err};
 ghost use Rattle.nl_io.specs.Count.{Rose};
 ghost use Rattle.nl_io.specs.Content.{IsAtEnd};
 ghost use Rattle.checkpoint_io.specs.declared.cause.Cause.{Cause as LogCause};
 ghost use Rattle.checkpoint_io.specs.declared.cause.Cause.TheVariants.{Cut};
 ghost use Rattle.checkpoint_io.specs.Fronts.{Break};
-ghost use Rattle.checkpoint_io.specs.Places.{with_front, TookSuch};
-ghost use Rattle.decompressor.specs.Decompressors.{HasPrinted, StepsFrom, IsLastStep};
+ghost use Rattle.checkpoint_io.specs.Places.{TookSuch};
+ghost use Rattle.decompressor.specs.Decompressors.{IsStarted, StepsFrom, IsLastStep};
 
 use crate::fault::DecodeFault;
 use crate::log_printer::LogPrinter;
@@ -27,8 +27,8 @@ pub struct Decompressor {
 }
 
 impl Model for Decompressor {
-    ghost use Rattle.std.specs.Prelude.{◌≡◌, ℕ, List, false};
-    ghost use Rattle.decompressor.specs.Decompressors.{DecompressorState, HasPrinted};
+    ghost use Rattle.std.specs.Prelude.{◌≡◌, false};
+    ghost use Rattle.decompressor.specs.Decompressors.{DecompressorState, CanStep};
 
     ghost Value = { DecompressorState };
 
@@ -37,7 +37,7 @@ impl Model for Decompressor {
       ended = d.ended;
     } };
 
-    ghost invariant = { λ d. d.ended ≡ false → (taken text : List ℕ) × HasPrinted d.printer taken text };
+    ghost invariant = { λ d. d.ended ≡ false → CanStep d.printer };
 }
 
 impl Decompressor {
@@ -48,9 +48,7 @@ impl Decompressor {
     /// The source begins with no header, a read failed before its end, or there is no memory.
     pub fn make<S: Source>(alloc: Global, source: &mut S) -> Result<Decompressor, BlockFault>
         // Nothing was printed, and no blocks were read.
-        ensures ok { IfOk result (λ made. (taken : List ℕ) × (printed : HasPrinted made.printer taken [])
-            × (printed.read.blocks ≡ [])
-            × (S.left source.old ≡ with_front (taken ++ made.printer.reader.waiting.bytes) (S.left source.new))) }
+        ensures ok { IfOk result (λ made. IsStarted made.printer (S.left source.old) (S.left source.new)) }
         ensures ended { IfOk result (λ made. made.ended ≡ false) }
         ensures damaged { (cause : LogCause) → result ≡ Err (BlockFault.Damaged cause)
             → IfSome (S.left source.old) (λ bytes. Break bytes 0 cause) }

@@ -11,8 +11,8 @@ ghost use Rattle.checkpoint_io.specs.Validity.{Valid};
 ghost use Rattle.checkpoint_io.specs.Logs.{LogOf};
 ghost use Rattle.checkpoint_io.specs.Rows.{row_bytes};
 ghost use Rattle.direct_printf.specs.Lines.{call_before, Direct};
-ghost use Rattle.decompressor.specs.Decompression.{CallsOf, all_calls, Decompressed};
-ghost use Rattle.decompressor.specs.Settling.{open_writers, is_settled, settled_calls};
+ghost use Rattle.decompressor.specs.Decompression.{CallsOf, all_calls, whole_text, Decompressed};
+ghost use Rattle.decompressor.specs.Settling.{open_writers, is_settled, settled_calls, settled_text};
 ghost use Rattle.arg_records.specs.Calls.{calls_by_writer};
 ghost use Rattle.decompressor.specs.Rows.{row_line, three_writers, mixed_blocks, second_calls, mixed_lines, two_writers, paired_blocks};
 
@@ -21,7 +21,7 @@ ghost use Rattle.decompressor.specs.Rows.{row_line, three_writers, mixed_blocks,
 pub fn worked_logs()
     ensures one_call { Decompressed row_bytes row_line }
     ensures calls { CallsOf mixed_blocks 1 ≡ second_calls }
-    ensures mixed_writers { Direct three_writers.clock (all_calls three_writers mixed_blocks) ≡ mixed_lines }
+    ensures mixed_writers { whole_text three_writers mixed_blocks ≡ mixed_lines }
 {}
 
 /// Bytes stand for one text.
@@ -42,7 +42,7 @@ pub fn whole_logs_give_all_lines()
     ensures { (header : Header) (blocks : List Block) (bytes : List ℕ)
         → FileOf header blocks bytes
         → Valid header blocks
-        → Decompressed bytes (Direct header.clock (all_calls header blocks)) }
+        → Decompressed bytes (whole_text header blocks) }
 {}
 
 /// A log of calls that were taken stands for the lines of these calls.
@@ -65,8 +65,7 @@ pub fn settled_calls_stay()
         → is_settled header blocks call ≡ true
         → is_settled header (blocks ++ more) call ≡ true }
     ensures front { (header : Header) (blocks more : List Block) → Valid header (blocks ++ more)
-        → (rest : List ℕ) × (Direct header.clock (all_calls header (blocks ++ more))
-        ≡ Direct header.clock (settled_calls header blocks) ++ rest) }
+        → (rest : List ℕ) × (whole_text header (blocks ++ more) ≡ settled_text header blocks ++ rest) }
 {}
 
 /// Where all writers are closed all calls are settled.

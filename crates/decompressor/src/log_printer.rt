@@ -1,16 +1,14 @@
 //! Printing the lines of a log block by block.
 
-ghost use Rattle.std.specs.Prelude.{◌≡◌, ◌⊎◌, ◌≤◌, ◌++◌, ℕ, List, [], ◌∷◌, replicate, false, true, Ok, IfOk, IfSome, IsErrOf, IsOkAnd, OnOk, OnErr, Err, Result};
+ghost use Rattle.std.specs.Prelude.{◌≡◌, ◌⊎◌, ◌≤◌, [], replicate, Ok, IfOk, IfSome, IsErrOf, IsOkAnd, OnOk, OnErr, Err};
 ghost use Rattle.nl_io.specs.Count.{Rose};
 ghost use Rattle.nl_io.specs.Content.{IsAtEnd};
 ghost use Rattle.checkpoint_io.specs.declared.cause.Cause.{Cause as LogCause};
 ghost use Rattle.checkpoint_io.specs.declared.cause.Cause.TheVariants.{Cut};
-ghost use Rattle.checkpoint_io.specs.Blocks.{Block as LogBlock};
 ghost use Rattle.checkpoint_io.specs.Fronts.{Break};
-ghost use Rattle.checkpoint_io.specs.NextBlocks.{Describes};
-ghost use Rattle.checkpoint_io.specs.Places.{with_front, TookSuch};
+ghost use Rattle.checkpoint_io.specs.Places.{TookSuch};
 ghost use Rattle.stamp_merge.specs.Mergers.{fresh_list};
-ghost use Rattle.decompressor.specs.Decompressors.{HasPrinted, HasTaken, HasLast, PrintsTo, StepsFrom, IsLastStep};
+ghost use Rattle.decompressor.specs.Decompressors.{IsStarted, CanStep, HasNext, HasRest, PrintsNext, PrintsRest, StepsFrom, IsLastStep};
 
 use crate::decompressing::open_writers;
 use crate::fault::DecodeFault;
@@ -75,9 +73,7 @@ impl LogPrinter {
     /// The source begins with no header, a read failed before its end, or there is no memory.
     pub fn make<S: Source>(alloc: Global, source: &mut S) -> Result<LogPrinter, BlockFault>
         // Nothing was printed, and no blocks were read.
-        ensures ok { IfOk result (λ made. (taken : List ℕ) × (printed : HasPrinted made taken [])
-            × (printed.read.blocks ≡ [])
-            × (S.left source.old ≡ with_front (taken ++ made.reader.waiting.bytes) (S.left source.new))) }
+        ensures ok { IfOk result (λ made. IsStarted made (S.left source.old) (S.left source.new)) }
         ensures damaged { (cause : LogCause) → result ≡ Err (BlockFault.Damaged cause)
             → IfSome (S.left source.old) (λ bytes. Break bytes 0 cause) }
         // The bytes that were taken end inside the header.
@@ -111,12 +107,9 @@ impl LogPrinter {
         text_writer: &mut TextWriter,
         out: &mut K,
     ) -> Result<(), DecodeFault>
-        requires next { (first : List LogBlock) × (next : LogBlock) × Describes block next
-            × HasTaken self.old first next }
+        requires next { HasNext self.old block }
         requires held { text_writer.old ≡ [] }
-        ensures printed { (first : List LogBlock) (next : LogBlock) → Describes block next
-            → HasTaken self.old first next
-            → PrintsTo false self.old self.new first (first ++ next ∷ []) (K.put out.old) (K.put out.new)
+        ensures printed { PrintsNext self.old self.new block (K.put out.old) (K.put out.new)
             (K.faults out.old) (K.faults out.new) result }
         ensures write_fault { IsErrOf result DecodeFault.WriteFault → Rose (K.faults out.old) (K.faults out.new) }
         ensures written { ¬ (IsErrOf result DecodeFault.WriteFault) → K.faults out.new ≡ K.faults out.old }
@@ -146,10 +139,9 @@ impl LogPrinter {
         text_writer: &mut TextWriter,
         out: &mut K,
     ) -> Result<(), DecodeFault>
-        requires last { (blocks : List LogBlock) × HasLast self.old blocks }
+        requires last { HasRest self.old }
         requires held { text_writer.old ≡ [] }
-        ensures printed { (blocks : List LogBlock) → HasLast self.old blocks
-            → PrintsTo true self.old self.new blocks blocks (K.put out.old) (K.put out.new)
+        ensures printed { PrintsRest self.old self.new (K.put out.old) (K.put out.new)
             (K.faults out.old) (K.faults out.new) result }
         ensures write_fault { IsErrOf result DecodeFault.WriteFault → Rose (K.faults out.old) (K.faults out.new) }
         ensures written { ¬ (IsErrOf result DecodeFault.WriteFault) → K.faults out.new ≡ K.faults out.old }
@@ -185,7 +177,7 @@ impl LogPrinter {
         text_writer: &mut TextWriter,
         out: &mut K,
     ) -> Result<Step, DecodeFault>
-        requires printed { (taken text : List ℕ) × HasPrinted self.old taken text }
+        requires printed { CanStep self.old }
         requires held { text_writer.old ≡ [] }
         // What was printed, and what the answer says of the bytes that stand behind those that were taken. No more than
         // one block of them is read.

@@ -11,7 +11,7 @@ use Rattle.checkpoint_io.specs.Validity.{records_of}
 use Rattle.checkpoint_io.proofs.lemmas.ValidityLaws.{slice_get-front, records_fit}
 use Rattle.checkpoint_io.specs.Logs.{LogOf}
 use Rattle.direct_printf.specs.Lines.{Direct}
-use Rattle.decompressor.specs.Decompression.{CallsOf, all_calls, Decompressed}
+use Rattle.decompressor.specs.Decompression.{CallsOf, all_calls, whole_text, Decompressed}
 use Rattle.decompressor.proofs.lemmas.DecompressionLaws.{whole_is_text}
 
 -- messages behind those that the records name change no call
@@ -47,5 +47,5 @@ taken_are bytes taken dictionary clock batch log =
 pub log_is_text : (bytes : List ℕ) (taken : List (List Call)) (dictionary : List Message) (clock : Clock) (batch : ℕ) → LogOf bytes taken dictionary clock batch → Decompressed bytes (Direct clock (calls_by_writer dictionary taken))
 log_is_text bytes taken dictionary clock batch log =
     let calls = taken_are bytes taken dictionary clock batch log in
-    let text : Direct log.header.clock (all_calls log.header log.blocks) ≡ Direct clock (calls_by_writer dictionary taken) = λ i. Direct (log.clock_is i) (calls i) in
+    let text : whole_text log.header log.blocks ≡ Direct clock (calls_by_writer dictionary taken) = λ i. Direct (log.clock_is i) (calls i) in
     subst (Decompressed bytes) text (whole_is_text log.header log.blocks bytes log.file log.valid)

@@ -1,9 +1,12 @@
-use Rattle.std.proofs.Common.{ℕ, Ok, Err, ap, sym, subst, ◌∙◌}
+use Rattle.std.proofs.Common.{◌≡◌, Ok, Err, ap, sym, subst, ◌∙◌}
 use Rattle.decompressor.specs.declared.fault.DecodeFault.{DecodeFault}
 use Rattle.decompressor.specs.declared.step.Step.{Step}
+use Rattle.decompressor.specs.declared.step.Step.TheVariants.{More, End}
 use Rattle.decompressor.specs.Decompressing.{Decompresses}
 use Rattle.decompressor.specs.Decompressors.{Steps}
 use Rattle.decompressor.proofs.Outcomes.{without_header, on_next, falls, ended, failed_as}
+use Rattle.decompressor.proofs.decompressing.decompress.Goals.{In_ok-step}
+use Rattle.decompressor.proofs.decompressing.decompress.Given.{Over}
 use Rattle.decompressor.proofs.decompressing.decompress.Goals as goal
 
 pub returns-in-Err-clause-text : goal.returns-in-Err-clause-text
@@ -17,12 +20,19 @@ returns-in-Err-clause-text g c =
     subst (λ (fault : DecodeFault). Decompresses file left before after put put (Err fault)) (sym c.header_fault.ensures.is)
     (without_header file left before after put c.in-Err.fault (λ cause is. e.damaged cause (ap Err is)) (λ is. e.cut (ap Err is)) (λ is. e.read_fault (ap Err is)) (λ other. e.counted (λ is. other cc)))
 
+-- the step that was made
+stepped : (g : Over) (c : In_ok-step g) (step : Step) → c.in_ok-step.field-0 ≡ step
+    → Steps c.loop-printer.printer c.step.new.self c.loop-printer.invariant.on.taken c.loop-printer.invariant.on.text c.loop-printer.invariant.on.printed (g.S.Source.left c.loop-printer.source) (g.S.Source.left c.step.new.source) (g.S.Source.faults c.loop-printer.source) (g.S.Source.faults c.step.new.source)
+    (g.K.Sink.put c.loop-printer.out) (g.K.Sink.put c.step.new.out) (Ok step)
+stepped g c step is =
+    let on = c.loop-printer.invariant.on in
+    subst (λ (step : Step). Steps c.loop-printer.printer c.step.new.self on.taken on.text on.printed (g.S.Source.left c.loop-printer.source) (g.S.Source.left c.step.new.source) (g.S.Source.faults c.loop-printer.source) (g.S.Source.faults c.step.new.source) (g.K.Sink.put c.loop-printer.out) (g.K.Sink.put c.step.new.out) (Ok step)) is
+    (c.in_ok-step.ensures.step on.taken on.text on.printed)
+
 pub returns-in_err-step-clause-text : goal.returns-in_err-step-clause-text
 returns-in_err-step-clause-text g c =
     let on = c.loop-printer.invariant.on in
-    subst (λ (n : ℕ). Decompresses (g.S.Source.left c.args.source.now) (g.S.Source.left c.step.new.source) n (g.S.Source.faults c.step.new.source) (g.K.Sink.put c.args.out.now) (g.K.Sink.put c.step.new.out) c.from_residual.result) c.loop-printer.invariant.counted
-    (failed_as (g.S.Source.left c.args.source.now) (g.K.Sink.put c.args.out.now) c.loop-printer.printer (g.S.Source.left c.loop-printer.source) (g.K.Sink.put c.loop-printer.out) c.loop-printer.invariant.on c.step.new.self (g.S.Source.left c.step.new.source) (g.K.Sink.put c.step.new.out) (g.S.Source.faults c.loop-printer.source) (g.S.Source.faults c.step.new.source) c.in_err-step.field-0.0 c.from_residual.result c.from_residual.ensures.1
-    (c.in_err-step.ensures.step on.taken on.text on.printed))
+    failed_as on c.step.new.self _ _ _ _ c.loop-printer.invariant.counted c.in_err-step.field-0.0 c.from_residual.result c.from_residual.ensures.1 (c.in_err-step.ensures.step on.taken on.text on.printed)
 
 pub returns-in_err-step-clause-out_others : goal.returns-in_err-step-clause-out_others
 returns-in_err-step-clause-out_others g c = g.met.K.Sink.rest_then _ _ _ c.loop-printer.invariant.out_others c.step.ensures.out_others
@@ -31,21 +41,15 @@ pub returns-in_err-step-clause-source_others : goal.returns-in_err-step-clause-s
 returns-in_err-step-clause-source_others g c = g.met.S.Source.rest_then _ _ _ c.loop-printer.invariant.source_others c.step.ensures.source_others
 
 pub loop-printer-smaller : goal.loop-printer-smaller
-loop-printer-smaller g c =
-    let on = c.loop-printer.invariant.on in
-    let stepped = subst (λ (step : Step). Steps c.loop-printer.printer c.step.new.self on.taken on.text on.printed (g.S.Source.left c.loop-printer.source) (g.S.Source.left c.step.new.source) (g.S.Source.faults c.loop-printer.source) (g.S.Source.faults c.step.new.source) (g.K.Sink.put c.loop-printer.out) (g.K.Sink.put c.step.new.out) (Ok step)) c.in-More.is
-    (c.in_ok-step.ensures.step on.taken on.text on.printed) in
-    falls (g.S.Source.left c.args.source.now) (g.K.Sink.put c.args.out.now) c.loop-printer.printer (g.S.Source.left c.loop-printer.source) (g.K.Sink.put c.loop-printer.out) c.loop-printer.invariant.on c.step.new.self (g.S.Source.left c.step.new.source) (g.K.Sink.put c.step.new.out) stepped.0
+loop-printer-smaller g c = falls c.loop-printer.invariant.on (stepped g (goal.at.loop-printer-smaller g c).In_ok-step More c.in-More.is).0
 
 pub loop-printer-preserved : goal.loop-printer-preserved
 loop-printer-preserved g c =
-    let on = c.loop-printer.invariant.on in
-    let stepped = subst (λ (step : Step). Steps c.loop-printer.printer c.step.new.self on.taken on.text on.printed (g.S.Source.left c.loop-printer.source) (g.S.Source.left c.step.new.source) (g.S.Source.faults c.loop-printer.source) (g.S.Source.faults c.step.new.source) (g.K.Sink.put c.loop-printer.out) (g.K.Sink.put c.step.new.out) (Ok step)) c.in-More.is
-    (c.in_ok-step.ensures.step on.taken on.text on.printed) in
+    let (on, counted) = stepped g (goal.at.loop-printer-preserved g c).In_ok-step More c.in-More.is in
     record {
       held = c.in_ok-step.ensures.held (ap Ok c.in-More.is);
-      on = on_next (g.S.Source.left c.args.source.now) (g.K.Sink.put c.args.out.now) c.loop-printer.printer (g.S.Source.left c.loop-printer.source) (g.K.Sink.put c.loop-printer.out) c.loop-printer.invariant.on c.step.new.self (g.S.Source.left c.step.new.source) (g.K.Sink.put c.step.new.out) stepped.0;
-      counted = stepped.1 ∙ c.loop-printer.invariant.counted;
+      on = on_next c.loop-printer.invariant.on on;
+      counted = counted ∙ c.loop-printer.invariant.counted;
       written = c.in_ok-step.ensures.written (λ e. cc) ∙ c.loop-printer.invariant.written;
       source_others = g.met.S.Source.rest_then _ _ _ c.loop-printer.invariant.source_others c.step.ensures.source_others;
       out_others = g.met.K.Sink.rest_then _ _ _ c.loop-printer.invariant.out_others c.step.ensures.out_others;
@@ -53,11 +57,7 @@ loop-printer-preserved g c =
 
 pub returns-in-End-clause-text : goal.returns-in-End-clause-text
 returns-in-End-clause-text g c =
-    let on = c.loop-printer.invariant.on in
-    let stepped = subst (λ (step : Step). Steps c.loop-printer.printer c.step.new.self on.taken on.text on.printed (g.S.Source.left c.loop-printer.source) (g.S.Source.left c.step.new.source) (g.S.Source.faults c.loop-printer.source) (g.S.Source.faults c.step.new.source) (g.K.Sink.put c.loop-printer.out) (g.K.Sink.put c.step.new.out) (Ok step)) c.in-End.is
-    (c.in_ok-step.ensures.step on.taken on.text on.printed) in
-    subst (λ (n : ℕ). Decompresses (g.S.Source.left c.args.source.now) (g.S.Source.left c.step.new.source) n (g.S.Source.faults c.step.new.source) (g.K.Sink.put c.args.out.now) (g.K.Sink.put c.step.new.out) (Ok c.in-End.report)) c.loop-printer.invariant.counted
-    (ended (g.S.Source.left c.args.source.now) (g.K.Sink.put c.args.out.now) c.loop-printer.printer (g.S.Source.left c.loop-printer.source) (g.K.Sink.put c.loop-printer.out) c.loop-printer.invariant.on c.step.new.self (g.S.Source.left c.step.new.source) (g.K.Sink.put c.step.new.out) (g.S.Source.faults c.loop-printer.source) (g.S.Source.faults c.step.new.source) c.in-End.report stepped)
+    ended c.loop-printer.invariant.on c.step.new.self (g.S.Source.left c.step.new.source) _ _ _ c.loop-printer.invariant.counted c.in-End.report (stepped g (goal.at.returns-in-End-clause-text g c).In_ok-step (End c.in-End.report) c.in-End.is)
 
 pub returns-in-End-clause-out_others : goal.returns-in-End-clause-out_others
 returns-in-End-clause-out_others g c = g.met.K.Sink.rest_then _ _ _ c.loop-printer.invariant.out_others c.step.ensures.out_others

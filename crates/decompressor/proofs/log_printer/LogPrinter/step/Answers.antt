@@ -1,295 +1,227 @@
-use Rattle.std.proofs.Common.{◌≡◌, ℕ, List, length, Option, Ok, Err, refl, ap, sym, subst, ◌∙◌, rules}
+use Rattle.std.proofs.Common.{◌≡◌, ℕ, List, length, Option, Result, Ok, Err, refl, ap, sym, subst, ◌∙◌, rules}
 use Rattle.nl_io.specs.Count.{Rose}
+use Rattle.nl_io.specs.Content.{Told}
 use Rattle.checkpoint_io.specs.declared.block.Block.{Block as ReadBlock}
 use Rattle.checkpoint_io.specs.declared.header.Header.{Header}
 use Rattle.checkpoint_io.specs.NextBlocks.{TakesNext, EndsThere, AnswersNext}
 use Rattle.checkpoint_io.specs.Readers.{ReaderState, StandsFor}
 use Rattle.decompressor.specs.declared.report.Report.{Report}
+use Rattle.decompressor.specs.declared.fault.DecodeFault.{DecodeFault}
+use Rattle.decompressor.specs.declared.fault.DecodeFault.TheVariants.{Damaged, ReadFault, NoMemory}
+use Rattle.decompressor.specs.declared.step.Step.{Step}
+use Rattle.decompressor.specs.declared.step.Step.TheVariants.{More, End}
+use Rattle.decompressor.specs.contracts.log_printer.LogPrinter.{the_view}
 use Rattle.decompressor.specs.Decompression.{all_calls}
 use Rattle.decompressor.specs.Settling.{open_writers}
-use Rattle.decompressor.specs.declared.fault.DecodeFault.TheVariants.{Damaged, ReadFault, NoMemory}
-use Rattle.decompressor.specs.declared.step.Step.TheVariants.{More, End}
-use Rattle.decompressor.specs.Decompressors.{PrinterState, HasPrinted, HasLast, StepsFrom}
-use Rattle.decompressor.proofs.Stepping.{blocks, at_reader, has_read, advances, had_last, whole_reads, damaged_reads, failed_reads, completes, nothing_put, all_put, rest_stops, lacks, block_stops}
+use Rattle.decompressor.specs.Decompressors.{PrinterState, HasPrinted, CanStep, HasTaken, HasLast, StepsFrom}
+use Rattle.decompressor.proofs.Stepping.{blocks, at_reader, EndsSo, has_read, advances, had_last, whole_reads, damaged_reads, failed_reads, completes, nothing_put, all_put, rest_stops, lacks, block_stops}
+use Rattle.decompressor.proofs.log_printer.LogPrinter.step.Goals.{After-next_block, In-Ok-Some, In-Ok-None, In-Err-Damaged, In-Err-ReadFault}
+use Rattle.decompressor.proofs.log_printer.LogPrinter.step.Given.{Over}
 use Rattle.decompressor.proofs.log_printer.LogPrinter.step.Goals as goal
+
+module _ (g : Over) where
+  -- ---- the call that reads the next block
+
+  module _ (c : After-next_block g) where
+    -- the printer in front of it
+    abbrev old : PrinterState
+    old = the_view c.self.inside
+
+    abbrev new : ReaderState
+    new = c.next_block.new.self
+
+    abbrev left : Told
+    left = g.S.Source.left c.args.source.now
+
+    abbrev behind : Told
+    behind = g.S.Source.left c.next_block.new.source
+
+    abbrev before : ℕ
+    before = g.S.Source.faults c.args.source.now
+
+    abbrev after : ℕ
+    after = g.S.Source.faults c.next_block.new.source
+
+    abbrev was : Told
+    was = g.K.Sink.put c.args.out.now
+
+    begun : CanStep old
+    begun = subst (λ (s : PrinterState). CanStep s) (sym c.self.view_is) c.requires.printed
+
+    -- what is said of the fields is said of the printer
+    says : (state : PrinterState) (is : Told) (answer : Result Step DecodeFault) → StepsFrom old state left behind before after was is answer → StepsFrom c.args.self.now state left behind before after was is answer
+    says state is answer = subst (λ (s : PrinterState). StepsFrom s state left behind before after was is answer) c.self.view_is
+
+    last : {taken text : List ℕ} (printed : HasPrinted old taken text) → HasLast (at_reader old new) (blocks printed)
+    last printed = had_last printed new c.next_block.ensures.header c.next_block.ensures.defined
+
+  -- a block was read
+  module _ (c : In-Ok-Some g) {taken text : List ℕ} (printed : HasPrinted (the_view c.self.inside) taken text) where
+    next : TakesNext c.self.inside.reader c.next_block.new.self taken printed.read c.in-Ok-Some.block (g.S.Source.left c.args.source.now) (g.S.Source.left c.next_block.new.source)
+    next =
+        subst (λ (answer : Option ReadBlock). AnswersNext c.self.inside.reader c.next_block.new.self taken printed.read answer (g.S.Source.left c.args.source.now) (g.S.Source.left c.next_block.new.source))
+        c.in-Ok-Some.field-0-is (c.in-Ok-Some.ensures.ok taken printed.read)
+
+    took : HasTaken (at_reader (the_view c.self.inside) c.next_block.new.self) (blocks printed) next.block
+    took = has_read printed c.next_block.new.self c.next_block.ensures.header next
+
+  -- no block stands there
+  module _ (c : In-Ok-None g) {taken text : List ℕ} (printed : HasPrinted (the_view c.self.inside) taken text) where
+    ends : EndsThere c.self.inside.reader c.next_block.new.self taken printed.read (g.S.Source.left c.args.source.now) (g.S.Source.left c.next_block.new.source)
+    ends =
+        subst (λ (answer : Option ReadBlock). AnswersNext c.self.inside.reader c.next_block.new.self taken printed.read answer (g.S.Source.left c.args.source.now) (g.S.Source.left c.next_block.new.source))
+        c.in-Ok-None.field-0-is (c.in-Ok-None.ensures.ok taken printed.read)
+
+    whole : (state : PrinterState) (report : Report) → report.lines ≡ length (all_calls c.self.inside.reader.header (blocks printed)) → report.unclosed ≡ open_writers c.self.inside.reader.header (blocks printed)
+        → EndsSo printed (g.S.Source.left c.args.source.now) state (g.S.Source.left c.next_block.new.source) (g.S.Source.faults c.args.source.now) (g.S.Source.faults c.next_block.new.source) (Ok report)
+    whole state report lines unclosed =
+        let counted : g.S.Source.faults c.next_block.new.source ≡ g.S.Source.faults c.args.source.now = search rules in
+        whole_reads printed (g.S.Source.left c.args.source.now) state (g.S.Source.left c.next_block.new.source) (g.S.Source.faults c.args.source.now) (g.S.Source.faults c.next_block.new.source) report ends.ended counted lines unclosed
+
+  -- the log is damaged there
+  module _ (c : In-Err-Damaged g) {taken text : List ℕ} (printed : HasPrinted (the_view c.self.inside) taken text) where
+    damaged : (state : PrinterState) (offset : ℕ) → offset ≡ c.self.inside.reader.offset
+        → EndsSo printed (g.S.Source.left c.args.source.now) state (g.S.Source.left c.next_block.new.source) (g.S.Source.faults c.args.source.now) (g.S.Source.faults c.next_block.new.source) (Err (Damaged offset c.in-Err-Damaged.cause))
+    damaged state offset same =
+        let counted : g.S.Source.faults c.next_block.new.source ≡ g.S.Source.faults c.args.source.now = search rules in
+        damaged_reads printed (g.S.Source.left c.args.source.now) state (g.S.Source.left c.next_block.new.source) (g.S.Source.faults c.args.source.now) (g.S.Source.faults c.next_block.new.source) offset c.in-Err-Damaged.cause same
+        (c.next_block.ensures.damaged taken c.in-Err-Damaged.cause printed.read (c.in-Err-Damaged.is ∙ ap Err c.in-Err-Damaged.field-0-is)) counted
+
+  -- a read failed
+  module _ (c : In-Err-ReadFault g) {taken text : List ℕ} (printed : HasPrinted (the_view c.self.inside) taken text) where
+    failed : (state : PrinterState) → EndsSo printed (g.S.Source.left c.args.source.now) state (g.S.Source.left c.next_block.new.source) (g.S.Source.faults c.args.source.now) (g.S.Source.faults c.next_block.new.source) (Err ReadFault)
+    failed state =
+        let rose : Rose (g.S.Source.faults c.args.source.now) (g.S.Source.faults c.next_block.new.source) = search rules in
+        failed_reads printed (g.S.Source.left c.args.source.now) state (g.S.Source.left c.next_block.new.source) (g.S.Source.faults c.args.source.now) (g.S.Source.faults c.next_block.new.source)
+        (c.next_block.ensures.cut taken printed.read (c.in-Err-ReadFault.is ∙ ap Err c.in-Err-ReadFault.field-0-is)) rose
 
 pub take_block-requires-clause-next : goal.take_block-requires-clause-next
 take_block-requires-clause-next g c =
-    let inside = c.self.inside in
-    let old : PrinterState = record { reader = inside.reader; waiting = inside.waiting.items; lists = inside.merger; lines = inside.lines } in
-    let new = c.next_block.new.self in
-    let left = g.S.Source.left c.args.source.now in
-    let behind = g.S.Source.left c.next_block.new.source in
-    let same = c.next_block.ensures.header in
-    let nexts : (taken text : List ℕ) (printed : HasPrinted old taken text) → TakesNext inside.reader new taken printed.read c.in-Ok-Some.block left behind = λ taken text printed.
-    subst (λ (answer : Option ReadBlock). AnswersNext inside.reader new taken printed.read answer left behind) c.in-Ok-Some.field-0-is (c.in-Ok-Some.ensures.ok taken printed.read) in
-    let (taken, text, printed) = subst (λ (s : PrinterState). (taken : List ℕ) × (text : List ℕ) × HasPrinted s taken text) (sym c.self.view_is) c.requires.printed in
-    let next = nexts taken text printed in
-    (blocks old taken text printed, next.block, next.tells, has_read old taken text printed new same c.in-Ok-Some.block left behind next)
+    let at = goal.at.take_block-requires-clause-next g c in
+    let (taken, text, printed) = begun g at.After-next_block in
+    let n = next g at.In-Ok-Some printed in
+    (blocks printed, n.block, n.tells, took g at.In-Ok-Some printed)
 
 pub returns-in_err-take_block-in-Ok-Some-clause-step : goal.returns-in_err-take_block-in-Ok-Some-clause-step
 returns-in_err-take_block-in-Ok-Some-clause-step g c =
-    let inside = c.self.inside in
-    let old : PrinterState = record { reader = inside.reader; waiting = inside.waiting.items; lists = inside.merger; lines = inside.lines } in
-    let new = c.next_block.new.self in
-    let left = g.S.Source.left c.args.source.now in
-    let behind = g.S.Source.left c.next_block.new.source in
-    let same = c.next_block.ensures.header in
-    let before = g.S.Source.faults c.args.source.now in
-    let after = g.S.Source.faults c.next_block.new.source in
-    let was = g.K.Sink.put c.args.out.now in
-    let is = g.K.Sink.put c.take_block.new.out in
-    let nexts : (taken text : List ℕ) (printed : HasPrinted old taken text) → TakesNext inside.reader new taken printed.read c.in-Ok-Some.block left behind = λ taken text printed.
-    subst (λ (answer : Option ReadBlock). AnswersNext inside.reader new taken printed.read answer left behind) c.in-Ok-Some.field-0-is (c.in-Ok-Some.ensures.ok taken printed.read) in
-    let counted : after ≡ before = search rules in
-    subst (λ (s : PrinterState). StepsFrom s c.take_block.new.self left behind before after was is c.from_residual.result) c.self.view_is
+    let at = goal.at.returns-in_err-take_block-in-Ok-Some-clause-step g c in
+    let counted : after g at.After-next_block ≡ before g at.After-next_block = search rules in
+    says g at.After-next_block c.take_block.new.self (g.K.Sink.put c.take_block.new.out) c.from_residual.result
     (λ taken text printed.
-    let next = nexts taken text printed in
-    block_stops old taken text printed new same c.in-Ok-Some.block left behind next c.take_block.new.self before after was is (g.K.Sink.faults c.args.out.now) (g.K.Sink.faults c.take_block.new.out) c.in_err-take_block-in-Ok-Some.field-0.0 c.from_residual.result c.take_block.ensures.reader c.from_residual.ensures.1
-    (c.in_err-take_block-in-Ok-Some.ensures.printed printed.read.blocks next.block next.tells (has_read old taken text printed new same c.in-Ok-Some.block left behind next)) counted)
+    let n = next g at.In-Ok-Some printed in
+    block_stops printed c.next_block.new.self c.next_block.ensures.header n _ _ _ c.from_residual.result c.take_block.ensures.reader c.from_residual.ensures.1
+    (c.in_err-take_block-in-Ok-Some.ensures.printed (blocks printed) n.block n.tells (took g at.In-Ok-Some printed)) counted)
 
 pub returns-in_ok-take_block-in-Ok-Some-clause-step : goal.returns-in_ok-take_block-in-Ok-Some-clause-step
 returns-in_ok-take_block-in-Ok-Some-clause-step g c =
-    let inside = c.self.inside in
-    let old : PrinterState = record { reader = inside.reader; waiting = inside.waiting.items; lists = inside.merger; lines = inside.lines } in
-    let new = c.next_block.new.self in
-    let left = g.S.Source.left c.args.source.now in
-    let behind = g.S.Source.left c.next_block.new.source in
-    let same = c.next_block.ensures.header in
-    let before = g.S.Source.faults c.args.source.now in
-    let after = g.S.Source.faults c.next_block.new.source in
-    let was = g.K.Sink.put c.args.out.now in
-    let is = g.K.Sink.put c.take_block.new.out in
-    let nexts : (taken text : List ℕ) (printed : HasPrinted old taken text) → TakesNext inside.reader new taken printed.read c.in-Ok-Some.block left behind = λ taken text printed.
-    subst (λ (answer : Option ReadBlock). AnswersNext inside.reader new taken printed.read answer left behind) c.in-Ok-Some.field-0-is (c.in-Ok-Some.ensures.ok taken printed.read) in
-    let counted : after ≡ before = search rules in
-    subst (λ (s : PrinterState). StepsFrom s c.take_block.new.self left behind before after was is (Ok More)) c.self.view_is
+    let at = goal.at.returns-in_ok-take_block-in-Ok-Some-clause-step g c in
+    let counted : after g at.After-next_block ≡ before g at.After-next_block = search rules in
+    says g at.After-next_block c.take_block.new.self (g.K.Sink.put c.take_block.new.out) (Ok More)
     (λ taken text printed.
-    let next = nexts taken text printed in
-    let did = c.in_ok-take_block-in-Ok-Some.ensures.printed printed.read.blocks next.block next.tells (has_read old taken text printed new same c.in-Ok-Some.block left behind next) in
-    (advances old taken text printed new same c.in-Ok-Some.block left behind next c.take_block.new.self was is c.take_block.ensures.reader c.in-Ok-Some.ensures.right did.0, counted))
+    let n = next g at.In-Ok-Some printed in
+    let did = c.in_ok-take_block-in-Ok-Some.ensures.printed (blocks printed) n.block n.tells (took g at.In-Ok-Some printed) in
+    (advances printed c.next_block.new.self c.next_block.ensures.header n c.take_block.ensures.reader c.in-Ok-Some.ensures.right did.0, counted))
 
 pub print_rest-requires-clause-last : goal.print_rest-requires-clause-last
 print_rest-requires-clause-last g c =
-    let inside = c.self.inside in
-    let old : PrinterState = record { reader = inside.reader; waiting = inside.waiting.items; lists = inside.merger; lines = inside.lines } in
-    let new = c.next_block.new.self in
-    let left = g.S.Source.left c.args.source.now in
-    let behind = g.S.Source.left c.next_block.new.source in
-    let same = c.next_block.ensures.header in
-    let ends : (taken text : List ℕ) (printed : HasPrinted old taken text) → EndsThere inside.reader new taken printed.read left behind = λ taken text printed.
-    subst (λ (answer : Option ReadBlock). AnswersNext inside.reader new taken printed.read answer left behind) c.in-Ok-None.field-0-is (c.in-Ok-None.ensures.ok taken printed.read) in
-    let last : (taken text : List ℕ) (printed : HasPrinted old taken text) → HasLast (at_reader old taken text printed new) printed.read.blocks = λ taken text printed.
-    had_last old taken text printed new same left c.next_block.ensures.defined in
-    let (taken, text, printed) = subst (λ (s : PrinterState). (taken : List ℕ) × (text : List ℕ) × HasPrinted s taken text) (sym c.self.view_is) c.requires.printed in
-    (blocks old taken text printed, last taken text printed)
+    let at = goal.at.print_rest-requires-clause-last g c in
+    let (taken, text, printed) = begun g at.After-next_block in
+    (blocks printed, last g at.After-next_block printed)
 
 pub print_rest-requires-in-Err-Damaged-clause-last : goal.print_rest-requires-in-Err-Damaged-clause-last
 print_rest-requires-in-Err-Damaged-clause-last g c =
-    let inside = c.self.inside in
-    let old : PrinterState = record { reader = inside.reader; waiting = inside.waiting.items; lists = inside.merger; lines = inside.lines } in
-    let new = c.next_block.new.self in
-    let left = g.S.Source.left c.args.source.now in
-    let behind = g.S.Source.left c.next_block.new.source in
-    let same = c.next_block.ensures.header in
-    let last : (taken text : List ℕ) (printed : HasPrinted old taken text) → HasLast (at_reader old taken text printed new) printed.read.blocks = λ taken text printed.
-    had_last old taken text printed new same left c.next_block.ensures.defined in
-    let (taken, text, printed) = subst (λ (s : PrinterState). (taken : List ℕ) × (text : List ℕ) × HasPrinted s taken text) (sym c.self.view_is) c.requires.printed in
-    (blocks old taken text printed, last taken text printed)
+    let at = goal.at.print_rest-requires-in-Err-Damaged-clause-last g c in
+    let (taken, text, printed) = begun g at.After-next_block in
+    (blocks printed, last g at.After-next_block printed)
 
 pub print_rest-requires-in-Err-ReadFault-clause-last : goal.print_rest-requires-in-Err-ReadFault-clause-last
 print_rest-requires-in-Err-ReadFault-clause-last g c =
-    let inside = c.self.inside in
-    let old : PrinterState = record { reader = inside.reader; waiting = inside.waiting.items; lists = inside.merger; lines = inside.lines } in
-    let new = c.next_block.new.self in
-    let left = g.S.Source.left c.args.source.now in
-    let behind = g.S.Source.left c.next_block.new.source in
-    let same = c.next_block.ensures.header in
-    let last : (taken text : List ℕ) (printed : HasPrinted old taken text) → HasLast (at_reader old taken text printed new) printed.read.blocks = λ taken text printed.
-    had_last old taken text printed new same left c.next_block.ensures.defined in
-    let (taken, text, printed) = subst (λ (s : PrinterState). (taken : List ℕ) × (text : List ℕ) × HasPrinted s taken text) (sym c.self.view_is) c.requires.printed in
-    (blocks old taken text printed, last taken text printed)
+    let at = goal.at.print_rest-requires-in-Err-ReadFault-clause-last g c in
+    let (taken, text, printed) = begun g at.After-next_block in
+    (blocks printed, last g at.After-next_block printed)
 
 pub returns-in-Err-NoMemory-clause-step : goal.returns-in-Err-NoMemory-clause-step
 returns-in-Err-NoMemory-clause-step g c =
-    let inside = c.self.inside in
-    let old : PrinterState = record { reader = inside.reader; waiting = inside.waiting.items; lists = inside.merger; lines = inside.lines } in
-    let new = c.next_block.new.self in
-    let left = g.S.Source.left c.args.source.now in
-    let behind = g.S.Source.left c.next_block.new.source in
-    let same = c.next_block.ensures.header in
-    let before = g.S.Source.faults c.args.source.now in
-    let after = g.S.Source.faults c.next_block.new.source in
-    let was = g.K.Sink.put c.args.out.now in
-    let counted : after ≡ before = search rules in
-    subst (λ (s : PrinterState). StepsFrom s (record old { reader = new }) left behind before after was was (Err NoMemory)) c.self.view_is
-    (λ taken text printed. nothing_put old taken text printed new same left behind before after was c.in-Err-NoMemory.ensures.offset counted)
+    let at = goal.at.returns-in-Err-NoMemory-clause-step g c in
+    let counted : after g at.After-next_block ≡ before g at.After-next_block = search rules in
+    says g at.After-next_block (at_reader (old g at.After-next_block) c.next_block.new.self) (g.K.Sink.put c.args.out.now) (Err NoMemory)
+    (λ taken text printed. nothing_put printed c.next_block.new.self c.next_block.ensures.header _ _ _ _ _ c.in-Err-NoMemory.ensures.offset counted)
 
 pub returns-in_err-print_rest-in-Ok-None-clause-step : goal.returns-in_err-print_rest-in-Ok-None-clause-step
 returns-in_err-print_rest-in-Ok-None-clause-step g c =
-    let inside = c.self.inside in
-    let old : PrinterState = record { reader = inside.reader; waiting = inside.waiting.items; lists = inside.merger; lines = inside.lines } in
-    let new = c.next_block.new.self in
-    let left = g.S.Source.left c.args.source.now in
-    let behind = g.S.Source.left c.next_block.new.source in
-    let same = c.next_block.ensures.header in
-    let before = g.S.Source.faults c.args.source.now in
-    let after = g.S.Source.faults c.next_block.new.source in
-    let was = g.K.Sink.put c.args.out.now in
-    let is = g.K.Sink.put c.print_rest.new.out in
-    let last : (taken text : List ℕ) (printed : HasPrinted old taken text) → HasLast (at_reader old taken text printed new) printed.read.blocks = λ taken text printed.
-    had_last old taken text printed new same left c.next_block.ensures.defined in
-    let ends : (taken text : List ℕ) (printed : HasPrinted old taken text) → EndsThere inside.reader new taken printed.read left behind = λ taken text printed.
-    subst (λ (answer : Option ReadBlock). AnswersNext inside.reader new taken printed.read answer left behind) c.in-Ok-None.field-0-is (c.in-Ok-None.ensures.ok taken printed.read) in
-    let answer : (taken text : List ℕ) (printed : HasPrinted old taken text) → Report = λ taken text printed. record { lines = length (all_calls inside.reader.header printed.read.blocks); unclosed = open_writers inside.reader.header printed.read.blocks } in
-    let counted : after ≡ before = search rules in
-    subst (λ (s : PrinterState). StepsFrom s c.print_rest.new.self left behind before after was is c.from_residual-in_err-print_rest-in-Ok-None.result) c.self.view_is
-    (λ taken text printed. rest_stops old taken text printed new same left c.print_rest.new.self behind before after was is (g.K.Sink.faults c.args.out.now) (g.K.Sink.faults c.print_rest.new.out) c.in_err-print_rest-in-Ok-None.field-0.0 c.from_residual-in_err-print_rest-in-Ok-None.result (Ok (answer taken text printed)) c.from_residual-in_err-print_rest-in-Ok-None.ensures.1
-    (c.in_err-print_rest-in-Ok-None.ensures.printed printed.read.blocks (last taken text printed))
-    (whole_reads old taken text printed new same left c.print_rest.new.self behind before after (answer taken text printed) (ends taken text printed).ended counted refl refl))
+    let at = goal.at.returns-in_err-print_rest-in-Ok-None-clause-step g c in
+    let state : PrinterState = c.print_rest.new.self in
+    says g at.After-next_block state (g.K.Sink.put c.print_rest.new.out) c.from_residual-in_err-print_rest-in-Ok-None.result
+    (λ taken text printed.
+    let report : Report = record { lines = length (all_calls c.self.inside.reader.header (blocks printed)); unclosed = open_writers c.self.inside.reader.header (blocks printed) } in
+    rest_stops printed c.next_block.new.self c.next_block.ensures.header _ _ _ _ state _ _ (Ok report) (whole g at.In-Ok-None printed state report refl refl) c.from_residual-in_err-print_rest-in-Ok-None.result
+    c.from_residual-in_err-print_rest-in-Ok-None.ensures.1 (c.in_err-print_rest-in-Ok-None.ensures.printed (blocks printed) (last g at.After-next_block printed)))
 
 pub returns-in_err-print_rest-in-Err-Damaged-clause-step : goal.returns-in_err-print_rest-in-Err-Damaged-clause-step
 returns-in_err-print_rest-in-Err-Damaged-clause-step g c =
-    let inside = c.self.inside in
-    let old : PrinterState = record { reader = inside.reader; waiting = inside.waiting.items; lists = inside.merger; lines = inside.lines } in
-    let new = c.next_block.new.self in
-    let left = g.S.Source.left c.args.source.now in
-    let behind = g.S.Source.left c.next_block.new.source in
-    let same = c.next_block.ensures.header in
-    let before = g.S.Source.faults c.args.source.now in
-    let after = g.S.Source.faults c.next_block.new.source in
-    let was = g.K.Sink.put c.args.out.now in
-    let is = g.K.Sink.put c.print_rest-in-Err-Damaged.new.out in
-    let last : (taken text : List ℕ) (printed : HasPrinted old taken text) → HasLast (at_reader old taken text printed new) printed.read.blocks = λ taken text printed.
-    had_last old taken text printed new same left c.next_block.ensures.defined in
-    let a = c.in-Err-Damaged in
-    let counted : after ≡ before = search rules in
-    subst (λ (s : PrinterState). StepsFrom s c.print_rest-in-Err-Damaged.new.self left behind before after was is c.from_residual-in_err-print_rest-in-Err-Damaged.result) c.self.view_is
-    (λ taken text printed. rest_stops old taken text printed new same left c.print_rest-in-Err-Damaged.new.self behind before after was is (g.K.Sink.faults c.args.out.now) (g.K.Sink.faults c.print_rest-in-Err-Damaged.new.out) c.in_err-print_rest-in-Err-Damaged.field-0.0 c.from_residual-in_err-print_rest-in-Err-Damaged.result (Err (Damaged inside.reader.offset a.cause)) c.from_residual-in_err-print_rest-in-Err-Damaged.ensures.1
-    (c.in_err-print_rest-in-Err-Damaged.ensures.printed printed.read.blocks (last taken text printed))
-    (damaged_reads old taken text printed new same left c.print_rest-in-Err-Damaged.new.self behind before after inside.reader.offset a.cause refl (c.next_block.ensures.damaged taken a.cause printed.read (a.is ∙ ap Err a.field-0-is)) counted))
+    let at = goal.at.returns-in_err-print_rest-in-Err-Damaged-clause-step g c in
+    let state : PrinterState = c.print_rest-in-Err-Damaged.new.self in
+    let offset = c.self.inside.reader.offset in
+    says g at.After-next_block state (g.K.Sink.put c.print_rest-in-Err-Damaged.new.out) c.from_residual-in_err-print_rest-in-Err-Damaged.result
+    (λ taken text printed.
+    rest_stops printed c.next_block.new.self c.next_block.ensures.header _ _ _ _ state _ _ (Err (Damaged offset c.in-Err-Damaged.cause)) (damaged g at.In-Err-Damaged printed state offset refl) c.from_residual-in_err-print_rest-in-Err-Damaged.result
+    c.from_residual-in_err-print_rest-in-Err-Damaged.ensures.1 (c.in_err-print_rest-in-Err-Damaged.ensures.printed (blocks printed) (last g at.After-next_block printed)))
 
 pub returns-in_err-print_rest-in-Err-ReadFault-clause-step : goal.returns-in_err-print_rest-in-Err-ReadFault-clause-step
 returns-in_err-print_rest-in-Err-ReadFault-clause-step g c =
-    let inside = c.self.inside in
-    let old : PrinterState = record { reader = inside.reader; waiting = inside.waiting.items; lists = inside.merger; lines = inside.lines } in
-    let new = c.next_block.new.self in
-    let left = g.S.Source.left c.args.source.now in
-    let behind = g.S.Source.left c.next_block.new.source in
-    let same = c.next_block.ensures.header in
-    let before = g.S.Source.faults c.args.source.now in
-    let after = g.S.Source.faults c.next_block.new.source in
-    let was = g.K.Sink.put c.args.out.now in
-    let is = g.K.Sink.put c.print_rest-in-Err-ReadFault.new.out in
-    let last : (taken text : List ℕ) (printed : HasPrinted old taken text) → HasLast (at_reader old taken text printed new) printed.read.blocks = λ taken text printed.
-    had_last old taken text printed new same left c.next_block.ensures.defined in
-    let a = c.in-Err-ReadFault in
-    let rose : Rose before after = search rules in
-    subst (λ (s : PrinterState). StepsFrom s c.print_rest-in-Err-ReadFault.new.self left behind before after was is c.from_residual-in_err-print_rest-in-Err-ReadFault.result) c.self.view_is
-    (λ taken text printed. rest_stops old taken text printed new same left c.print_rest-in-Err-ReadFault.new.self behind before after was is (g.K.Sink.faults c.args.out.now) (g.K.Sink.faults c.print_rest-in-Err-ReadFault.new.out) c.in_err-print_rest-in-Err-ReadFault.field-0.0 c.from_residual-in_err-print_rest-in-Err-ReadFault.result (Err ReadFault) c.from_residual-in_err-print_rest-in-Err-ReadFault.ensures.1
-    (c.in_err-print_rest-in-Err-ReadFault.ensures.printed printed.read.blocks (last taken text printed))
-    (failed_reads old taken text printed new same left c.print_rest-in-Err-ReadFault.new.self behind before after (c.next_block.ensures.cut taken printed.read (a.is ∙ ap Err a.field-0-is)) rose))
+    let at = goal.at.returns-in_err-print_rest-in-Err-ReadFault-clause-step g c in
+    let state : PrinterState = c.print_rest-in-Err-ReadFault.new.self in
+    says g at.After-next_block state (g.K.Sink.put c.print_rest-in-Err-ReadFault.new.out) c.from_residual-in_err-print_rest-in-Err-ReadFault.result
+    (λ taken text printed.
+    rest_stops printed c.next_block.new.self c.next_block.ensures.header _ _ _ _ state _ _ (Err ReadFault) (failed g at.In-Err-ReadFault printed state) c.from_residual-in_err-print_rest-in-Err-ReadFault.result
+    c.from_residual-in_err-print_rest-in-Err-ReadFault.ensures.1 (c.in_err-print_rest-in-Err-ReadFault.ensures.printed (blocks printed) (last g at.After-next_block printed)))
 
 pub returns-in_err-open_writers-in-Ok-None-clause-step : goal.returns-in_err-open_writers-in-Ok-None-clause-step
 returns-in_err-open_writers-in-Ok-None-clause-step g c =
-    let inside = c.self.inside in
-    let old : PrinterState = record { reader = inside.reader; waiting = inside.waiting.items; lists = inside.merger; lines = inside.lines } in
-    let new = c.next_block.new.self in
-    let left = g.S.Source.left c.args.source.now in
-    let behind = g.S.Source.left c.next_block.new.source in
-    let same = c.next_block.ensures.header in
-    let before = g.S.Source.faults c.args.source.now in
-    let after = g.S.Source.faults c.next_block.new.source in
-    let was = g.K.Sink.put c.args.out.now in
-    let is = g.K.Sink.put c.print_rest.new.out in
-    let last : (taken text : List ℕ) (printed : HasPrinted old taken text) → HasLast (at_reader old taken text printed new) printed.read.blocks = λ taken text printed.
-    had_last old taken text printed new same left c.next_block.ensures.defined in
-    let ends : (taken text : List ℕ) (printed : HasPrinted old taken text) → EndsThere inside.reader new taken printed.read left behind = λ taken text printed.
-    subst (λ (answer : Option ReadBlock). AnswersNext inside.reader new taken printed.read answer left behind) c.in-Ok-None.field-0-is (c.in-Ok-None.ensures.ok taken printed.read) in
-    let answer : (taken text : List ℕ) (printed : HasPrinted old taken text) → Report = λ taken text printed. record { lines = length (all_calls inside.reader.header printed.read.blocks); unclosed = open_writers inside.reader.header printed.read.blocks } in
-    let counted : after ≡ before = search rules in
-    subst (λ (s : PrinterState). StepsFrom s c.print_rest.new.self left behind before after was is c.from_residual-in_err-open_writers-in-Ok-None.result) c.self.view_is
+    let at = goal.at.returns-in_err-open_writers-in-Ok-None-clause-step g c in
+    let state : PrinterState = c.print_rest.new.self in
+    says g at.After-next_block state (g.K.Sink.put c.print_rest.new.out) c.from_residual-in_err-open_writers-in-Ok-None.result
     (λ taken text printed.
-    let did = c.in_ok-print_rest-in-Ok-None.ensures.printed printed.read.blocks (last taken text printed) in
-    lacks old taken text printed new same left c.print_rest.new.self behind before after was is c.from_residual-in_err-open_writers-in-Ok-None.result c.from_residual-in_err-open_writers-in-Ok-None.ensures.1
-    (all_put old taken text printed new same left behind before after was is c.print_rest.new.self (Ok (answer taken text printed)) did.0
-    (whole_reads old taken text printed new same left c.print_rest.new.self behind before after (answer taken text printed) (ends taken text printed).ended counted refl refl)))
+    let report : Report = record { lines = length (all_calls c.self.inside.reader.header (blocks printed)); unclosed = open_writers c.self.inside.reader.header (blocks printed) } in
+    let did = c.in_ok-print_rest-in-Ok-None.ensures.printed (blocks printed) (last g at.After-next_block printed) in
+    lacks printed state _ _ _ _ _ _ c.from_residual-in_err-open_writers-in-Ok-None.result c.from_residual-in_err-open_writers-in-Ok-None.ensures.1
+    (all_put printed c.next_block.new.self c.next_block.ensures.header _ _ _ _ state _ _ (Ok report) (whole g at.In-Ok-None printed state report refl refl) did.0))
 
 pub returns-in_ok-open_writers-in-Ok-None-clause-step : goal.returns-in_ok-open_writers-in-Ok-None-clause-step
 returns-in_ok-open_writers-in-Ok-None-clause-step g c =
-    let inside = c.self.inside in
-    let old : PrinterState = record { reader = inside.reader; waiting = inside.waiting.items; lists = inside.merger; lines = inside.lines } in
-    let new = c.next_block.new.self in
-    let left = g.S.Source.left c.args.source.now in
-    let behind = g.S.Source.left c.next_block.new.source in
-    let same = c.next_block.ensures.header in
-    let before = g.S.Source.faults c.args.source.now in
-    let after = g.S.Source.faults c.next_block.new.source in
-    let was = g.K.Sink.put c.args.out.now in
-    let is = g.K.Sink.put c.print_rest.new.out in
-    let ends : (taken text : List ℕ) (printed : HasPrinted old taken text) → EndsThere inside.reader new taken printed.read left behind = λ taken text printed.
-    subst (λ (answer : Option ReadBlock). AnswersNext inside.reader new taken printed.read answer left behind) c.in-Ok-None.field-0-is (c.in-Ok-None.ensures.ok taken printed.read) in
-    let last : (taken text : List ℕ) (printed : HasPrinted old taken text) → HasLast (at_reader old taken text printed new) printed.read.blocks = λ taken text printed.
-    had_last old taken text printed new same left c.next_block.ensures.defined in
-    let counted : after ≡ before = search rules in
-    let done : PrinterState = c.print_rest.new.self in
+    let at = goal.at.returns-in_ok-open_writers-in-Ok-None-clause-step g c in
+    let state : PrinterState = c.print_rest.new.self in
     let again = c.self-in-Ok-None.inside in
-    let answer : Report = record { lines = again.lines; unclosed = c.in_ok-open_writers-in-Ok-None.field-0 } in
-    subst (λ (s : PrinterState). StepsFrom s done left behind before after was is (Ok (End answer))) c.self.view_is
+    let report : Report = record { lines = again.lines; unclosed = c.in_ok-open_writers-in-Ok-None.field-0 } in
+    says g at.After-next_block state (g.K.Sink.put c.print_rest.new.out) (Ok (End report))
     (λ taken text printed.
-    let did = c.in_ok-print_rest-in-Ok-None.ensures.printed printed.read.blocks (last taken text printed) in
-    let end = ends taken text printed in
-    let reader_is : again.reader ≡ new = ap (λ (s : PrinterState). s.reader) c.self-in-Ok-None.view_is ∙ c.print_rest.ensures.reader in
-    let unclosed : answer.unclosed ≡ open_writers inside.reader.header printed.read.blocks =
-    subst (λ (r : ReaderState). (read : StandsFor r taken) → answer.unclosed ≡ open_writers r.header read.blocks) reader_is (c.in_ok-open_writers-in-Ok-None.ensures taken) end.stands
-    ∙ ap (λ (h : Header). open_writers h end.stands.blocks) same ∙ ap (open_writers inside.reader.header) end.blocks in
-    completes old taken text printed new same left behind before after was is done (Ok answer) did.0
-    (whole_reads old taken text printed new same left c.print_rest.new.self behind before after answer end.ended counted
-    (ap (λ (s : PrinterState). s.lines) c.self-in-Ok-None.view_is ∙ did.0.lines ∙ ap (λ (h : Header). length (all_calls h printed.read.blocks)) same) unclosed))
+    let did = c.in_ok-print_rest-in-Ok-None.ensures.printed (blocks printed) (last g at.After-next_block printed) in
+    let end = ends g at.In-Ok-None printed in
+    let lines : report.lines ≡ length (all_calls c.self.inside.reader.header (blocks printed)) =
+    ap (λ (s : PrinterState). s.lines) c.self-in-Ok-None.view_is ∙ did.0.lines ∙ ap (λ (h : Header). length (all_calls h (blocks printed))) c.next_block.ensures.header in
+    let reader_is : again.reader ≡ c.next_block.new.self = ap (λ (s : PrinterState). s.reader) c.self-in-Ok-None.view_is ∙ c.print_rest.ensures.reader in
+    let unclosed : report.unclosed ≡ open_writers c.self.inside.reader.header (blocks printed) =
+    subst (λ (r : ReaderState). (read : StandsFor r taken) → report.unclosed ≡ open_writers r.header read.blocks) reader_is (c.in_ok-open_writers-in-Ok-None.ensures taken) end.stands
+    ∙ ap (λ (h : Header). open_writers h end.stands.blocks) c.next_block.ensures.header ∙ ap (open_writers c.self.inside.reader.header) end.blocks in
+    completes printed c.next_block.new.self c.next_block.ensures.header _ (g.S.Source.left c.next_block.new.source) _ _ state _ _ (Ok report) (whole g at.In-Ok-None printed state report lines unclosed) did.0)
 
 pub returns-in_ok-print_rest-in-Err-Damaged-clause-step : goal.returns-in_ok-print_rest-in-Err-Damaged-clause-step
 returns-in_ok-print_rest-in-Err-Damaged-clause-step g c =
-    let inside = c.self.inside in
-    let old : PrinterState = record { reader = inside.reader; waiting = inside.waiting.items; lists = inside.merger; lines = inside.lines } in
-    let new = c.next_block.new.self in
-    let left = g.S.Source.left c.args.source.now in
-    let behind = g.S.Source.left c.next_block.new.source in
-    let same = c.next_block.ensures.header in
-    let before = g.S.Source.faults c.args.source.now in
-    let after = g.S.Source.faults c.next_block.new.source in
-    let was = g.K.Sink.put c.args.out.now in
-    let is = g.K.Sink.put c.print_rest-in-Err-Damaged.new.out in
-    let last : (taken text : List ℕ) (printed : HasPrinted old taken text) → HasLast (at_reader old taken text printed new) printed.read.blocks = λ taken text printed.
-    had_last old taken text printed new same left c.next_block.ensures.defined in
-    let a = c.in-Err-Damaged in
-    let counted : after ≡ before = search rules in
-    let done : PrinterState = c.print_rest-in-Err-Damaged.new.self in
-    subst (λ (s : PrinterState). StepsFrom s done left behind before after was is (Err (Damaged c.offset.result a.cause))) c.self.view_is
+    let at = goal.at.returns-in_ok-print_rest-in-Err-Damaged-clause-step g c in
+    let state : PrinterState = c.print_rest-in-Err-Damaged.new.self in
+    let reader_is : c.self-in-Err-Damaged.inside.reader ≡ c.next_block.new.self = ap (λ (s : PrinterState). s.reader) c.self-in-Err-Damaged.view_is ∙ c.print_rest-in-Err-Damaged.ensures.reader in
+    let offset_is : c.offset.result ≡ c.self.inside.reader.offset = c.offset.ensures ∙ ap (λ (r : ReaderState). r.offset) reader_is ∙ c.in-Err-Damaged.ensures.offset in
+    let answer : Result Report DecodeFault = Err (Damaged c.offset.result c.in-Err-Damaged.cause) in
+    says g at.After-next_block state (g.K.Sink.put c.print_rest-in-Err-Damaged.new.out) (Err (Damaged c.offset.result c.in-Err-Damaged.cause))
     (λ taken text printed.
-    let did = c.in_ok-print_rest-in-Err-Damaged.ensures.printed printed.read.blocks (last taken text printed) in
-    let reader_is : c.self-in-Err-Damaged.inside.reader ≡ new = ap (λ (s : PrinterState). s.reader) c.self-in-Err-Damaged.view_is ∙ c.print_rest-in-Err-Damaged.ensures.reader in
-    let at : c.offset.result ≡ inside.reader.offset = c.offset.ensures ∙ ap (λ (r : ReaderState). r.offset) reader_is ∙ a.ensures.offset in
-    completes old taken text printed new same left behind before after was is done (Err (Damaged c.offset.result a.cause)) did.0
-    (damaged_reads old taken text printed new same left c.print_rest-in-Err-Damaged.new.self behind before after c.offset.result a.cause at (c.next_block.ensures.damaged taken a.cause printed.read (a.is ∙ ap Err a.field-0-is)) counted))
+    let did = c.in_ok-print_rest-in-Err-Damaged.ensures.printed (blocks printed) (last g at.After-next_block printed) in
+    completes printed c.next_block.new.self c.next_block.ensures.header _ (g.S.Source.left c.next_block.new.source) _ _ state _ _ answer (damaged g at.In-Err-Damaged printed state c.offset.result offset_is) did.0)
 
 pub returns-in_ok-print_rest-in-Err-ReadFault-clause-step : goal.returns-in_ok-print_rest-in-Err-ReadFault-clause-step
 returns-in_ok-print_rest-in-Err-ReadFault-clause-step g c =
-    let inside = c.self.inside in
-    let old : PrinterState = record { reader = inside.reader; waiting = inside.waiting.items; lists = inside.merger; lines = inside.lines } in
-    let new = c.next_block.new.self in
-    let left = g.S.Source.left c.args.source.now in
-    let behind = g.S.Source.left c.next_block.new.source in
-    let same = c.next_block.ensures.header in
-    let before = g.S.Source.faults c.args.source.now in
-    let after = g.S.Source.faults c.next_block.new.source in
-    let was = g.K.Sink.put c.args.out.now in
-    let is = g.K.Sink.put c.print_rest-in-Err-ReadFault.new.out in
-    let last : (taken text : List ℕ) (printed : HasPrinted old taken text) → HasLast (at_reader old taken text printed new) printed.read.blocks = λ taken text printed.
-    had_last old taken text printed new same left c.next_block.ensures.defined in
-    let a = c.in-Err-ReadFault in
-    let rose : Rose before after = search rules in
-    subst (λ (s : PrinterState). StepsFrom s c.print_rest-in-Err-ReadFault.new.self left behind before after was is (Err ReadFault)) c.self.view_is
+    let at = goal.at.returns-in_ok-print_rest-in-Err-ReadFault-clause-step g c in
+    let state : PrinterState = c.print_rest-in-Err-ReadFault.new.self in
+    says g at.After-next_block state (g.K.Sink.put c.print_rest-in-Err-ReadFault.new.out) (Err ReadFault)
     (λ taken text printed.
-    let did = c.in_ok-print_rest-in-Err-ReadFault.ensures.printed printed.read.blocks (last taken text printed) in
-    completes old taken text printed new same left behind before after was is c.print_rest-in-Err-ReadFault.new.self (Err ReadFault) did.0
-    (failed_reads old taken text printed new same left c.print_rest-in-Err-ReadFault.new.self behind before after (c.next_block.ensures.cut taken printed.read (a.is ∙ ap Err a.field-0-is)) rose))
+    let did = c.in_ok-print_rest-in-Err-ReadFault.ensures.printed (blocks printed) (last g at.After-next_block printed) in
+    completes printed c.next_block.new.self c.next_block.ensures.header _ (g.S.Source.left c.next_block.new.source) _ _ state _ _ (Err ReadFault) (failed g at.In-Err-ReadFault printed state) did.0)
