@@ -11,7 +11,7 @@ use Rattle.checkpoint_io.proofs.lemmas.ValidityLaws.{AreRightAfter-split}
 use Rattle.stamp_merge.proofs.lemmas.Ordering.{NoneBefore, IsRising}
 use Rattle.direct_printf.specs.Lines.{call_before, in_order, Line, Direct}
 use Rattle.direct_printf.proofs.lemmas.Sorting.{call_order}
-use Rattle.decompressor.specs.Decompression.{CallsOf, all_calls, clock_of, lines_of, whole_text}
+use Rattle.decompressor.specs.Decompression.{CallsOf, all_calls, clocks_of, lines_of, whole_text}
 use Rattle.decompressor.specs.Settling.{open_writers, reaches, closed_by, is_settled, settled_calls, settled_text}
 use Rattle.decompressor.proofs.Rising.{all_both, all_second, all_so, all_as, all_pass, rising_both, rising_second, rising_across}
 use Rattle.decompressor.proofs.WriterLists.{own}
@@ -89,7 +89,7 @@ module _ (header : Header) where
 
   -- the lines of calls, one after the other
   abbrev pub in_turn : List Block → List LogCall → List ℕ
-  in_turn blocks calls = flat_map (Line (clock_of header blocks)) calls
+  in_turn blocks calls = flat_map (Line (clocks_of header blocks)) calls
 
   pub text_is : (blocks : List Block) (calls : List LogCall) → lines_of header blocks calls ≡ in_turn blocks (in_order calls)
   unfolding Direct
@@ -97,7 +97,7 @@ module _ (header : Header) where
 
   -- calls that go on in order are printed so
   pub lines_go_on : (blocks : List Block) (calls printed more : List LogCall) → in_order calls ≡ printed ++ more → lines_of header blocks calls ≡ in_turn blocks printed ++ in_turn blocks more
-  lines_go_on blocks calls printed more joined = text_is blocks calls ∙ ap (in_turn blocks) joined ∙ flat_map-append (Line (clock_of header blocks)) printed more
+  lines_go_on blocks calls printed more joined = text_is blocks calls ∙ ap (in_turn blocks) joined ∙ flat_map-append (Line (clocks_of header blocks)) printed more
 
   -- ---- lines that are settled stay
 

@@ -26,7 +26,7 @@ use Rattle.direct_printf.specs.Lines.{in_order, Line}
 use Rattle.direct_printf.proofs.lemmas.Sorting.{in_order-permutation}
 use Rattle.decompressor.specs.declared.fault.DecodeFault.{DecodeFault}
 use Rattle.decompressor.specs.declared.fault.DecodeFault.TheVariants.{WriteFault, NoMemory}
-use Rattle.decompressor.specs.Decompression.{all_calls, clock_of}
+use Rattle.decompressor.specs.Decompression.{all_calls, clocks_of}
 use Rattle.decompressor.specs.Settling.{closed_by, settled_calls, settled_text}
 use Rattle.decompressor.specs.Waiting.{list_of}
 use Rattle.decompressor.specs.Decompressors.{AreWaiting, no_more_come, ready_calls, ready_text, HasToPrint, HasMore, CutsMore, PrintsReady}
@@ -144,8 +144,8 @@ module _ {ended : Bool} {reader : ReaderState} {first all : List Block} {waiting
     abbrev pub call : LogCall
     call = turn.first.call
 
-    abbrev pub clock : Clock
-    clock = clock_of header all
+    abbrev clocks : List Clock
+    clocks = clocks_of header all
 
     pub within : writer < length now
     within = omega (arith, turn.known, so_far.at.are_waiting.count)
@@ -178,28 +178,28 @@ module _ {ended : Bool} {reader : ReaderState} {first all : List Block} {waiting
         entry_is : turn.entry ≡ entry
         entry_is = let same = sym (ap (λ (q : List Call). slice_get q 0) queue_at) ∙ first_is in cc
 
-        pub said : IsCallOf reader.messages clock.tick call entry
+        pub said : IsCallOf reader.messages header.clock.tick call entry
         said =
-            subst (λ (messages : List Message). IsCallOf messages clock.tick call entry) (sym ready.known)
-            (more_is (messages_of all) clock.tick ready.others call entry (subst (IsCallOf (messages_of all) clock.tick call) entry_is turn.first.is))
+            subst (λ (messages : List Message). IsCallOf messages header.clock.tick call entry) (sym ready.known)
+            (more_is (messages_of all) header.clock.tick ready.others call entry (subst (IsCallOf (messages_of all) header.clock.tick call) entry_is turn.first.is))
 
         -- the line of the record is that of the call
-        pub line_said : {line : List ℕ} → ((message : Message) (ordinal : ℕ) → slice_get reader.messages entry.id ≡ Some message → line ≡ Line clock (record { writer = writer; ordinal = ordinal; stamp = entry.stamp; message = message; args = entry.args }))
-            → line ≡ Line clock call
+        pub line_said : {line : List ℕ} → ((message : Message) (ordinal : ℕ) → slice_get reader.messages entry.id ≡ Some message → line ≡ Line clocks (record { writer = writer; ordinal = ordinal; stamp = entry.stamp; message = message; args = entry.args }))
+            → line ≡ Line clocks call
         line_said made =
             made call.message call.ordinal said.message
-            ∙ line_is clock reader.messages call entry writer said (subst (AllByRecursion (IsOf writer)) turn.first.there (rest_mine header all (calls_there header all ready.valid) (no_more_come ended all) so_far.printed so_far.at.is writer)).0
+            ∙ line_is clocks said (subst (AllByRecursion (IsOf writer)) turn.first.there (rest_mine header all (calls_there header all ready.valid) (no_more_come ended all) so_far.printed so_far.at.is writer)).0
 
     -- the line stands behind those so far
-    module _ {line : List ℕ} (line_of : line ≡ Line clock call) where
+    module _ {line : List ℕ} (line_of : line ≡ Line clocks call) where
       abbrev text_next : List ℕ
-      text_next = so_far.text ++ Line clock call
+      text_next = so_far.text ++ Line clocks call
 
       joined_next : in_turn header all longer ≡ settled_text header first ++ text_next
       joined_next =
-          flat_map-append (Line clock) so_far.printed (call ∷ [])
-          ∙ (λ i. so_far.joined i ++ append-nil (Line clock call) i)
-          ∙ append_assoc (settled_text header first) so_far.text (Line clock call)
+          flat_map-append (Line clocks) so_far.printed (call ∷ [])
+          ∙ (λ i. so_far.joined i ++ append-nil (Line clocks call) i)
+          ∙ append_assoc (settled_text header first) so_far.text (Line clocks call)
 
       pub next_lines : (default : List Call) {put : Told} {left : List ℕ} {changed : List (List Call)} {new : List ListState} → Carries (held ++ line) is put left → changed ≡ slice_set now writer (drop 1 (queue default))
           → new ≡ slice_set (without_head heads writer) writer (list_of (no_more_come ended all writer) (drop 1 (queue default))) → HasLines ended header first all ready.valid (lines + 1) was put left changed new
@@ -208,7 +208,7 @@ module _ {ended : Bool} {reader : ReaderState} {first all : List Block} {waiting
         at = after_turn changed new (changed_is ∙ ap (slice_set now writer) (rest_is default)) (new_is ∙ ap (λ (entries : List Call). slice_set (without_head heads writer) writer (list_of (no_more_come ended all writer) entries)) (rest_is default));
         text = text_next;
         joined = joined_next;
-        carries = carries_more text_next so_far.text (Line clock call) held left was is put refl so_far.carries (subst (λ (bytes : List ℕ). Carries (held ++ bytes) is put left) line_of carried);
+        carries = carries_more text_next so_far.text (Line clocks call) held left was is put refl so_far.carries (subst (λ (bytes : List ℕ). Carries (held ++ bytes) is put left) line_of carried);
         many = omega (arith, so_far.many, length-append so_far.printed (call ∷ []));
       }
 
@@ -217,7 +217,7 @@ module _ {ended : Bool} {reader : ReaderState} {first all : List Block} {waiting
           → PrintsReady ended header first all was put low high changed new answer
       line_cut low mid high put answer changed new same counted cut =
           cut_lines longer text_next was put low high WriteFault answer changed new same longer_is joined_next
-          (λ whole rest whole_is. cut_more whole so_far.text (Line clock call) rest held was is put low mid high whole_is so_far.carries counted (subst (λ (bytes : List ℕ). IsCutOff (held ++ bytes) is put mid high) line_of cut))
+          (λ whole rest whole_is. cut_more whole so_far.text (Line clocks call) rest held was is put low mid high whole_is so_far.carries counted (subst (λ (bytes : List ℕ). IsCutOff (held ++ bytes) is put mid high) line_of cut))
 
     -- one less waits
     pub less_waits : (default : List Call) → sum_by length (slice_set now writer (drop 1 (queue default))) < sum_by length now

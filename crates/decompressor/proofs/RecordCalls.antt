@@ -34,6 +34,6 @@ calls_of_writer messages tick writer n least (entry ∷ entries) from all rises 
     )
 
 -- a call is printed as what its record says
-pub line_is : (clock : Clock) (messages : List Message) (call : LogCall) (entry : Call) (writer : ℕ) → IsCallOf messages clock.tick call entry → call.writer ≡ writer
-    → Line clock (record { writer = writer; ordinal = call.ordinal; stamp = entry.stamp; message = call.message; args = entry.args }) ≡ Line clock call
-line_is clock messages call entry writer is own = λ i. Line clock (record { writer = sym own i; ordinal = call.ordinal; stamp = sym is.stamp i; message = call.message; args = sym is.args i })
+pub line_is : (clocks : List Clock) {messages : List Message} {tick : ℕ} {call : LogCall} {entry : Call} {writer : ℕ} → IsCallOf messages tick call entry → call.writer ≡ writer
+    → Line clocks (record { writer = writer; ordinal = call.ordinal; stamp = entry.stamp; message = call.message; args = entry.args }) ≡ Line clocks call
+line_is clocks {call = call} is own = λ i. Line clocks (record { writer = sym own i; ordinal = call.ordinal; stamp = sym is.stamp i; message = call.message; args = sym is.args i })

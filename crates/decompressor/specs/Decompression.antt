@@ -1,5 +1,5 @@
 -- The text that a log stands for.
-use Rattle.std.specs.Prelude.{◌≡◌, ℕ, List, []}
+use Rattle.std.specs.Prelude.{◌≡◌, ℕ, List, [], ◌∷◌}
 use Rattle.std.specs.List.{flat_map, range_with_len}
 use Rattle.log_dictionary.specs.declared.clock.Clock.{Clock}
 use Rattle.log_dictionary.specs.Calls.{LogCall}
@@ -18,13 +18,13 @@ CallsOf blocks writer = writer_calls (messages_of blocks) (writer, records_of wr
 abbrev pub all_calls : Header → List Block → List LogCall
 all_calls header blocks = flat_map (CallsOf blocks) (range_with_len 0 header.writers)
 
--- the clock by which the calls of blocks are timed
-abbrev pub clock_of : Header → List Block → Clock
-clock_of header blocks = header.clock
+-- the clocks by which the calls of blocks are timed
+abbrev pub clocks_of : Header → List Block → List Clock
+clocks_of header blocks = header.clock ∷ []
 
 -- the lines of calls of blocks, in order
 abbrev pub lines_of : Header → List Block → List LogCall → List ℕ
-lines_of header blocks calls = Direct (clock_of header blocks) calls
+lines_of header blocks calls = Direct (clocks_of header blocks) calls
 
 -- the lines of all calls of blocks
 abbrev pub whole_text : Header → List Block → List ℕ

@@ -49,7 +49,7 @@ pub fn whole_logs_give_all_lines()
 pub fn logs_give_the_calls_taken()
     ensures { (bytes : List ℕ) (taken : List (List Call)) (dictionary : List Message)
         (clock : Clock) (batch : ℕ) → LogOf bytes taken dictionary clock batch
-        → Decompressed bytes (Direct clock (calls_by_writer dictionary taken)) }
+        → Decompressed bytes (Direct (clock ∷ []) (calls_by_writer dictionary taken)) }
 {}
 
 /// With a call that is settled each call before it is.

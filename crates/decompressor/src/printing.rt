@@ -1,6 +1,6 @@
 //! Printing the lines of a log.
 
-ghost use Rattle.std.specs.Prelude.{◌≡◌, ◌⊎◌, ◌<◌, ◌≤◌, ◌++◌, ◌||◌, ℕ, List, [], false, slice_get, get_or, Some, IsErrOf, OnOk, OnErr, map};
+ghost use Rattle.std.specs.Prelude.{◌≡◌, ◌⊎◌, ◌<◌, ◌≤◌, ◌++◌, ◌||◌, ℕ, List, [], ◌∷◌, false, slice_get, get_or, Some, IsErrOf, OnOk, OnErr, map};
 ghost use Rattle.nl_io.specs.Count.{Rose};
 ghost use Rattle.log_dictionary.specs.declared.message.Message.{Message};
 ghost use Rattle.arg_records.specs.Calls.{IsCall};
@@ -13,7 +13,7 @@ use crate::queue::RecordQueue;
 use crate::showing::show_first;
 use buffer_extent::LogRecord;
 use checkpoint_io::Reader;
-use direct_printf::{LineWriter, Origins};
+use direct_printf::{LineParts, LineWriter, Origins};
 use nl_io::{Sink, TextWriter};
 use stamp_merge::{Merger, Next};
 use std::alloc::{AllocError, Global};
@@ -33,7 +33,7 @@ fn make_line(
     requires origins { origins.now ≡ map origin_text reader.now.messages }
     ensures { OnOk result ((message : Message) (ordinal : ℕ)
         → slice_get reader.now.messages call.now.id ≡ Some message
-        → line.new.items ≡ Line reader.now.header.clock (record {
+        → line.new.items ≡ Line (reader.now.header.clock ∷ []) (record {
           writer = writer;
           ordinal = ordinal;
           stamp = call.now.stamp;
@@ -46,16 +46,14 @@ fn make_line(
     let Some(message) = reader.dictionary().get(call.id) else {
         return Ok(());
     };
-    let clock = &reader.header().clock;
-    line_writer.append(
-        clock,
+    let parts = LineParts {
         writer,
         message,
-        origins.get(call.id),
-        call.stamp,
-        call.args.as_slice(),
-        line,
-    )
+        origin: origins.get(call.id),
+        stamp: call.stamp,
+        args: call.args.as_slice(),
+    };
+    line_writer.append(&reader.header().clock, &parts, line)
 }
 
 // Whether no records of the writer can come: the log has ended, or the writer is closed.

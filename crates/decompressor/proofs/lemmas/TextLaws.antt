@@ -44,8 +44,8 @@ taken_are bytes taken dictionary clock batch log =
     ∙ ap (λ (t : List (List Call)). flat_map (writer_calls dictionary) (enumerate_from 0 t)) (sym log.records_are)
 
 -- the log stands for the lines of the calls that were taken
-pub log_is_text : (bytes : List ℕ) (taken : List (List Call)) (dictionary : List Message) (clock : Clock) (batch : ℕ) → LogOf bytes taken dictionary clock batch → Decompressed bytes (Direct clock (calls_by_writer dictionary taken))
+pub log_is_text : (bytes : List ℕ) (taken : List (List Call)) (dictionary : List Message) (clock : Clock) (batch : ℕ) → LogOf bytes taken dictionary clock batch → Decompressed bytes (Direct (clock ∷ []) (calls_by_writer dictionary taken))
 log_is_text bytes taken dictionary clock batch log =
     let calls = taken_are bytes taken dictionary clock batch log in
-    let text : whole_text log.header log.blocks ≡ Direct clock (calls_by_writer dictionary taken) = λ i. Direct (log.clock_is i) (calls i) in
+    let text : whole_text log.header log.blocks ≡ Direct (clock ∷ []) (calls_by_writer dictionary taken) = λ i. Direct (log.clock_is i ∷ []) (calls i) in
     subst (Decompressed bytes) text (whole_is_text log.header log.blocks bytes log.file log.valid)
