@@ -13,6 +13,7 @@ use Rattle.direct_printf.specs.Lines.{in_order}
 use Rattle.decompressor.specs.Settling.{closed_by, settled_calls}
 use Rattle.decompressor.specs.Waiting.{records_at, HasHeads, MayStillCome, closed_behind, TakesRecords}
 use Rattle.decompressor.specs.Decompressors.{PrinterState, count_of, no_more_come, HasToPrint, HasTaken, HasLast}
+use Rattle.decompressor.proofs.Tests.{not_true, or_false}
 use Rattle.decompressor.proofs.WriterLists.{own}
 use Rattle.decompressor.proofs.Printed.{settled_printed}
 use Rattle.decompressor.proofs.Calls.{has_calls}
@@ -22,23 +23,12 @@ use Rattle.decompressor.proofs.Turns.{no_more_calls}
 
 -- ---- which records may come
 
-not_closed : (writer : ℕ) (blocks : List Block) → ¬ (list_any (closes writer) blocks ≡ true) → closed_by blocks writer ≡ false
-not_closed writer blocks none = at (closed_by blocks writer) refl
-  where
-    at : (b : Bool) → closed_by blocks writer ≡ b → b ≡ false
-    at true is = absurd (none is)
-    at false is = refl
-
 may_come : (header : Header) (first : List Block) (block : Block) → IsRightAfter header first block → MayStillCome (closed_by first) header.writers block
 may_come header first (Fragment f messages) right w of = absurd of
 may_come header first (Extent v entries) right w of =
-    (subst (λ (u : ℕ). u < header.writers) of right.writer_open.known, subst (λ (u : ℕ). closed_by first u ≡ false) of (not_closed v first right.writer_open.unclosed))
+    (subst (λ (u : ℕ). u < header.writers) of right.writer_open.known, subst (λ (u : ℕ). closed_by first u ≡ false) of (not_true right.writer_open.unclosed))
 may_come header first (Close v) right w of =
-    (subst (λ (u : ℕ). u < header.writers) of right.known, subst (λ (u : ℕ). closed_by first u ≡ false) of (not_closed v first right.unclosed))
-
-or_nothing : (b : Bool) → (b || false) ≡ b
-or_nothing true = refl
-or_nothing false = refl
+    (subst (λ (u : ℕ). u < header.writers) of right.known, subst (λ (u : ℕ). closed_by first u ≡ false) of (not_true right.unclosed))
 
 module _ {state : PrinterState} {first : List Block} {block : Block} (read : HasTaken state first block) where
   abbrev header : Header
@@ -61,12 +51,12 @@ module _ {state : PrinterState} {first : List Block} {block : Block} (read : Has
   few_printed : (w : ℕ) → count_of w (in_order (settled_calls header first)) ≤ length (records_of w first)
   few_printed w =
       let was : Valid header first = front_valid header first (block ∷ []) read.valid in
-      let settled = settled_printed header first (has_calls header first was) in
+      let settled = settled_printed (has_calls was) in
       omega (
         arith,
         ap length (settled.whole w),
         length-append (own w (in_order (settled_calls header first))) (settled.rest w),
-        no_more_calls header first was w,
+        no_more_calls was w,
       )
 
   module _ {waiting changed shown : List (List Call)} {new : List ListState} (same : waiting ≡ state.waiting) (is : shown ≡ changed) (took : TakesRecords (closed_by first) block waiting changed new) where
@@ -89,7 +79,7 @@ module _ {state : PrinterState} {first : List Block} {block : Block} (read : Has
             ∙ ap (drop n) (sym (records-push w first block));
       };
       heads = heads_by (closed_behind (closed_by first) block) new changed took.heads (no_more_come false all)
-          (λ w known. sym (list_any-append (closes w) first (block ∷ []) ∙ ap (λ (b : Bool). closed_by first w || b) (or_nothing (closes w block))));
+          (λ w known. sym (list_any-append (closes w) first (block ∷ []) ∙ ap (λ (b : Bool). closed_by first w || b) (sym (or_false (closes w block) refl))));
     })
 
 -- ---- nothing more comes

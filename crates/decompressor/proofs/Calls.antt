@@ -1,5 +1,5 @@
 -- The calls of a log's writers.
-use Rattle.std.proofs.Common.{◌≡◌, ℕ, zero, suc, ◌+◌, ◌<◌, ◌≤◌, Bool, true, false, ◌||◌, cond, eqb, List, [], ◌∷◌, ◌++◌, length, Option, Some, None, refl, ap, sym, subst, ◌∙◌, inl, inr, ◌⊎◌, arith}
+use Rattle.std.proofs.Common.{◌≡◌, ℕ, zero, suc, ◌+◌, ◌<◌, ◌≤◌, Bool, true, false, cond, eqb, List, [], ◌∷◌, ◌++◌, length, Option, Some, None, refl, ap, sym, subst, ◌∙◌, inl, inr, ◌⊎◌, arith}
 use Rattle.std.specs.Prelude.{slice_get, option_map}
 use Rattle.std.specs.List.{AllByRecursion, list_any, filter_map, enumerate_from, cons_option}
 use Rattle.std.proofs.lemmas.Bool.Decides.{eqb_tells}
@@ -22,6 +22,7 @@ use Rattle.decompressor.specs.Settling.{closed_by}
 use Rattle.decompressor.proofs.lemmas.TextLaws.{same_calls}
 use Rattle.decompressor.proofs.Rising.{rising_from, rising_kept}
 use Rattle.decompressor.proofs.WriterLists.{IsOf}
+use Rattle.decompressor.proofs.Tests.{not_true, either_false}
 use Rattle.decompressor.proofs.Printed.{HasCalls}
 
 -- ---- one writer
@@ -67,8 +68,8 @@ none_outside header w out before (Extent v entries ∷ blocks) right =
     ]
 none_outside header w out before (Close v ∷ blocks) right = none_outside header w out (before ++ Close v ∷ []) blocks right.1
 
-pub has_calls : (header : Header) (blocks : List Block) → Valid header blocks → HasCalls header blocks
-has_calls header blocks valid = record {
+pub has_calls : {header : Header} {blocks : List Block} → Valid header blocks → HasCalls header blocks
+has_calls {header} {blocks} valid = record {
   mine = λ w. calls_mine (messages_of blocks) w 0 (records_of w blocks);
   rise = λ w. calls_rise (messages_of blocks) w header.clock.tick (records_of w blocks) (records_fit header blocks w valid) (stamps_rise header blocks w valid);
   outside = λ w out. ap (λ (entries : List Call). writer_calls (messages_of blocks) (w, entries)) (none_outside header w out [] blocks valid.blocks_right);
@@ -108,24 +109,13 @@ module _ (header : Header) (blocks : List Block) (block : Block) (valid : Valid 
       none_by : (entries : List Call) → entries ≡ [] → filter_map (log_call (messages_of behind) w) (enumerate_from (0 + length (records_of w blocks)) entries) ≡ []
       none_by entries none = ap (λ (es : List Call). filter_map (log_call (messages_of behind) w) (enumerate_from (0 + length (records_of w blocks)) es)) none
 
-      not_closed : ¬ (list_any (closes w) blocks ≡ true) → closed_by blocks w ≡ false
-      not_closed none = by (closed_by blocks w) refl
-        where
-          by : (b : Bool) → closed_by blocks w ≡ b → b ≡ false
-          by true is = absurd (none is)
-          by false is = refl
-
       at : (b : Block) → IsRightAfter header blocks b → (filter_map (log_call (messages_of behind) w) (enumerate_from (0 + length (records_of w blocks)) (block_records w b)) ≡ []) ⊎ ((w < header.writers) × (closed_by blocks w ≡ false))
       at (Fragment first messages) r = inl refl
       at (Extent v entries) r = elim (eqb_tells v w) [
-        | inl same ↦ inr (subst (λ (u : ℕ). u < header.writers) same.1 r.writer_open.known, not_closed (subst (λ (u : ℕ). ¬ (list_any (closes u) blocks ≡ true)) same.1 r.writer_open.unclosed))
+        | inl same ↦ inr (subst (λ (u : ℕ). u < header.writers) same.1 r.writer_open.known, not_true (subst (λ (u : ℕ). ¬ (list_any (closes u) blocks ≡ true)) same.1 r.writer_open.unclosed))
         | inr apart ↦ inl (none_by (cond (eqb v w) entries []) (ap (λ (b : Bool). cond b entries []) apart.0))
       ]
       at (Close v) r = inl refl
 
   pub closed_grow : (w : ℕ) → closed_by behind w ≡ false → closed_by blocks w ≡ false
-  closed_grow w is_open = at (closed_by blocks w) (sym (list_any-append (closes w) blocks (block ∷ [])) ∙ is_open)
-    where
-      at : (b : Bool) → (b || list_any (closes w) (block ∷ [])) ≡ false → b ≡ false
-      at true is = is
-      at false is = refl
+  closed_grow w is_open = (either_false (closed_by blocks w) (list_any (closes w) (block ∷ [])) (sym (list_any-append (closes w) blocks (block ∷ [])) ∙ is_open)).0

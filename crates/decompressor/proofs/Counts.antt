@@ -95,7 +95,7 @@ pub few_calls : (header : Header) (blocks : List Block) (bytes : List ℕ) → F
 few_calls header blocks bytes file valid short =
     omega (
       arith,
-      as_long (CallsOf blocks) (λ w. records_of w blocks) (range_with_len 0 header.writers) (no_more_calls header blocks valid),
+      as_long (CallsOf blocks) (λ w. records_of w blocks) (range_with_len 0 header.writers) (no_more_calls valid),
       records_few blocks header.writers,
       file_short header blocks bytes file,
       short,

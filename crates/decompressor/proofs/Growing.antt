@@ -41,7 +41,7 @@ module _ (header : Header) (blocks : List Block) (block : Block) (valid : Valid 
     joined_on w = calls_grow header blocks block was w ∙ ap (λ (calls : List LogCall). calls ++ added header blocks block was w) (is.whole w)
 
     rises_on : (w : ℕ) → IsRising call_before ((own w printed ++ is.rest w) ++ added header blocks block was w)
-    rises_on w = subst (IsRising call_before) (joined_on w) ((has_calls header (behind header blocks block was) valid).rise w)
+    rises_on w = subst (IsRising call_before) (joined_on w) ((has_calls valid).rise w)
 
     across_on : (w : ℕ) → AllByRecursion (λ p. NoneBefore call_before p (added header blocks block was w)) (own w printed ++ is.rest w)
     across_on w = rising_across call_before call_order (own w printed ++ is.rest w) (added header blocks block was w) (rises_on w)
@@ -109,7 +109,7 @@ module _ (header : Header) where
     longer = blocks ++ more
 
     settled_there : IsPrinted header longer (closed_by longer) settled
-    settled_there = printed_on blocks more settled valid (settled_printed header blocks (has_calls header blocks (front_valid header blocks more valid)))
+    settled_there = printed_on blocks more settled valid (settled_printed (has_calls (front_valid header blocks more valid)))
 
     lines_first : (calls others : List LogCall) → in_order calls ≡ settled ++ others → (rest : List ℕ) × (lines_of header longer calls ≡ settled_text header blocks ++ rest)
     lines_first calls others joined =
@@ -119,14 +119,14 @@ module _ (header : Header) where
     -- the lines of any longer log begin with theirs
     pub settled_first : (rest : List ℕ) × (whole_text header (blocks ++ more) ≡ settled_text header blocks ++ rest)
     settled_first =
-        let has = has_calls header longer valid in
-        lines_first (all_calls header longer) (later header longer has (closed_by longer) settled settled_there) (goes_on header longer has (closed_by longer) settled settled_there)
+        let has = has_calls valid in
+        lines_first (all_calls header longer) (later has settled_there) (goes_on has settled_there)
 
     -- so do those that are settled by it
     pub settled_more : (rest : List ℕ) × (settled_text header (blocks ++ more) ≡ settled_text header blocks ++ rest)
     settled_more =
-        let has = has_calls header longer valid in
-        lines_first (settled_calls header longer) (settled_later header longer has (closed_by longer) settled settled_there refl) (settled_go_on header longer has (closed_by longer) settled settled_there refl)
+        let has = has_calls valid in
+        lines_first (settled_calls header longer) (settled_later has settled_there refl) (settled_go_on has settled_there refl)
 
 -- where all writers are closed all calls are settled
 pub all_are_settled : (header : Header) (blocks : List Block) → open_writers header blocks ≡ [] → settled_calls header blocks ≡ all_calls header blocks

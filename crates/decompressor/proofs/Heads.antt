@@ -1,6 +1,7 @@
 -- What a merger has of the records that wait.
 use Rattle.std.proofs.Common.{◌≡◌, ◌≢◌, ℕ, ◌<◌, Bool, true, false, ◌||◌, eqb, cond, Some, None, List, [], ◌∷◌, ◌++◌, length, refl, ap, sym, subst, ◌∙◌, inl, inr, arith}
 use Rattle.std.specs.Prelude.{slice_get, slice_set, OnOk, Result, Ok, Err}
+use Rattle.std.proofs.lemmas.Bool.{eq-eqb, ne_eqb}
 use Rattle.std.proofs.lemmas.Bool.Decides.{eqb_tells}
 use Rattle.std.proofs.lemmas.List.{append-nil, get_or-set_same, get_or-set_other, set-get_or, length-set}
 use Rattle.arg_records.specs.declared.call.Call.{Call}
@@ -14,6 +15,7 @@ use Rattle.stamp_merge.specs.declared.merger.ListState.{ListState}
 use Rattle.stamp_merge.specs.Mergers.{no_list, list_at, wants, with_head, with_close}
 use Rattle.stamp_merge.proofs.lemmas.Mergers.{wanting_is}
 use Rattle.decompressor.specs.Waiting.{list_of, records_at, HasHeads, MayStillCome, closed_behind, TakesRecords}
+use Rattle.decompressor.proofs.Tests.{or_true, or_false}
 
 -- ---- one list
 
@@ -106,29 +108,15 @@ is_close writer (Fragment first messages) tells = cc
 is_close writer (Extent w entries) tells = cc
 is_close writer (Close w) tells = cc
 
-or_false : (b c : Bool) → c ≡ false → b ≡ (b || c)
-or_false true c is = refl
-or_false false c is = sym is
-
-or_true : (b c : Bool) → c ≡ true → (b || c) ≡ true
-or_true true c is = refl
-or_true false c is = is
-
-pub own_test : (writer : ℕ) → eqb writer writer ≡ true
-own_test writer = elim (eqb_tells writer writer) [ inl same ↦ same.0 | inr apart ↦ absurd (apart.1 refl) ]
-
-pub either_true : (b c : Bool) → c ≡ true → (b || c) ≡ true
-either_true = or_true
-
 other_test : (v w : ℕ) → w ≢ v → eqb v w ≡ false
-other_test v w apart = elim (eqb_tells v w) [ inl same ↦ absurd (apart (sym same.1)) | inr other ↦ other.0 ]
+other_test v w apart = ne_eqb v w (λ e. apart (sym e))
 
 module _ (closed : ℕ → Bool) (lists : List ListState) (waiting : List (List Call)) (heads : HasHeads closed lists waiting) where
   pub takes_fragment : (block : Block) → ((writer : ℕ) → (block_records writer block ≡ []) × (closes writer block ≡ false)) → TakesRecords closed block waiting waiting lists
   takes_fragment block none = record {
     count = refl;
     waiting = λ w. sym (ap (λ (es : List Call). records_at waiting w ++ es) (none w).0 ∙ append-nil (records_at waiting w));
-    heads = heads_by closed lists waiting heads (closed_behind closed block) (λ w known. or_false (closed w) (closes w block) (none w).1);
+    heads = heads_by closed lists waiting heads (closed_behind closed block) (λ w known. or_false (closed w) (none w).1);
   }
 
   pub takes_extent : (writer : ℕ) (entries all : List Call) (changed : List (List Call)) (new : List ListState) → writer < length waiting → closed writer ≡ false → all ≡ records_at waiting writer ++ entries
@@ -140,16 +128,16 @@ module _ (closed : ℕ → Bool) (lists : List ListState) (waiting : List (List 
         ∙ elim (eqb_tells w writer) [
           | inl one ↦
               subst (λ (v : ℕ). records_at (slice_set waiting writer all) v ≡ records_at waiting v ++ block_records v (Extent writer entries)) (sym one.1)
-              (get_or-set_same waiting writer all [] within ∙ joined ∙ ap (λ (b : Bool). records_at waiting writer ++ cond b entries []) (sym (own_test writer)))
+              (get_or-set_same waiting writer all [] within ∙ joined ∙ ap (λ (b : Bool). records_at waiting writer ++ cond b entries []) (sym (eq-eqb writer writer refl)))
           | inr apart ↦
               get_or-set_other waiting writer w all [] apart.1
               ∙ sym (append-nil (records_at waiting w))
               ∙ ap (λ (b : Bool). records_at waiting w ++ cond b entries []) (sym (other_test writer w apart.1))
         ];
     heads =
-        subst (λ (ls : List ListState). HasHeads (closed_behind closed (Extent writer entries)) ls changed) (sym (new_is ∙ ap (λ (b : Bool). slice_set lists writer (list_of b all)) (sym is_open ∙ or_false (closed writer) false refl)))
+        subst (λ (ls : List ListState). HasHeads (closed_behind closed (Extent writer entries)) ls changed) (sym (new_is ∙ ap (λ (b : Bool). slice_set lists writer (list_of b all)) (sym is_open ∙ or_false (closed writer) refl)))
         (subst (HasHeads (closed_behind closed (Extent writer entries)) (slice_set lists writer (list_of (closed writer || false) all))) (sym changed_is)
-        (heads_set closed lists waiting heads (closed_behind closed (Extent writer entries)) writer all within (λ w apart. or_false (closed w) false refl)));
+        (heads_set closed lists waiting heads (closed_behind closed (Extent writer entries)) writer all within (λ w apart. or_false (closed w) refl)));
   }
 
   pub takes_close : (writer : ℕ) (new : List ListState) → writer < length waiting → new ≡ slice_set lists writer (list_of true (records_at waiting writer)) → TakesRecords closed (Close writer) waiting waiting new
@@ -158,8 +146,8 @@ module _ (closed : ℕ → Bool) (lists : List ListState) (waiting : List (List 
     waiting = λ w. sym (append-nil (records_at waiting w));
     heads =
         let other = closed_behind closed (Close writer) in
-        let changed = heads_set closed lists waiting heads other writer (records_at waiting writer) within (λ w apart. or_false (closed w) (eqb writer w) (other_test writer w apart)) in
-        subst (λ (ls : List ListState). HasHeads other ls waiting) (sym (new_is ∙ ap (λ (b : Bool). slice_set lists writer (list_of b (records_at waiting writer))) (sym (or_true (closed writer) (eqb writer writer) (own_test writer)))))
+        let changed = heads_set closed lists waiting heads other writer (records_at waiting writer) within (λ w apart. or_false (closed w) (other_test writer w apart)) in
+        subst (λ (ls : List ListState). HasHeads other ls waiting) (sym (new_is ∙ ap (λ (b : Bool). slice_set lists writer (list_of b (records_at waiting writer))) (sym (or_true (closed writer) (eq-eqb writer writer refl)))))
         (subst (HasHeads other (slice_set lists writer (list_of (other writer) (records_at waiting writer)))) (set-get_or waiting writer []) changed);
   }
 
@@ -169,7 +157,7 @@ module _ (closed : ℕ → Bool) (lists : List ListState) (waiting : List (List 
   pub close_one : (done : ℕ) (new : List ListState) → done < length waiting → new ≡ slice_set lists done (list_of true (records_at waiting done)) → HasHeads (λ w. eqb w done || closed w) new waiting
   close_one done new within new_is =
       let other : ℕ → Bool = λ w. eqb w done || closed w in
-      let is_closed : other done ≡ true = ap (λ (b : Bool). b || closed done) (own_test done) in
+      let is_closed : other done ≡ true = ap (λ (b : Bool). b || closed done) (eq-eqb done done refl) in
       let changed = heads_set closed lists waiting heads other done (records_at waiting done) within (λ w apart. ap (λ (b : Bool). b || closed w) (sym (other_test w done (λ e. apart (sym e))))) in
       subst (λ (ls : List ListState). HasHeads other ls waiting) (sym (new_is ∙ ap (λ (b : Bool). slice_set lists done (list_of b (records_at waiting done))) (sym is_closed)))
       (subst (HasHeads other (slice_set lists done (list_of (other done) (records_at waiting done)))) (set-get_or waiting done []) changed)

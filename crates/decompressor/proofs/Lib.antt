@@ -7,6 +7,7 @@ mod NextRead
 mod Outcomes
 mod Worked
 mod SomeText
+mod Tests
 mod Rising
 mod WriterLists
 mod Settled

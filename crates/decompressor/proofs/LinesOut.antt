@@ -32,13 +32,14 @@ use Rattle.decompressor.specs.Waiting.{list_of}
 use Rattle.decompressor.specs.Decompressors.{AreWaiting, no_more_come, ready_calls, ready_text, HasToPrint, HasMore, CutsMore, PrintsReady}
 use Rattle.decompressor.specs.Printing.{CutsText}
 use Rattle.decompressor.proofs.RecordCalls.{IsCallOf, line_is}
+use Rattle.decompressor.proofs.Tests.{either_false}
 use Rattle.decompressor.proofs.Rising.{all_as}
 use Rattle.decompressor.proofs.WriterLists.{IsOf}
 use Rattle.decompressor.proofs.Settled.{IsReached}
 use Rattle.decompressor.proofs.Printed.{HasCalls, IsPrinted, rest_mine, settled_later, settled_go_on, later, goes_on, settled_printed}
 use Rattle.decompressor.proofs.Calls.{has_calls}
 use Rattle.decompressor.proofs.Growing.{printed_on, front_valid, in_turn, text_is, lines_go_on}
-use Rattle.decompressor.proofs.Turns.{IsAt, calls_there, Takes, takes, taken, wishes, fewer, more_is, either_false, all_ready}
+use Rattle.decompressor.proofs.Turns.{IsAt, calls_there, Takes, takes, taken, wishes, fewer, more_is, all_ready}
 
 many : (calls : List LogCall) → length (in_order calls) ≡ length calls
 many calls = sym (length_permutation (in_order calls) calls (in_order-permutation calls))
@@ -55,13 +56,13 @@ module _ (header : Header) (all : List Block) where
 
 -- the calls that can be printed, in order, begin with what was
 ready_go_on : (ended : Bool) (header : Header) (all : List Block) (printed : List LogCall) → HasCalls header all → IsPrinted header all (no_more_come ended all) printed → (more : List LogCall) × (in_order (ready_calls ended header all) ≡ printed ++ more)
-ready_go_on true header all printed has is = (later header all has (no_more_come true all) printed is, goes_on header all has (no_more_come true all) printed is)
-ready_go_on false header all printed has is = (settled_later header all has (no_more_come false all) printed is refl, settled_go_on header all has (no_more_come false all) printed is refl)
+ready_go_on true header all printed has is = (later has is, goes_on has is)
+ready_go_on false header all printed has is = (settled_later has is refl, settled_go_on has is refl)
 
 -- Some of the records were printed, and their lines are on their way.
 pub record HasLines (ended : Bool) (header : Header) (first all : List Block) (valid : Valid header all) (lines : ℕ) (was is : Told) (held : List ℕ) (waiting : List (List Call)) (lists : List ListState) : Type 0 where
   pub printed : List LogCall
-  pub at : IsAt header all valid (no_more_come ended all) printed waiting lists
+  pub at : IsAt valid (no_more_come ended all) printed waiting lists
   pub text : List ℕ
   pub joined : in_turn header all printed ≡ settled_text header first ++ text
   pub carries : Carries text was is held
@@ -74,7 +75,7 @@ module _ {ended : Bool} {reader : ReaderState} {first all : List Block} {waiting
   begun : IsPrinted header all (no_more_come ended all) (in_order (settled_calls header first))
   begun =
       let valid : Valid header (first ++ ready.more) = subst (Valid header) ready.joined ready.valid in
-      let settled = settled_printed header first (has_calls header first (front_valid header first ready.more valid)) in
+      let settled = settled_printed (has_calls (front_valid header first ready.more valid)) in
       ended_more header all (closed_by all) (no_more_come ended all) (in_order (settled_calls header first)) (λ w is_open. (either_false ended (closed_by all w) is_open).1)
       (subst (λ (blocks : List Block). IsPrinted header blocks (closed_by blocks) (in_order (settled_calls header first))) (sym ready.joined) (printed_on header first ready.more (in_order (settled_calls header first)) valid settled))
 
@@ -92,7 +93,7 @@ module _ {ended : Bool} {reader : ReaderState} {first all : List Block} {waiting
   pub lines_behind : (printed : List LogCall) (text : List ℕ) → IsPrinted header all (no_more_come ended all) printed → in_turn header all printed ≡ settled_text header first ++ text
       → (rest : List ℕ) × (ready_text ended header all ≡ settled_text header first ++ (text ++ rest))
   lines_behind printed text is joined =
-      let more = ready_go_on ended header all printed (has_calls header all ready.valid) is in
+      let more = ready_go_on ended header all printed (has_calls ready.valid) is in
       let rest = in_turn header all more.0 in (
         rest,
         lines_go_on header all (ready_calls ended header all) printed more.0 more.1
@@ -103,14 +104,14 @@ module _ {ended : Bool} {reader : ReaderState} {first all : List Block} {waiting
   -- no more calls are printed than there are
   pub few_lines : (printed : List LogCall) (lines : ℕ) → IsPrinted header all (no_more_come ended all) printed → length (settled_calls header first) + lines ≡ length printed → lines ≤ 134217728
   few_lines printed lines is counted =
-      let has = has_calls header all ready.valid in
+      let has = has_calls ready.valid in
       omega (
         arith,
         counted,
         ready.few,
         many (all_calls header all),
-        ap length (goes_on header all has (no_more_come ended all) printed is),
-        length-append printed (later header all has (no_more_come ended all) printed is),
+        ap length (goes_on has is),
+        length-append printed (later has is),
       )
 
   -- the printing was cut off
@@ -123,7 +124,7 @@ module _ {ended : Bool} {reader : ReaderState} {first all : List Block} {waiting
       subst (CutsMore ended header first all was is before after) (sym same) (record { rest = text ++ behind.0; joined = behind.1; cut = cut (text ++ behind.0) behind.0 refl })
 
   -- all that can be printed was
-  pub all_lines : (printed : List LogCall) (text : List ℕ) (lines : ℕ) (was is : Told) (changed : List (List Call)) (new : List ListState) → (at : IsAt header all ready.valid (no_more_come ended all) printed changed new) → in_turn header all printed ≡ settled_text header first ++ text
+  pub all_lines : (printed : List LogCall) (text : List ℕ) (lines : ℕ) (was is : Told) (changed : List (List Call)) (new : List ListState) → (at : IsAt ready.valid (no_more_come ended all) printed changed new) → in_turn header all printed ≡ settled_text header first ++ text
       → length (settled_calls header first) + lines ≡ length printed → printed ≡ in_order (ready_calls ended header all) → is ≡ with_end text was → HasMore ended header first all lines was is changed new
   all_lines printed text lines was is changed new at joined counted printed_are put = record {
     text = text;
@@ -138,8 +139,8 @@ module _ {ended : Bool} {reader : ReaderState} {first all : List Block} {waiting
 
   module _ {lines : ℕ} {was is : Told} {held : List ℕ} {now : List (List Call)} {heads : List ListState} (so_far : HasLines ended header first all ready.valid lines was is held now heads) {writer : ℕ}
       (top : NoneWants heads × (slice_get (merge_order (heads_of heads)) 0 ≡ Some writer)) where
-    abbrev pub turn : Takes header all ready.valid (no_more_come ended all) so_far.printed now heads so_far.at writer
-    turn = takes header all ready.valid (no_more_come ended all) so_far.printed now heads so_far.at writer top.0 top.1
+    abbrev pub turn : Takes ready.valid so_far.at writer
+    turn = takes ready.valid so_far.at writer top.0 top.1
 
     abbrev pub call : LogCall
     call = turn.first.call
@@ -154,8 +155,8 @@ module _ {ended : Bool} {reader : ReaderState} {first all : List Block} {waiting
     abbrev pub longer : List LogCall
     longer = so_far.printed ++ call ∷ []
 
-    abbrev after_turn : (changed : List (List Call)) (new : List ListState) → changed ≡ slice_set now writer turn.entries → new ≡ slice_set (without_head heads writer) writer (list_of (no_more_come ended all writer) turn.entries) → IsAt header all ready.valid (no_more_come ended all) longer changed new
-    after_turn = taken header all ready.valid (no_more_come ended all) so_far.printed now heads so_far.at writer top.0 top.1 turn
+    abbrev after_turn : (changed : List (List Call)) (new : List ListState) → changed ≡ slice_set now writer turn.entries → new ≡ slice_set (without_head heads writer) writer (list_of (no_more_come ended all writer) turn.entries) → IsAt ready.valid (no_more_come ended all) longer changed new
+    after_turn = taken ready.valid so_far.at writer top.0 top.1 turn
 
     pub longer_is : IsPrinted header all (no_more_come ended all) longer
     longer_is = (after_turn (slice_set now writer turn.entries) (slice_set (without_head heads writer) writer (list_of (no_more_come ended all writer) turn.entries)) refl refl).is
@@ -188,7 +189,7 @@ module _ {ended : Bool} {reader : ReaderState} {first all : List Block} {waiting
             → line ≡ Line clocks call
         line_said made =
             made call.message call.ordinal said.message
-            ∙ line_is clocks said (subst (AllByRecursion (IsOf writer)) turn.first.there (rest_mine header all (calls_there header all ready.valid) (no_more_come ended all) so_far.printed so_far.at.is writer)).0
+            ∙ line_is clocks said (subst (AllByRecursion (IsOf writer)) turn.first.there (rest_mine (calls_there ready.valid) so_far.at.is writer)).0
 
     -- the line stands behind those so far
     module _ {line : List ℕ} (line_of : line ≡ Line clocks call) where
@@ -223,11 +224,11 @@ module _ {ended : Bool} {reader : ReaderState} {first all : List Block} {waiting
     pub less_waits : (default : List Call) → sum_by length (slice_set now writer (drop 1 (queue default))) < sum_by length now
     less_waits default =
         subst (λ (entries : List Call). sum_by length (slice_set now writer entries) < sum_by length now) (sym (rest_is default))
-        (fewer header all ready.valid (no_more_come ended all) so_far.printed now heads so_far.at writer top.0 top.1 turn)
+        (fewer ready.valid so_far.at writer top.0 top.1 turn)
 
     -- the list from which the head was taken wants one
     pub wished : {new : List ListState} → new ≡ without_head heads writer → wants (list_at new writer) ≡ true
-    wished new_is = ap (λ (lists : List ListState). wants (list_at lists writer)) new_is ∙ wishes header all ready.valid (no_more_come ended all) so_far.printed now heads so_far.at writer top.0 top.1 turn
+    wished new_is = ap (λ (lists : List ListState). wants (list_at lists writer)) new_is ∙ wishes ready.valid so_far.at writer top.0 top.1 turn
 
     -- there is a place for one line more
     pub few_next : lines + 1 ≤ 134217728
@@ -249,4 +250,4 @@ module _ {ended : Bool} {reader : ReaderState} {first all : List Block} {waiting
     pub all_out : {put : Told} (answer : Next) → ((w : ℕ) → ¬ (answer ≡ Take w)) → ((w : ℕ) → answer ≡ Want w → position wants heads ≡ Some w) → (answer ≡ Done → All IsSpent heads) → put ≡ with_end held is → HasMore ended header first all lines was put now heads
     all_out {put} answer none want done flushed =
         all_lines so_far.printed so_far.text lines was put now heads so_far.at so_far.joined so_far.many
-        (all_ready header all ready.valid ended so_far.printed now heads so_far.at answer none want done) (carries_all so_far.text held was is put so_far.carries flushed)
+        (all_ready ready.valid ended so_far.at answer none want done) (carries_all so_far.text held was is put so_far.carries flushed)

@@ -21,6 +21,7 @@ use Rattle.decompressor.specs.declared.report.Report.{Report}
 use Rattle.decompressor.specs.declared.step.Step.TheVariants.{End}
 use Rattle.decompressor.specs.Decompressing.{IsTextOfDamaged, ReadsText, CutOff, header_fault, Decompresses}
 use Rattle.decompressor.specs.Decompressors.{PrinterState, HasPrinted, Advances, ReadsNext, PrintsWhole, IsCutBehind, Steps}
+use Rattle.decompressor.proofs.Tests.{no_parts}
 use Rattle.decompressor.proofs.Endings.{text_of_damaged, text_of_cut}
 use Rattle.decompressor.proofs.NextRead.{reads_text}
 
@@ -51,10 +52,6 @@ pub record IsOn (file was : Told) (state : PrinterState) (left put : Told) : Typ
   pub printed : HasPrinted state taken text
   pub file_is : file ≡ with_front (taken ++ state.reader.waiting.bytes) left
   pub put_is : put ≡ with_end text was
-
-no_parts : (xs ys : List ℕ) → xs ++ ys ≡ [] → ys ≡ []
-no_parts [] ys none = none
-no_parts (x ∷ xs) ys none = absurd cc
 
 module _ {file was : Told} {old : PrinterState} {left put : Told} (on : IsOn file was old left put) where
   abbrev taken : List ℕ

@@ -15,17 +15,14 @@ use Rattle.direct_printf.proofs.lemmas.Sorting.{call_order, in_order-permutation
 use Rattle.trace_text.proofs.lemmas.OwnCalls.{is_of}
 use Rattle.decompressor.specs.Decompression.{CallsOf, all_calls}
 use Rattle.decompressor.specs.Settling.{reaches, closed_by, is_settled, settled_calls}
-use Rattle.decompressor.proofs.Rising.{all_both, all_second, all_as, all_kept, all_flat, all_pass, none_pass, none_further, rising_both, rising_first, rising_second, rising_across, rising_kept, rising_between}
+use Rattle.decompressor.proofs.Tests.{not_true, no_parts}
+use Rattle.decompressor.proofs.Rising.{passed, all_both, all_second, all_as, all_kept, all_flat, all_pass, none_pass, none_further, rising_both, rising_first, rising_second, rising_across, rising_kept, rising_between}
 use Rattle.decompressor.proofs.WriterLists.{own, one_before, IsOf, joined, own_in_order, order_rises, is_in_order}
-use Rattle.decompressor.proofs.Settled.{reaches_at, not_reached, IsReached, settled_if, reached_if, held_back, settled_upto}
+use Rattle.decompressor.proofs.Settled.{not_false, reaches_at, not_reached, IsReached, settled_if, reached_if, held_back, settled_upto}
 
 filter-flat : {X Y : Type 0} (test : Y → Bool) (f : X → List Y) (xs : List X) → filter test (flat_map f xs) ≡ flat_map (λ x. filter test (f x)) xs
 filter-flat test f [] = refl
 filter-flat test f (x ∷ xs) = filter-append test (f x) (flat_map f xs) ∙ ap (λ ys. filter test (f x) ++ ys) (filter-flat test f xs)
-
-no_parts : {X : Type 0} (xs ys : List X) → xs ++ ys ≡ [] → ys ≡ []
-no_parts [] ys none = none
-no_parts (x ∷ xs) ys none = cc
 
 -- A log whose calls of each writer are its own, and rise; there are calls of its writers alone.
 pub record HasCalls (header : Header) (blocks : List Block) : Type 0 where
@@ -79,8 +76,8 @@ module _ (header : Header) (blocks : List Block) where
     pub rises : (w : ℕ) → IsRising call_before (printed ++ rest w)
     pub reached : AllByRecursion (IsReached header blocks closed) printed
 
-module _ (header : Header) (blocks : List Block) (has : HasCalls header blocks) where
-  module _ (closed : ℕ → Bool) (printed : List LogCall) (is : IsPrinted header blocks closed printed) where
+module _ {header : Header} {blocks : List Block} (has : HasCalls header blocks) where
+  module _ {closed : ℕ → Bool} {printed : List LogCall} (is : IsPrinted header blocks closed printed) where
     up : IsRising call_before printed
     up = rising_first call_before call_order printed (is.rest 0) (is.rises 0)
 
@@ -275,35 +272,18 @@ module _ (header : Header) (blocks : List Block) (has : HasCalls header blocks) 
   settled_are : settled ≡ joined kept kept_mine header.writers kept_outside
   settled_are = filter-flat test (CallsOf blocks) (range_with_len 0 header.writers)
 
-  passed : (xs : List LogCall) → AllByRecursion (λ call. test call ≡ true) (filter test xs)
-  passed [] = tt
-  passed (x ∷ xs) = at (test x) refl (passed xs)
-    where
-      at : (b : Bool) → test x ≡ b → AllByRecursion (λ call. test call ≡ true) (filter test xs) → AllByRecursion (λ call. test call ≡ true) (cond b (x ∷ filter test xs) (filter test xs))
-      at true is rest = (is, rest)
-      at false is rest = rest
-
   failed : (xs : List LogCall) → AllByRecursion (λ call. test call ≡ false) (filter unsettled xs)
-  failed [] = tt
-  failed (x ∷ xs) = at (test x) refl (failed xs)
-    where
-      at : (b : Bool) → test x ≡ b → AllByRecursion (λ call. test call ≡ false) (filter unsettled xs) → AllByRecursion (λ call. test call ≡ false) (cond (not b) (x ∷ filter unsettled xs) (filter unsettled xs))
-      at true is rest = rest
-      at false is rest = (is, rest)
+  failed xs = all_as (λ call. unsettled call ≡ true) (λ call. test call ≡ false) (filter unsettled xs) (λ call so. not_false (test call) so) (passed unsettled xs)
 
   in_front : AllByRecursion (λ call. test call ≡ true) (in_order settled)
   in_front =
       recursion_from_All (λ call. test call ≡ true) (in_order settled)
       (All-permutation (λ call. test call ≡ true) settled (in_order settled) (IsPermutation-sym (in_order settled) settled (in_order-permutation settled))
-      (All-from_recursion (λ call. test call ≡ true) settled (passed (all_calls header blocks))))
+      (All-from_recursion (λ call. test call ≡ true) settled (passed test (all_calls header blocks))))
 
   -- what isn't settled doesn't stand before what is
   not_before : (call other : LogCall) → test call ≡ true → test other ≡ false → call_before other call ≡ false
-  not_before call other so not_so = at (call_before other call) refl
-    where
-      at : (b : Bool) → call_before other call ≡ b → b ≡ false
-      at true is = let wrong : true ≡ false = sym (settled_upto header blocks call other (call_order.one_way other call is) so) ∙ not_so in absurd cc
-      at false is = refl
+  not_before call other so not_so = not_true (λ is. let wrong : true ≡ false = sym (settled_upto header blocks call other (call_order.one_way other call is) so) ∙ not_so in cc)
 
   -- the settled calls of a writer stand in front of its others
   split : (xs : List LogCall) → IsRising call_before xs → xs ≡ filter test xs ++ filter unsettled xs
@@ -311,11 +291,7 @@ module _ (header : Header) (blocks : List Block) (has : HasCalls header blocks) 
   split (x ∷ xs) rising = at (test x) refl (split xs rising.1)
     where
       later_not : test x ≡ false → (y : LogCall) → call_before y x ≡ false → test y ≡ false
-      later_not not_so y behind_x = by (test y) refl
-        where
-          by : (b : Bool) → test y ≡ b → b ≡ false
-          by true is = sym (settled_upto header blocks y x behind_x is) ∙ not_so
-          by false is = refl
+      later_not not_so y behind_x = not_true (λ is. let wrong : true ≡ false = sym (settled_upto header blocks y x behind_x is) ∙ not_so in cc)
 
       at : (b : Bool) → test x ≡ b → xs ≡ filter test xs ++ filter unsettled xs → x ∷ xs ≡ cond b (x ∷ filter test xs) (filter test xs) ++ cond (not b) (x ∷ filter unsettled xs) (filter unsettled xs)
       at true so rest = ap (λ (cs : List LogCall). x ∷ cs) rest

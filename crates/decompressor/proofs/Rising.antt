@@ -43,6 +43,14 @@ module _ {X : Type 0} (P : X → Type 0) where
 -- ---- what a test keeps
 
 module _ {X : Type 0} (test : X → Bool) where
+  pub passed : (xs : List X) → AllByRecursion (λ x. test x ≡ true) (filter test xs)
+  passed [] = tt
+  passed (x ∷ xs) = at (test x) refl (passed xs)
+    where
+      at : (b : Bool) → test x ≡ b → AllByRecursion (λ x. test x ≡ true) (filter test xs) → AllByRecursion (λ x. test x ≡ true) (cond b (x ∷ filter test xs) (filter test xs))
+      at true is rest = (is, rest)
+      at false is rest = rest
+
   pub all_pass : (xs : List X) → AllByRecursion (λ x. test x ≡ true) xs → filter test xs ≡ xs
   all_pass [] all = refl
   all_pass (x ∷ xs) all = λ i. cond (all.0 i) (x ∷ all_pass xs all.1 i) (all_pass xs all.1 i)

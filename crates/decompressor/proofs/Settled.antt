@@ -12,11 +12,12 @@ use Rattle.direct_printf.specs.Lines.{call_before}
 use Rattle.direct_printf.proofs.lemmas.Sorting.{call_order}
 use Rattle.decompressor.specs.Decompression.{CallsOf}
 use Rattle.decompressor.specs.Settling.{reaches, closed_by, is_settled}
+use Rattle.decompressor.proofs.Tests.{not_true, or_true}
 use Rattle.decompressor.proofs.Rising.{none_further}
 
 -- ---- tests of lists
 
-not_false : (b : Bool) → not b ≡ true → b ≡ false
+pub not_false : (b : Bool) → not b ≡ true → b ≡ false
 not_false true h = absurd cc
 not_false false h = refl
 
@@ -33,10 +34,6 @@ module _ {X : Type 0} (f g : X → Bool) where
   any_as [] each some = some
   any_as (x ∷ xs) each some = at (f x) refl some (any_as xs each)
     where
-      or_true : (b : Bool) → list_any g xs ≡ true → (b || list_any g xs) ≡ true
-      or_true true h = refl
-      or_true false h = h
-
       at : (b : Bool) → f x ≡ b → (b || list_any f xs) ≡ true → (list_any f xs ≡ true → list_any g xs ≡ true) → list_any g (x ∷ xs) ≡ true
       at true here any rest = ap (λ (b : Bool). b || list_any g xs) (each x here)
       at false other any rest = or_true (g x) (rest any)
@@ -124,11 +121,7 @@ module _ (header : Header) (blocks : List Block) where
 
   -- a writer that isn't closed and has nothing there holds a call back
   pub held_back : (call : LogCall) (writer : ℕ) → writer < header.writers → closed_by blocks writer ≡ false → reaches (CallsOf blocks writer) call ≡ false → is_settled header blocks call ≡ false
-  held_back call writer known is_open none = at (is_settled header blocks call) refl
-    where
-      at : (b : Bool) → is_settled header blocks call ≡ b → b ≡ false
-      at true is = let wrong : true ≡ false = sym (reached_if call is writer known is_open) ∙ none in absurd cc
-      at false is = refl
+  held_back call writer known is_open none = not_true (λ is. let wrong : true ≡ false = sym (reached_if call is writer known is_open) ∙ none in cc)
 
   -- so a call that doesn't stand after one that is settled is settled
   pub settled_upto : (call first : LogCall) → call_before call first ≡ false → is_settled header blocks call ≡ true → is_settled header blocks first ≡ true

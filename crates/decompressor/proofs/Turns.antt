@@ -1,5 +1,5 @@
 -- One record after the other is printed, as the merger takes them.
-use Rattle.std.proofs.Common.{◌≡◌, ℕ, zero, suc, ◌+◌, ◌<◌, ◌≤◌, Bool, true, false, ◌||◌, cond, Some, None, List, [], ◌∷◌, ◌++◌, length, drop, refl, ap, sym, subst, ◌∙◌, inl, inr, arith}
+use Rattle.std.proofs.Common.{◌≡◌, ℕ, zero, suc, ◌+◌, ◌<◌, ◌≤◌, Bool, true, false, cond, Some, None, List, [], ◌∷◌, ◌++◌, length, drop, refl, ap, sym, subst, ◌∙◌, inl, inr, arith}
 use Rattle.std.specs.Prelude.{slice_get, slice_set, position, All, sum_by}
 use Rattle.std.specs.List.{AllByRecursion}
 use Rattle.std.proofs.lemmas.Bool.{eq-eqb, ne_eqb, cases_lt}
@@ -31,6 +31,7 @@ use Rattle.decompressor.proofs.RecordCalls.{IsCallOf, AreCallsOf, calls_of_write
 use Rattle.decompressor.proofs.WriterLists.{own, IsOf}
 use Rattle.decompressor.proofs.Printed.{HasCalls, IsPrinted, one_more, rest_mine, rest_outside, are_settled, none_settled, are_all}
 use Rattle.decompressor.proofs.Calls.{has_calls}
+use Rattle.decompressor.proofs.Tests.{either_false}
 use Rattle.decompressor.proofs.Heads.{heads_set}
 use Rattle.decompressor.proofs.Ready.{IsLeast, least_head, later_call, not_itself}
 
@@ -101,15 +102,11 @@ no_head : (closed : Bool) (entries : List Call) → (list_of closed entries).hea
 no_head closed [] is = refl
 no_head closed (first ∷ others) is = cc
 
-pub either_false : (a b : Bool) → (a || b) ≡ false → (a ≡ false) × (b ≡ false)
-either_false true b none = cc
-either_false false b none = (refl, none)
-
 -- ---- the state between two records
 
-module _ (header : Header) (all : List Block) (valid : Valid header all) where
+module _ {header : Header} {all : List Block} (valid : Valid header all) where
   abbrev pub calls_there : HasCalls header all
-  calls_there = has_calls header all valid
+  calls_there = has_calls valid
 
   -- the calls were printed, and the other records wait
   pub record IsAt (closed : ℕ → Bool) (printed : List LogCall) (waiting : List (List Call)) (lists : List ListState) : Type 0 where
@@ -124,7 +121,7 @@ module _ (header : Header) (all : List Block) (valid : Valid header all) where
   pub no_more_calls : (w : ℕ) → length (CallsOf all w) ≡ length (records_of w all)
   no_more_calls w = as_many (messages_of all) header.clock.tick (CallsOf all w) (records_of w all) (all_are w)
 
-  module _ (closed : ℕ → Bool) (printed : List LogCall) (waiting : List (List Call)) (lists : List ListState) (at : IsAt closed printed waiting lists) where
+  module _ {closed : ℕ → Bool} {printed : List LogCall} {waiting : List (List Call)} {lists : List ListState} (at : IsAt closed printed waiting lists) where
     abbrev rest : ℕ → List LogCall
     rest w = at.is.rest w
 
@@ -138,7 +135,7 @@ module _ (header : Header) (all : List Block) (valid : Valid header all) where
 
     -- nothing is left of writers that the log doesn't have
     left_outside : (w : ℕ) → header.writers ≤ w → rest w ≡ []
-    left_outside w out = rest_outside header all calls_there closed printed at.is w out
+    left_outside w out = rest_outside calls_there at.is w out
 
     -- ---- a record is taken
 
@@ -180,7 +177,7 @@ module _ (header : Header) (all : List Block) (valid : Valid header all) where
             ap (λ (c : Call). c.stamp) same ∙ e.3)
 
         call_mine : call.writer ≡ writer
-        call_mine = (subst (AllByRecursion (IsOf writer)) t.first.there (rest_mine header all calls_there closed printed at.is writer)).0
+        call_mine = (subst (AllByRecursion (IsOf writer)) t.first.there (rest_mine calls_there at.is writer)).0
 
         least_by : (v : ℕ) → v < header.writers → (calls : List LogCall) → rest v ≡ calls → IsNotAfter call_before call calls
         least_by v known [] is = tt
@@ -191,7 +188,7 @@ module _ (header : Header) (all : List Block) (valid : Valid header all) where
           | inr apart ↦
               let f = some_entry v known other others is in
               later_call call other top.stamp f.0.stamp v writer call_stamp f.3 call_mine
-              ((subst (AllByRecursion (IsOf v)) is (rest_mine header all calls_there closed printed at.is v)).0) apart.1
+              ((subst (AllByRecursion (IsOf v)) is (rest_mine calls_there at.is v)).0) apart.1
               (top.least v f.0.stamp (ap (λ (l : ListState). l.head) (list_is v known ∙ ap (list_of (closed v)) f.2)))
         ]
           where
@@ -221,7 +218,7 @@ module _ (header : Header) (all : List Block) (valid : Valid header all) where
         -- behind the record
         pub taken : (changed : List (List Call)) (new : List ListState) → changed ≡ slice_set waiting writer t.entries → new ≡ slice_set (without_head lists writer) writer (list_of (closed writer) t.entries) → IsAt closed (printed ++ call ∷ []) changed new
         taken changed new changed_is new_is = record {
-          is = one_more header all calls_there closed printed at.is writer call t.first.others t.first.there least ready;
+          is = one_more calls_there at.is writer call t.first.others t.first.there least ready;
           are_waiting = record {
             count = ap length changed_is ∙ length-set waiting writer t.entries ∙ at.are_waiting.count;
             each = λ v known.
@@ -277,26 +274,26 @@ module _ (header : Header) (all : List Block) (valid : Valid header all) where
     ]
 
   -- the calls that could be printed were
-  module _ (ended : Bool) (printed : List LogCall) (waiting : List (List Call)) (lists : List ListState) (at : IsAt (no_more_come ended all) printed waiting lists) where
+  module _ (ended : Bool) {printed : List LogCall} {waiting : List (List Call)} {lists : List ListState} (at : IsAt (no_more_come ended all) printed waiting lists) where
     by_done : (e : Bool) → e ≡ ended → All IsSpent lists → printed ≡ in_order (ready_calls e header all)
-    by_done true is done = are_all header all calls_there (no_more_come ended all) printed at.is (spent (no_more_come ended all) printed waiting lists at done)
+    by_done true is done = are_all calls_there at.is (spent at done)
     by_done false is done =
-        are_settled header all calls_there (no_more_come ended all) printed at.is (ap (λ (e : Bool). no_more_come e all) (sym is))
-        (λ w. subst (AllByRecursion (λ call. is_settled header all call ≡ false)) (sym (spent (no_more_come ended all) printed waiting lists at done w)) tt)
+        are_settled calls_there at.is (ap (λ (e : Bool). no_more_come e all) (sym is))
+        (λ w. subst (AllByRecursion (λ call. is_settled header all call ≡ false)) (sym (spent at done w)) tt)
 
     by_want : (e : Bool) → e ≡ ended → (w : ℕ) → position wants lists ≡ Some w → printed ≡ in_order (ready_calls e header all)
     by_want e is w want =
         let wish = first_wants_head lists w want in
         let known : w < header.writers = omega (arith, wanting_is_there lists w wish, at.heads.many, at.are_waiting.count) in
-        let none = a_wish (no_more_come ended all w) (records_at waiting w) (ap wants (sym (list_is (no_more_come ended all) printed waiting lists at w known)) ∙ wish) in
+        let none = a_wish (no_more_come ended all w) (records_at waiting w) (ap wants (sym (list_is at w known)) ∙ wish) in
         by e is known none.0 none.1
       where
         by : (b : Bool) → b ≡ ended → w < header.writers → records_at waiting w ≡ [] → no_more_come ended all w ≡ false → printed ≡ in_order (ready_calls b header all)
         by true same known empty is_open = let wrong : true ≡ false = same ∙ (either_false ended (closed_by all w) is_open).0 in absurd cc
         by false same known empty is_open =
             let here = ap (λ (b : Bool). no_more_come b all) (sym same) in
-            are_settled header all calls_there (no_more_come ended all) printed at.is here
-            (none_settled header all calls_there (no_more_come ended all) printed at.is here w known is_open (left_none (no_more_come ended all) printed waiting lists at w known empty))
+            are_settled calls_there at.is here
+            (none_settled calls_there at.is here w known is_open (left_none at w known empty))
 
     pub all_ready : (answer : Next) → ((w : ℕ) → ¬ (answer ≡ Take w)) → ((w : ℕ) → answer ≡ Want w → position wants lists ≡ Some w) → (answer ≡ Done → All IsSpent lists) → printed ≡ in_order (ready_calls ended header all)
     all_ready (Take w) none want done = absurd (none w refl)

@@ -4,7 +4,8 @@ use Rattle.std.proofs.lemmas.List.{get_or_default}
 use Rattle.std.specs.Prelude.{slice_set, List}
 use Rattle.arg_records.specs.declared.call.Call.{Call}
 use Rattle.decompressor.specs.Waiting.{list_of, records_at}
-use Rattle.decompressor.proofs.Heads.{close_one, either_true}
+use Rattle.decompressor.proofs.Tests.{or_true}
+use Rattle.decompressor.proofs.Heads.{close_one}
 use Rattle.decompressor.proofs.showing.close_all.Goals as goal
 
 pub overflow_cast-writer : goal.overflow_cast-writer
@@ -22,6 +23,6 @@ loop-writer-preserved c =
       close_one closed lists waiting heads k c.close_writer.new.merger c.loop-writer-test.true (new ∙ ap (λ (entries : List Call). slice_set lists k (list_of true entries)) queue),
       (λ w less. elim (eqb_tells w k) [
         | inl same ↦ ap (λ b. b || closed w) same.0
-        | inr apart ↦ either_true (eqb w k) (closed w) (before w (omega (arith, less, apart.1)))
+        | inr apart ↦ or_true (eqb w k) (before w (omega (arith, less, apart.1)))
       ]),
     )
