@@ -21,18 +21,18 @@ records_short messages before [] bytes spelled = omega arith
 records_short messages before (entry ∷ entries) bytes (front, back, joined, first, others) =
     omega (arith, record_some messages before entry front first, records_short messages entry.stamp entries back others, ap length joined, length-append front back)
 
-block_short : (messages : List Message) (tick : ℕ) (block : Block) (bytes : List ℕ) → SpellsBlock messages tick block bytes → length (block_entries block) ≤ length bytes
-block_short messages tick (Fragment first added) bytes spelled = omega arith
-block_short messages tick (Extent writer entries) bytes spelled =
-    omega (arith, records_short messages tick entries spelled.body spelled.body_spelled, ap length spelled.joined, length-append (extent_head_bytes writer (length spelled.body)) spelled.body)
-block_short messages tick (Close writer) bytes spelled = omega arith
+block_short : (messages : List Message) (header : Header) (block : Block) (bytes : List ℕ) → SpellsBlock messages header block bytes → length (block_entries block) ≤ length bytes
+block_short messages header (Fragment first added) bytes spelled = omega arith
+block_short messages header (Extent writer entries) bytes spelled =
+    omega (arith, records_short messages header.clock.tick entries spelled.body spelled.body_spelled, ap length spelled.joined, length-append (extent_head_bytes header.version writer (length spelled.body)) spelled.body)
+block_short messages header (Close writer) bytes spelled = omega arith
 
-blocks_short : (tick : ℕ) (before blocks : List Block) (bytes : List ℕ) → SpellsBlocks tick before blocks bytes → length (entries_of blocks) ≤ length bytes
-blocks_short tick before [] bytes spelled = omega arith
-blocks_short tick before (block ∷ blocks) bytes (front, back, joined, first, others) =
-    omega (arith, block_short (messages_of before) tick block front first, blocks_short tick (before ++ block ∷ []) blocks back others, ap length joined, length-append front back, length-append (block_entries block) (entries_of blocks))
+blocks_short : (header : Header) (before blocks : List Block) (bytes : List ℕ) → SpellsBlocks header before blocks bytes → length (entries_of blocks) ≤ length bytes
+blocks_short header before [] bytes spelled = omega arith
+blocks_short header before (block ∷ blocks) bytes (front, back, joined, first, others) =
+    omega (arith, block_short (messages_of before) header block front first, blocks_short header (before ++ block ∷ []) blocks back others, ap length joined, length-append front back, length-append (block_entries block) (entries_of blocks))
 
 -- a file has no more records than bytes
 pub file_short : (header : Header) (blocks : List Block) (bytes : List ℕ) → FileOf header blocks bytes → length (entries_of blocks) ≤ length bytes
 file_short header blocks bytes file =
-    omega (arith, blocks_short header.clock.tick [] blocks file.block_bytes file.spelled, ap length file.joined, length-append (header_bytes header) file.block_bytes)
+    omega (arith, blocks_short header [] blocks file.block_bytes file.spelled, ap length file.joined, length-append (header_bytes header) file.block_bytes)
