@@ -147,7 +147,7 @@ module _ {old : PrinterState} {taken text : List ℕ} (printed : HasPrinted old 
         few = few_calls new.header all (taken ++ next.front) file_all valid_all next.stands.within;
         known = next.stands.messages ∙ ap messages_of next.blocks;
         closed = λ w known.
-            next.stands.states.closed w (omega (arith, known, valid_all.header_right.few_writers))
+            next.stands.states.closed w known
             ∙ ap (λ (bs : List Block). list_any (closes w) bs) next.blocks;
         lines = printed.lines ∙ sym settled_there;
         are_waiting = waiting_there;

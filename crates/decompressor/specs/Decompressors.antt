@@ -1,5 +1,5 @@
 -- What is kept between the steps of a decompressor, the bytes and the text for which it stands, and what a step says.
-use Rattle.std.specs.Prelude.{◌≡◌, ◌≢◌, ◌⊎◌, ℕ, ◌+◌, ◌<◌, ◌≤◌, Bool, true, false, ◌||◌, ◌==◌, List, [], ◌∷◌, ◌++◌, length, drop, filter, get_or, Result, Ok, Err, ⊤}
+use Rattle.std.specs.Prelude.{◌≡◌, ◌≢◌, ◌⊎◌, ℕ, ◌+◌, ◌<◌, ◌≤◌, Bool, true, false, ◌||◌, ◌==◌, List, [], ◌∷◌, ◌++◌, length, drop, filter, Result, Ok, Err, ⊤}
 use Rattle.nl_io.specs.Content.{Told, IsAtEnd, with_end, PutsFront}
 use Rattle.log_dictionary.specs.declared.message.Message.{Message}
 use Rattle.log_dictionary.specs.Calls.{LogCall}
@@ -13,6 +13,7 @@ use Rattle.checkpoint_io.specs.Fronts.{IsCutAt}
 use Rattle.checkpoint_io.specs.NextBlocks.{Describes, TakesNext}
 use Rattle.checkpoint_io.specs.Places.{with_front, TookSuch}
 use Rattle.checkpoint_io.specs.Readers.{ReaderState, StandsFor}
+use Rattle.checkpoint_io.specs.Writers.{closed_kept}
 use Rattle.stamp_merge.specs.declared.merger.ListState.{ListState}
 use Rattle.direct_printf.specs.Lines.{in_order}
 use Rattle.decompressor.specs.declared.fault.DecodeFault.{DecodeFault}
@@ -98,7 +99,7 @@ pub record HasToPrint (ended : Bool) (reader : ReaderState) (first all : List Bl
   pub others : List Message
   pub known : reader.messages ≡ messages_of all ++ others
   pub closed : (writer : ℕ) → writer < reader.header.writers
-      → (ended || get_or reader.writers.closed writer false) ≡ no_more_come ended all writer
+      → (ended || closed_kept reader.writers writer) ≡ no_more_come ended all writer
   pub are_waiting : AreWaiting reader.header all (in_order (settled_calls reader.header first)) waiting
   pub heads : HasHeads (no_more_come ended all) lists waiting
 
@@ -134,7 +135,7 @@ pub record HasTaken (printer : PrinterState) (first : List Block) (block : Block
   pub few : length (all_calls printer.reader.header (first ++ block ∷ [])) ≤ MAX_LOG
   pub known : printer.reader.messages ≡ messages_of (first ++ block ∷ [])
   pub closed : (writer : ℕ) → writer < printer.reader.header.writers
-      → get_or printer.reader.writers.closed writer false ≡ closed_by (first ++ block ∷ []) writer
+      → closed_kept printer.reader.writers writer ≡ closed_by (first ++ block ∷ []) writer
   pub lines : printer.lines ≡ length (settled_calls printer.reader.header first)
   pub are_waiting : AreWaiting printer.reader.header first (in_order (settled_calls printer.reader.header first))
       printer.waiting

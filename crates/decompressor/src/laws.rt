@@ -48,8 +48,8 @@ pub fn whole_logs_give_all_lines()
 /// A log of calls that were taken stands for the lines of these calls.
 pub fn logs_give_the_calls_taken()
     ensures { (bytes : List ℕ) (taken : List (List Call)) (dictionary : List Message)
-        (clock : Clock) (batch : ℕ) → LogOf bytes taken dictionary clock batch
-        → Decompressed bytes (Direct (clock ∷ []) (calls_by_writer dictionary taken)) }
+        (version : ℕ) (clocks : List Clock) (batch : ℕ) → LogOf bytes taken dictionary version clocks batch
+        → Decompressed bytes (Direct clocks (calls_by_writer dictionary taken)) }
 {}
 
 /// With a call that is settled each call before it is.

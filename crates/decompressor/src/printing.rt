@@ -1,10 +1,11 @@
 //! Printing the lines of a log.
 
-ghost use Rattle.std.specs.Prelude.{◌≡◌, ◌⊎◌, ◌<◌, ◌≤◌, ◌++◌, ◌||◌, ℕ, List, [], ◌∷◌, false, slice_get, get_or, Some, IsErrOf, OnOk, OnErr, map};
+ghost use Rattle.std.specs.Prelude.{◌≡◌, ◌⊎◌, ◌≤◌, ◌++◌, ◌||◌, ℕ, List, [], ◌∷◌, slice_get, Some, IsErrOf, OnOk, OnErr, map};
 ghost use Rattle.nl_io.specs.Count.{Rose};
 ghost use Rattle.log_dictionary.specs.declared.message.Message.{Message};
 ghost use Rattle.arg_records.specs.Calls.{IsCall};
 ghost use Rattle.checkpoint_io.specs.Blocks.{Block};
+ghost use Rattle.checkpoint_io.specs.Writers.{closed_kept};
 ghost use Rattle.direct_printf.specs.Lines.{Line, origin_text, AreFirstOrigins};
 ghost use Rattle.decompressor.specs.Decompressors.{HasToPrint, PrintsReady};
 
@@ -58,7 +59,7 @@ fn make_line(
 
 // Whether no records of the writer can come: the log has ended, or the writer is closed.
 fn is_done(ended: bool, reader: &Reader, writer: u32) -> bool
-    ensures { writer < 256 → result ≡ (ended || get_or reader.now.writers.closed writer false) }
+    ensures { result ≡ (ended || closed_kept reader.now.writers writer) }
 {
     ended || reader.is_closed(writer)
 }

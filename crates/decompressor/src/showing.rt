@@ -1,7 +1,6 @@
 //! What a merger is told of the records that wait.
 
-ghost use Rattle.std.specs.Prelude.{◌≡◌, ℕ, ◌<◌, ◌≤◌, Bool, true, false, ◌++◌, length, slice_set, OnOk};
-ghost use Rattle.session_options.specs.declared.limits.TheConstants.{MAX_LOG_WRITERS};
+ghost use Rattle.std.specs.Prelude.{◌≡◌, ℕ, ◌^◌, ◌<◌, Bool, true, false, ◌++◌, length, slice_set, OnOk};
 ghost use Rattle.checkpoint_io.specs.Blocks.{Block as LogBlock};
 ghost use Rattle.checkpoint_io.specs.NextBlocks.{Describes};
 ghost use Rattle.stamp_merge.specs.Mergers.{wants, list_at};
@@ -85,7 +84,7 @@ pub fn add_block(
 
 /// Tells the merger that no more records can come.
 pub fn close_all(merger: &mut Merger, waiting: &[RecordQueue])
-    requires few { length waiting.now ≤ MAX_LOG_WRITERS }
+    requires few { length waiting.now < 2 ^ 32 }
     requires shown { (closed : ℕ → Bool) × HasHeads closed merger.old waiting.now }
     ensures { HasHeads (λ writer. true) merger.new waiting.now }
 {

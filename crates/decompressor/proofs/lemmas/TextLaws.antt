@@ -33,8 +33,8 @@ numbered f g from zero = refl
 numbered f g from (suc n) = ap (λ l. f (from, g from) ++ l) (numbered f g (from + 1) n)
 
 -- the calls of the log are those that were taken
-pub taken_are : (bytes : List ℕ) (taken : List (List Call)) (dictionary : List Message) (clock : Clock) (batch : ℕ) → (log : LogOf bytes taken dictionary clock batch) → all_calls log.header log.blocks ≡ calls_by_writer dictionary taken
-taken_are bytes taken dictionary clock batch log =
+pub taken_are : (bytes : List ℕ) (taken : List (List Call)) (dictionary : List Message) (version : ℕ) (clocks : List Clock) (batch : ℕ) → (log : LogOf bytes taken dictionary version clocks batch) → all_calls log.header log.blocks ≡ calls_by_writer dictionary taken
+taken_are bytes taken dictionary version clocks batch log =
     let own : (writer : ℕ) → CallsOf log.blocks writer ≡ writer_calls dictionary (writer, records_of writer log.blocks) =
     λ writer. same_calls (messages_of log.blocks) log.undefined writer 0 (records_of writer log.blocks) (records_fit log.header log.blocks writer log.valid)
     ∙ ap (λ (m : List Message). writer_calls m (writer, records_of writer log.blocks)) (sym log.messages_are) in
@@ -44,8 +44,8 @@ taken_are bytes taken dictionary clock batch log =
     ∙ ap (λ (t : List (List Call)). flat_map (writer_calls dictionary) (enumerate_from 0 t)) (sym log.records_are)
 
 -- the log stands for the lines of the calls that were taken
-pub log_is_text : (bytes : List ℕ) (taken : List (List Call)) (dictionary : List Message) (clock : Clock) (batch : ℕ) → LogOf bytes taken dictionary clock batch → Decompressed bytes (Direct (clock ∷ []) (calls_by_writer dictionary taken))
-log_is_text bytes taken dictionary clock batch log =
-    let calls = taken_are bytes taken dictionary clock batch log in
-    let text : whole_text log.header log.blocks ≡ Direct (clock ∷ []) (calls_by_writer dictionary taken) = λ i. Direct (log.clock_is i ∷ []) (calls i) in
+pub log_is_text : (bytes : List ℕ) (taken : List (List Call)) (dictionary : List Message) (version : ℕ) (clocks : List Clock) (batch : ℕ) → LogOf bytes taken dictionary version clocks batch → Decompressed bytes (Direct clocks (calls_by_writer dictionary taken))
+log_is_text bytes taken dictionary version clocks batch log =
+    let calls = taken_are bytes taken dictionary version clocks batch log in
+    let text : whole_text log.header log.blocks ≡ Direct clocks (calls_by_writer dictionary taken) = λ i. Direct (log.clocks_are i) (calls i) in
     subst (Decompressed bytes) text (whole_is_text log.header log.blocks bytes log.file log.valid)

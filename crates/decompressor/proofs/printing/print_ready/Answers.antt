@@ -82,7 +82,7 @@ loop-writer-preserved g c = record {
       let so_far = c.loop-writer.invariant.lines_so_far first all ready in
       let top = (c.in-Take.ensures.take c.in-Take.writer).0 refl in
       let t = turn ready so_far top in
-      let done = c.is_done.ensures (omega (arith, t.known, ready.valid.header_right.few_writers)) ∙ ready.closed c.in-Take.writer t.known in
+      let done = c.is_done.ensures ∙ ready.closed c.in-Take.writer t.known in
       let line = c.as_slice-in-Take.ensures.value ∙ line_said ready so_far top c.index-waiting-writer.result c.in-Some.ensures.some c.in_ok-make_line.ensures in
       next_lines ready so_far top line c.index-waiting-writer.result c.in_ok-put.ensures.ok (ap (slice_set c.loop-writer.waiting c.in-Take.writer) c.remove_first.ensures)
       (c.show_first.ensures ∙ λ i. slice_set (c.next.ensures.taken c.in-Take.writer c.in-Take.is i) c.in-Take.writer (list_of (done i) (c.remove_first.ensures i)));

@@ -6,7 +6,7 @@ use Rattle.checkpoint_io.specs.Blocks.{Block}
 use Rattle.decompressor.specs.contracts.log_printer.LogPrinter.{the_view}
 use Rattle.decompressor.specs.Waiting.{HasHeads}
 use Rattle.decompressor.specs.Decompressors.{PrinterState, HasToPrint, HasLast, HasRest, PrintsRest}
-use Rattle.decompressor.proofs.Blocks.{all_ready_now}
+use Rattle.decompressor.proofs.Blocks.{few_wait, all_ready_now}
 use Rattle.decompressor.proofs.Parts.{lines_fit, prints_on, prints_cut}
 use Rattle.decompressor.proofs.log_printer.LogPrinter.print_rest.Goals.{After-deref_mut}
 use Rattle.decompressor.proofs.log_printer.LogPrinter.print_rest.Given.{Over}
@@ -17,6 +17,11 @@ all_ready : (g : Over) (c : After-deref_mut g) (blocks : List Block) → HasLast
 all_ready g c blocks last =
     subst (λ (waiting : List (List Call)). HasToPrint true c.self.inside.reader blocks blocks waiting c.close_all.new.merger) (sym c.deref_mut.ensures.value)
     (all_ready_now last (subst (HasHeads (λ writer. true) c.close_all.new.merger) c.deref.ensures.value c.close_all.ensures))
+
+pub close_all-requires-clause-few : goal.close_all-requires-clause-few
+close_all-requires-clause-few g c =
+    let (blocks, last) = subst (λ (s : PrinterState). HasRest s) (sym c.self.view_is) c.requires.last in
+    omega (arith, few_wait last, ap length c.deref.ensures.value)
 
 pub print_ready-requires-clause-ready : goal.print_ready-requires-clause-ready
 print_ready-requires-clause-ready g c =
