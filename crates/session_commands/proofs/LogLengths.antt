@@ -1,4 +1,4 @@
--- How long the log of a generated trace is at most.
+-- How long the log of a generated trace is at most, in any version.
 use Rattle.std.proofs.Common.{◌≡◌, ℕ, zero, suc, ◌+◌, ◌*◌, ◌<◌, ◌≤◌, Bool, true, false, ◌||◌, cond, eqb, List, [], ◌∷◌, ◌++◌, map, length, get_or, refl, sym, ap, subst, ◌∙◌, inl, inr, arith}
 use Rattle.std.specs.Prelude.{sum_by, pos, ◌-◌}
 use Rattle.std.specs.Hash.{le_bytes}
@@ -22,11 +22,13 @@ use Rattle.buffer_extent.specs.Records.{PackedNumber, kind_of, packed_value, Pac
 use Rattle.buffer_extent.specs.Bodies.{SpellsRecord, SpellsRecords}
 use Rattle.buffer_extent.proofs.lemmas.Codes.{length-code_bytes}
 use Rattle.checkpoint_io.specs.declared.header.Header.{Header}
-use Rattle.checkpoint_io.specs.Blocks.{Block, Fragment, Extent, Close, block_messages, messages_of, header_bytes, fragment_head_bytes, extent_head_bytes, SpellsEntries, SpellsFragment, SpellsExtent, SpellsBlock, SpellsBlocks}
+use Rattle.checkpoint_io.specs.Versions.{writer_len}
+use Rattle.checkpoint_io.specs.Blocks.{Block, Fragment, Extent, Close, block_messages, messages_of, header_bytes, fragment_head_bytes, SpellsEntries, SpellsFragment, SpellsExtent, SpellsBlock, SpellsBlocks}
 use Rattle.checkpoint_io.specs.Validity.{block_records, records_of, closes, IsClosed, IsRightAfter, AreRightAfter}
 use Rattle.checkpoint_io.specs.Logs.{LogOf}
 use Rattle.checkpoint_io.proofs.lemmas.BlockLaws.{le_length, length-header_bytes}
-use Rattle.checkpoint_io.proofs.lemmas.LimitLaws.{extent_has_records}
+use Rattle.checkpoint_io.proofs.lemmas.LimitLaws.{extent_len, extent_has_records}
+use Rattle.checkpoint_io.proofs.lemmas.VersionLaws.{few_len}
 use Rattle.trace_text.specs.Lines.{WriterCall}
 use Rattle.trace_text.specs.Traces.{calls_by}
 use Rattle.trace_generator.specs.Generated.{draw, state_after, generated_messages, generated_clock, drawn_arguments, drawn_call, generator_at, generated_call, generated_calls, Generated}
@@ -95,7 +97,7 @@ only_there place n start (suc count) from to =
 
 -- as many bytes as a call's record has at most, with the head of an extent
 abbrev call_size : Call → ℕ
-call_size call = 23 + 9 * length call.args + length (flat_map text_of call.args)
+call_size call = 24 + 9 * length call.args + length (flat_map text_of call.args)
 
 -- there are as many numbers as arguments, of 8 bytes at most each
 numbers_short : (types : List ArgType) (args : List Value) (numbers : List PackedNumber) → PacksArguments types args numbers → (length numbers ≡ length args) × (length (packed_bytes numbers) ≤ 8 * length args)
@@ -107,7 +109,7 @@ numbers_short (type ∷ types) (arg ∷ args) (number ∷ numbers) packed =
 numbers_short _ _ _ packed = absurd packed
 
 -- a record leaves room for the head
-record_short : (messages : List Message) (before : ℕ) (entry : Call) (bytes : List ℕ) → SpellsRecord messages before entry bytes → length bytes + 6 ≤ call_size entry
+record_short : (messages : List Message) (before : ℕ) (entry : Call) (bytes : List ℕ) → SpellsRecord messages before entry bytes → length bytes + 7 ≤ call_size entry
 record_short messages before entry bytes spells =
     let s = spells.spelled in
     let head = s.id_number.bytes ++ s.step_number.bytes in
@@ -131,17 +133,16 @@ record_short messages before entry bytes spells =
     )
 
 -- and so do records, each for one
-records_short : (messages : List Message) (before : ℕ) (entries : List Call) (body : List ℕ) → SpellsRecords messages before entries body → length body + 6 * length entries ≤ sum_by call_size entries
+records_short : (messages : List Message) (before : ℕ) (entries : List Call) (body : List ℕ) → SpellsRecords messages before entries body → length body + 7 * length entries ≤ sum_by call_size entries
 records_short messages before [] body spells = omega (arith, ap length spells)
 records_short messages before (entry ∷ entries) body (front, back, joined, here, behind) =
     omega (arith, ap length joined, length-append front back, record_short messages before entry front here, records_short messages entry.stamp entries back behind, sum_by-cons call_size entry entries)
 
 -- an extent has a record for its head
-extent_size : (messages : List Message) (tick writer : ℕ) (entries : List Call) (bytes : List ℕ) → SpellsExtent messages tick writer entries bytes → length bytes ≤ sum_by call_size entries
-extent_size messages tick writer [] bytes s = absurd (extent_has_records messages tick writer bytes s)
-extent_size messages tick writer (entry ∷ entries) bytes s =
-    let len = length s.body in
-    omega (arith, ap length s.joined, length-append (extent_head_bytes writer len) s.body, le_length 4 len, records_short messages tick (entry ∷ entries) s.body s.body_spelled)
+extent_size : (messages : List Message) (header : Header) (writer : ℕ) (entries : List Call) (bytes : List ℕ) → SpellsExtent messages header writer entries bytes → length bytes ≤ sum_by call_size entries
+extent_size messages header writer [] bytes s = absurd (extent_has_records messages header writer bytes s)
+extent_size messages header writer (entry ∷ entries) bytes s =
+    omega (arith, extent_len messages header writer (entry ∷ entries) bytes s, few_len header.version, records_short messages header.clock.tick (entry ∷ entries) s.body s.body_spelled)
 
 -- ---- messages
 
@@ -191,9 +192,9 @@ fragment_size first messages bytes s =
 
 -- ---- close marks
 
--- the bytes of a block that is the writer's close mark
+-- the most bytes of a block that is the writer's close mark
 abbrev close_size : ℕ → Block → ℕ
-close_size writer block = cond (closes writer block) 2 0
+close_size writer block = cond (closes writer block) 3 0
 
 -- a close mark has none of the same writer before it
 closed_when_open : (header : Header) (before : List Block) (block : Block) (writer : ℕ) → IsRightAfter header before block → closes writer block ≡ true → ¬ (IsClosed writer before)
@@ -206,19 +207,19 @@ closed_when_open header before (Close w) writer right is =
     ]
 
 -- a mark and those behind it are at most one, and none where one stands before
-one_mark : (before here : Bool) (n : ℕ) → (here ≡ true → before ≡ true → ⊥) → n ≤ cond (before || (here || false)) 0 2 → cond here 2 0 + n ≤ cond before 0 2
+one_mark : (before here : Bool) (n : ℕ) → (here ≡ true → before ≡ true → ⊥) → n ≤ cond (before || (here || false)) 0 3 → cond here 3 0 + n ≤ cond before 0 3
 one_mark true true n once rest = absurd (once refl refl)
 one_mark true false n once rest = omega (arith, rest)
 one_mark false true n once rest = omega (arith, rest)
 one_mark false false n once rest = omega (arith, rest)
 
 -- a writer has one close mark at most, and none where one stands before
-closed_once : (header : Header) (before blocks : List Block) (writer : ℕ) → AreRightAfter header before blocks → sum_by (close_size writer) blocks ≤ cond (list_any (closes writer) before) 0 2
+closed_once : (header : Header) (before blocks : List Block) (writer : ℕ) → AreRightAfter header before blocks → sum_by (close_size writer) blocks ≤ cond (list_any (closes writer) before) 0 3
 closed_once header before [] writer right = omega arith
 closed_once header before (block ∷ blocks) writer right =
     let marks = sum_by (close_size writer) blocks in
-    let rest : marks ≤ cond (list_any (closes writer) before || (closes writer block || false)) 0 2 =
-    subst (λ (b : Bool). marks ≤ cond b 0 2) (list_any-append (closes writer) before (block ∷ []))
+    let rest : marks ≤ cond (list_any (closes writer) before || (closes writer block || false)) 0 3 =
+    subst (λ (b : Bool). marks ≤ cond b 0 3) (list_any-append (closes writer) before (block ∷ []))
     (closed_once header (before ++ block ∷ []) blocks writer right.1) in
     omega (arith, sum_by-cons (close_size writer) block blocks, one_mark (list_any (closes writer) before) (closes writer block) marks (closed_when_open header before block writer right.0) rest)
 
@@ -241,23 +242,25 @@ extent_is_of w writer entries = at_test (eqb w writer)
     at_test false = omega arith
 
 -- a block has bytes for its messages or for one of the writers
-block_short : (header : Header) (before : List Block) (messages : List Message) (tick : ℕ) (block : Block) (bytes : List ℕ) → SpellsBlock messages tick block bytes → IsRightAfter header before block → length bytes ≤ sum_by message_size (block_messages block) + sum_by (writer_size block) (range_with_len 0 header.writers)
-block_short header before messages tick (Fragment first added) bytes spells right =
+block_short : (header : Header) (before : List Block) (messages : List Message) (block : Block) (bytes : List ℕ) → SpellsBlock messages header block bytes → IsRightAfter header before block → length bytes ≤ sum_by message_size (block_messages block) + sum_by (writer_size block) (range_with_len 0 header.writers)
+block_short header before messages (Fragment first added) bytes spells right =
     omega (arith, fragment_size first added bytes spells)
-block_short header before messages tick (Extent writer entries) bytes spells right =
+block_short header before messages (Extent writer entries) bytes spells right =
     let n = sum_by call_size entries in
     omega (
       arith,
-      extent_size messages tick writer entries bytes spells,
+      extent_size messages header writer entries bytes spells,
       only_there writer n 0 header.writers (omega arith) (omega (arith, right.writer_open.known)),
       sum_grows (only writer n) (writer_size (Extent writer entries)) (λ w. extent_is_of writer w entries) (range_with_len 0 header.writers),
     )
-block_short header before messages tick (Close writer) bytes spells right =
+block_short header before messages (Close writer) bytes spells right =
     omega (
       arith,
       ap length spells.joined,
-      only_there writer 2 0 header.writers (omega arith) (omega (arith, right.known)),
-      sum_grows (only writer 2) (writer_size (Close writer)) (λ w. omega arith) (range_with_len 0 header.writers),
+      le_length (writer_len header.version) writer,
+      few_len header.version,
+      only_there writer 3 0 header.writers (omega arith) (omega (arith, right.known)),
+      sum_grows (only writer 3) (writer_size (Close writer)) (λ w. omega arith) (range_with_len 0 header.writers),
     )
 
 -- a block in front is of the writer, or not
@@ -266,16 +269,16 @@ written_more block blocks writer =
     omega (arith, sum_by-append call_size (block_records writer block) (records_of writer blocks), sum_by-cons (close_size writer) block blocks)
 
 -- blocks have bytes for their messages and for the writers
-blocks_short : (header : Header) (tick : ℕ) (before blocks : List Block) (bytes : List ℕ) → SpellsBlocks tick before blocks bytes → AreRightAfter header before blocks → length bytes ≤ sum_by message_size (messages_of blocks) + sum_by (written blocks) (range_with_len 0 header.writers)
-blocks_short header tick before [] bytes spells right = omega (arith, ap length spells)
-blocks_short header tick before (block ∷ blocks) bytes (front, back, joined, here, behind) right =
+blocks_short : (header : Header) (before blocks : List Block) (bytes : List ℕ) → SpellsBlocks header before blocks bytes → AreRightAfter header before blocks → length bytes ≤ sum_by message_size (messages_of blocks) + sum_by (written blocks) (range_with_len 0 header.writers)
+blocks_short header before [] bytes spells right = omega (arith, ap length spells)
+blocks_short header before (block ∷ blocks) bytes (front, back, joined, here, behind) right =
     let writers = range_with_len 0 header.writers in
     omega (
       arith,
       ap length joined,
       length-append front back,
-      block_short header before (messages_of before) tick block front here right.0,
-      blocks_short header tick (before ++ block ∷ []) blocks back behind right.1,
+      block_short header before (messages_of before) block front here right.0,
+      blocks_short header (before ++ block ∷ []) blocks back behind right.1,
       sum_by-append message_size (block_messages block) (messages_of blocks),
       sum_of_both (writer_size block) (written blocks) writers,
       sum_grows (λ w. writer_size block w + written blocks w) (written (block ∷ blocks)) (written_more block blocks) writers,
@@ -284,8 +287,8 @@ blocks_short header tick before (block ∷ blocks) bytes (front, back, joined, h
 -- ---- logs
 
 -- a log has bytes for its header, the messages, the calls, and a close mark for each writer
-log_short : (bytes : List ℕ) (taken : List (List Call)) (dictionary : List Message) (clock : Clock) (batch : ℕ) → LogOf bytes taken dictionary clock batch → length bytes ≤ 30 + sum_by message_size dictionary + sum_by (sum_by call_size) taken + length taken * 2
-log_short bytes taken dictionary clock batch log =
+log_short : (bytes : List ℕ) (taken : List (List Call)) (dictionary : List Message) (version : ℕ) (clocks : List Clock) (batch : ℕ) → LogOf bytes taken dictionary version clocks batch → length bytes ≤ 31 + sum_by message_size dictionary + sum_by (sum_by call_size) taken + length taken * 3
+log_short bytes taken dictionary version clocks batch log =
     let header = log.header in
     let blocks = log.blocks in
     let writers = range_with_len 0 header.writers in
@@ -300,13 +303,14 @@ log_short bytes taken dictionary clock batch log =
       ap length log.file.joined,
       length-append (header_bytes header) log.file.block_bytes,
       length-header_bytes header,
-      blocks_short header header.clock.tick [] blocks log.file.block_bytes log.file.spelled log.valid.blocks_right,
+      few_len header.version,
+      blocks_short header [] blocks log.file.block_bytes log.file.spelled log.valid.blocks_right,
       ap (sum_by message_size) log.messages_are,
       sum_by-append message_size (messages_of blocks) log.undefined,
       sum_of_both own marks writers,
       calls,
       log.writers_are,
-      sum_within marks 2 (λ writer. closed_once header [] blocks writer log.valid.blocks_right) writers,
+      sum_within marks 3 (λ writer. closed_once header [] blocks writer log.valid.blocks_right) writers,
       length-range_with_len 0 header.writers,
     )
 
@@ -340,20 +344,20 @@ calls_of_writers (made ∷ calls) count =
     )
 
 -- a drawn call has two arguments at most, and a text of two bytes
-drawn_size : (id stamp state : ℕ) → call_size (record { id = id; stamp = stamp; args = drawn_arguments id state }) ≤ 43
+drawn_size : (id stamp state : ℕ) → call_size (record { id = id; stamp = stamp; args = drawn_arguments id state }) ≤ 44
 drawn_size zero stamp state = omega arith
 drawn_size (suc zero) stamp state = omega arith
 drawn_size (suc (suc zero)) stamp state = omega arith
 drawn_size (suc (suc (suc id))) stamp state = omega arith
 
 -- so each generated call is short
-generated_size : (seed writers k : ℕ) → call_size (generated_call seed writers k).call ≤ 43
+generated_size : (seed writers k : ℕ) → call_size (generated_call seed writers k).call ≤ 44
 generated_size seed writers k =
     let generator = generator_at seed k in
     drawn_size (draw generator.state 4) (drawn_call generator).stamp (state_after 2 generator.state)
 
 -- and all of them
-generated_sizes : (seed calls writers : ℕ) → sum_by (sum_by call_size) (Generated seed calls writers).writers ≤ calls * 43
+generated_sizes : (seed calls writers : ℕ) → sum_by (sum_by call_size) (Generated seed calls writers).writers ≤ calls * 44
 generated_sizes seed calls writers =
     let all = generated_calls seed calls writers in
     let call = generated_call seed writers in
@@ -362,16 +366,16 @@ generated_sizes seed calls writers =
       sum_of_mapped (sum_by call_size) (calls_by all) (range_with_len 0 writers),
       calls_of_writers all writers,
       sum_of_mapped (λ made. call_size made.call) call (range_with_len 0 calls),
-      sum_within (λ k. call_size (call k).call) 43 (generated_size seed writers) (range_with_len 0 calls),
+      sum_within (λ k. call_size (call k).call) 44 (generated_size seed writers) (range_with_len 0 calls),
       length-range_with_len 0 calls,
     )
 
 -- the log of a generated trace is within the limit of a log
-pub generated_short : (seed calls writers batch : ℕ) (bytes : List ℕ) → calls ≤ 1000000 → writers ≤ 64 → LogOf bytes (Generated seed calls writers).writers generated_messages generated_clock batch → length bytes ≤ 134217728
+pub generated_short : (seed calls writers batch : ℕ) (bytes : List ℕ) → calls ≤ 1000000 → writers ≤ 64 → LogOf bytes (Generated seed calls writers).writers generated_messages 1 (generated_clock ∷ []) batch → length bytes ≤ 134217728
 generated_short seed calls writers batch bytes few_calls few_writers log =
     omega (
       arith,
-      log_short bytes (Generated seed calls writers).writers generated_messages generated_clock batch log,
+      log_short bytes (Generated seed calls writers).writers generated_messages 1 (generated_clock ∷ []) batch log,
       generated_sizes seed calls writers,
       length-map-range_with_len (calls_by (generated_calls seed calls writers)) 0 writers,
       few_calls,

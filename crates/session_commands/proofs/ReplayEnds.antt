@@ -1,5 +1,5 @@
 -- How `replay` ends, by what was read, written and told.
-use Rattle.std.proofs.Common.{◌≡◌, ◌≢◌, ℕ, ◌+◌, ◌-◌, ◌≤◌, List, [], Some, Result, Ok, Err, refl, sym, ap, subst, ◌∙◌, inl, inr, arith}
+use Rattle.std.proofs.Common.{◌≡◌, ◌≢◌, ℕ, ◌+◌, ◌-◌, ◌≤◌, List, [], ◌∷◌, Some, Result, Ok, Err, refl, sym, ap, subst, ◌∙◌, inl, inr, arith}
 use Rattle.std.specs.Prelude.{◌^◌, ◌∷◌, min, IfOk, OnErr, IsErrOf}
 use Rattle.std.proofs.lemmas.List.{append-nil}
 use Rattle.nl_io.specs.Count.{Rose}
@@ -72,7 +72,7 @@ whole_front sent got run options outcome bytes session =
       taken = taken;
       first = first_of_all taken;
       rest = [];
-      log = subst (λ (b : List ℕ). LogOf b taken run.dictionary run.clock options.batch) (sym (append-nil bytes)) session.log.lawful;
+      log = subst (λ (b : List ℕ). LogOf b taken run.dictionary 1 (run.clock ∷ []) options.batch) (sym (append-nil bytes)) session.log.lawful;
       closed = λ writer marked. refl;
     }
 
@@ -210,7 +210,7 @@ replay_told sent got trace log options old desk run outcome bytes put faults end
             waits = session.waits;
             told = counts_told run options outcome.drops outcome.accepted outcome.filtered session.counts;
             whole = session.log;
-            text_same = log_is_text bytes (Taken run options.level outcome.drops) run.dictionary run.clock options.batch
+            text_same = log_is_text bytes (Taken run options.level outcome.drops) run.dictionary 1 (run.clock ∷ []) options.batch
                 session.log.lawful;
             drops_lawful = session.dropped;
           };
