@@ -1,7 +1,7 @@
 //! The parts of a log that have one length in its version, in bytes: its header, the heads of
 //! fragments and extents, and close marks. Numbers stand with the low byte first.
 
-ghost use Rattle.std.specs.Prelude.{◌≡◌, ◌+◌, ◌^◌, ◌<◌, ◌≤◌, ◌++◌, length, take, drop, true};
+ghost use Rattle.std.specs.Prelude.{◌≡◌, ◌+◌, ◌<◌, ◌≤◌, ◌++◌, length, take, drop, true};
 ghost use Rattle.std.specs.Hash.{le_bytes};
 ghost use Rattle.checkpoint_io.specs.Blocks.{header_bytes, fragment_head_bytes, extent_head_bytes, close_bytes};
 ghost use Rattle.checkpoint_io.specs.Versions.{is_known, header_len, extent_head_len, close_len, most_writers, most_body};

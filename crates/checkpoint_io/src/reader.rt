@@ -1,6 +1,6 @@
 //! The reader of a log.
 
-ghost use Rattle.std.specs.Prelude.{◌≡◌, ◌≤◌, List, [], ◌++◌, length, take, true, false, ◌<◌, IfOk, IfSome, IfNone, OnOk, OnErr, IsErrOf, Err, ℕ};
+ghost use Rattle.std.specs.Prelude.{◌≡◌, ◌≤◌, List, [], ◌++◌, length, take, true, false, IfOk, IfSome, IfNone, OnOk, OnErr, IsErrOf, Err, ℕ};
 ghost use Rattle.std.specs.List.{list_any};
 ghost use Rattle.nl_io.specs.Count.{Rose};
 ghost use Rattle.nl_io.specs.Content.{IsAtEnd};

@@ -1,4 +1,4 @@
-use Rattle.std.proofs.Common.{ℕ, refl, arith}
+use Rattle.std.proofs.Common.{refl, arith}
 use Rattle.std.proofs.lemmas.Bool.{eqb-true}
 use Rattle.checkpoint_io.proofs.lemmas.VersionLaws.{few_len, writers_fit, bodies_fit}
 use Rattle.checkpoint_io.proofs.laws.versions_have_a_table.Goals as goal
