@@ -4,8 +4,8 @@ ghost use Rattle.std.specs.Prelude.{None};
 
 use crate::tables::{Told, bytes_of, check_rows, joined};
 use checkpoint_io::{
-    BlockFault, CLOSE_LEN, EXTENT_HEAD_LEN, FRAGMENT_HEAD_LEN, HEADER_LEN, Header, Reader,
-    put_close, put_extent_head, put_fragment_head, put_header,
+    BlockFault, FRAGMENT_HEAD_LEN, Header, MAX_CLOSE_LEN, MAX_EXTENT_HEAD_LEN, MAX_HEADER_LEN,
+    Reader, WRITTEN_VERSION, put_close, put_extent_head, put_fragment_head, put_header,
 };
 use log_dictionary::{Clock, Dictionary, MAX_ENTRY, Message, entry_len, put_entry};
 use nl_io::{Failed, MemSource, Source};
@@ -20,6 +20,7 @@ const LOG: &str =
 
 /// Its header, and that of the other logs.
 const HEADER: Header = Header {
+    version: WRITTEN_VERSION,
     writers: 1,
     clock: Clock {
         tick: 1000,
@@ -30,9 +31,9 @@ const HEADER: Header = Header {
 
 /// Puts the header behind the log.
 fn push_header(log: &mut Vec<u8>) -> Result<(), AllocError> {
-    let mut head = [0; HEADER_LEN];
-    put_header(&HEADER, &mut head);
-    log.extend_from_slice(&head)
+    let mut head = [0; MAX_HEADER_LEN];
+    let len = put_header(&HEADER, &mut head);
+    log.extend_from_slice(&head[..len])
 }
 
 /// Puts a fragment that has this message alone behind the log.
@@ -48,13 +49,13 @@ fn push_message(message: &Message, log: &mut Vec<u8>) -> Result<(), AllocError> 
 
 /// Puts an extent of the first writer with this body of four bytes, and its close mark, behind the log.
 fn push_records(body: &[u8; 4], log: &mut Vec<u8>) -> Result<(), AllocError> {
-    let mut head = [0; EXTENT_HEAD_LEN];
-    put_extent_head(0, 4, &mut head);
-    log.extend_from_slice(&head)?;
+    let mut head = [0; MAX_EXTENT_HEAD_LEN];
+    let len = put_extent_head(WRITTEN_VERSION, 0, 4, &mut head);
+    log.extend_from_slice(&head[..len])?;
     log.extend_from_slice(body)?;
-    let mut mark = [0; CLOSE_LEN];
-    put_close(0, &mut mark);
-    log.extend_from_slice(&mark)
+    let mut mark = [0; MAX_CLOSE_LEN];
+    let len = put_close(WRITTEN_VERSION, 0, &mut mark);
+    log.extend_from_slice(&mark[..len])
 }
 
 /// The log of one message, made part by part.
