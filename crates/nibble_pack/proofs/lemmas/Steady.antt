@@ -1,13 +1,13 @@
 -- More bytes behind change nothing of what is read from the front, unless it is cut off there.
-use Rattle.std.proofs.Common.{◌≡◌, inl, inr, ℕ, zero, suc, ◌<◌, ◌^◌, Bool, true, false, List, [], ◌∷◌, ◌++◌, length, take, drop, Ok, Err, refl, sym, ap, subst, ◌∙◌, append_assoc, arith}
-use Rattle.std.specs.Prelude.{nat_eq, nat_le}
+use Rattle.std.proofs.Common.{◌≡◌, inl, inr, ℕ, ◌<◌, ◌^◌, true, false, List, [], ◌∷◌, ◌++◌, length, take, drop, Ok, Err, refl, sym, ap, subst, ◌∙◌, append_assoc, arith}
+use Rattle.std.specs.Prelude.{nat_le}
 use Rattle.std.specs.Hash.{le_bytes}
 use Rattle.std.proofs.lemmas.Bool.{lt-leb, cases_lt}
 use Rattle.std.proofs.lemmas.List.{length-append, length-take-le, take-append-drop}
 use Rattle.std.specs.Int.{bytes_low_first}
 use Rattle.std.proofs.lemmas.List.Elements.{All-take}
 use Rattle.nibble_pack.specs.Bytes.{AreBytes, number_of_bytes, length-bytes_low_first, number_of_bytes-low_first, number_of_bytes-lt, low_first-number_of_bytes}
-use Rattle.nibble_pack.specs.Parsing.{Parse, ◌>>=◌, provided, caused_by, first_byte, so_many, low_first, these_bytes, so_many_times, IsSameBefore, IsSteady}
+use Rattle.nibble_pack.specs.Parsing.{Parse, ◌>>=◌, caused_by, first_byte, so_many, low_first, IsSameBefore, IsSteady}
 use Rattle.nibble_pack.proofs.lemmas.Parsing.{so_many_again, so_many_taken, found, given}
 
 -- ---- steps
@@ -17,10 +17,6 @@ steady_done cut x bytes more = refl
 
 pub steady_broken : {A Cause : Type 0} (cut cause : Cause) → IsSteady {A = A} cut (λ bytes. Err cause)
 steady_broken cut cause bytes more = inr refl
-
-pub steady_provided : {A Cause : Type 0} (cut : Cause) (test : Bool) (cause : Cause) (x : A) → IsSteady cut (λ bytes. provided test cause (x, bytes))
-steady_provided cut true cause x bytes more = refl
-steady_provided cut false cause x bytes more = inr refl
 
 pub steady_then : {A B Cause : Type 0} (cut : Cause) (read : List ℕ → Parse Cause A) (next : A × List ℕ → Parse Cause B) → IsSteady cut read → ((x : A) → IsSteady cut (λ bytes. next (x, bytes))) → IsSteady cut (λ bytes. read bytes >>= next)
 steady_then {A} {B} {Cause} cut read next first second bytes more = joined (read bytes) (read (bytes ++ more)) (first bytes more)
@@ -61,19 +57,6 @@ steady_many cut count bytes more = elim (cases_lt (length bytes) count) [
 
 pub steady_number : {Cause : Type 0} (cut : Cause) (count : ℕ) → IsSteady cut (low_first count cut)
 steady_number cut count = steady_then cut (so_many count cut) (λ front. Ok (number_of_bytes front.0, front.1)) (steady_many cut count) (λ front. steady_done cut (number_of_bytes front))
-
-pub steady_these : {Cause : Type 0} (cut other : Cause) (letters : List ℕ) → IsSteady cut (these_bytes other cut letters)
-steady_these cut other [] = steady_done cut []
-steady_these cut other (letter ∷ letters) =
-    steady_then cut (first_byte cut) _ (steady_byte cut) (λ byte.
-    steady_then cut (λ bytes. provided (nat_eq byte letter) other (byte, bytes)) _ (steady_provided cut (nat_eq byte letter) other byte) (λ same.
-    steady_then cut (these_bytes other cut letters) (λ behind. Ok (letter ∷ behind.0, behind.1)) (steady_these cut other letters) (λ behind. steady_done cut (letter ∷ behind))))
-
-pub steady_times : {A Cause : Type 0} (cut : Cause) (one : List A → List ℕ → Parse Cause A) → ((before : List A) → IsSteady cut (one before)) → (before : List A) (count : ℕ) → IsSteady cut (so_many_times one before count)
-steady_times cut one steady before zero = steady_done cut []
-steady_times cut one steady before (suc count) =
-    steady_then cut (one before) (λ found. so_many_times one (before ++ found.0 ∷ []) count found.1 >>= (λ others. Ok (found.0 ∷ others.0, others.1))) (steady before) (λ x.
-    steady_then cut (so_many_times one (before ++ x ∷ []) count) (λ others. Ok (x ∷ others.0, others.1)) (steady_times cut one steady (before ++ x ∷ []) count) (λ others. steady_done cut (x ∷ others)))
 
 -- ---- what follows for each reader whose laws these are
 
