@@ -45,14 +45,6 @@ pub length-extent_head_bytes : (version writer len : ℕ) → length (extent_hea
 length-extent_head_bytes version writer len =
     omega (arith, length-append (writer_bytes version writer) (le_bytes 4 len), le_length (writer_len version) writer, le_length 4 len)
 
-pub fragment_nested : (first count : ℕ) (entries back : List ℕ) → fragment_head_bytes first count ++ entries ++ back ≡ 1 ∷ (le_bytes 4 first ++ (le_bytes 2 count ++ (entries ++ back)))
-fragment_nested first count entries back =
-    append_assoc (1 ∷ le_bytes 4 first ++ le_bytes 2 count) entries back ∙ append_assoc (1 ∷ le_bytes 4 first) (le_bytes 2 count) (entries ++ back)
-
-pub extent_nested : (version writer len : ℕ) (body back : List ℕ) → extent_head_bytes version writer len ++ body ++ back ≡ 2 ∷ (writer_bytes version writer ++ (le_bytes 4 len ++ (body ++ back)))
-extent_nested version writer len body back =
-    append_assoc (2 ∷ writer_bytes version writer ++ le_bytes 4 len) body back ∙ append_assoc (2 ∷ writer_bytes version writer) (le_bytes 4 len) (body ++ back)
-
 pub header_nested : (header : Header) (back : List ℕ) → header_bytes header ++ back ≡ codes "NLOG" ++ (header.version ∷ (writer_bytes header.version header.writers ++ (le_bytes 8 header.clock.tick ++ (le_bytes 8 header.clock.nanos ++ (le_bytes 8 header.clock.rate ++ back)))))
 header_nested header back =
     let front : List ℕ = codes "NLOG" ++ header.version ∷ writer_bytes header.version header.writers in
