@@ -16,8 +16,8 @@ use Rattle.nibble_pack.specs.Bytes.{AreBytes, back_bytes}
 use Rattle.nibble_pack.specs.Packing.{Kind, unsigned, signed, IsCode, Packed}
 use Rattle.nibble_pack.proofs.lemmas.PackingLaws.{Packed-code, IsCode-lt}
 use Rattle.arg_records.specs.Frames.{argument_words}
-use Rattle.buffer_extent.specs.declared.fault.Cause.{Cause}
-use Rattle.buffer_extent.specs.declared.fault.Cause.TheVariants as causes
+use Rattle.buffer_extent.specs.declared.fault.BodyCause.{BodyCause}
+use Rattle.buffer_extent.specs.declared.fault.BodyCause.TheVariants as causes
 use Rattle.buffer_extent.specs.declared.numbers.Number.{Number}
 use Rattle.buffer_extent.specs.declared.numbers.Number.TheVariants as numbers
 use Rattle.nibble_pack.specs.Parsing.{so_many}
@@ -248,7 +248,7 @@ coded_format types =
     (codes ++ padding codes, code_bytes codes, packed_bytes packed, spelled, (code_bytes codes, (len, refl), (right, read)), packed_spelled types numbers packed (padding codes) packs stand))
 
 -- numbers that were read behind their codes
-pub coded_read : {B : Type 0} (now : B → List ℕ) (read : Result B Cause) (types : List ArgType) (bytes front rest : List ℕ) (numbers : List Number) → AreBytes bytes → so_many ((length types + 1) / 2) causes.RecordCut bytes ≡ Ok (front, rest) → are_codes [] (drop (length types) (codes_in front)) ≡ true → is_ok read ≡ true
+pub coded_read : {B : Type 0} (now : B → List ℕ) (read : Result B BodyCause) (types : List ArgType) (bytes front rest : List ℕ) (numbers : List Number) → AreBytes bytes → so_many ((length types + 1) / 2) causes.RecordCut bytes ≡ Ok (front, rest) → are_codes [] (drop (length types) (codes_in front)) ≡ true → is_ok read ≡ true
     → MatchResult read (λ back. numbers_at types (codes_in front) rest ≡ Ok (numbers, now back)) (λ cause. numbers_at types (codes_in front) rest ≡ Err cause)
     → MatchResult read (λ back. coded_numbers_at types bytes ≡ Ok (numbers, now back)) (λ cause. coded_numbers_at types bytes ≡ Err cause)
 coded_read now (Ok back) types bytes front rest numbers are_bytes split none ok is =

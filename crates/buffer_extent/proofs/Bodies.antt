@@ -5,8 +5,8 @@ use Rattle.log_dictionary.specs.declared.message.Message.{Message}
 use Rattle.nibble_pack.specs.Bytes.{AreBytes, back_bytes}
 use Rattle.arg_records.specs.declared.call.Call.{Call}
 use Rattle.arg_records.specs.Calls.{last_stamp}
-use Rattle.buffer_extent.specs.declared.fault.Cause.{Cause}
-use Rattle.buffer_extent.specs.declared.fault.Cause.TheVariants as causes
+use Rattle.buffer_extent.specs.declared.fault.BodyCause.{BodyCause}
+use Rattle.buffer_extent.specs.declared.fault.BodyCause.TheVariants as causes
 use Rattle.buffer_extent.specs.Reading.{value_at, values_at, start_at, record_at}
 use Rattle.buffer_extent.specs.Bodies.{IsBody, BodyBreak, IsDamage}
 use Rattle.printf_grammar.specs.declared.arg_type.ArgType.{ArgType}
@@ -68,7 +68,7 @@ all_read messages tick last body entries before least rest so_far none =
     subst (IsBody messages tick last entries) (sym (so_far.joined ∙ ap (λ (r : List ℕ). so_far.front ++ r) none ∙ append-nil so_far.front)) (whole_front messages tick last body entries before least rest so_far)
 
 -- what is left breaks
-pub body_breaks : (messages : List Message) (tick last : ℕ) (body : List ℕ) (entries : List Call) (before least : ℕ) (rest : List ℕ) (cause : Cause) → AreReadSoFar messages tick last body entries before least rest → rest ≢ []
+pub body_breaks : (messages : List Message) (tick last : ℕ) (body : List ℕ) (entries : List Call) (before least : ℕ) (rest : List ℕ) (cause : BodyCause) → AreReadSoFar messages tick last body entries before least rest → rest ≢ []
     → record_at messages before least rest ≡ Err cause → BodyBreak messages tick last body cause
 body_breaks messages tick last body entries before least rest cause so_far some breaks = record {
   entries = entries;
@@ -81,7 +81,7 @@ body_breaks messages tick last body entries before least rest cause so_far some 
 }
 
 -- where the body doesn't start as a record does, nothing was read
-pub untouched : (messages : List Message) (tick last : ℕ) (body : List ℕ) (entries : List Call) (before least : ℕ) (rest : List ℕ) (cause : Cause) → AreReadSoFar messages tick last body entries before least rest → start_at messages tick last body ≡ Err cause
+pub untouched : (messages : List Message) (tick last : ℕ) (body : List ℕ) (entries : List Call) (before least : ℕ) (rest : List ℕ) (cause : BodyCause) → AreReadSoFar messages tick last body entries before least rest → start_at messages tick last body ≡ Err cause
     → (rest ≡ body) × (start_at messages before least rest ≡ Err cause)
 untouched messages tick last body [] before least rest cause so_far none =
     let front : so_far.front ≡ [] = (whole_front messages tick last body [] before least rest so_far).spelled in
@@ -101,7 +101,7 @@ only_memory messages tick last body entries before least rest (Damaged cause) so
 only_memory messages tick last body entries before least rest NoMemory so_far some damage all is = refl
 
 pub one_fault : (messages : List Message) (tick last : ℕ) (body : List ℕ) (entries : List Call) (before least : ℕ) (rest : List ℕ) (fault : BodyFault) → AreReadSoFar messages tick last body entries before least rest → rest ≢ []
-    → IsDamage (λ cause. record_at messages before least rest ≡ Err cause) fault → (cause : Cause) → BodyBreak messages tick last body cause → (fault ≡ Damaged cause) ⊎ (fault ≡ NoMemory)
+    → IsDamage (λ cause. record_at messages before least rest ≡ Err cause) fault → (cause : BodyCause) → BodyBreak messages tick last body cause → (fault ≡ Damaged cause) ⊎ (fault ≡ NoMemory)
 one_fault messages tick last body entries before least rest (Damaged found) so_far some damage cause broken =
     inl (ap Damaged (BodyBreak-unique messages tick last found cause body (body_breaks messages tick last body entries before least rest found so_far some damage) broken))
 one_fault messages tick last body entries before least rest NoMemory so_far some damage cause broken = inr refl
@@ -117,5 +117,5 @@ read_shorter messages tick last body entries before least rest entry back so_far
     some_byte messages before least entry rest back ((record_format messages before least).taken rest entry back (back_bytes body so_far.front rest so_far.joined are_bytes) read)
 
 -- what gave a record started as one
-pub started : (messages : List Message) (before least : ℕ) (bytes back : List ℕ) (entry : Call) (cause : Cause) → record_at messages before least bytes ≡ Ok (entry, back) → start_at messages before least bytes ≡ Err cause → ⊥
+pub started : (messages : List Message) (before least : ℕ) (bytes back : List ℕ) (entry : Call) (cause : BodyCause) → record_at messages before least bytes ≡ Ok (entry, back) → start_at messages before least bytes ≡ Err cause → ⊥
 started messages before least bytes back entry cause read none = read_or_broken (record_at messages before least bytes) entry back cause read (not_started messages before least bytes cause none)

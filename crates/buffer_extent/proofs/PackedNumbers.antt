@@ -14,7 +14,7 @@ use Rattle.nibble_pack.specs.declared.unpack.UnpackFault.TheVariants as faults
 use Rattle.nibble_pack.specs.Packing.{Kind, unsigned, signed, IsCode, byte_count, IsLeastCount, PacksSigned, small, negative, wide, IsWide, Packed, IsCut, IsNotShortest}
 use Rattle.nibble_pack.proofs.lemmas.PackingLaws.{IsLeastCount-zero, IsLeastCount-suc, wide_number, signed_count-low, signed_count-high}
 use Rattle.nibble_pack.proofs.lemmas.SignedForms.{no_spelling_low, no_spelling_high, wide_in_range}
-use Rattle.buffer_extent.specs.declared.fault.Cause.TheVariants as causes
+use Rattle.buffer_extent.specs.declared.fault.BodyCause.TheVariants as causes
 use Rattle.buffer_extent.specs.Records.{PackedNumber, PacksArguments, codes_of}
 use Rattle.buffer_extent.specs.Reading.{number_cause, is_shortest, unsigned_at, is_wide, wide_at, signed_at}
 use Rattle.nibble_pack.proofs.lemmas.Fronts.{Packed-at_front}

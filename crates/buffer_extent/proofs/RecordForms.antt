@@ -14,8 +14,8 @@ use Rattle.log_dictionary.specs.declared.message.Message.{Message}
 use Rattle.arg_records.specs.declared.frame.TheConstants.{MAX_FRAME_WORDS}
 use Rattle.arg_records.specs.declared.call.Call.{Call}
 use Rattle.arg_records.specs.Calls.{IsCall}
-use Rattle.buffer_extent.specs.declared.fault.Cause.{Cause}
-use Rattle.buffer_extent.specs.declared.fault.Cause.TheVariants as causes
+use Rattle.buffer_extent.specs.declared.fault.BodyCause.{BodyCause}
+use Rattle.buffer_extent.specs.declared.fault.BodyCause.TheVariants as causes
 use Rattle.buffer_extent.specs.declared.numbers.Number.{Number}
 use Rattle.buffer_extent.specs.declared.take.HeadCodes.{HeadCodes}
 use Rattle.buffer_extent.specs.declared.take.RecordHeader.{RecordHeader}
@@ -53,7 +53,7 @@ codes_format =
 abbrev SpellStep : ℕ → ℕ → ℕ → ℕ → List ℕ → Type 0
 SpellStep before least code stamp front = (before ≤ stamp) × (stamp < 2 ^ 64) × (least ≤ stamp) × Packed unsigned (pos (stamp - before)) code front
 
-abbrev rising_at : ℕ → ℕ → List ℕ → Parse Cause ℕ
+abbrev rising_at : ℕ → ℕ → List ℕ → Parse BodyCause ℕ
 rising_at least stamp bytes = provided (nat_le least stamp) causes.StampFalls (stamp, bytes)
 
 stamp_format : (before least code : ℕ) → IsFormat causes.RecordCut (SpellStep before least code) (stamp_at before least code)
@@ -234,5 +234,5 @@ record_format messages before least =
     ((head_of entry.id entry.stamp, map number_for entry.args), _, texts, spelled.joined ∙ sym whole, has, (entry.args, each, refl)))
 
 -- bytes that don't start as a record does give none
-pub not_started : (messages : List Message) (before least : ℕ) (bytes : List ℕ) (cause : Cause) → start_at messages before least bytes ≡ Err cause → record_at messages before least bytes ≡ Err cause
+pub not_started : (messages : List Message) (before least : ℕ) (bytes : List ℕ) (cause : BodyCause) → start_at messages before least bytes ≡ Err cause → record_at messages before least bytes ≡ Err cause
 not_started messages before least bytes cause none = rw none refl

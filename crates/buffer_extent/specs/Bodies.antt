@@ -5,8 +5,8 @@ use Rattle.printf_grammar.specs.Types.{Types}
 use Rattle.log_dictionary.specs.declared.message.Message.{Message}
 use Rattle.arg_records.specs.Calls.{IsCall, NeverFalls, last_stamp}
 use Rattle.arg_records.specs.declared.call.Call.{Call}
-use Rattle.buffer_extent.specs.declared.fault.Cause.{Cause}
-use Rattle.buffer_extent.specs.declared.fault.Cause.TheVariants as causes
+use Rattle.buffer_extent.specs.declared.fault.BodyCause.{BodyCause}
+use Rattle.buffer_extent.specs.declared.fault.BodyCause.TheVariants as causes
 use Rattle.buffer_extent.specs.declared.fault.BodyFault.{BodyFault}
 use Rattle.buffer_extent.specs.declared.fault.BodyFault.TheVariants.{Damaged, NoMemory}
 use Rattle.nibble_pack.specs.Parsing.{◌>>=◌}
@@ -35,7 +35,7 @@ pub record IsBody (messages : List Message) (tick last : ℕ) (entries : List Ca
   pub rising : NeverFalls last entries
 
 -- the body begins with whole records that keep the rules, and what follows breaks by the cause
-pub record BodyBreak (messages : List Message) (tick last : ℕ) (body : List ℕ) (cause : Cause) : Type 0 where
+pub record BodyBreak (messages : List Message) (tick last : ℕ) (body : List ℕ) (cause : BodyCause) : Type 0 where
   pub entries : List Call
   pub front : List ℕ
   pub rest : List ℕ
@@ -47,7 +47,7 @@ pub record BodyBreak (messages : List Message) (tick last : ℕ) (body : List �
 -- ---- bodies as they are read
 
 -- records to the end of the bytes, no more than so many; each counts from the one in front
-abbrev pub records_to_end : ℕ → List Message → ℕ → ℕ → List ℕ → Result (List Call) Cause
+abbrev pub records_to_end : ℕ → List Message → ℕ → ℕ → List ℕ → Result (List Call) BodyCause
 records_to_end most messages before least [] = Ok []
 records_to_end zero messages before least (byte ∷ bytes) = Err causes.RecordCut
 records_to_end (suc most) messages before least (byte ∷ bytes) = do
@@ -56,12 +56,12 @@ records_to_end (suc most) messages before least (byte ∷ bytes) = do
   Ok (entry.0 ∷ others)
 
 -- the records of a body, or the first cause by which it breaks; there are no more records than bytes
-abbrev pub body_at : List Message → ℕ → ℕ → List ℕ → Result (List Call) Cause
+abbrev pub body_at : List Message → ℕ → ℕ → List ℕ → Result (List Call) BodyCause
 body_at messages tick last body = records_to_end (length body) messages tick last body
 
 -- ---- what is told of them
 
 -- the bytes are damaged so; want of memory says nothing of them
-abbrev pub IsDamage : (Cause → Type 0) → BodyFault → Type 0
+abbrev pub IsDamage : (BodyCause → Type 0) → BodyFault → Type 0
 IsDamage Breaks (Damaged cause) = Breaks cause
 IsDamage Breaks NoMemory = ⊤

@@ -1,9 +1,9 @@
 -- The causes for which a body is no records: their numbers and names.
 use Rattle.std.specs.Prelude.{ℕ, List, codes}
-use Rattle.buffer_extent.specs.declared.fault.Cause.{Cause}
-use Rattle.buffer_extent.specs.declared.fault.Cause.TheVariants as causes
+use Rattle.buffer_extent.specs.declared.fault.BodyCause.{BodyCause}
+use Rattle.buffer_extent.specs.declared.fault.BodyCause.TheVariants as causes
 
-abbrev pub cause_number : Cause → ℕ
+abbrev pub cause_number : BodyCause → ℕ
 cause_number causes.RecordCut = 11
 cause_number causes.UnknownId = 12
 cause_number causes.BadNibble = 13
@@ -14,7 +14,7 @@ cause_number causes.ArgRange = 17
 cause_number causes.NulInText = 18
 cause_number causes.TooLong = 19
 
-abbrev pub cause_name : Cause → List ℕ
+abbrev pub cause_name : BodyCause → List ℕ
 cause_name causes.RecordCut = codes "RecordCut"
 cause_name causes.UnknownId = codes "UnknownId"
 cause_name causes.BadNibble = codes "BadNibble"

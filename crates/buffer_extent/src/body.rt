@@ -2,11 +2,11 @@
 
 ghost use Rattle.std.specs.Prelude.{◌≡◌, ◌≢◌, ◌⊎◌, List, [], length, take, slice_get, IfOk, MatchResult, Ok, Err};
 ghost use Rattle.arg_records.specs.declared.call.Call.{Call};
-ghost use Rattle.buffer_extent.specs.declared.fault.Cause.{Cause as BodyCause};
+ghost use Rattle.buffer_extent.specs.declared.fault.BodyCause.{BodyCause};
 ghost use Rattle.buffer_extent.specs.Reading.{types_of, start_at, record_at};
 ghost use Rattle.buffer_extent.specs.Bodies.{IsBody, BodyBreak, IsDamage};
 
-use crate::fault::{BodyFault, Cause};
+use crate::fault::{BodyCause, BodyFault};
 use crate::numbers::{NO_NUMBERS, Number, is_staged};
 use crate::take::{RecordHeader, take_coded_numbers, take_head};
 use crate::texts::take_texts;
@@ -23,7 +23,7 @@ fn take_start<'a>(
     least: u64,
     bytes: &'a [u8],
     numbers: &mut [Number; MAX_ARGUMENTS],
-) -> Result<(RecordHeader, &'a [u8]), Cause>
+) -> Result<(RecordHeader, &'a [u8]), BodyCause>
     ensures { MatchResult result
         (λ pair. start_at dictionary.now before least bytes.now
         ≡ Ok ((pair.0, take (length (types_of (slice_get dictionary.now pair.0.id))) numbers.new), pair.1.now))
@@ -33,7 +33,7 @@ fn take_start<'a>(
     let types = dictionary.message(head.id).format.types();
     let rest = take_coded_numbers(types, rest, numbers)?;
     if !is_staged(types, &numbers[..types.len()]) {
-        return Err(Cause::TooLong);
+        return Err(BodyCause::TooLong);
     }
     Ok((head, rest))
 }

@@ -5,7 +5,7 @@ ghost use Rattle.buffer_extent.specs.Causes.{cause_number, cause_name};
 
 /// How the bytes of a body break the rules.
 #[derive(Clone, Copy, Debug, PartialEq, Eq)]
-pub enum Cause {
+pub enum BodyCause {
     /// The body ends inside a record.
     RecordCut,
     /// No message has the id.
@@ -26,21 +26,21 @@ pub enum Cause {
     TooLong,
 }
 
-impl Cause {
+impl BodyCause {
     /// Its number, which is only another name.
     pub fn number(self) -> u8
         ensures { result ≡ cause_number self }
     {
         match self {
-            Cause::RecordCut => 11,
-            Cause::UnknownId => 12,
-            Cause::BadNibble => 13,
-            Cause::NotShortest => 14,
-            Cause::StampRange => 15,
-            Cause::StampFalls => 16,
-            Cause::ArgRange => 17,
-            Cause::NulInText => 18,
-            Cause::TooLong => 19,
+            BodyCause::RecordCut => 11,
+            BodyCause::UnknownId => 12,
+            BodyCause::BadNibble => 13,
+            BodyCause::NotShortest => 14,
+            BodyCause::StampRange => 15,
+            BodyCause::StampFalls => 16,
+            BodyCause::ArgRange => 17,
+            BodyCause::NulInText => 18,
+            BodyCause::TooLong => 19,
         }
     }
 
@@ -49,15 +49,15 @@ impl Cause {
         ensures { result.now ≡ cause_name self }
     {
         match self {
-            Cause::RecordCut => "RecordCut",
-            Cause::UnknownId => "UnknownId",
-            Cause::BadNibble => "BadNibble",
-            Cause::NotShortest => "NotShortest",
-            Cause::StampRange => "StampRange",
-            Cause::StampFalls => "StampFalls",
-            Cause::ArgRange => "ArgRange",
-            Cause::NulInText => "NulInText",
-            Cause::TooLong => "TooLong",
+            BodyCause::RecordCut => "RecordCut",
+            BodyCause::UnknownId => "UnknownId",
+            BodyCause::BadNibble => "BadNibble",
+            BodyCause::NotShortest => "NotShortest",
+            BodyCause::StampRange => "StampRange",
+            BodyCause::StampFalls => "StampFalls",
+            BodyCause::ArgRange => "ArgRange",
+            BodyCause::NulInText => "NulInText",
+            BodyCause::TooLong => "TooLong",
         }
     }
 }
@@ -65,6 +65,6 @@ impl Cause {
 /// Why a body gave no records.
 #[derive(Clone, Copy, Debug, PartialEq, Eq)]
 pub enum BodyFault {
-    Damaged(Cause),
+    Damaged(BodyCause),
     NoMemory,
 }

@@ -7,7 +7,7 @@ ghost use Rattle.printf_grammar.specs.declared.argument.Value.TheVariants.{Signe
 ghost use Rattle.log_dictionary.specs.declared.message.Message.{Message};
 ghost use Rattle.arg_records.specs.declared.call.Call.{Call};
 ghost use Rattle.buffer_extent.specs.Records.{code_bytes, RecordBytes};
-ghost use Rattle.buffer_extent.specs.declared.fault.Cause.{Cause as BodyCause};
+ghost use Rattle.buffer_extent.specs.declared.fault.BodyCause.{BodyCause};
 ghost use Rattle.buffer_extent.specs.declared.put.TheConstants.{RECORD_ROOM};
 ghost use Rattle.buffer_extent.specs.Rows.{BreaksSo};
 ghost use Rattle.buffer_extent.specs.Causes.{cause_number, cause_name};

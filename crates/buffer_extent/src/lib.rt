@@ -13,7 +13,7 @@ mod texts;
 
 pub use arg_records::{Call as LogRecord, Calls as Records};
 pub use body::read_body;
-pub use fault::{BodyFault, Cause};
+pub use fault::{BodyCause, BodyFault};
 pub use laws::{
     a_record_with_a_number, a_record_with_a_text, bodies_are_read, bodies_are_told_apart,
     body_or_break, causes_have_numbers_and_names, no_record_begins_another,

@@ -6,7 +6,7 @@ ghost use Rattle.arg_records.specs.declared.frame.TheConstants.{MAX_FRAME_WORDS}
 ghost use Rattle.buffer_extent.specs.Records.{kind_of};
 ghost use Rattle.buffer_extent.specs.Reading.{unsigned_at, signed_at, number_at, may_stand, argument_at, numbers_at, is_code, codes_in, are_codes, number_words, words_taken, number_cause, MayStand};
 
-use crate::fault::Cause;
+use crate::fault::BodyCause;
 use arg_records::{MAX_FRAME_WORDS, text_words};
 use nibble_pack::{UnpackFault, signed_len, unpack_signed, unpack_unsigned};
 use printf_grammar::{Arg, ArgType, MAX_ARGUMENTS, MAX_TEXT};
@@ -28,18 +28,18 @@ pub(crate) enum Number {
 pub(crate) const NO_NUMBERS: [Number; MAX_ARGUMENTS] = [Number::Unsigned(0); MAX_ARGUMENTS];
 
 /// How a number that was not read breaks the rules.
-fn cause_of(fault: UnpackFault) -> Cause
+fn cause_of(fault: UnpackFault) -> BodyCause
     ensures { result ≡ number_cause fault }
 {
     match fault {
-        UnpackFault::Cut => Cause::RecordCut,
-        UnpackFault::BadCode => Cause::BadNibble,
-        UnpackFault::NotShortest => Cause::NotShortest,
+        UnpackFault::Cut => BodyCause::RecordCut,
+        UnpackFault::BadCode => BodyCause::BadNibble,
+        UnpackFault::NotShortest => BodyCause::NotShortest,
     }
 }
 
 /// The unsigned number of a code. Each of these calls gives the bytes behind what it read.
-pub(crate) fn take_unsigned(code: u8, bytes: &[u8]) -> Result<(u64, &[u8]), Cause>
+pub(crate) fn take_unsigned(code: u8, bytes: &[u8]) -> Result<(u64, &[u8]), BodyCause>
     ensures { MatchResult result
         (λ pair. unsigned_at code bytes.now ≡ Ok (pair.0, pair.1.now))
         (λ cause. unsigned_at code bytes.now ≡ Err cause) }
@@ -51,13 +51,13 @@ pub(crate) fn take_unsigned(code: u8, bytes: &[u8]) -> Result<(u64, &[u8]), Caus
 }
 
 /// The signed number of a code.
-fn take_signed(code: u8, bytes: &[u8]) -> Result<(i64, &[u8]), Cause>
+fn take_signed(code: u8, bytes: &[u8]) -> Result<(i64, &[u8]), BodyCause>
     ensures { MatchResult result
         (λ pair. signed_at code bytes.now ≡ Ok (pair.0, pair.1.now))
         (λ cause. signed_at code bytes.now ≡ Err cause) }
 {
     let Some(len) = signed_len(code) else {
-        return Err(Cause::BadNibble);
+        return Err(BodyCause::BadNibble);
     };
     match unpack_signed(code, bytes) {
         Ok(number) => Ok((number, &bytes[len..])),
@@ -66,7 +66,7 @@ fn take_signed(code: u8, bytes: &[u8]) -> Result<(i64, &[u8]), Cause>
 }
 
 /// The number of a code, of the kind that stands for an argument of the type.
-fn take_kind(kind: ArgType, code: u8, bytes: &[u8]) -> Result<(Number, &[u8]), Cause>
+fn take_kind(kind: ArgType, code: u8, bytes: &[u8]) -> Result<(Number, &[u8]), BodyCause>
     ensures { MatchResult result
         (λ pair. number_at (kind_of kind) code bytes.now ≡ Ok (pair.0, pair.1.now))
         (λ cause. number_at (kind_of kind) code bytes.now ≡ Err cause) }
@@ -100,14 +100,14 @@ fn may_stand(number: Number, kind: ArgType) -> bool
 }
 
 /// The number that stands for an argument of the type.
-fn take_number(kind: ArgType, code: u8, bytes: &[u8]) -> Result<(Number, &[u8]), Cause>
+fn take_number(kind: ArgType, code: u8, bytes: &[u8]) -> Result<(Number, &[u8]), BodyCause>
     ensures { MatchResult result
         (λ pair. argument_at kind code bytes.now ≡ Ok (pair.0, pair.1.now))
         (λ cause. argument_at kind code bytes.now ≡ Err cause) }
 {
     let (number, rest) = take_kind(kind, code, bytes)?;
     if !may_stand(number, kind) {
-        return Err(Cause::ArgRange);
+        return Err(BodyCause::ArgRange);
     }
     Ok((number, rest))
 }
@@ -164,7 +164,7 @@ pub(crate) fn take_numbers<'a>(
     codes: &[u8],
     bytes: &'a [u8],
     numbers: &mut [Number; MAX_ARGUMENTS],
-) -> Result<&'a [u8], Cause>
+) -> Result<&'a [u8], BodyCause>
     requires few { length types.now ≤ MAX_ARGUMENTS }
     requires codes { length types.now ≤ 2 * length codes.now }
     ensures { MatchResult result

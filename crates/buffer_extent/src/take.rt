@@ -3,10 +3,10 @@
 ghost use Rattle.std.specs.Prelude.{◌≡◌, ◌+◌, ◌/◌, ◌≤◌, length, take, MatchResult, Ok, Err, ⊤};
 ghost use Rattle.nibble_pack.specs.Parsing.{so_many};
 ghost use Rattle.printf_grammar.specs.declared.limits.TheConstants.{MAX_ARGUMENTS};
-ghost use Rattle.buffer_extent.specs.declared.fault.Cause.{Cause as BodyCause};
+ghost use Rattle.buffer_extent.specs.declared.fault.BodyCause.{BodyCause};
 ghost use Rattle.buffer_extent.specs.Reading.{head_codes_at, id_at, stamp_at, head_at, coded_numbers_at};
 
-use crate::fault::Cause;
+use crate::fault::BodyCause;
 use crate::numbers::{
     CODE_LIMIT, MAX_UNSIGNED_CODE, Number, are_codes, are_padded, take_numbers, take_unsigned,
 };
@@ -27,49 +27,49 @@ pub(crate) struct RecordHeader {
 }
 
 /// The codes of the id and of the step, which stand in one byte.
-fn take_head_codes(bytes: &[u8]) -> Result<(HeadCodes, &[u8]), Cause>
+fn take_head_codes(bytes: &[u8]) -> Result<(HeadCodes, &[u8]), BodyCause>
     ensures { MatchResult result
         (λ pair. head_codes_at bytes.now ≡ Ok (pair.0, pair.1.now))
         (λ cause. head_codes_at bytes.now ≡ Err cause) }
 {
     let Some((codes, rest)) = bytes.split_first() else {
-        return Err(Cause::RecordCut);
+        return Err(BodyCause::RecordCut);
     };
     let head = HeadCodes {
         id: *codes % CODE_LIMIT,
         step: *codes / CODE_LIMIT,
     };
     if head.id > MAX_UNSIGNED_CODE || head.step > MAX_UNSIGNED_CODE {
-        return Err(Cause::BadNibble);
+        return Err(BodyCause::BadNibble);
     }
     Ok((head, rest))
 }
 
 /// The id of one of so many messages.
-fn take_id(messages: u32, code: u8, bytes: &[u8]) -> Result<(u32, &[u8]), Cause>
+fn take_id(messages: u32, code: u8, bytes: &[u8]) -> Result<(u32, &[u8]), BodyCause>
     ensures { MatchResult result
         (λ pair. id_at messages code bytes.now ≡ Ok (pair.0, pair.1.now))
         (λ cause. id_at messages code bytes.now ≡ Err cause) }
 {
     let (id, rest) = take_unsigned(code, bytes)?;
     if id >= u64::from(messages) {
-        return Err(Cause::UnknownId);
+        return Err(BodyCause::UnknownId);
     }
     Ok((id as u32, rest))
 }
 
 /// The stamp that the step leads to from `before`. It isn't below `least`.
-fn take_stamp(before: u64, least: u64, code: u8, bytes: &[u8]) -> Result<(u64, &[u8]), Cause>
+fn take_stamp(before: u64, least: u64, code: u8, bytes: &[u8]) -> Result<(u64, &[u8]), BodyCause>
     ensures { MatchResult result
         (λ pair. stamp_at before least code bytes.now ≡ Ok (pair.0, pair.1.now))
         (λ cause. stamp_at before least code bytes.now ≡ Err cause) }
 {
     let (step, rest) = take_unsigned(code, bytes)?;
     let Some(stamp) = before.checked_add(step) else {
-        return Err(Cause::StampRange);
+        return Err(BodyCause::StampRange);
     };
     if stamp < least {
-        return Err(Cause::StampFalls);
+        return Err(BodyCause::StampFalls);
     }
     Ok((stamp, rest))
 }
@@ -81,7 +81,7 @@ pub(crate) fn take_head(
     before: u64,
     least: u64,
     bytes: &[u8],
-) -> Result<(RecordHeader, &[u8]), Cause>
+) -> Result<(RecordHeader, &[u8]), BodyCause>
     ensures { MatchResult result
         (λ pair. head_at messages before least bytes.now ≡ Ok (pair.0, pair.1.now))
         (λ cause. head_at messages before least bytes.now ≡ Err cause) }
@@ -93,7 +93,7 @@ pub(crate) fn take_head(
 }
 
 /// The bytes that hold the codes of arguments of so many types.
-fn split_codes(types: usize, bytes: &[u8]) -> Result<(&[u8], &[u8]), Cause>
+fn split_codes(types: usize, bytes: &[u8]) -> Result<(&[u8], &[u8]), BodyCause>
     requires { types ≤ MAX_ARGUMENTS }
     ensures split { MatchResult result
         (λ pair. so_many ((types + 1) / 2) BodyCause.RecordCut bytes.now ≡ Ok (pair.0.now, pair.1.now))
@@ -102,7 +102,7 @@ fn split_codes(types: usize, bytes: &[u8]) -> Result<(&[u8], &[u8]), Cause>
 {
     let len = types.div_ceil(2);
     if bytes.len() < len {
-        return Err(Cause::RecordCut);
+        return Err(BodyCause::RecordCut);
     }
     Ok(bytes.split_at(len))
 }
@@ -112,7 +112,7 @@ pub(crate) fn take_coded_numbers<'a>(
     types: &[ArgType],
     bytes: &'a [u8],
     numbers: &mut [Number; MAX_ARGUMENTS],
-) -> Result<&'a [u8], Cause>
+) -> Result<&'a [u8], BodyCause>
     requires few { length types.now ≤ MAX_ARGUMENTS }
     ensures { MatchResult result
         (λ rest. coded_numbers_at types.now bytes.now ≡ Ok (take (length types.now) numbers.new, rest.now))
@@ -126,7 +126,7 @@ pub(crate) fn take_coded_numbers<'a>(
         return read;
     }
     if !are_codes(types, codes) {
-        return Err(Cause::BadNibble);
+        return Err(BodyCause::BadNibble);
     }
     read
 }

@@ -5,7 +5,7 @@ ghost use Rattle.printf_grammar.specs.declared.limits.TheConstants.{MAX_ARGUMENT
 ghost use Rattle.buffer_extent.specs.Reading.{may_stand, MayStand, text_at, value_at, values_at};
 ghost use Rattle.buffer_extent.specs.Bodies.{IsDamage};
 
-use crate::fault::{BodyFault, Cause};
+use crate::fault::{BodyCause, BodyFault};
 use crate::numbers::Number;
 use printf_grammar::{Arg, ArgType, Bytes, Value, Values};
 use std::alloc::Global;
@@ -19,11 +19,11 @@ fn take_text(alloc: Global, len: usize, bytes: &[u8]) -> Result<(Bytes, &[u8]), 
         (IsDamage (λ cause. text_at len bytes.now ≡ Err cause)) }
 {
     if bytes.len() < len {
-        return Err(BodyFault::Damaged(Cause::RecordCut));
+        return Err(BodyFault::Damaged(BodyCause::RecordCut));
     }
     let (text, rest) = bytes.split_at(len);
     if !ArgType::Text.takes(Arg::Text(text)) {
-        return Err(BodyFault::Damaged(Cause::NulInText));
+        return Err(BodyFault::Damaged(BodyCause::NulInText));
     }
     let Ok(text) = Bytes::from_slice(alloc, text) else {
         return Err(BodyFault::NoMemory);

@@ -16,7 +16,7 @@ use Rattle.log_dictionary.specs.BinaryEntries.{SpellsEntry}
 use Rattle.log_dictionary.proofs.lemmas.Distinct.{test_from_there}
 use Rattle.log_dictionary.proofs.lemmas.BinaryLaws.{entry_again, entry_taken, stays_bad}
 use Rattle.arg_records.specs.declared.call.Call.{Call}
-use Rattle.buffer_extent.specs.declared.fault.Cause.{Cause as BodyCause}
+use Rattle.buffer_extent.specs.declared.fault.BodyCause.{BodyCause}
 use Rattle.buffer_extent.specs.Bodies.{IsBody, BodyBreak}
 use Rattle.buffer_extent.proofs.lemmas.BodyLaws.{body_again, body_broken}
 use Rattle.checkpoint_io.specs.declared.cause.Cause.TheVariants as causes

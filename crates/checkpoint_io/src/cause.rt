@@ -3,7 +3,7 @@
 ghost use Rattle.std.specs.Prelude.{◌≡◌};
 ghost use Rattle.checkpoint_io.specs.Causes.{cause_number, cause_name};
 
-use buffer_extent::Cause as BodyCause;
+use buffer_extent::BodyCause;
 
 /// Why the header of a file, or a block of it, is none. Where several causes hold of it, the one is
 /// told that is met first when it is read from left to right.

@@ -9,7 +9,7 @@ ghost use Rattle.log_dictionary.specs.declared.message.Message.{Message};
 ghost use Rattle.log_dictionary.specs.Messages.{AreDistinct};
 ghost use Rattle.log_dictionary.specs.BinaryEntries.{SpellsEntry};
 ghost use Rattle.arg_records.specs.declared.call.Call.{Call};
-ghost use Rattle.buffer_extent.specs.declared.fault.Cause.{Cause as BodyCause};
+ghost use Rattle.buffer_extent.specs.declared.fault.BodyCause.{BodyCause};
 ghost use Rattle.buffer_extent.specs.Bodies.{SpellsRecords};
 ghost use Rattle.arg_records.specs.Calls.{IsCall, NeverFalls};
 ghost use Rattle.checkpoint_io.specs.declared.cause.Cause.{Cause};

@@ -6,8 +6,8 @@ use Rattle.log_dictionary.specs.declared.message.Message.{Message}
 use Rattle.nibble_pack.specs.Bytes.{AreBytes, back_bytes}
 use Rattle.arg_records.specs.declared.call.Call.{Call}
 use Rattle.arg_records.specs.Calls.{IsCall, last_stamp}
-use Rattle.buffer_extent.specs.declared.fault.Cause.{Cause}
-use Rattle.buffer_extent.specs.declared.fault.Cause.TheVariants as causes
+use Rattle.buffer_extent.specs.declared.fault.BodyCause.{BodyCause}
+use Rattle.buffer_extent.specs.declared.fault.BodyCause.TheVariants as causes
 use Rattle.nibble_pack.specs.Parsing.{Parse}
 use Rattle.buffer_extent.specs.Reading.{record_at}
 use Rattle.buffer_extent.specs.Bodies.{SpellsRecord, IsBody, BodyBreak, records_to_end, body_at}
@@ -17,7 +17,7 @@ use Rattle.buffer_extent.proofs.RecordForms.{SpellRecord, record_format}
 
 -- ---- one reading
 
-pub read_or_broken : (read : Parse Cause Call) (a : Call) (r : List ℕ) (cause : Cause) → read ≡ Ok (a, r) → read ≡ Err cause → ⊥
+pub read_or_broken : (read : Parse BodyCause Call) (a : Call) (r : List ℕ) (cause : BodyCause) → read ≡ Ok (a, r) → read ≡ Err cause → ⊥
 read_or_broken read a r cause first second = let clash : Ok (a, r) ≡ Err cause = sym first ∙ second in cc
 
 -- no record's spelling is a proper prefix of another's
@@ -84,7 +84,7 @@ records_again (suc most) messages before least (entry ∷ more) (byte ∷ bytes)
     rw (read, others) refl
 
 -- what breaks behind them is told
-records_broken : (most : ℕ) (messages : List Message) (before least : ℕ) (entries : List Call) (cause : Cause) (body front rest : List ℕ) → IsBody messages before least entries front → body ≡ front ++ rest → rest ≢ []
+records_broken : (most : ℕ) (messages : List Message) (before least : ℕ) (entries : List Call) (cause : BodyCause) (body front rest : List ℕ) → IsBody messages before least entries front → body ≡ front ++ rest → rest ≢ []
     → record_at messages (last_stamp before entries) (last_stamp least entries) rest ≡ Err cause → length body ≤ most → records_to_end most messages before least body ≡ Err cause
 records_broken most messages before least [] cause [] front rest is joined some breaks short =
     absurd (some (sym (joined ∙ ap (λ (f : List ℕ). f ++ rest) is.spelled)))
@@ -106,7 +106,7 @@ records_broken (suc most) messages before least (entry ∷ more) cause (byte ∷
 pub body_again : (messages : List Message) (tick last : ℕ) (entries : List Call) (body : List ℕ) → IsBody messages tick last entries body → body_at messages tick last body ≡ Ok entries
 body_again messages tick last entries body is = records_again (length body) messages tick last entries body is (omega arith)
 
-pub body_broken : (messages : List Message) (tick last : ℕ) (cause : Cause) (body : List ℕ) → BodyBreak messages tick last body cause → body_at messages tick last body ≡ Err cause
+pub body_broken : (messages : List Message) (tick last : ℕ) (cause : BodyCause) (body : List ℕ) → BodyBreak messages tick last body cause → body_at messages tick last body ≡ Err cause
 body_broken messages tick last cause body broken =
     records_broken (length body) messages tick last broken.entries cause body broken.front broken.rest broken.whole broken.joined broken.more broken.breaks (omega arith)
 
@@ -117,13 +117,13 @@ IsBody-unique messages tick last xs ys body p q =
     (given true causes.RecordCut xs ys (sym (body_again messages tick last xs body p) ∙ body_again messages tick last ys body q)).1
 
 -- whole records that keep the rules break none
-pub IsBody-not_broken : (messages : List Message) (tick last : ℕ) (entries : List Call) (cause : Cause) (body : List ℕ)
+pub IsBody-not_broken : (messages : List Message) (tick last : ℕ) (entries : List Call) (cause : BodyCause) (body : List ℕ)
     → IsBody messages tick last entries body → BodyBreak messages tick last body cause → ⊥
 IsBody-not_broken messages tick last entries cause body is broken =
     let clash = sym (body_again messages tick last entries body is) ∙ body_broken messages tick last cause body broken in cc
 
 -- a body breaks by one cause
-pub BodyBreak-unique : (messages : List Message) (tick last : ℕ) (a b : Cause) (body : List ℕ)
+pub BodyBreak-unique : (messages : List Message) (tick last : ℕ) (a b : BodyCause) (body : List ℕ)
     → BodyBreak messages tick last body a → BodyBreak messages tick last body b → a ≡ b
 BodyBreak-unique messages tick last a b body p q =
     let clash = sym (body_broken messages tick last a body p) ∙ body_broken messages tick last b body q in cc
@@ -131,7 +131,7 @@ BodyBreak-unique messages tick last a b body p q =
 -- ---- one of the two
 
 abbrev pub OneOfTwo : (messages : List Message) (tick last : ℕ) (body : List ℕ) → Type 0
-OneOfTwo messages tick last body = ((entries : List Call) × IsBody messages tick last entries body) ⊎ ((cause : Cause) × BodyBreak messages tick last body cause)
+OneOfTwo messages tick last body = ((entries : List Call) × IsBody messages tick last entries body) ⊎ ((cause : BodyCause) × BodyBreak messages tick last body cause)
 
 -- what a record is in front of
 in_front : (messages : List Message) (tick last : ℕ) (body back : List ℕ) (entry : Call) → BeginWith (SpellRecord messages tick last) body entry back → OneOfTwo messages entry.stamp entry.stamp back → OneOfTwo messages tick last body
@@ -151,7 +151,7 @@ in_front messages tick last body back entry (front, parts, here) (inr (cause, br
       },
     )
 
-by_record : (messages : List Message) (tick last : ℕ) (body : List ℕ) → body ≢ [] → AreBytes body → (read : Parse Cause Call) → record_at messages tick last body ≡ read
+by_record : (messages : List Message) (tick last : ℕ) (body : List ℕ) → body ≢ [] → AreBytes body → (read : Parse BodyCause Call) → record_at messages tick last body ≡ read
     → ((entry : Call) (back : List ℕ) → length back < length body → AreBytes back → OneOfTwo messages entry.stamp entry.stamp back) → OneOfTwo messages tick last body
 by_record messages tick last body some are_bytes (Err cause) is again =
     inr (cause, record { entries = []; front = []; rest = body; joined = refl; whole = record { spelled = refl; right = tt; rising = tt }; more = some; breaks = is })

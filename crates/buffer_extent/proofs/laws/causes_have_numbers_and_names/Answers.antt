@@ -1,5 +1,5 @@
 use Rattle.std.proofs.Common.{lit<, refl}
-use Rattle.buffer_extent.specs.declared.fault.Cause.TheVariants as causes
+use Rattle.buffer_extent.specs.declared.fault.BodyCause.TheVariants as causes
 use Rattle.buffer_extent.proofs.laws.causes_have_numbers_and_names.Goals as goal
 
 pub returns : goal.returns

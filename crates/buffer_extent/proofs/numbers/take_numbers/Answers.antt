@@ -2,7 +2,7 @@ use Rattle.std.proofs.Common.{◌≡◌, ◌<◌, ◌≤◌, ◌*◌, ℕ, List,
 use Rattle.std.proofs.lemmas.List.{length-set}
 use Rattle.printf_grammar.specs.declared.arg_type.ArgType.{ArgType}
 use Rattle.printf_grammar.specs.declared.arg_type.ArgType.TheVariants.{Int}
-use Rattle.buffer_extent.specs.declared.fault.Cause.TheVariants as causes
+use Rattle.buffer_extent.specs.declared.fault.BodyCause.TheVariants as causes
 use Rattle.buffer_extent.specs.Reading.{argument_at, numbers_at, codes_in}
 use Rattle.buffer_extent.proofs.lemmas.Codes.{length-codes_in}
 use Rattle.nibble_pack.proofs.lemmas.Parsing.{StandsAt, stands_at, one_broken, one_kept, all_read, handed_on}

@@ -1,5 +1,5 @@
 use Rattle.std.proofs.Common.{◌≡◌, length, take}
-use Rattle.buffer_extent.specs.declared.fault.Cause.TheVariants as causes
+use Rattle.buffer_extent.specs.declared.fault.BodyCause.TheVariants as causes
 use Rattle.buffer_extent.specs.Reading.{argument_at, codes_in}
 use Rattle.nibble_pack.proofs.lemmas.Parsing.{IsReadSoFar}
 use Rattle.buffer_extent.proofs.numbers.take_numbers.Given as goal

@@ -2,7 +2,7 @@ use Rattle.std.proofs.Common.{arith}
 use Rattle.std.specs.Prelude.{pos}
 use Rattle.std.proofs.lemmas.List.{length_push}
 use Rattle.printf_grammar.specs.declared.arg_type.ArgType.TheVariants.{Int}
-use Rattle.buffer_extent.specs.declared.fault.Cause.TheVariants as causes
+use Rattle.buffer_extent.specs.declared.fault.BodyCause.TheVariants as causes
 use Rattle.buffer_extent.specs.declared.numbers.Number.TheVariants.{Signed}
 use Rattle.buffer_extent.specs.Reading.{value_at}
 use Rattle.nibble_pack.proofs.lemmas.Parsing.{stands_at, one_read, all_read, handed_on}

@@ -1,5 +1,5 @@
 use Rattle.std.proofs.Common.{◌≡◌, length}
-use Rattle.buffer_extent.specs.declared.fault.Cause.TheVariants as causes
+use Rattle.buffer_extent.specs.declared.fault.BodyCause.TheVariants as causes
 use Rattle.buffer_extent.specs.Reading.{value_at}
 use Rattle.nibble_pack.proofs.lemmas.Parsing.{IsReadSoFar}
 use Rattle.buffer_extent.proofs.texts.take_many.Given as goal
