@@ -167,7 +167,7 @@ five_parts head a b c d e = simp append_assoc refl
 
 -- a record that keeps the rules, whose stamp isn't below the least
 abbrev pub SpellRecord : List Message → ℕ → ℕ → Call → List ℕ → Type 0
-SpellRecord messages before least entry front = SpellsRecord messages before entry front × IsCall messages entry × (least ≤ entry.stamp)
+SpellRecord messages before least call front = SpellsRecord messages before call front × IsCall messages call × (least ≤ call.stamp)
 
 abbrev call_of : RecordHeader → List Value → Call
 call_of head args = record { stamp = head.stamp; id = head.id; args = args }
@@ -175,7 +175,7 @@ call_of head args = record { stamp = head.stamp; id = head.id; args = args }
 pub record_format : (messages : List Message) (before least : ℕ) → IsFormat causes.RecordCut (SpellRecord messages before least) (record_at messages before least)
 record_format messages before least =
     respelled (then_format (start_format messages before least) (λ start. made_format (call_of start.0) (values_format (types_at messages start.0.id) start.1)))
-    (λ entry front are (start, first, texts, joined, has, (args, each, made)).
+    (λ call front are (start, first, texts, joined, has, (args, each, made)).
     let types : List ArgType = Types has.message.format.pieces in
     let (packed, packs, stand, spelled) = has.coded in
     let all = all_fit types start.1 args texts stand (subst (λ (o : Option Message). SpellEach SpellValue (types_of o) start.1 args texts) has.known each) in
@@ -202,15 +202,15 @@ record_format messages before least =
       record { message = has.message; known = has.known; fits = all.1; short = omega (arith, words, short) },
       has.rises,
     ))
-    (λ entry front (spells, right, rises).
+    (λ call front (spells, right, rises).
     let spelled = spells.spelled in
     let types : List ArgType = Types spells.message.format.pieces in
     let same = same_Some right.message spells.message (sym right.known ∙ spells.known) in
-    let fits : Fits entry.args types = subst (λ (m : Message). Fits entry.args (Types m.format.pieces)) same right.fits in
-    let numbers = packs_numbers types entry.args spelled.numbers spelled.packed fits in
+    let fits : Fits call.args types = subst (λ (m : Message). Fits call.args (Types m.format.pieces)) same right.fits in
+    let numbers = packs_numbers types call.args spelled.numbers spelled.packed fits in
     let first : ℕ = spelled.id_number.code + 16 * spelled.step_number.code in
-    let texts : List ℕ = flat_map text_of entry.args in
-    let has : HasStart messages before least (head_of entry.id entry.stamp, map number_for entry.args) ((first ∷ (spelled.id_number.bytes ++ spelled.step_number.bytes)) ++ (code_bytes (codes_of spelled.numbers) ++ packed_bytes spelled.numbers)) = record {
+    let texts : List ℕ = flat_map text_of call.args in
+    let has : HasStart messages before least (head_of call.id call.stamp, map number_for call.args) ((first ∷ (spelled.id_number.bytes ++ spelled.step_number.bytes)) ++ (code_bytes (codes_of spelled.numbers) ++ packed_bytes spelled.numbers)) = record {
       message = spells.message;
       front = first ∷ (spelled.id_number.bytes ++ spelled.step_number.bytes);
       back = code_bytes (codes_of spelled.numbers) ++ packed_bytes spelled.numbers;
@@ -227,11 +227,11 @@ record_format messages before least =
       };
       rises = rises;
       coded = (spelled.numbers, numbers.0, numbers.1, refl);
-      short = omega (arith, words_of_arguments types entry.args fits, right.short);
+      short = omega (arith, words_of_arguments types call.args fits, right.short);
     } in
     let whole = five_parts first spelled.id_number.bytes spelled.step_number.bytes (code_bytes (codes_of spelled.numbers)) (packed_bytes spelled.numbers) texts in
-    let each = subst (λ (o : Option Message). SpellEach SpellValue (types_of o) (map number_for entry.args) entry.args texts) (sym spells.known) (all_spelled types entry.args fits) in
-    ((head_of entry.id entry.stamp, map number_for entry.args), _, texts, spelled.joined ∙ sym whole, has, (entry.args, each, refl)))
+    let each = subst (λ (o : Option Message). SpellEach SpellValue (types_of o) (map number_for call.args) call.args texts) (sym spells.known) (all_spelled types call.args fits) in
+    ((head_of call.id call.stamp, map number_for call.args), _, texts, spelled.joined ∙ sym whole, has, (call.args, each, refl)))
 
 -- bytes that don't start as a record does give none
 pub not_started : (messages : List Message) (before least : ℕ) (bytes : List ℕ) (cause : BodyCause) → start_at messages before least bytes ≡ Err cause → record_at messages before least bytes ≡ Err cause

@@ -14,35 +14,35 @@ use Rattle.buffer_extent.specs.Records.{RecordBytes}
 use Rattle.buffer_extent.specs.Reading.{record_at}
 
 -- the bytes spell the record, whose id names one of the messages; its step counts from the stamp before
-pub record SpellsRecord (messages : List Message) (before : ℕ) (entry : Call) (bytes : List ℕ) : Type 0 where
+pub record SpellsRecord (messages : List Message) (before : ℕ) (call : Call) (bytes : List ℕ) : Type 0 where
   pub message : Message
-  pub known : slice_get messages entry.id ≡ Some message
-  pub spelled : RecordBytes (Types message.format.pieces) entry.id entry.stamp before entry.args bytes
+  pub known : slice_get messages call.id ≡ Some message
+  pub spelled : RecordBytes (Types message.format.pieces) call.id call.stamp before call.args bytes
 
 -- the bytes are the records' spellings, joined; the first step counts from this stamp, and each other from the record
 -- in front
 abbrev pub SpellsRecords : List Message → ℕ → List Call → List ℕ → Type 0
 SpellsRecords messages before [] bytes = bytes ≡ []
-SpellsRecords messages before (entry ∷ entries) bytes =
+SpellsRecords messages before (call ∷ records) bytes =
     (front : List ℕ) × (back : List ℕ) × (bytes ≡ front ++ back)
-    × SpellsRecord messages before entry front × SpellsRecords messages entry.stamp entries back
+    × SpellsRecord messages before call front × SpellsRecords messages call.stamp records back
 
 -- The body is whole records that keep the rules: the first step counts from the clock's tick, and no stamp is below the
 -- writer's last one.
-pub record IsBody (messages : List Message) (tick last : ℕ) (entries : List Call) (body : List ℕ) : Type 0 where
-  pub spelled : SpellsRecords messages tick entries body
-  pub right : AllByRecursion (IsCall messages) entries
-  pub rising : NeverFalls last entries
+pub record IsBody (messages : List Message) (tick last : ℕ) (records : List Call) (body : List ℕ) : Type 0 where
+  pub spelled : SpellsRecords messages tick records body
+  pub right : AllByRecursion (IsCall messages) records
+  pub rising : NeverFalls last records
 
 -- the body begins with whole records that keep the rules, and what follows breaks by the cause
 pub record BodyBreak (messages : List Message) (tick last : ℕ) (body : List ℕ) (cause : BodyCause) : Type 0 where
-  pub entries : List Call
+  pub records : List Call
   pub front : List ℕ
   pub rest : List ℕ
   pub joined : body ≡ front ++ rest
-  pub whole : IsBody messages tick last entries front
+  pub whole : IsBody messages tick last records front
   pub more : rest ≢ []
-  pub breaks : record_at messages (last_stamp tick entries) (last_stamp last entries) rest ≡ Err cause
+  pub breaks : record_at messages (last_stamp tick records) (last_stamp last records) rest ≡ Err cause
 
 -- ---- bodies as they are read
 
@@ -51,9 +51,9 @@ abbrev pub records_to_end : ℕ → List Message → ℕ → ℕ → List ℕ �
 records_to_end most messages before least [] = Ok []
 records_to_end zero messages before least (byte ∷ bytes) = Err causes.RecordCut
 records_to_end (suc most) messages before least (byte ∷ bytes) = do
-  entry ← record_at messages before least (byte ∷ bytes)
-  others ← records_to_end most messages entry.0.stamp entry.0.stamp entry.1
-  Ok (entry.0 ∷ others)
+  call ← record_at messages before least (byte ∷ bytes)
+  others ← records_to_end most messages call.0.stamp call.0.stamp call.1
+  Ok (call.0 ∷ others)
 
 -- the records of a body, or the first cause by which it breaks; there are no more records than bytes
 abbrev pub body_at : List Message → ℕ → ℕ → List ℕ → Result (List Call) BodyCause

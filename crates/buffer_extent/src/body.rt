@@ -62,12 +62,12 @@ fn take_record<'a>(
     let types = dictionary.message(head.id).format.types();
     let mut args = Values::make(alloc);
     let rest = take_texts(alloc, types, &numbers[..types.len()], rest, &mut args)?;
-    let entry = Call {
+    let call = Call {
         stamp: head.stamp,
         id: head.id,
         args,
     };
-    Ok((entry, rest))
+    Ok((call, rest))
 }
 
 /// The records of a body. `base` is the tick of the clock, from which the first step counts; `last`
@@ -79,11 +79,11 @@ pub fn read_body(
     base: u64,
     last: u64,
 ) -> Result<Calls, BodyFault>
-    ensures ok { IfOk result (λ entries. IsBody dictionary.now base last entries body.now) }
+    ensures ok { IfOk result (λ records. IsBody dictionary.now base last records body.now) }
 
     // A body is read, and bytes that break the rules are refused, unless memory runs out.
-    ensures only { (entries : List Call) → IsBody dictionary.now base last entries body.now → MatchResult result
-        (λ read. read ≡ entries)
+    ensures only { (records : List Call) → IsBody dictionary.now base last records body.now → MatchResult result
+        (λ read. read ≡ records)
         (λ fault. fault ≡ BodyFault.NoMemory) }
     ensures damaged { (cause : BodyCause) → result ≡ Err (BodyFault.Damaged cause)
         → BodyBreak dictionary.now base last body.now cause }
@@ -102,10 +102,10 @@ pub fn read_body(
     let mut least = last;
     let mut rest = body;
     while !rest.is_empty() {
-        let (entry, back) = take_record(alloc, dictionary, before, least, rest, &mut numbers)?;
-        before = entry.stamp;
-        least = entry.stamp;
-        let Ok(()) = records.push(entry) else {
+        let (call, back) = take_record(alloc, dictionary, before, least, rest, &mut numbers)?;
+        before = call.stamp;
+        least = call.stamp;
+        let Ok(()) = records.push(call) else {
             return Err(BodyFault::NoMemory);
         };
         rest = back;

@@ -82,24 +82,24 @@ pub fn bodies_are_told_apart()
         → BodyBreak messages tick last body a
         → BodyBreak messages tick last body b
         → a ≡ b }
-    ensures not_both { (messages : List Message) (tick last : ℕ) (entries : List Call) (cause : BodyCause)
-        (body : List ℕ) → IsBody messages tick last entries body
+    ensures not_both { (messages : List Message) (tick last : ℕ) (records : List Call) (cause : BodyCause)
+        (body : List ℕ) → IsBody messages tick last records body
         → ¬ (BodyBreak messages tick last body cause) }
 {}
 
 /// A body that is whole records is read as these, and one that breaks by the cause from which it does. What is read of
 /// bytes is whole records.
 pub fn bodies_are_read()
-    ensures read { (messages : List Message) (tick last : ℕ) (entries : List Call) (body : List ℕ)
-        → IsBody messages tick last entries body
-        → body_at messages tick last body ≡ Ok entries }
+    ensures read { (messages : List Message) (tick last : ℕ) (records : List Call) (body : List ℕ)
+        → IsBody messages tick last records body
+        → body_at messages tick last body ≡ Ok records }
     ensures broken { (messages : List Message) (tick last : ℕ) (cause : BodyCause) (body : List ℕ)
         → BodyBreak messages tick last body cause
         → body_at messages tick last body ≡ Err cause }
-    ensures spelled { (messages : List Message) (tick last : ℕ) (entries : List Call) (body : List ℕ)
+    ensures spelled { (messages : List Message) (tick last : ℕ) (records : List Call) (body : List ℕ)
         → All (λ byte. byte < 256) body
-        → body_at messages tick last body ≡ Ok entries
-        → IsBody messages tick last entries body }
+        → body_at messages tick last body ≡ Ok records
+        → IsBody messages tick last records body }
 {}
 
 /// A body of bytes is records that keep the rules, from its first byte to its last, or it breaks,
@@ -108,6 +108,6 @@ pub fn bodies_are_read()
 pub fn body_or_break()
     ensures { (messages : List Message) (tick last : ℕ) (body : List ℕ)
         → All (λ byte. byte < 256) body
-        → ((entries : List Call) × IsBody messages tick last entries body)
+        → ((records : List Call) × IsBody messages tick last records body)
         ⊎ ((cause : BodyCause) × BodyBreak messages tick last body cause) }
 {}

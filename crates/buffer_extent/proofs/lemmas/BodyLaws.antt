@@ -33,82 +33,82 @@ SpellsRecord-unique messages before a b x y r s right right_too p q same =
 -- ---- a record in front of others
 
 -- a record, and a body behind it
-pub record_first : (messages : List Message) (before least : ℕ) (entry : Call) (more : List Call) (front behind : List ℕ) → SpellRecord messages before least entry front
-    → IsBody messages entry.stamp entry.stamp more behind → IsBody messages before least (entry ∷ more) (front ++ behind)
-record_first messages before least entry more front behind (spelled, right, rises) body =
+pub record_first : (messages : List Message) (before least : ℕ) (call : Call) (more : List Call) (front behind : List ℕ) → SpellRecord messages before least call front
+    → IsBody messages call.stamp call.stamp more behind → IsBody messages before least (call ∷ more) (front ++ behind)
+record_first messages before least call more front behind (spelled, right, rises) body =
     record { spelled = (front, behind, refl, spelled, body.spelled); right = (right, body.right); rising = (rises, body.rising) }
 
 -- what a body with a record begins with
-pub record FirstRecord (messages : List Message) (before least : ℕ) (entry : Call) (more : List Call) (bytes : List ℕ) : Type 0 where
+pub record FirstRecord (messages : List Message) (before least : ℕ) (call : Call) (more : List Call) (bytes : List ℕ) : Type 0 where
   pub front : List ℕ
   pub back : List ℕ
   pub parts : bytes ≡ front ++ back
-  pub here : SpellRecord messages before least entry front
-  pub rest : IsBody messages entry.stamp entry.stamp more back
+  pub here : SpellRecord messages before least call front
+  pub rest : IsBody messages call.stamp call.stamp more back
 
-pub first_record : (messages : List Message) (before least : ℕ) (entry : Call) (more : List Call) (bytes : List ℕ) → IsBody messages before least (entry ∷ more) bytes → FirstRecord messages before least entry more bytes
-first_record messages before least entry more bytes is =
+pub first_record : (messages : List Message) (before least : ℕ) (call : Call) (more : List Call) (bytes : List ℕ) → IsBody messages before least (call ∷ more) bytes → FirstRecord messages before least call more bytes
+first_record messages before least call more bytes is =
     let (front, back, parts, spelled, rest) = is.spelled in
     record { front = front; back = back; parts = parts; here = (spelled, is.right.0, is.rising.0); rest = record { spelled = rest; right = is.right.1; rising = is.rising.1 } }
 
 -- it is read
-pub first_read : (messages : List Message) (before least : ℕ) (entry : Call) (more : List Call) (bytes extra : List ℕ) → (first : FirstRecord messages before least entry more bytes) → record_at messages before least (bytes ++ extra) ≡ Ok (entry, first.back ++ extra)
-first_read messages before least entry more bytes extra first =
+pub first_read : (messages : List Message) (before least : ℕ) (call : Call) (more : List Call) (bytes extra : List ℕ) → (first : FirstRecord messages before least call more bytes) → record_at messages before least (bytes ++ extra) ≡ Ok (call, first.back ++ extra)
+first_read messages before least call more bytes extra first =
     ap (record_at messages before least) (ap (λ (b : List ℕ). b ++ extra) first.parts ∙ append_assoc first.front first.back extra)
-    ∙ (record_format messages before least).again entry first.front (first.back ++ extra) first.here
+    ∙ (record_format messages before least).again call first.front (first.back ++ extra) first.here
 
-no_record : (messages : List Message) (before least : ℕ) (entry : Call) (more : List Call) → IsBody messages before least (entry ∷ more) [] → ⊥
-no_record messages before least entry more is =
-    let first = first_record messages before least entry more [] is in
-    let read = first_read messages before least entry more [] [] first in cc
+no_record : (messages : List Message) (before least : ℕ) (call : Call) (more : List Call) → IsBody messages before least (call ∷ more) [] → ⊥
+no_record messages before least call more is =
+    let first = first_record messages before least call more [] is in
+    let read = first_read messages before least call more [] [] first in cc
 
 -- ---- one list, one cause
 
 -- a record has a byte
-pub some_byte : (messages : List Message) (before least : ℕ) (entry : Call) (bytes back : List ℕ) → BeginWith (SpellRecord messages before least) bytes entry back → length back < length bytes
-some_byte messages before least entry bytes back (front, parts, here) = omega (arith, ap length parts, length-append front back, ap length here.0.spelled.joined)
+pub some_byte : (messages : List Message) (before least : ℕ) (call : Call) (bytes back : List ℕ) → BeginWith (SpellRecord messages before least) bytes call back → length back < length bytes
+some_byte messages before least call bytes back (front, parts, here) = omega (arith, ap length parts, length-append front back, ap length here.0.spelled.joined)
 
-less_behind : (messages : List Message) (before least : ℕ) (entry : Call) (more : List Call) (bytes : List ℕ) → (first : FirstRecord messages before least entry more bytes) → length first.back < length bytes
-less_behind messages before least entry more bytes first = some_byte messages before least entry bytes first.back (first.front, first.parts, first.here)
+less_behind : (messages : List Message) (before least : ℕ) (call : Call) (more : List Call) (bytes : List ℕ) → (first : FirstRecord messages before least call more bytes) → length first.back < length bytes
+less_behind messages before least call more bytes first = some_byte messages before least call bytes first.back (first.front, first.parts, first.here)
 
 -- whole records that keep the rules are read
-records_again : (most : ℕ) (messages : List Message) (before least : ℕ) (entries : List Call) (body : List ℕ) → IsBody messages before least entries body → length body ≤ most → records_to_end most messages before least body ≡ Ok entries
+records_again : (most : ℕ) (messages : List Message) (before least : ℕ) (records : List Call) (body : List ℕ) → IsBody messages before least records body → length body ≤ most → records_to_end most messages before least body ≡ Ok records
 records_again most messages before least [] body is short = rw is.spelled refl
-records_again most messages before least (entry ∷ more) [] is short = absurd (no_record messages before least entry more is)
-records_again zero messages before least (entry ∷ more) (byte ∷ bytes) is short = absurd (omega (arith, short))
-records_again (suc most) messages before least (entry ∷ more) (byte ∷ bytes) is short =
-    let first = first_record messages before least entry more (byte ∷ bytes) is in
-    let read : record_at messages before least (byte ∷ bytes) ≡ Ok (entry, first.back) =
-    ap (record_at messages before least) (sym (append-nil (byte ∷ bytes))) ∙ first_read messages before least entry more (byte ∷ bytes) [] first ∙ ap (λ (b : List ℕ). Ok (entry, b)) (append-nil first.back) in
-    let others = records_again most messages entry.stamp entry.stamp more first.back first.rest (omega (arith, short, less_behind messages before least entry more (byte ∷ bytes) first)) in
+records_again most messages before least (call ∷ more) [] is short = absurd (no_record messages before least call more is)
+records_again zero messages before least (call ∷ more) (byte ∷ bytes) is short = absurd (omega (arith, short))
+records_again (suc most) messages before least (call ∷ more) (byte ∷ bytes) is short =
+    let first = first_record messages before least call more (byte ∷ bytes) is in
+    let read : record_at messages before least (byte ∷ bytes) ≡ Ok (call, first.back) =
+    ap (record_at messages before least) (sym (append-nil (byte ∷ bytes))) ∙ first_read messages before least call more (byte ∷ bytes) [] first ∙ ap (λ (b : List ℕ). Ok (call, b)) (append-nil first.back) in
+    let others = records_again most messages call.stamp call.stamp more first.back first.rest (omega (arith, short, less_behind messages before least call more (byte ∷ bytes) first)) in
     rw (read, others) refl
 
 -- what breaks behind them is told
-records_broken : (most : ℕ) (messages : List Message) (before least : ℕ) (entries : List Call) (cause : BodyCause) (body front rest : List ℕ) → IsBody messages before least entries front → body ≡ front ++ rest → rest ≢ []
-    → record_at messages (last_stamp before entries) (last_stamp least entries) rest ≡ Err cause → length body ≤ most → records_to_end most messages before least body ≡ Err cause
+records_broken : (most : ℕ) (messages : List Message) (before least : ℕ) (records : List Call) (cause : BodyCause) (body front rest : List ℕ) → IsBody messages before least records front → body ≡ front ++ rest → rest ≢ []
+    → record_at messages (last_stamp before records) (last_stamp least records) rest ≡ Err cause → length body ≤ most → records_to_end most messages before least body ≡ Err cause
 records_broken most messages before least [] cause [] front rest is joined some breaks short =
     absurd (some (sym (joined ∙ ap (λ (f : List ℕ). f ++ rest) is.spelled)))
 records_broken zero messages before least [] cause (byte ∷ bytes) front rest is joined some breaks short = absurd (omega (arith, short))
 records_broken (suc most) messages before least [] cause (byte ∷ bytes) front rest is joined some breaks short =
     let here : record_at messages before least (byte ∷ bytes) ≡ Err cause = ap (record_at messages before least) (joined ∙ ap (λ (f : List ℕ). f ++ rest) is.spelled) ∙ breaks in
     rw here refl
-records_broken most messages before least (entry ∷ more) cause [] front rest is joined some breaks short =
-    let first = first_record messages before least entry more front is in
-    absurd (omega (arith, ap length joined, length-append front rest, less_behind messages before least entry more front first))
-records_broken zero messages before least (entry ∷ more) cause (byte ∷ bytes) front rest is joined some breaks short = absurd (omega (arith, short))
-records_broken (suc most) messages before least (entry ∷ more) cause (byte ∷ bytes) front rest is joined some breaks short =
-    let first = first_record messages before least entry more front is in
-    let read : record_at messages before least (byte ∷ bytes) ≡ Ok (entry, first.back ++ rest) = ap (record_at messages before least) joined ∙ first_read messages before least entry more front rest first in
-    let less : length (first.back ++ rest) ≤ most = omega (arith, short, ap length joined, length-append front rest, length-append first.back rest, less_behind messages before least entry more front first) in
-    let others = records_broken most messages entry.stamp entry.stamp more cause (first.back ++ rest) first.back rest first.rest refl some breaks less in
+records_broken most messages before least (call ∷ more) cause [] front rest is joined some breaks short =
+    let first = first_record messages before least call more front is in
+    absurd (omega (arith, ap length joined, length-append front rest, less_behind messages before least call more front first))
+records_broken zero messages before least (call ∷ more) cause (byte ∷ bytes) front rest is joined some breaks short = absurd (omega (arith, short))
+records_broken (suc most) messages before least (call ∷ more) cause (byte ∷ bytes) front rest is joined some breaks short =
+    let first = first_record messages before least call more front is in
+    let read : record_at messages before least (byte ∷ bytes) ≡ Ok (call, first.back ++ rest) = ap (record_at messages before least) joined ∙ first_read messages before least call more front rest first in
+    let less : length (first.back ++ rest) ≤ most = omega (arith, short, ap length joined, length-append front rest, length-append first.back rest, less_behind messages before least call more front first) in
+    let others = records_broken most messages call.stamp call.stamp more cause (first.back ++ rest) first.back rest first.rest refl some breaks less in
     rw (read, others) refl
 
-pub body_again : (messages : List Message) (tick last : ℕ) (entries : List Call) (body : List ℕ) → IsBody messages tick last entries body → body_at messages tick last body ≡ Ok entries
-body_again messages tick last entries body is = records_again (length body) messages tick last entries body is (omega arith)
+pub body_again : (messages : List Message) (tick last : ℕ) (records : List Call) (body : List ℕ) → IsBody messages tick last records body → body_at messages tick last body ≡ Ok records
+body_again messages tick last records body is = records_again (length body) messages tick last records body is (omega arith)
 
 pub body_broken : (messages : List Message) (tick last : ℕ) (cause : BodyCause) (body : List ℕ) → BodyBreak messages tick last body cause → body_at messages tick last body ≡ Err cause
 body_broken messages tick last cause body broken =
-    records_broken (length body) messages tick last broken.entries cause body broken.front broken.rest broken.whole broken.joined broken.more broken.breaks (omega arith)
+    records_broken (length body) messages tick last broken.records cause body broken.front broken.rest broken.whole broken.joined broken.more broken.breaks (omega arith)
 
 -- a body spells one list of records
 pub IsBody-unique : (messages : List Message) (tick last : ℕ) (xs ys : List Call) (body : List ℕ)
@@ -117,10 +117,10 @@ IsBody-unique messages tick last xs ys body p q =
     (given true causes.RecordCut xs ys (sym (body_again messages tick last xs body p) ∙ body_again messages tick last ys body q)).1
 
 -- whole records that keep the rules break none
-pub IsBody-not_broken : (messages : List Message) (tick last : ℕ) (entries : List Call) (cause : BodyCause) (body : List ℕ)
-    → IsBody messages tick last entries body → BodyBreak messages tick last body cause → ⊥
-IsBody-not_broken messages tick last entries cause body is broken =
-    let clash = sym (body_again messages tick last entries body is) ∙ body_broken messages tick last cause body broken in cc
+pub IsBody-not_broken : (messages : List Message) (tick last : ℕ) (records : List Call) (cause : BodyCause) (body : List ℕ)
+    → IsBody messages tick last records body → BodyBreak messages tick last body cause → ⊥
+IsBody-not_broken messages tick last records cause body is broken =
+    let clash = sym (body_again messages tick last records body is) ∙ body_broken messages tick last cause body broken in cc
 
 -- a body breaks by one cause
 pub BodyBreak-unique : (messages : List Message) (tick last : ℕ) (a b : BodyCause) (body : List ℕ)
@@ -131,49 +131,49 @@ BodyBreak-unique messages tick last a b body p q =
 -- ---- one of the two
 
 abbrev pub OneOfTwo : (messages : List Message) (tick last : ℕ) (body : List ℕ) → Type 0
-OneOfTwo messages tick last body = ((entries : List Call) × IsBody messages tick last entries body) ⊎ ((cause : BodyCause) × BodyBreak messages tick last body cause)
+OneOfTwo messages tick last body = ((records : List Call) × IsBody messages tick last records body) ⊎ ((cause : BodyCause) × BodyBreak messages tick last body cause)
 
 -- what a record is in front of
-in_front : (messages : List Message) (tick last : ℕ) (body back : List ℕ) (entry : Call) → BeginWith (SpellRecord messages tick last) body entry back → OneOfTwo messages entry.stamp entry.stamp back → OneOfTwo messages tick last body
-in_front messages tick last body back entry (front, parts, here) (inl (entries, is)) =
-    inl (entry ∷ entries, subst (IsBody messages tick last (entry ∷ entries)) (sym parts) (record_first messages tick last entry entries front back here is))
-in_front messages tick last body back entry (front, parts, here) (inr (cause, broken)) =
+in_front : (messages : List Message) (tick last : ℕ) (body back : List ℕ) (call : Call) → BeginWith (SpellRecord messages tick last) body call back → OneOfTwo messages call.stamp call.stamp back → OneOfTwo messages tick last body
+in_front messages tick last body back call (front, parts, here) (inl (records, is)) =
+    inl (call ∷ records, subst (IsBody messages tick last (call ∷ records)) (sym parts) (record_first messages tick last call records front back here is))
+in_front messages tick last body back call (front, parts, here) (inr (cause, broken)) =
     inr (
       cause,
       record {
-        entries = entry ∷ broken.entries;
+        records = call ∷ broken.records;
         front = front ++ broken.front;
         rest = broken.rest;
         joined = parts ∙ ap (λ (r : List ℕ). front ++ r) broken.joined ∙ sym (append_assoc front broken.front broken.rest);
-        whole = record_first messages tick last entry broken.entries front broken.front here broken.whole;
+        whole = record_first messages tick last call broken.records front broken.front here broken.whole;
         more = broken.more;
         breaks = broken.breaks;
       },
     )
 
 by_record : (messages : List Message) (tick last : ℕ) (body : List ℕ) → body ≢ [] → AreBytes body → (read : Parse BodyCause Call) → record_at messages tick last body ≡ read
-    → ((entry : Call) (back : List ℕ) → length back < length body → AreBytes back → OneOfTwo messages entry.stamp entry.stamp back) → OneOfTwo messages tick last body
+    → ((call : Call) (back : List ℕ) → length back < length body → AreBytes back → OneOfTwo messages call.stamp call.stamp back) → OneOfTwo messages tick last body
 by_record messages tick last body some are_bytes (Err cause) is again =
-    inr (cause, record { entries = []; front = []; rest = body; joined = refl; whole = record { spelled = refl; right = tt; rising = tt }; more = some; breaks = is })
-by_record messages tick last body some are_bytes (Ok (entry, back)) is again =
-    let taken = (record_format messages tick last).taken body entry back are_bytes is in
-    in_front messages tick last body back entry taken (again entry back (some_byte messages tick last entry body back taken) (back_bytes body taken.0 back taken.1 are_bytes))
+    inr (cause, record { records = []; front = []; rest = body; joined = refl; whole = record { spelled = refl; right = tt; rising = tt }; more = some; breaks = is })
+by_record messages tick last body some are_bytes (Ok (call, back)) is again =
+    let taken = (record_format messages tick last).taken body call back are_bytes is in
+    in_front messages tick last body back call taken (again call back (some_byte messages tick last call body back taken) (back_bytes body taken.0 back taken.1 are_bytes))
 
 some_reading : (fuel : ℕ) (messages : List Message) (tick last : ℕ) (body : List ℕ) → length body ≤ fuel → AreBytes body → OneOfTwo messages tick last body
 some_reading fuel messages tick last [] within are_bytes = inl ([], record { spelled = refl; right = tt; rising = tt })
 some_reading zero messages tick last (byte ∷ body) within are_bytes = absurd (omega arith)
 some_reading (suc fuel) messages tick last (byte ∷ body) within are_bytes =
     by_record messages tick last (byte ∷ body) (λ none. absurd cc) are_bytes (record_at messages tick last (byte ∷ body)) refl
-    (λ entry back short back_are. some_reading fuel messages entry.stamp entry.stamp back (omega arith) back_are)
+    (λ call back short back_are. some_reading fuel messages call.stamp call.stamp back (omega arith) back_are)
 
 pub body_or_break : (messages : List Message) (tick last : ℕ) (body : List ℕ) → AreBytes body → OneOfTwo messages tick last body
 body_or_break messages tick last body are_bytes = some_reading (length body) messages tick last body (omega arith) are_bytes
 
 -- what is read of bytes is whole records that keep the rules
-pub body_taken : (messages : List Message) (tick last : ℕ) (entries : List Call) (body : List ℕ) → AreBytes body → body_at messages tick last body ≡ Ok entries → IsBody messages tick last entries body
-body_taken messages tick last entries body are_bytes read = elim (body_or_break messages tick last body are_bytes) [
+pub body_taken : (messages : List Message) (tick last : ℕ) (records : List Call) (body : List ℕ) → AreBytes body → body_at messages tick last body ≡ Ok records → IsBody messages tick last records body
+body_taken messages tick last records body are_bytes read = elim (body_or_break messages tick last body are_bytes) [
   | inl (others, is) ↦
-      let same : others ≡ entries = (given true causes.RecordCut others entries (sym (body_again messages tick last others body is) ∙ read)).1 in
+      let same : others ≡ records = (given true causes.RecordCut others records (sym (body_again messages tick last others body is) ∙ read)).1 in
       subst (λ (l : List Call). IsBody messages tick last l body) same is
   | inr (cause, broken) ↦ absurd (let clash = sym read ∙ body_broken messages tick last cause body broken in cc)
 ]

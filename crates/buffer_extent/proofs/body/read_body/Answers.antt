@@ -14,31 +14,31 @@ use Rattle.buffer_extent.proofs.body.read_body.Goals as goal
 some_left : (bytes : List ℕ) (empty : Bool) → empty ≡ eqb (length bytes) 0 → empty ≡ false → bytes ≡ [] → ⊥
 some_left bytes empty is not none = let clash : true ≡ false = sym (ap (λ (b : List ℕ). eqb (length b) 0) none) ∙ sym is ∙ not in cc
 
-pub returns-in_err-entry-clause-only : goal.returns-in_err-entry-clause-only
-returns-in_err-entry-clause-only c = λ entries is.
+pub returns-in_err-call-clause-only : goal.returns-in_err-call-clause-only
+returns-in_err-call-clause-only c = λ records is.
     handed_on _ _ _ _ c.from_residual.ensures.1
     (only_memory c.args.dictionary.now c.args.base c.args.last c.args.body.now c.loop-rest.records c.loop-rest.before c.loop-rest.least c.loop-rest.rest.now _ c.loop-rest.invariant
-    (some_left c.loop-rest.rest.now c.is_empty.result c.is_empty.ensures c.loop-rest-test.true) c.in_err-entry.ensures.record entries is)
+    (some_left c.loop-rest.rest.now c.is_empty.result c.is_empty.ensures c.loop-rest-test.true) c.in_err-call.ensures.record records is)
 
-pub returns-in_err-entry-clause-damaged : goal.returns-in_err-entry-clause-damaged
-returns-in_err-entry-clause-damaged c = λ cause is.
+pub returns-in_err-call-clause-damaged : goal.returns-in_err-call-clause-damaged
+returns-in_err-call-clause-damaged c = λ cause is.
     let p = err_from_is_err_and c.from_residual.result c.from_residual.ensures.1 in
     let same : Err p.0 ≡ Err (Damaged cause) = sym p.1 ∙ is in
     let fault : p.0 ≡ Damaged cause = cc in
     body_breaks c.args.dictionary.now c.args.base c.args.last c.args.body.now c.loop-rest.records c.loop-rest.before c.loop-rest.least c.loop-rest.rest.now cause c.loop-rest.invariant
     (some_left c.loop-rest.rest.now c.is_empty.result c.is_empty.ensures c.loop-rest-test.true)
-    (subst (IsDamage (λ cause. record_at c.args.dictionary.now c.loop-rest.before c.loop-rest.least c.loop-rest.rest.now ≡ Err cause)) (sym p.2 ∙ fault) c.in_err-entry.ensures.record)
+    (subst (IsDamage (λ cause. record_at c.args.dictionary.now c.loop-rest.before c.loop-rest.least c.loop-rest.rest.now ≡ Err cause)) (sym p.2 ∙ fault) c.in_err-call.ensures.record)
 
-pub returns-in_err-entry-clause-broken : goal.returns-in_err-entry-clause-broken
-returns-in_err-entry-clause-broken c = λ cause broken.
+pub returns-in_err-call-clause-broken : goal.returns-in_err-call-clause-broken
+returns-in_err-call-clause-broken c = λ cause broken.
     handed_on _ _ _ _ c.from_residual.ensures.1
     (one_fault c.args.dictionary.now c.args.base c.args.last c.args.body.now c.loop-rest.records c.loop-rest.before c.loop-rest.least c.loop-rest.rest.now _ c.loop-rest.invariant
-    (some_left c.loop-rest.rest.now c.is_empty.result c.is_empty.ensures c.loop-rest-test.true) c.in_err-entry.ensures.record cause broken)
+    (some_left c.loop-rest.rest.now c.is_empty.result c.is_empty.ensures c.loop-rest-test.true) c.in_err-call.ensures.record cause broken)
 
 pub loop-rest-preserved : goal.loop-rest-preserved
 loop-rest-preserved c =
-    rw c.in-Ok.ensures.ok (one_read c.args.dictionary.now c.args.base c.args.last c.args.body.now c.loop-rest.records c.loop-rest.before c.loop-rest.least c.loop-rest.rest.now c.in_ok-entry.entry c.in_ok-entry.back.now c.loop-rest.invariant
-    (All-from_get_or (λ (b : ℕ). b < 256) c.args.body.now 0 (λ i _. (c.type_inv.body i).fits)) c.in_ok-entry.ensures.record)
+    rw c.in-Ok.ensures.ok (one_read c.args.dictionary.now c.args.base c.args.last c.args.body.now c.loop-rest.records c.loop-rest.before c.loop-rest.least c.loop-rest.rest.now c.in_ok-call.call c.in_ok-call.back.now c.loop-rest.invariant
+    (All-from_get_or (λ (b : ℕ). b < 256) c.args.body.now 0 (λ i _. (c.type_inv.body i).fits)) c.in_ok-call.ensures.record)
 
 pub returns-clause-ok : goal.returns-clause-ok
 returns-clause-ok c =
@@ -46,27 +46,27 @@ returns-clause-ok c =
     (nil_from_length c.loop-rest.rest.now (eqb-true _ _ (sym c.is_empty.ensures ∙ c.loop-rest-test.false)))
 
 pub returns-clause-only : goal.returns-clause-only
-returns-clause-only c = λ entries is. IsBody-unique c.args.dictionary.now c.args.base c.args.last c.loop-rest.records entries c.args.body.now (returns-clause-ok c) is
+returns-clause-only c = λ records is. IsBody-unique c.args.dictionary.now c.args.base c.args.last c.loop-rest.records records c.args.body.now (returns-clause-ok c) is
 
 pub returns-clause-broken : goal.returns-clause-broken
 returns-clause-broken c = λ cause broken. IsBody-not_broken c.args.dictionary.now c.args.base c.args.last c.loop-rest.records cause c.args.body.now (returns-clause-ok c) broken
 
-pub returns-in_err-entry-clause-no_start : goal.returns-in_err-entry-clause-no_start
-returns-in_err-entry-clause-no_start c = λ cause some none.
+pub returns-in_err-call-clause-no_start : goal.returns-in_err-call-clause-no_start
+returns-in_err-call-clause-no_start c = λ cause some none.
     let p = err_from_is_err_and c.from_residual.result c.from_residual.ensures.1 in
-    let q = c.in_err-entry.ensures.no_start cause (untouched c.args.dictionary.now c.args.base c.args.last c.args.body.now c.loop-rest.records c.loop-rest.before c.loop-rest.least c.loop-rest.rest.now cause c.loop-rest.invariant none).1 in
-    let fault : c.in_err-entry.field-0.0 ≡ Damaged cause = cc in
+    let q = c.in_err-call.ensures.no_start cause (untouched c.args.dictionary.now c.args.base c.args.last c.args.body.now c.loop-rest.records c.loop-rest.before c.loop-rest.least c.loop-rest.rest.now cause c.loop-rest.invariant none).1 in
+    let fault : c.in_err-call.field-0.0 ≡ Damaged cause = cc in
     p.1 ∙ ap Err (p.2 ∙ fault)
 
 pub returns-in_default-clause-no_start : goal.returns-in_default-clause-no_start
 returns-in_default-clause-no_start c = λ cause some none.
-    absurd (started c.args.dictionary.now c.loop-rest.before c.loop-rest.least c.loop-rest.rest.now _ _ cause c.in_ok-entry.ensures.record
+    absurd (started c.args.dictionary.now c.loop-rest.before c.loop-rest.least c.loop-rest.rest.now _ _ cause c.in_ok-call.ensures.record
     (untouched c.args.dictionary.now c.args.base c.args.last c.args.body.now c.loop-rest.records c.loop-rest.before c.loop-rest.least c.loop-rest.rest.now cause c.loop-rest.invariant none).1)
 
 pub loop-rest-smaller : goal.loop-rest-smaller
 loop-rest-smaller c =
     read_shorter c.args.dictionary.now c.args.base c.args.last c.args.body.now c.loop-rest.records c.loop-rest.before c.loop-rest.least c.loop-rest.rest.now _ _ c.loop-rest.invariant
-    (All-from_get_or (λ (b : ℕ). b < 256) c.args.body.now 0 (λ i _. (c.type_inv.body i).fits)) c.in_ok-entry.ensures.record
+    (All-from_get_or (λ (b : ℕ). b < 256) c.args.body.now 0 (λ i _. (c.type_inv.body i).fits)) c.in_ok-call.ensures.record
 
 pub returns-clause-empty : goal.returns-clause-empty
 returns-clause-empty c = λ empty.

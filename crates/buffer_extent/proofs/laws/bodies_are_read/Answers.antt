@@ -2,4 +2,4 @@ use Rattle.buffer_extent.proofs.lemmas.BodyLaws.{body_again, body_broken, body_t
 use Rattle.buffer_extent.proofs.laws.bodies_are_read.Goals as goal
 
 pub returns : goal.returns
-returns c = record { read = body_again; broken = body_broken; spelled = λ messages tick last entries body small. body_taken messages tick last entries body small }
+returns c = record { read = body_again; broken = body_broken; spelled = λ messages tick last records body small. body_taken messages tick last records body small }
