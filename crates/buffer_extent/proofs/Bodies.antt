@@ -1,32 +1,18 @@
 -- Bodies that are read record by record.
-use Rattle.std.proofs.Common.{◌≡◌, inl, inr, ℕ, ◌<◌, List, [], ◌∷◌, ◌++◌, length, Ok, Err, refl, sym, ap, subst, ◌∙◌, append_assoc, append-nil}
+use Rattle.std.proofs.Common.{◌≡◌, inl, inr, ℕ, ◌<◌, Bool, true, false, eqb, List, [], ◌∷◌, ◌++◌, length, Ok, Err, refl, sym, ap, subst, ◌∙◌, append_assoc, append-nil}
 use Rattle.std.specs.Prelude.{◌≢◌, ◌⊎◌}
 use Rattle.log_dictionary.specs.declared.message.Message.{Message}
 use Rattle.nibble_pack.specs.Bytes.{AreBytes, back_bytes}
 use Rattle.arg_records.specs.declared.call.Call.{Call}
 use Rattle.arg_records.specs.Calls.{last_stamp}
 use Rattle.buffer_extent.specs.declared.fault.BodyCause.{BodyCause}
-use Rattle.buffer_extent.specs.declared.fault.BodyCause.TheVariants as causes
-use Rattle.buffer_extent.specs.Reading.{value_at, values_at, start_at, record_at}
+use Rattle.buffer_extent.specs.Reading.{start_at, record_at}
 use Rattle.buffer_extent.specs.Bodies.{IsBody, BodyBreak, IsDamage}
-use Rattle.printf_grammar.specs.declared.arg_type.ArgType.{ArgType}
-use Rattle.printf_grammar.specs.declared.argument.Value.{Value}
-use Rattle.buffer_extent.specs.declared.numbers.Number.{Number}
 use Rattle.buffer_extent.specs.declared.fault.BodyFault.{BodyFault}
 use Rattle.buffer_extent.specs.declared.fault.BodyFault.TheVariants.{Damaged, NoMemory}
-use Rattle.nibble_pack.proofs.lemmas.Parsing.{IsReadSoFar, StandsAt, one_broken}
 use Rattle.arg_records.proofs.lemmas.CallLists.{last_stamp-push}
 use Rattle.buffer_extent.proofs.RecordForms.{record_format, not_started}
 use Rattle.buffer_extent.proofs.lemmas.BodyLaws.{read_or_broken, record_first, first_record, first_read, some_byte, IsBody-not_broken, BodyBreak-unique}
-
--- ---- damage
-
--- where the next value is damaged, so are the values
-pub next_damaged : (types : List ArgType) (numbers : List Number) (bytes : List ℕ) (front : List Value) (place : ℕ) (rest : List ℕ) (type : ArgType) (number : Number) (fault : BodyFault)
-    → IsReadSoFar causes.RecordCut value_at types numbers bytes front place rest → StandsAt causes.RecordCut value_at types numbers place type number
-    → IsDamage (λ cause. value_at type number rest ≡ Err cause) fault → IsDamage (λ cause. values_at types numbers bytes ≡ Err cause) fault
-next_damaged types numbers bytes front place rest type number (Damaged cause) so_far stands broken = one_broken causes.RecordCut value_at types numbers bytes front place rest type number cause so_far stands broken
-next_damaged types numbers bytes front place rest type number NoMemory so_far stands broken = tt
 
 -- ---- reading on
 
@@ -37,6 +23,10 @@ pub record AreReadSoFar (messages : List Message) (tick last : ℕ) (body : List
   pub so_far : (more : List Call) (behind : List ℕ) → IsBody messages before least more behind → IsBody messages tick last (records ++ more) (front ++ behind)
   pub before_is : before ≡ last_stamp tick records
   pub least_is : least ≡ last_stamp last records
+
+-- bytes aren't empty that were tested so
+pub some_left : (bytes : List ℕ) (empty : Bool) → empty ≡ eqb (length bytes) 0 → empty ≡ false → bytes ≡ [] → ⊥
+some_left bytes empty is not none = let clash : true ≡ false = sym (ap (λ (b : List ℕ). eqb (length b) 0) none) ∙ sym is ∙ not in cc
 
 pub none_read : (messages : List Message) (tick last : ℕ) (body : List ℕ) → AreReadSoFar messages tick last body [] tick last body
 none_read messages tick last body = record { front = []; joined = refl; so_far = λ more behind is. is; before_is = refl; least_is = refl }

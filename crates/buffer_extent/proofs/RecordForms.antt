@@ -5,7 +5,6 @@ use Rattle.std.specs.List.{flat_map}
 use Rattle.std.proofs.lemmas.Bool.{le-leb, leb-true, lt-ltb, ltb-true, and_parts, and_from}
 use Rattle.std.proofs.lemmas.Option.{same_Some, slice_get_within, slice_get_cases}
 use Rattle.printf_grammar.specs.declared.arg_type.ArgType.{ArgType}
-use Rattle.printf_grammar.specs.declared.argument.Value.{Value}
 use Rattle.printf_grammar.specs.Types.{Types, Fits, text_of}
 use Rattle.nibble_pack.specs.Bytes.{AreBytes}
 use Rattle.nibble_pack.specs.Packing.{unsigned, Packed}
@@ -22,7 +21,7 @@ use Rattle.buffer_extent.specs.declared.take.RecordHeader.{RecordHeader}
 use Rattle.nibble_pack.specs.Parsing.{Parse, provided}
 use Rattle.arg_records.specs.Frames.{argument_words}
 use Rattle.buffer_extent.specs.Records.{PackedNumber, codes_of, packed_bytes, code_bytes}
-use Rattle.buffer_extent.specs.Reading.{is_code, MayStand, head_codes_at, stamp_at, head_at, words_taken, types_of, start_at, record_at}
+use Rattle.buffer_extent.specs.Reading.{is_code, MayStand, head_codes_at, stamp_at, head_at, words_taken, types_of, start_at, call_of, record_at}
 use Rattle.buffer_extent.specs.Bodies.{SpellsRecord}
 use Rattle.nibble_pack.proofs.lemmas.Formats.{IsFormat, respelled, same_reader, byte_format, then_format, made_format, tested_format, checked_format, provided_format, passed_format, SpellEach}
 use Rattle.buffer_extent.proofs.PackedNumbers.{unsigned_format}
@@ -168,9 +167,6 @@ five_parts head a b c d e = simp append_assoc refl
 -- a record that keeps the rules, whose stamp isn't below the least
 abbrev pub SpellRecord : List Message → ℕ → ℕ → Call → List ℕ → Type 0
 SpellRecord messages before least call front = SpellsRecord messages before call front × IsCall messages call × (least ≤ call.stamp)
-
-abbrev call_of : RecordHeader → List Value → Call
-call_of head args = record { stamp = head.stamp; id = head.id; args = args }
 
 pub record_format : (messages : List Message) (before least : ℕ) → IsFormat causes.RecordCut (SpellRecord messages before least) (record_at messages before least)
 record_format messages before least =

@@ -1,5 +1,5 @@
 -- The body of an extent: records that stand one behind the other.
-use Rattle.std.specs.Prelude.{◌≡◌, ◌≢◌, ℕ, zero, suc, List, [], ◌∷◌, ◌++◌, length, Some, Result, Ok, Err, slice_get, ⊤}
+use Rattle.std.specs.Prelude.{◌≡◌, ◌≢◌, ℕ, zero, suc, ◌≤◌, List, [], ◌∷◌, ◌++◌, length, Some, Result, Ok, Err, slice_get, ⊤}
 use Rattle.std.specs.List.{AllByRecursion}
 use Rattle.printf_grammar.specs.Types.{Types}
 use Rattle.log_dictionary.specs.declared.message.Message.{Message}
@@ -43,6 +43,18 @@ pub record BodyBreak (messages : List Message) (tick last : ℕ) (body : List �
   pub whole : IsBody messages tick last records front
   pub more : rest ≢ []
   pub breaks : record_at messages (last_stamp tick records) (last_stamp last records) rest ≡ Err cause
+
+-- The bytes are a record's, and behind it a body of the others. The record is read again whatever stands behind it, and
+-- where more messages came: the least stamp may be any that isn't above its own, as the one before.
+pub record BeginsWith (messages : List Message) (before : ℕ) (call : Call) (others : List Call)
+    (bytes : List ℕ) : Type 0 where
+  pub front : List ℕ
+  pub back : List ℕ
+  pub joined : bytes ≡ front ++ back
+  pub not_before : before ≤ call.stamp
+  pub again : (more : List Message) (least : ℕ) (rest : List ℕ) → least ≤ call.stamp
+      → record_at (messages ++ more) before least (front ++ rest) ≡ Ok (call, rest)
+  pub behind : IsBody messages call.stamp call.stamp others back
 
 -- ---- bodies as they are read
 

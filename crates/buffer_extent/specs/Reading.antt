@@ -203,9 +203,13 @@ start_at messages before least bytes = do
   provided (nat_le (2 + words_taken (types_of (slice_get messages head.0.id)) given.0) MAX_FRAME_WORDS) causes.TooLong
       ((head.0, given.0), given.1)
 
+-- the call of a record that begins so and has these arguments
+abbrev pub call_of : RecordHeader → List Value → Call
+call_of head args = record { stamp = head.stamp; id = head.id; args = args }
+
 -- a record; its step counts from the stamp before, and its stamp isn't below the least
 abbrev pub record_at : List Message → ℕ → ℕ → List ℕ → Parse BodyCause Call
 record_at messages before least bytes = do
   start ← start_at messages before least bytes
   args ← values_at (types_of (slice_get messages start.0.0.id)) start.0.1 start.1
-  Ok (record { stamp = start.0.0.stamp; id = start.0.0.id; args = args.0 }, args.1)
+  Ok (call_of start.0.0 args.0, args.1)

@@ -4,7 +4,6 @@ use Rattle.printf_grammar.specs.declared.arg_type.ArgType.{ArgType}
 use Rattle.printf_grammar.specs.Types.{Types}
 use Rattle.log_dictionary.specs.declared.message.Message.{Message}
 use Rattle.buffer_extent.specs.declared.fault.BodyCause.{BodyCause}
-use Rattle.buffer_extent.specs.declared.fault.BodyCause.TheVariants as causes
 use Rattle.buffer_extent.specs.Reading.{record_at}
 
 -- The bytes are no record of the one message, which takes arguments of these types: the step counts from 1000, and no

@@ -21,9 +21,9 @@ pub(crate) struct HeadCodes {
 
 /// What a record begins with.
 #[derive(Clone, Copy)]
-pub(crate) struct RecordHeader {
-    pub(crate) id: u32,
-    pub(crate) stamp: u64,
+pub struct RecordHeader {
+    pub id: u32,
+    pub stamp: u64,
 }
 
 /// The codes of the id and of the step, which stand in one byte.

@@ -1,7 +1,9 @@
 -- A body is one list of records, or it breaks by one cause.
-use Rattle.std.proofs.Common.{◌≡◌, inl, inr, ℕ, zero, suc, ◌<◌, ◌≤◌, true, List, [], ◌∷◌, ◌++◌, length, Ok, Err, refl, sym, ap, subst, ◌∙◌, append_assoc, append-nil, arith}
-use Rattle.std.specs.Prelude.{◌≢◌, ◌⊎◌}
+use Rattle.std.proofs.Common.{◌≡◌, inl, inr, ℕ, zero, suc, ◌<◌, ◌≤◌, true, List, [], ◌∷◌, ◌++◌, length, Some, Ok, Err, refl, sym, ap, subst, ◌∙◌, append_assoc, append-nil, arith}
+use Rattle.std.specs.Prelude.{◌≢◌, ◌⊎◌, slice_get}
+use Rattle.std.proofs.Math.ListN.{get_or-append}
 use Rattle.std.proofs.lemmas.List.{length-append}
+use Rattle.std.proofs.lemmas.Option.{slice_get_within, slice_get-get_or, get_or_from_slice_get}
 use Rattle.log_dictionary.specs.declared.message.Message.{Message}
 use Rattle.nibble_pack.specs.Bytes.{AreBytes, back_bytes}
 use Rattle.arg_records.specs.declared.call.Call.{Call}
@@ -10,7 +12,7 @@ use Rattle.buffer_extent.specs.declared.fault.BodyCause.{BodyCause}
 use Rattle.buffer_extent.specs.declared.fault.BodyCause.TheVariants as causes
 use Rattle.nibble_pack.specs.Parsing.{Parse}
 use Rattle.buffer_extent.specs.Reading.{record_at}
-use Rattle.buffer_extent.specs.Bodies.{SpellsRecord, IsBody, BodyBreak, records_to_end, body_at}
+use Rattle.buffer_extent.specs.Bodies.{SpellsRecord, IsBody, BodyBreak, BeginsWith, records_to_end, body_at}
 use Rattle.nibble_pack.proofs.lemmas.Parsing.{given}
 use Rattle.nibble_pack.proofs.lemmas.Formats.{BeginWith, one_reading, one_spelling}
 use Rattle.buffer_extent.proofs.RecordForms.{SpellRecord, record_format}
@@ -177,3 +179,42 @@ body_taken messages tick last records body are_bytes read = elim (body_or_break 
       subst (λ (l : List Call). IsBody messages tick last l body) same is
   | inr (cause, broken) ↦ absurd (let clash = sym read ∙ body_broken messages tick last cause body broken in cc)
 ]
+
+-- ---- read again
+
+-- a message keeps its id where more come
+still_known : (messages more : List Message) (id : ℕ) (message : Message) → slice_get messages id ≡ Some message → slice_get (messages ++ more) id ≡ Some message
+still_known messages more id message known =
+    let within = slice_get_within messages id message known in
+    slice_get-get_or (messages ++ more) id message (omega (arith, within, length-append messages more))
+    ∙ ap Some (get_or-append messages more message id within ∙ get_or_from_slice_get messages id message message known)
+
+still_record : (messages more : List Message) (before least : ℕ) (call : Call) (front : List ℕ) → SpellRecord messages before least call front → SpellRecord (messages ++ more) before least call front
+still_record messages more before least call front (spelled, right, rises) = (
+  record { message = spelled.message; known = still_known messages more call.id spelled.message spelled.known; spelled = spelled.spelled },
+  record { message = right.message; known = still_known messages more call.id right.message right.known; fits = right.fits; short = right.short },
+  rises,
+)
+
+-- a body is the same one where more messages come
+pub still_body : (messages more : List Message) (tick last : ℕ) (records : List Call) (body : List ℕ) → IsBody messages tick last records body → IsBody (messages ++ more) tick last records body
+still_body messages more tick last [] body is = record { spelled = is.spelled; right = tt; rising = tt }
+still_body messages more tick last (call ∷ others) body is =
+    let first = first_record messages tick last call others body is in
+    let here = still_record messages more tick last call first.front first.here in
+    subst (IsBody (messages ++ more) tick last (call ∷ others)) (sym first.parts)
+    (record_first (messages ++ more) tick last call others first.front first.back here (still_body messages more call.stamp call.stamp others first.back first.rest))
+
+-- what a body begins with is read again
+pub begins_with : (messages : List Message) (tick last : ℕ) (call : Call) (others : List Call) (body : List ℕ) → IsBody messages tick last (call ∷ others) body → BeginsWith messages tick call others body
+begins_with messages tick last call others body is =
+    let first = first_record messages tick last call others body is in
+    let (spelled, right, rises) = first.here in
+    record {
+      front = first.front;
+      back = first.back;
+      joined = first.parts;
+      not_before = spelled.spelled.not_before;
+      again = λ more least rest within. (record_format (messages ++ more) tick least).again call first.front rest (still_record messages more tick least call first.front (spelled, right, within));
+      behind = first.rest;
+    }

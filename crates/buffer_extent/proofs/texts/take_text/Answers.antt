@@ -1,5 +1,4 @@
-use Rattle.std.proofs.Common.{refl, sym, subst, ◌∙◌, arith}
-use Rattle.printf_grammar.specs.Types.{IsText}
+use Rattle.std.proofs.Common.{refl, arith}
 use Rattle.buffer_extent.proofs.Arguments.{text_broken, text_found}
 use Rattle.buffer_extent.proofs.texts.take_text.Goals as goal
 
@@ -10,5 +9,5 @@ returns-then-not-takes c =
 
 pub returns : goal.returns
 returns c =
-    text_found c.args.len c.args.bytes.now c.in-Ok.text c.split_at.result.1.now (omega arith) (c.in-Ok.ensures ∙ c.split_at.ensures.front) c.split_at.ensures.back
-    (subst IsText (sym c.in-Ok.ensures) (c.if-not-takes.ensures.0 refl))
+    text_found c.args.len c.args.bytes.now c.split_at.result.0.now c.split_at.result.1.now (omega arith) c.split_at.ensures.front c.split_at.ensures.back
+    (c.if-not-takes.ensures.0 refl)

@@ -3,7 +3,7 @@ use Rattle.std.proofs.lemmas.List.Elements.{All-from_get_or}
 use Rattle.nibble_pack.specs.Bytes.{AreBytes, back_bytes}
 use Rattle.buffer_extent.proofs.Arguments.{coded_format}
 use Rattle.buffer_extent.proofs.RecordForms.{head_format}
-use Rattle.buffer_extent.proofs.body.take_start.Goals as goal
+use Rattle.buffer_extent.proofs.unpack.take_start.Goals as goal
 
 pub is_staged-requires-clause-fit : goal.is_staged-requires-clause-fit
 is_staged-requires-clause-fit c =
