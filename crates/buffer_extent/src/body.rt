@@ -11,6 +11,7 @@ use crate::kept::keep;
 use crate::unpack::{RecordRoom, unpack_record};
 use arg_records::{Call, Calls};
 use log_dictionary::Dictionary;
+use printf_grammar::Values;
 use std::alloc::Global;
 
 /// The record at the front of bytes, kept, and the bytes behind it. It goes by the room.
@@ -34,7 +35,8 @@ fn take_record<'a>(
         Ok(record) => record,
         Err(cause) => return Err(BodyFault::Damaged(cause)),
     };
-    let Ok(args) = keep(alloc, room.args.as_slice()) else {
+    let mut args = Values::make(alloc);
+    let Ok(()) = keep(alloc, room.args.as_slice(), &mut args) else {
         return Err(BodyFault::NoMemory);
     };
     let call = Call {

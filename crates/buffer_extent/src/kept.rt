@@ -1,6 +1,6 @@
 //! Arguments that are kept, each text in memory of its own.
 
-ghost use Rattle.std.specs.Prelude.{◌≡◌, ◌≤◌, length, IfOk};
+ghost use Rattle.std.specs.Prelude.{◌≡◌, ◌≤◌, length, IfOk, OnOk};
 ghost use Rattle.printf_grammar.specs.Types.{argument_value, values_of};
 ghost use Rattle.printf_grammar.specs.declared.limits.TheConstants.{MAX_ARGUMENTS};
 
@@ -32,17 +32,18 @@ fn keep_many(alloc: Global, args: &[Arg]) -> Result<Values, AllocError>
     Ok(values)
 }
 
-/// The arguments of one call, kept. One or two are put together at once.
-pub(crate) fn keep(alloc: Global, args: &[Arg]) -> Result<Values, AllocError>
+/// Sets `values` to the arguments of one call, kept. One or two are put together at once.
+pub(crate) fn keep(alloc: Global, args: &[Arg], values: &mut Values) -> Result<(), AllocError>
     requires { length args.now ≤ MAX_ARGUMENTS }
-    ensures { IfOk result (λ values. values ≡ values_of args.now) }
+    ensures { OnOk result (values.new ≡ values_of args.now) }
 {
     match args {
-        [arg] => Ok(Values::one(alloc, keep_one(alloc, *arg)?)),
+        [arg] => *values = Values::one(alloc, keep_one(alloc, *arg)?),
         [arg, next] => {
             let value = keep_one(alloc, *arg)?;
-            Ok(Values::two(alloc, value, keep_one(alloc, *next)?))
+            *values = Values::two(alloc, value, keep_one(alloc, *next)?);
         }
-        _ => keep_many(alloc, args),
+        _ => *values = keep_many(alloc, args)?,
     }
+    Ok(())
 }
