@@ -1,5 +1,5 @@
 -- Records that are read, and their spellings.
-use Rattle.std.proofs.Common.{◌≡◌, inl, inr, ℕ, ◌+◌, ◌-◌, ◌*◌, ◌/◌, ◌%◌, ◌<◌, ◌≤◌, ◌^◌, Bool, List, [], ◌∷◌, ◌++◌, length, map, Ok, Err, Option, Some, refl, sym, ap, subst, ◌∙◌, append_assoc, append-nil, arith}
+use Rattle.std.proofs.Common.{◌≡◌, inl, inr, ℕ, ◌+◌, ◌-◌, ◌*◌, ◌/◌, ◌%◌, ◌<◌, ◌≤◌, ◌^◌, Bool, List, [], ◌∷◌, ◌++◌, length, map, take, Ok, Err, Option, Some, refl, sym, ap, subst, ◌∙◌, append_assoc, append-nil, arith}
 use Rattle.std.specs.Prelude.{pos, nat_le, nat_lt, slice_get, ◌&&◌, sum_by}
 use Rattle.std.specs.List.{flat_map}
 use Rattle.std.proofs.lemmas.Bool.{le-leb, leb-true, lt-ltb, ltb-true, and_parts, and_from}
@@ -154,10 +154,16 @@ start_format messages before least =
     (start.0, has.front, has.back, has.parts, (has.head, slice_get_within messages start.0.id has.message known, has.rises), (start.1, coded, (short, refl))))
 
 -- the numbers of a start may stand for arguments
-pub start_stands : (messages : List Message) (before least : ℕ) (bytes back : List ℕ) (head : RecordHeader) (numbers : List Number) (message : Message) → AreBytes bytes → start_at messages before least bytes ≡ Ok ((head, numbers), back) → slice_get messages head.id ≡ Some message → MayStand (Types message.format.pieces) numbers
-start_stands messages before least bytes back head numbers message are e known =
-    let (front, parts, has) = (start_format messages before least).taken bytes (head, numbers) back are e in
-    subst (λ (o : Option Message). MayStand (types_of o) numbers) (sym has.known ∙ known) has.coded.2
+pub start_stands : (messages : List Message) (before least : ℕ) (bytes back : List ℕ) (head : RecordHeader) (numbers : List Number) (message : Message) (types : List ArgType)
+    → AreBytes bytes → start_at messages before least bytes ≡ Ok ((head, take (length (types_of (slice_get messages head.id))) numbers), back)
+    → slice_get messages head.id ≡ Some message → types ≡ Types message.format.pieces → MayStand types (take (length types) numbers)
+start_stands messages before least bytes back head numbers message types are e known typed =
+    let (front, parts, has) = (start_format messages before least).taken bytes (head, take (length (types_of (slice_get messages head.id))) numbers) back are e in
+    let same : types_of (slice_get messages head.id) ≡ types = ap types_of known ∙ sym typed in
+    let stands : MayStand (Types message.format.pieces) (take (length (types_of (slice_get messages head.id))) numbers) =
+    subst (λ (o : Option Message). MayStand (types_of o) (take (length (types_of (slice_get messages head.id))) numbers)) (sym has.known ∙ known) has.coded.2 in
+    subst (λ (ts : List ArgType). MayStand types (take (length ts) numbers)) same
+    (subst (λ (ts : List ArgType). MayStand ts (take (length (types_of (slice_get messages head.id))) numbers)) (sym typed) stands)
 
 -- ---- records
 

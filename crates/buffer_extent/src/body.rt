@@ -6,9 +6,9 @@ ghost use Rattle.buffer_extent.specs.declared.fault.BodyCause.{BodyCause};
 ghost use Rattle.buffer_extent.specs.Reading.{start_at, record_at};
 ghost use Rattle.buffer_extent.specs.Bodies.{IsBody, BodyBreak, IsDamage};
 
-use crate::fault::{BodyCause, BodyFault};
-use crate::kept::keep;
-use crate::unpack::{RecordRoom, unpack_record};
+use crate::fault::BodyFault;
+use crate::kept::keep_texts;
+use crate::unpack::{RecordRoom, take_start};
 use arg_records::{Call, Calls};
 use log_dictionary::Dictionary;
 use printf_grammar::Values;
@@ -31,14 +31,11 @@ fn take_record<'a>(
     ensures broken { (cause : BodyCause) → record_at dictionary.now before least bytes.now ≡ Err cause
         → result ≡ Err (BodyFault.Damaged cause) }
 {
-    let (head, rest) = match unpack_record(dictionary, before, least, bytes, room) {
-        Ok(record) => record,
-        Err(cause) => return Err(BodyFault::Damaged(cause)),
-    };
+    let (head, rest) = take_start(dictionary, before, least, bytes, &mut room.numbers)?;
+    let types = dictionary.message(head.id).format.types();
+    let numbers = &room.numbers[..types.len()];
     let mut args = Values::make(alloc);
-    let Ok(()) = keep(alloc, room.args.as_slice(), &mut args) else {
-        return Err(BodyFault::NoMemory);
-    };
+    let rest = keep_texts(alloc, types, numbers, rest, &mut room.args, &mut args)?;
     let call = Call {
         stamp: head.stamp,
         id: head.id,

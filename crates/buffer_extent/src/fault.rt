@@ -2,6 +2,9 @@
 
 ghost use Rattle.std.specs.Prelude.{◌≡◌};
 ghost use Rattle.buffer_extent.specs.Causes.{cause_number, cause_name};
+ghost use Rattle.buffer_extent.specs.declared.fault.BodyFault.TheVariants as faults;
+
+use std::alloc::AllocError;
 
 /// How the bytes of a body break the rules.
 #[derive(Clone, Copy, Debug, PartialEq, Eq)]
@@ -67,4 +70,22 @@ impl BodyCause {
 pub enum BodyFault {
     Damaged(BodyCause),
     NoMemory,
+}
+
+impl From<BodyCause> for BodyFault {
+    ghost from_gives = { λ cause fault. fault ≡ faults.Damaged cause };
+
+    #[inline(always)]
+    fn from(cause: BodyCause) -> BodyFault {
+        BodyFault::Damaged(cause)
+    }
+}
+
+impl From<AllocError> for BodyFault {
+    ghost from_gives = { λ _ fault. fault ≡ faults.NoMemory };
+
+    #[inline(always)]
+    fn from(_error: AllocError) -> BodyFault {
+        BodyFault::NoMemory
+    }
 }

@@ -1,10 +1,17 @@
-//! Arguments that are kept, each text in memory of its own.
+//! The arguments of a record that are kept, each text in memory of its own.
 
-ghost use Rattle.std.specs.Prelude.{◌≡◌, ◌≤◌, length, IfOk, OnOk};
+ghost use Rattle.std.specs.Prelude.{◌≡◌, ◌≤◌, length, IfOk, MatchResult, Ok, Err};
 ghost use Rattle.printf_grammar.specs.Types.{argument_value, values_of};
 ghost use Rattle.printf_grammar.specs.declared.limits.TheConstants.{MAX_ARGUMENTS};
+ghost use Rattle.buffer_extent.specs.declared.fault.BodyCause.{BodyCause};
+ghost use Rattle.buffer_extent.specs.Reading.{MayStand, values_at};
+ghost use Rattle.buffer_extent.specs.Bodies.{IsDamage};
 
-use printf_grammar::{Arg, Bytes, Value, Values};
+use crate::fault::BodyFault;
+use crate::numbers::Number;
+use crate::texts::{take_texts, take_value};
+use arrayvec::ArrayVec;
+use printf_grammar::{Arg, ArgType, Bytes, MAX_ARGUMENTS, Value, Values};
 use std::alloc::{AllocError, Global};
 
 /// The argument, kept.
@@ -32,18 +39,43 @@ fn keep_many(alloc: Global, args: &[Arg]) -> Result<Values, AllocError>
     Ok(values)
 }
 
-/// Sets `values` to the arguments of one call, kept. One or two are put together at once.
-pub(crate) fn keep(alloc: Global, args: &[Arg], values: &mut Values) -> Result<(), AllocError>
-    requires { length args.now ≤ MAX_ARGUMENTS }
-    ensures { OnOk result (values.new ≡ values_of args.now) }
+/// Sets `values` to the arguments of the types that the numbers stand for, kept, and gives the bytes behind them. One or
+/// two are put together at once, and more go by the room.
+pub(crate) fn keep_texts<'a>(
+    alloc: Global,
+    types: &[ArgType],
+    numbers: &[Number],
+    bytes: &'a [u8],
+    room: &mut ArrayVec<Arg<'a>, MAX_ARGUMENTS>,
+    values: &mut Values,
+) -> Result<&'a [u8], BodyFault>
+    requires few { length types.now ≤ MAX_ARGUMENTS }
+    requires fit { MayStand types.now numbers.now }
+    ensures kept { MatchResult result
+        (λ rest. values_at types.now numbers.now bytes.now ≡ Ok (values.new, rest.now))
+        (IsDamage (λ cause. values_at types.now numbers.now bytes.now ≡ Err cause)) }
+
+    // All texts are judged before any memory is wanted.
+    ensures broken { (cause : BodyCause) → values_at types.now numbers.now bytes.now ≡ Err cause
+        → result ≡ Err (BodyFault.Damaged cause) }
 {
-    match args {
-        [arg] => *values = Values::one(alloc, keep_one(alloc, *arg)?),
-        [arg, next] => {
-            let value = keep_one(alloc, *arg)?;
-            *values = Values::two(alloc, value, keep_one(alloc, *next)?);
+    match (types, numbers) {
+        ([kind], [number]) => {
+            let (arg, rest) = take_value(*kind, *number, bytes)?;
+            *values = Values::one(alloc, keep_one(alloc, arg)?);
+            Ok(rest)
         }
-        _ => *values = keep_many(alloc, args)?,
+        ([kind, next_kind], [number, next_number]) => {
+            let (arg, rest) = take_value(*kind, *number, bytes)?;
+            let (next, rest) = take_value(*next_kind, *next_number, rest)?;
+            let value = keep_one(alloc, arg)?;
+            *values = Values::two(alloc, value, keep_one(alloc, next)?);
+            Ok(rest)
+        }
+        _ => {
+            let rest = take_texts(types, numbers, bytes, room)?;
+            *values = keep_many(alloc, room.as_slice())?;
+            Ok(rest)
+        }
     }
-    Ok(())
 }

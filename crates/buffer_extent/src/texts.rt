@@ -30,7 +30,11 @@ fn take_text(len: usize, bytes: &[u8]) -> Result<(&[u8], &[u8]), BodyCause>
 
 /// The argument of the type that the number stands for.
 #[inline(always)]
-fn take_value(kind: ArgType, number: Number, bytes: &[u8]) -> Result<(Arg<'_>, &[u8]), BodyCause>
+pub(crate) fn take_value(
+    kind: ArgType,
+    number: Number,
+    bytes: &[u8],
+) -> Result<(Arg<'_>, &[u8]), BodyCause>
     requires { IsTrue (may_stand kind number) }
     ensures { MatchResult result
         (λ pair. value_at kind number bytes.now ≡ Ok (argument_value pair.0, pair.1.now))

@@ -17,7 +17,7 @@ use printf_grammar::{Arg, MAX_ARGUMENTS};
 pub struct RecordRoom<'a> {
     /// The arguments of the record that was unpacked last. Their texts lie in its bytes.
     pub args: ArrayVec<Arg<'a>, MAX_ARGUMENTS>,
-    numbers: [Number; MAX_ARGUMENTS],
+    pub(crate) numbers: [Number; MAX_ARGUMENTS],
 }
 
 impl RecordRoom<'_> {
@@ -34,7 +34,7 @@ impl RecordRoom<'_> {
 
 /// What a record has in front of its texts. Its step counts from `before`, and its stamp isn't below
 /// `least`. The frame of the call that it is of isn't too long.
-fn take_start<'a>(
+pub(crate) fn take_start<'a>(
     dictionary: &Dictionary,
     before: u64,
     least: u64,
