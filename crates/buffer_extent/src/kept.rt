@@ -9,7 +9,7 @@ ghost use Rattle.buffer_extent.specs.Bodies.{IsDamage};
 
 use crate::fault::BodyFault;
 use crate::numbers::Number;
-use crate::texts::{take_texts, take_value};
+use crate::texts::{take_many, take_value};
 use arrayvec::ArrayVec;
 use printf_grammar::{Arg, ArgType, Bytes, MAX_ARGUMENTS, Value, Values};
 use std::alloc::{AllocError, Global};
@@ -39,7 +39,7 @@ fn keep_many(alloc: Global, args: &[Arg]) -> Result<Values, AllocError>
     Ok(values)
 }
 
-/// Sets `values` to the arguments of the types that the numbers stand for, kept, and gives the bytes behind them. One or
+/// Sets `values` to the arguments of the types that the numbers stand for, kept, and gives the bytes behind them. Up to
 /// two are put together at once, and more go by the room.
 pub(crate) fn keep_texts<'a>(
     alloc: Global,
@@ -60,6 +60,10 @@ pub(crate) fn keep_texts<'a>(
         → result ≡ Err (BodyFault.Damaged cause) }
 {
     match (types, numbers) {
+        ([], []) => {
+            *values = Values::make(alloc);
+            Ok(bytes)
+        }
         ([kind], [number]) => {
             let (arg, rest) = take_value(*kind, *number, bytes)?;
             *values = Values::one(alloc, keep_one(alloc, arg)?);
@@ -73,7 +77,8 @@ pub(crate) fn keep_texts<'a>(
             Ok(rest)
         }
         _ => {
-            let rest = take_texts(types, numbers, bytes, room)?;
+            room.clear();
+            let rest = take_many(types, numbers, bytes, room)?;
             *values = keep_many(alloc, room.as_slice())?;
             Ok(rest)
         }

@@ -159,6 +159,7 @@ pub(crate) fn are_codes(types: &[ArgType], codes: &[u8]) -> bool
 }
 
 /// The numbers that stand for arguments of the types, whose codes stand in bytes of their own.
+#[inline(always)]
 pub(crate) fn take_numbers<'a>(
     types: &[ArgType],
     codes: &[u8],

@@ -108,6 +108,7 @@ fn split_codes(types: usize, bytes: &[u8]) -> Result<(&[u8], &[u8]), BodyCause>
 }
 
 /// The numbers that stand for arguments of the types, with their codes in front.
+#[inline(always)]
 pub(crate) fn take_coded_numbers<'a>(
     types: &[ArgType],
     bytes: &'a [u8],

@@ -54,7 +54,7 @@ pub(crate) fn take_value(
 
 /// Puts the arguments of any number of types that the numbers stand for.
 #[inline(never)]
-fn take_many<'a>(
+pub(crate) fn take_many<'a>(
     types: &[ArgType],
     numbers: &[Number],
     bytes: &'a [u8],

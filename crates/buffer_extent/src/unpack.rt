@@ -34,6 +34,7 @@ impl RecordRoom<'_> {
 
 /// What a record has in front of its texts. Its step counts from `before`, and its stamp isn't below
 /// `least`. The frame of the call that it is of isn't too long.
+#[inline(always)]
 pub(crate) fn take_start<'a>(
     dictionary: &Dictionary,
     before: u64,
