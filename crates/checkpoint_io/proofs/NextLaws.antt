@@ -1,6 +1,6 @@
 -- Blocks that are read from a source.
 use Rattle.std.proofs.Common.{◌≡◌, ℕ, zero, suc, ◌-◌, ◌<◌, ◌≤◌, ◌^◌, Bool, List, [], ◌∷◌, ◌++◌, length, take, drop, Some, None, Result, Ok, Err, true, refl, sym, ap, subst, ◌∙◌, append_assoc, eq-eqb, arith}
-use Rattle.std.specs.Prelude.{IfSome, MatchResult, not}
+use Rattle.std.specs.Prelude.{IfSome, MatchResult, not, if◌then◌else◌}
 use Rattle.std.proofs.lemmas.Bool.{le-leb}
 use Rattle.std.proofs.lemmas.List.{length-append, length-take-le, take-append-drop, append-nil, append_cancel_right}
 use Rattle.std.proofs.lemmas.List.Elements.{All-nil, All-take}
@@ -8,7 +8,9 @@ use Rattle.nibble_pack.specs.Bytes.{AreBytes}
 use Rattle.nibble_pack.specs.Parsing.{◌>>=◌, provided, caused_by, first_byte, low_first}
 use Rattle.nibble_pack.proofs.lemmas.Parsing.{so_many_again}
 use Rattle.nl_io.specs.Content.{Told, IsAtEnd}
+use Rattle.log_dictionary.specs.declared.clock.Clock.{Clock}
 use Rattle.log_dictionary.specs.declared.message.Message.{Message}
+use Rattle.log_dictionary.specs.Clocks.{last_tick}
 use Rattle.log_dictionary.specs.declared.binary_entry.EntryCause.TheVariants as entries
 use Rattle.log_dictionary.specs.Messages.{HasMessage}
 use Rattle.log_dictionary.specs.EntryReading.{entry_at}
@@ -26,18 +28,20 @@ use Rattle.checkpoint_io.specs.declared.header.Header.{Header}
 use Rattle.checkpoint_io.specs.declared.writers.WriterState.{WriterState}
 use Rattle.checkpoint_io.specs.declared.block.Block.{Block as ReadBlock}
 use Rattle.checkpoint_io.specs.declared.block.Block.TheVariants as read
-use Rattle.checkpoint_io.specs.Blocks.{Block, Fragment, Extent, Close, messages_of}
-use Rattle.checkpoint_io.specs.Versions.{most_body}
+use Rattle.checkpoint_io.specs.Blocks.{Block, Fragment, Extent, NewClock, Close, messages_of}
+use Rattle.checkpoint_io.specs.Versions.{has_clocks, most_body}
 use Rattle.checkpoint_io.specs.Validity.{records_of, last_stamp}
-use Rattle.checkpoint_io.specs.Reading.{entry_cause, message_at, new_message_at, new_messages_at, is_count, counted_at, open_writer_at, sized_body_at, long_body_at, writer_records_at, fragment_at, extent_at, close_at, tagged_at, block_at}
+use Rattle.checkpoint_io.specs.Reading.{entry_cause, message_at, new_message_at, new_messages_at, is_count, counted_at, open_writer_at, sized_body_at, long_body_at, writer_records_at, fragment_at, extent_at, next_clock_at, new_clock_at, close_at, tagged_at, block_at}
 use Rattle.checkpoint_io.specs.Places.{UnreadBytes, LogPlace, with_front, log_place, further, StandsBetween, IsNoDamage, Refuses, ReadsAs}
 use Rattle.checkpoint_io.specs.Entries.{TakesMessage, TakesMessages, TakesFragment}
 use Rattle.checkpoint_io.specs.Writers.{AreStatesOf}
-use Rattle.checkpoint_io.specs.NextBlocks.{TakesClose, TakesExtent, TakesBlock}
+use Rattle.checkpoint_io.specs.Times.{TimeState, AreTimesOf}
+use Rattle.checkpoint_io.specs.NextBlocks.{TakesClose, TakesExtent, times_behind, TakesBlock}
 use Rattle.checkpoint_io.proofs.lemmas.ValidityLaws.{messages-push}
-use Rattle.checkpoint_io.proofs.ReadingForms.{new_by_test}
+use Rattle.checkpoint_io.proofs.ReadingForms.{new_by_test, clock_taken}
 use Rattle.checkpoint_io.proofs.StepLaws.{front_taken, of_all, of_behind, stands_then, stands_last, refused_then, refused_first, answers_then}
 use Rattle.checkpoint_io.proofs.WriterLaws.{states_kept}
+use Rattle.checkpoint_io.proofs.TimeLaws.{times_kept, times_with_clock}
 
 -- ---- messages
 
@@ -135,15 +139,15 @@ messages_refused before (suc count) from left fault some refused = refused_first
 
 -- ---- bodies
 
-pub body_stands : (messages : List Message) (tick last len : ℕ) (entries : List Call) (from mid to : UnreadBytes) (left behind : Told) → AreBytes (take len mid.bytes) → with_front mid.bytes behind ≡ with_front from.bytes left → mid.offset ≡ from.offset → len ≤ length mid.bytes → IsBody messages tick last entries (take len mid.bytes) → to.bytes ≡ drop len mid.bytes → to.offset ≡ further mid.offset len
-    → StandsBetween (sized_body_at messages tick last len) entries (log_place from left) (log_place to behind)
-body_stands messages tick last len entries from mid to left behind small same start long is moved offset =
+pub body_stands : (messages : List Message) (tick last len : ℕ) (records : List Call) (from mid to : UnreadBytes) (left behind : Told) → AreBytes (take len mid.bytes) → with_front mid.bytes behind ≡ with_front from.bytes left → mid.offset ≡ from.offset → len ≤ length mid.bytes → IsBody messages tick last records (take len mid.bytes) → to.bytes ≡ drop len mid.bytes → to.offset ≡ further mid.offset len
+    → StandsBetween (sized_body_at messages tick last len) records (log_place from left) (log_place to behind)
+body_stands messages tick last len records from mid to left behind small same start long is moved offset =
     let body = take len mid.bytes in
     let whole : length body ≡ len = length-take-le len mid.bytes long in
     record {
       front = body;
       passes = front_taken body len from mid to left behind same start refl whole small moved offset;
-      found = λ rest. rw (so_many_again len causes.Cut body rest whole, body_again messages tick last entries body is) refl;
+      found = λ rest. rw (so_many_again len causes.Cut body rest whole, body_again messages tick last records body is) refl;
     }
 
 pub body_refused : (messages : List Message) (tick last len : ℕ) (cause : BodyCause) (from mid : UnreadBytes) (left behind : Told) → with_front mid.bytes behind ≡ with_front from.bytes left → len ≤ length mid.bytes → BodyBreak messages tick last (take len mid.bytes) cause → Refuses (sized_body_at messages tick last len) (log_place from left) behind (Damaged (causes.Body cause))
@@ -158,9 +162,9 @@ body_refused messages tick last len cause from mid left behind same long breaks 
 
 -- ---- blocks
 
-pub fragment_block : (r : Result ReadBlock BlockFault) (header : Header) (before : List Block) (defined after : List Message) (states : List WriterState) (tag : ℕ) (from mid to : LogPlace) (left : Told) → tag ≡ 1 → defined ≡ messages_of before → AreStatesOf states header before → StandsBetween (first_byte causes.Cut) tag from mid
-    → MatchResult r (λ block. TakesFragment defined block after mid to) (Refuses (fragment_at defined) mid left) → MatchResult r (λ block. TakesBlock header before block after states from to) (Refuses (block_at header before) from left)
-fragment_block (Ok told) header before defined after states tag from mid to left is known are stands takes =
+pub fragment_block : (r : Result ReadBlock BlockFault) (header : Header) (before : List Block) (defined after : List Message) (states : List WriterState) (times : TimeState) (tag : ℕ) (from mid to : LogPlace) (left : Told) → tag ≡ 1 → defined ≡ messages_of before → AreStatesOf states header before → AreTimesOf times header before → StandsBetween (first_byte causes.Cut) tag from mid
+    → MatchResult r (λ block. TakesFragment defined block after mid to) (Refuses (fragment_at defined) mid left) → MatchResult r (λ block. TakesBlock header before block after states times from to) (Refuses (block_at header before) from left)
+fragment_block (Ok told) header before defined after states times tag from mid to left is known are times_are stands takes =
     let block = Fragment takes.first takes.messages in
     let behind : StandsBetween (fragment_at (messages_of before)) block mid to = subst (λ (m : List Message). StandsBetween (fragment_at m) block mid to) known takes.takes in
     record {
@@ -169,24 +173,26 @@ fragment_block (Ok told) header before defined after states tag from mid to left
       takes = stands_then (first_byte causes.Cut) _ tag block from mid to stands (subst (λ (t : ℕ). StandsBetween (tagged_at header before t) block mid to) (sym is) behind);
       defined = takes.added ∙ ap (λ (m : List Message). m ++ takes.messages) known ∙ sym (messages-push before block);
       states = states_kept states header before block (λ writer. refl) (λ writer. refl) are;
+      times_are = subst (λ (b : ReadBlock). AreTimesOf (times_behind b times) header (before ++ block ∷ [])) (sym takes.is) (times_kept times header before block refl refl times_are);
     }
-fragment_block (Err fault) header before defined after states tag from mid to left is known are stands refused =
+fragment_block (Err fault) header before defined after states times tag from mid to left is known are times_are stands refused =
     let behind : Refuses (fragment_at (messages_of before)) mid left fault = subst (λ (m : List Message). Refuses (fragment_at m) mid left fault) known refused in
     refused_then (first_byte causes.Cut) _ tag from mid left fault stands (subst (λ (t : ℕ). Refuses (tagged_at header before t) mid left fault) (sym is) behind)
 
-pub extent_block : (header : Header) (before : List Block) (defined : List Message) (writer : ℕ) (entries : List Call) (after : List WriterState) (tag : ℕ) (from mid to : LogPlace) → tag ≡ 2 → defined ≡ messages_of before → StandsBetween (first_byte causes.Cut) tag from mid → TakesExtent header before writer entries after mid to → TakesBlock header before (read.Extent writer entries) defined after from to
-extent_block header before defined writer entries after tag from mid to is known stands takes =
-    let block = Extent writer entries in
+pub extent_block : (header : Header) (before : List Block) (defined : List Message) (writer : ℕ) (records : List Call) (after : List WriterState) (times : TimeState) (tag : ℕ) (from mid to : LogPlace) → tag ≡ 2 → defined ≡ messages_of before → AreTimesOf times header (before ++ Extent writer records ∷ []) → StandsBetween (first_byte causes.Cut) tag from mid → TakesExtent header before writer records after mid to → TakesBlock header before (read.Extent writer records) defined after times from to
+extent_block header before defined writer records after times tag from mid to is known times_are stands takes =
+    let block = Extent writer records in
     record {
       block = block;
       tells = refl;
       takes = stands_then (first_byte causes.Cut) _ tag block from mid to stands (subst (λ (t : ℕ). StandsBetween (tagged_at header before t) block mid to) (sym is) takes.takes);
       defined = known ∙ sym (messages-push before block ∙ append-nil (messages_of before));
       states = takes.states;
+      times_are = times_are;
     }
 
-pub close_block : (header : Header) (before : List Block) (defined : List Message) (writer : ℕ) (after : List WriterState) (tag : ℕ) (from mid to : LogPlace) → tag ≡ 4 → defined ≡ messages_of before → StandsBetween (first_byte causes.Cut) tag from mid → TakesClose header before writer after mid to → TakesBlock header before (read.Closed writer) defined after from to
-close_block header before defined writer after tag from mid to is known stands takes =
+pub close_block : (header : Header) (before : List Block) (defined : List Message) (writer : ℕ) (after : List WriterState) (times : TimeState) (tag : ℕ) (from mid to : LogPlace) → tag ≡ 4 → defined ≡ messages_of before → AreTimesOf times header before → StandsBetween (first_byte causes.Cut) tag from mid → TakesClose header before writer after mid to → TakesBlock header before (read.Closed writer) defined after times from to
+close_block header before defined writer after times tag from mid to is known times_are stands takes =
     let block = Close writer in
     record {
       block = block;
@@ -194,7 +200,30 @@ close_block header before defined writer after tag from mid to is known stands t
       takes = stands_then (first_byte causes.Cut) _ tag block from mid to stands (subst (λ (t : ℕ). StandsBetween (tagged_at header before t) block mid to) (sym is) takes.takes);
       defined = known ∙ sym (messages-push before block ∙ append-nil (messages_of before));
       states = takes.states;
+      times_are = times_kept times header before block refl refl times_are;
     }
+
+-- a clock, in a version that has them
+pub clock_block : (header : Header) (before : List Block) (defined : List Message) (clock : Clock) (states : List WriterState) (times : TimeState) (tag : ℕ) (from mid to : LogPlace) → tag ≡ 3 → has_clocks header.version ≡ true → defined ≡ messages_of before → AreStatesOf states header before → AreTimesOf times header before → StandsBetween (first_byte causes.Cut) tag from mid → StandsBetween (next_clock_at header before) clock mid to → TakesBlock header before (read.Clock clock) defined states times from to
+clock_block header before defined clock states times tag from mid to is has known are times_are stands takes =
+    let block = NewClock clock in
+    let here : StandsBetween (new_clock_at header before) block mid to = stands_last (next_clock_at header before) _ clock block mid to takes (λ rest. refl) in
+    let behind : StandsBetween (tagged_at header before 3) block mid to = subst (λ (b : Bool). StandsBetween (λ bytes. if b then new_clock_at header before bytes else Err causes.BadBlock) block mid to) (sym has) here in
+    let right = clock_taken header before takes.front clock [] takes.passes.small (ap (next_clock_at header before) (sym (append-nil takes.front)) ∙ takes.found []) in
+    record {
+      block = block;
+      tells = refl;
+      takes = stands_then (first_byte causes.Cut) _ tag block from mid to stands (subst (λ (t : ℕ). StandsBetween (tagged_at header before t) block mid to) (sym is) behind);
+      defined = known ∙ sym (messages-push before block ∙ append-nil (messages_of before));
+      states = states_kept states header before block (λ writer. refl) (λ writer. refl) are;
+      times_are = times_with_clock times header before clock (subst (λ (l : List Clock). last_tick l < clock.tick) (sym times_are.clocks_are) right.rising) times_are;
+    }
+
+pub clock_refused : (header : Header) (before : List Block) (tag : ℕ) (from mid : LogPlace) (left : Told) (fault : BlockFault) → tag ≡ 3 → has_clocks header.version ≡ true → StandsBetween (first_byte causes.Cut) tag from mid → Refuses (next_clock_at header before) mid left fault → Refuses (block_at header before) from left fault
+clock_refused header before tag from mid left fault is has stands refused =
+    let here : Refuses (new_clock_at header before) mid left fault = refused_first (next_clock_at header before) _ mid left fault refused in
+    let behind : Refuses (tagged_at header before 3) mid left fault = subst (λ (b : Bool). Refuses (λ bytes. if b then new_clock_at header before bytes else Err causes.BadBlock) mid left fault) (sym has) here in
+    refused_then (first_byte causes.Cut) _ tag from mid left fault stands (subst (λ (t : ℕ). Refuses (tagged_at header before t) mid left fault) (sym is) behind)
 
 -- what is refused behind a tag
 pub refused_behind : (header : Header) (before : List Block) (tag same : ℕ) (from mid : LogPlace) (left : Told) (fault : BlockFault) → tag ≡ same → StandsBetween (first_byte causes.Cut) tag from mid → Refuses (tagged_at header before same) mid left fault → Refuses (block_at header before) from left fault
@@ -212,10 +241,10 @@ long_body_answer r messages header last len from mid to left some short stands a
 same_body : (header : Header) (before : List Block) (messages : List Message) (last writer : ℕ) → messages ≡ messages_of before → last ≡ last_stamp header.clock.tick (records_of writer before) → (rest : List ℕ) → writer_records_at header before writer rest ≡ long_body_at messages header last rest
 same_body header before messages last writer known stamp rest = λ t. long_body_at (sym known t) header (sym stamp t) rest
 
-pub extent_stands : (header : Header) (before : List Block) (messages : List Message) (last writer : ℕ) (entries : List Call) (from mid to : LogPlace) → messages ≡ messages_of before → last ≡ last_stamp header.clock.tick (records_of writer before) → StandsBetween (open_writer_at header before) writer from mid → StandsBetween (long_body_at messages header last) entries mid to → StandsBetween (extent_at header before) (Extent writer entries) from to
-extent_stands header before messages last writer entries from mid to known stamp writers records =
-    let own : StandsBetween (writer_records_at header before writer) entries mid to = record { front = records.front; passes = records.passes; found = λ rest. same_body header before messages last writer known stamp (records.front ++ rest) ∙ records.found rest } in
-    stands_then (open_writer_at header before) _ writer (Extent writer entries) from mid to writers (stands_last (writer_records_at header before writer) _ entries (Extent writer entries) mid to own (λ rest. refl))
+pub extent_stands : (header : Header) (before : List Block) (messages : List Message) (last writer : ℕ) (records : List Call) (from mid to : LogPlace) → messages ≡ messages_of before → last ≡ last_stamp header.clock.tick (records_of writer before) → StandsBetween (open_writer_at header before) writer from mid → StandsBetween (long_body_at messages header last) records mid to → StandsBetween (extent_at header before) (Extent writer records) from to
+extent_stands header before messages last writer records from mid to known stamp writers body =
+    let own : StandsBetween (writer_records_at header before writer) records mid to = record { front = body.front; passes = body.passes; found = λ rest. same_body header before messages last writer known stamp (body.front ++ rest) ∙ body.found rest } in
+    stands_then (open_writer_at header before) _ writer (Extent writer records) from mid to writers (stands_last (writer_records_at header before writer) _ records (Extent writer records) mid to own (λ rest. refl))
 
 -- where the writer is refused
 pub writer_refused : (header : Header) (before : List Block) (from : LogPlace) (left : Told) (fault : BlockFault) → Refuses (open_writer_at header before) from left fault → Refuses (extent_at header before) from left fault

@@ -6,7 +6,9 @@ use Rattle.std.proofs.lemmas.Bool.{cases_lt}
 use Rattle.std.proofs.lemmas.Bool.Decides.{eqb_tells}
 use Rattle.std.proofs.lemmas.List.{append-nil, length-append}
 use Rattle.nl_io.specs.Content.{Told, IsAtEnd}
+use Rattle.log_dictionary.specs.declared.clock.Clock.{Clock}
 use Rattle.log_dictionary.specs.declared.message.Message.{Message}
+use Rattle.log_dictionary.specs.Clocks.{last_tick}
 use Rattle.checkpoint_io.specs.declared.cause.Cause.{Cause}
 use Rattle.checkpoint_io.specs.declared.cause.Cause.TheVariants as causes
 use Rattle.checkpoint_io.specs.declared.fault.BlockFault.{BlockFault}
@@ -14,14 +16,15 @@ use Rattle.checkpoint_io.specs.declared.fault.BlockFault.TheVariants.{Damaged, R
 use Rattle.checkpoint_io.specs.declared.header.Header.{Header}
 use Rattle.checkpoint_io.specs.declared.writers.WriterState.{WriterState}
 use Rattle.checkpoint_io.specs.declared.block.Block.{Block as ReadBlock}
-use Rattle.checkpoint_io.specs.Blocks.{Block, Fragment, Extent, Close, messages_of, SpellsBlock, FileOf}
+use Rattle.checkpoint_io.specs.Blocks.{Block, Fragment, Extent, NewClock, Close, messages_of, clocks_of, SpellsBlock, FileOf}
 use Rattle.checkpoint_io.specs.Validity.{closes, IsRightAfter, AreRightAfter, Valid}
 use Rattle.checkpoint_io.specs.Reading.{block_at}
 use Rattle.checkpoint_io.specs.Fronts.{Break, at_block, IsCutAt}
 use Rattle.checkpoint_io.specs.Places.{UnreadBytes, LogPlace, with_front, log_place, StandsBetween, TookSuch, Refuses, TookFewer}
 use Rattle.checkpoint_io.specs.Writers.{closed_kept, AreStatesOf}
+use Rattle.checkpoint_io.specs.Times.{TimeState, AreTimesOf}
 use Rattle.checkpoint_io.specs.Readers.{ReaderState, StandsFor}
-use Rattle.checkpoint_io.specs.NextBlocks.{TakesBlock, TakesNext, EndsThere, StopsAt}
+use Rattle.checkpoint_io.specs.NextBlocks.{Describes, times_behind, MayCount, TakesBlock, TakesNext, EndsThere, StopsAt}
 use Rattle.checkpoint_io.proofs.lemmas.FileLaws.{with_front-both}
 use Rattle.checkpoint_io.proofs.lemmas.FrontLaws.{file_goes_on}
 use Rattle.checkpoint_io.proofs.lemmas.ValidityLaws.{goes_on, messages_differ}
@@ -38,9 +41,9 @@ at_end : (bytes : List ℕ) (told : Told) → bytes ≡ [] → IsAtEnd told → 
 at_end bytes None none ended = tt
 at_end bytes (Some content) none ended = ap (λ (b : List ℕ). b ++ content) none ∙ ended
 
-pub ends_there : (old new : ReaderState) (taken : List ℕ) (before : StandsFor old taken) (left behind : Told) → new.header ≡ old.header → new.messages ≡ old.messages → new.writers ≡ old.writers → new.offset ≡ old.offset → new.waiting.offset ≡ old.waiting.offset → with_front new.waiting.bytes behind ≡ with_front old.waiting.bytes left → length new.waiting.bytes < 1 → IsAtEnd behind
+pub ends_there : (old new : ReaderState) (taken : List ℕ) (before : StandsFor old taken) (left behind : Told) → new.header ≡ old.header → new.messages ≡ old.messages → new.writers ≡ old.writers → new.times ≡ old.times → new.offset ≡ old.offset → new.waiting.offset ≡ old.waiting.offset → with_front new.waiting.bytes behind ≡ with_front old.waiting.bytes left → length new.waiting.bytes < 1 → IsAtEnd behind
     → EndsThere old new taken before left behind
-ends_there old new taken before left behind header messages writers offset start same short ended = record {
+ends_there old new taken before left behind header messages writers times offset start same short ended = record {
   ended = subst IsAtEnd same (at_end new.waiting.bytes behind (no_bytes new.waiting.bytes short) ended);
   joined = sym same;
   stands = record {
@@ -49,6 +52,7 @@ ends_there old new taken before left behind header messages writers offset start
     valid = subst (λ (h : Header). Valid h before.blocks) (sym header) before.valid;
     messages = messages ∙ before.messages;
     states = subst (λ (h : Header). AreStatesOf new.writers h before.blocks) (sym header) (subst (λ (w : List WriterState). AreStatesOf w old.header before.blocks) (sym writers) before.states);
+    times = subst (λ (h : Header). AreTimesOf new.times h before.blocks) (sym header) (subst (λ (t : TimeState). AreTimesOf t old.header before.blocks) (sym times) before.times);
     offset = offset ∙ before.offset;
     at = start ∙ before.at;
     within = before.within;
@@ -70,9 +74,18 @@ is_right header before block from to valid takes =
     let same : read.front ≡ takes.front = sym (append-nil read.front) ∙ sym read.joined in
     record { spelled = subst (SpellsBlock (messages_of before) header block) same read.spelled; right = read.right }
 
-pub takes_next : (old new : ReaderState) (taken : List ℕ) (before : StandsFor old taken) (told : ReadBlock) (mid : UnreadBytes) (left between behind : Told) → with_front mid.bytes between ≡ with_front old.waiting.bytes left → mid.offset ≡ old.waiting.offset → new.header ≡ old.header → new.offset ≡ new.waiting.offset → new.waiting.offset ≤ 134217728
-    → TakesBlock old.header before.blocks told new.messages new.writers (log_place mid between) (log_place new.waiting behind) → TakesNext old new taken before told left behind
-takes_next old new taken before told mid left between behind same start header offset within takes =
+-- a clock that was read is one that may follow
+may_count : (told : ReadBlock) (block : Block) (times : TimeState) (header : Header) (before : List Block) → Describes told block → times.clocks ≡ clocks_of header before → IsRightAfter header before block → MayCount told times
+may_count told (Fragment first messages) times header before tells clocks right = subst (λ (b : ReadBlock). MayCount b times) (sym tells) tt
+may_count told (Extent writer records) times header before tells clocks right = subst (λ (b : ReadBlock). MayCount b times) (sym tells) tt
+may_count told (NewClock clock) times header before tells clocks right =
+    subst (λ (b : ReadBlock). MayCount b times) (sym tells)
+    (omega (arith, right.few, ap length clocks), subst (λ (l : List Clock). last_tick l < clock.tick) (sym clocks) right.rising, right.rate)
+may_count told (Close writer) times header before tells clocks right = subst (λ (b : ReadBlock). MayCount b times) (sym tells) tt
+
+pub takes_next : (old new : ReaderState) (taken : List ℕ) (before : StandsFor old taken) (told : ReadBlock) (times : TimeState) (mid : UnreadBytes) (left between behind : Told) → with_front mid.bytes between ≡ with_front old.waiting.bytes left → mid.offset ≡ old.waiting.offset → new.header ≡ old.header → (MayCount told times → new.times ≡ times_behind told times) → new.offset ≡ new.waiting.offset → new.waiting.offset ≤ 134217728 → times.clocks ≡ old.times.clocks
+    → TakesBlock old.header before.blocks told new.messages new.writers times (log_place mid between) (log_place new.waiting behind) → TakesNext old new taken before told left behind
+takes_next old new taken before told times mid left between behind same start header counts offset within clocks takes =
     let block = takes.block in
     let front = takes.takes.front in
     let is = is_right old.header before.blocks block (log_place mid between) (log_place new.waiting behind) before.valid takes.takes in
@@ -91,6 +104,7 @@ takes_next old new taken before told mid left between behind same start header o
         valid = subst (λ (h : Header). Valid h blocks) (sym header) (goes_on old.header before.blocks block before.valid is.right);
         messages = takes.defined;
         states = subst (λ (h : Header). AreStatesOf new.writers h blocks) (sym header) takes.states;
+        times = subst (λ (h : Header). AreTimesOf new.times h blocks) (sym header) (subst (λ (t : TimeState). AreTimesOf t old.header blocks) (sym (counts (may_count told block times old.header before.blocks takes.tells (clocks ∙ before.times.clocks_are) is.right))) takes.times_are);
         offset = omega (arith, offset, passes, start, at, len, within);
         at = omega (arith, passes, start, at, len, within);
         within = omega (arith, passes, start, at, len, within);
@@ -141,9 +155,9 @@ cut_next old taken before mid left between behind same (bytes, split, reads) = (
 pub none_next : (header : Header) (blocks : List Block) (from : LogPlace) (left : Told) → TookFewer 1 from left → Refuses (block_at header blocks) from left ReadFault
 none_next header blocks from left (bytes, split, none) = (bytes, split, ap (block_at header blocks) (no_bytes bytes none))
 
-pub too_large : (old : ReaderState) (taken : List ℕ) (before : StandsFor old taken) (told : ReadBlock) (mid : UnreadBytes) (left between : Told) (to : LogPlace) (messages : List Message) (writers : List WriterState) → with_front mid.bytes between ≡ with_front old.waiting.bytes left → mid.offset ≡ old.waiting.offset → 134217728 < to.offset → TakesBlock old.header before.blocks told messages writers (log_place mid between) to
+pub too_large : (old : ReaderState) (taken : List ℕ) (before : StandsFor old taken) (told : ReadBlock) (mid : UnreadBytes) (left between : Told) (to : LogPlace) (messages : List Message) (writers : List WriterState) (times : TimeState) → with_front mid.bytes between ≡ with_front old.waiting.bytes left → mid.offset ≡ old.waiting.offset → 134217728 < to.offset → TakesBlock old.header before.blocks told messages writers times (log_place mid between) to
     → IfSome (with_front (taken ++ old.waiting.bytes) left) (λ bytes. StopsAt bytes old.offset causes.TooLarge)
-too_large old taken before told mid left between to messages writers same start large takes =
+too_large old taken before told mid left between to messages writers times same start large takes =
     in_file taken old.waiting.bytes left (λ bytes. StopsAt bytes old.offset causes.TooLarge)
     (subst (λ (t : Told). IfSome t (λ bytes. StopsAt (taken ++ bytes) old.offset causes.TooLarge)) (sym takes.takes.passes.ahead ∙ same) (there to.ahead))
   where
@@ -183,7 +197,8 @@ too_large old taken before told mid left between to messages writers same start 
 none_far : (header : Header) (before blocks : List Block) (writer : ℕ) → AreRightAfter header before blocks → header.writers ≤ writer → list_any (closes writer) blocks ≡ false
 none_far header before [] writer right far = refl
 none_far header before (Fragment first messages ∷ blocks) writer right far = none_far header _ blocks writer right.1 far
-none_far header before (Extent w entries ∷ blocks) writer right far = none_far header _ blocks writer right.1 far
+none_far header before (Extent w records ∷ blocks) writer right far = none_far header _ blocks writer right.1 far
+none_far header before (NewClock clock ∷ blocks) writer right far = none_far header _ blocks writer right.1 far
 none_far header before (Close w ∷ blocks) writer right far =
     let known = right.0.known in
     elim (eqb_tells w writer) [

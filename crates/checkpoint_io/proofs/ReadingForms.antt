@@ -9,7 +9,10 @@ use Rattle.nibble_pack.specs.Bytes.{AreBytes, back_bytes}
 use Rattle.nibble_pack.specs.Parsing.{◌>>=◌, provided, caused_by, first_byte, IsSteady}
 use Rattle.nibble_pack.proofs.lemmas.Parsing.{given}
 use Rattle.nibble_pack.proofs.lemmas.Formats.{IsFormat, respelled, then_format, tested_then, made_format, judged_format, checked_format, caused_format, chosen_format, broken_format, done_format, passed_format, byte_format, number_format, many_format, letters_format, SpellTimes, times_format, one_reading, one_spelling, uncaused}
+use Rattle.log_dictionary.specs.declared.clock.Clock.{Clock}
+use Rattle.log_dictionary.specs.declared.clocks.TheConstants.{MAX_CLOCKS}
 use Rattle.log_dictionary.specs.declared.message.Message.{Message}
+use Rattle.log_dictionary.specs.Clocks.{last_tick}
 use Rattle.log_dictionary.specs.declared.dictionary.TheConstants.{MAX_MESSAGES}
 use Rattle.log_dictionary.specs.Messages.{is_same, HasMessage, AreDistinct}
 use Rattle.log_dictionary.specs.BinaryEntries.{SpellsEntry}
@@ -21,12 +24,13 @@ use Rattle.buffer_extent.proofs.lemmas.BodyLaws.{body_again, body_taken}
 use Rattle.checkpoint_io.specs.declared.cause.Cause.TheVariants as causes
 use Rattle.checkpoint_io.specs.declared.header.Header.{Header}
 use Rattle.checkpoint_io.specs.declared.heads.TheConstants.{MAX_FRAGMENT_MESSAGES}
-use Rattle.checkpoint_io.specs.Versions.{is_known, writer_len, most_writers, most_body}
-use Rattle.checkpoint_io.specs.Blocks.{Block, Fragment, Extent, Close, messages_of, writer_bytes, header_bytes, fragment_head_bytes, SpellsEntries, SpellsBlock}
-use Rattle.checkpoint_io.specs.Validity.{records_of, last_stamp, closes, MayStillWrite, IsRightAfter, IsHeader}
-use Rattle.checkpoint_io.specs.Reading.{header_of, header_writers_at, header_version_at, header_at, entry_cause, new_message_at, is_count, open_writer_at, long_body_at, block_at}
+use Rattle.checkpoint_io.specs.Versions.{is_known, has_clocks, writer_len, most_writers, most_body}
+use Rattle.checkpoint_io.specs.Blocks.{Block, Fragment, Extent, NewClock, Close, messages_of, clocks_of, all_records, writer_bytes, header_bytes, fragment_head_bytes, SpellsEntries, SpellsBlock}
+use Rattle.checkpoint_io.specs.Validity.{records_of, last_stamp, closes, MayStillWrite, ContinuesClocks, IsRightAfter, IsHeader}
+use Rattle.checkpoint_io.specs.Reading.{header_of, header_writers_at, header_version_at, header_at, entry_cause, new_message_at, is_count, open_writer_at, long_body_at, are_early, next_clock_at, block_at}
 use Rattle.checkpoint_io.proofs.lemmas.VersionLaws.{writers_fit, bodies_fit}
 use Rattle.checkpoint_io.proofs.lemmas.BlockLaws.{header_nested}
+use Rattle.checkpoint_io.proofs.lemmas.ValidityLaws.{early_test, early_from_test}
 
 -- ---- headers
 
@@ -161,6 +165,52 @@ body_format messages header last =
     let within = and_from _ _ (le-leb 1 (length body) some) (le-leb (length body) (most_body header.version) short) in
     (length body, _, _, joined, (omega (arith, short, below), refl), (within, (body, (refl, refl), ap (caused_by causes.Body) (body_again messages header.clock.tick last records body is)))))
 
+-- ---- clocks
+
+-- a clock that may follow the blocks
+abbrev SpellClock : Header → List Block → Clock → List ℕ → Type 0
+SpellClock header before clock front =
+    (front ≡ le_bytes 8 clock.tick ++ (le_bytes 8 clock.nanos ++ le_bytes 8 clock.rate)) × ContinuesClocks header before clock × (clock.tick < 2 ^ 64) × (clock.nanos < 2 ^ 64) × (clock.rate < 2 ^ 64)
+
+abbrev clock_from : ℕ → ℕ → ℕ → Clock
+clock_from tick nanos rate = record { tick = tick; nanos = nanos; rate = rate }
+
+clock_format : (header : Header) (before : List Block) → IsFormat causes.Cut (SpellClock header before) (next_clock_at header before)
+clock_format header before =
+    respelled (chosen_format (nat_lt (length (clocks_of header before)) MAX_CLOCKS)
+    (then_format (tested_then (λ tick. nat_lt (last_tick (clocks_of header before)) tick) causes.ClockOrder (number_format 8 causes.Cut) (λ tick rising. passed_format (are_early tick (all_records before)) causes.ClockLate tick))
+    (λ tick. then_format (number_format 8 causes.Cut) (λ nanos. tested_then (nat_le 1) causes.BadRate (number_format 8 causes.Cut) (λ rate ticks. done_format (clock_from tick nanos rate)))))
+    (broken_format causes.ClockCount))
+    (λ clock front are which. elim which [
+      | inl (room, (tick, a, b, ab, (found, c, d, cd, (tick_fits, tick_is), (rising, ((early, same), none))), (nanos, e, f, ef, (nanos_fits, nanos_is), (rate, g, h, gh, (rate_fits, rate_is), (ticks, (made, nothing)))))) ↦
+          let is : clock_from found nanos rate ≡ clock = ap (λ (n : ℕ). clock_from n nanos rate) same ∙ made in
+          let first = cd ∙ (λ t. tick_is t ++ none t) ∙ append-nil (le_bytes 8 found) in
+          let last = gh ∙ (λ t. rate_is t ++ nothing t) ∙ append-nil (le_bytes 8 rate) in
+          subst (λ (k : Clock). SpellClock header before k front) is (
+            ab ∙ (λ t. first t ++ (ef ∙ (λ u. nanos_is u ++ last u)) t),
+            record {
+              few = ltb-true (length (clocks_of header before)) MAX_CLOCKS room;
+              rising = ltb-true (last_tick (clocks_of header before)) found rising;
+              early = early_from_test found (all_records before) early;
+              rate = leb-true 1 rate ticks;
+            },
+            tick_fits,
+            nanos_fits,
+            rate_fits,
+          )
+      | inr (other, none) ↦ absurd none
+    ])
+    (λ clock front (is, right, tick_fits, nanos_fits, rate_fits).
+    let tick : List ℕ = le_bytes 8 clock.tick in
+    let rate : List ℕ = le_bytes 8 clock.rate in
+    inl (lt-ltb (length (clocks_of header before)) MAX_CLOCKS right.few, (clock.tick, tick, _, is, (clock.tick, tick, [], sym (append-nil tick), (tick_fits, refl), (lt-ltb (last_tick (clocks_of header before)) clock.tick right.rising, ((early_test clock.tick (all_records before) right.early, refl), refl))), (clock.nanos, le_bytes 8 clock.nanos, rate, refl, (nanos_fits, refl), (clock.rate, rate, [], sym (append-nil rate), (rate_fits, refl), (le-leb 1 clock.rate right.rate, (refl, refl)))))))
+
+-- a clock that is read may follow the blocks
+pub clock_taken : (header : Header) (before : List Block) (bytes : List ℕ) (clock : Clock) (rest : List ℕ) → AreBytes bytes → next_clock_at header before bytes ≡ Ok (clock, rest) → ContinuesClocks header before clock
+clock_taken header before bytes clock rest small e =
+    let (front, joined, (is, right, tick_fits, nanos_fits, rate_fits)) = (clock_format header before).taken bytes clock rest small e in
+    right
+
 -- ---- blocks
 
 -- the bytes spell the block, which keeps the rules; of messages it is said that each is new behind those before it
@@ -168,6 +218,7 @@ abbrev SpellRight : Header → List Block → Block → List ℕ → Type 0
 SpellRight header before (Fragment first messages) front =
     (entries : List ℕ) × (front ≡ fragment_head_bytes first (length messages) ++ entries) × SpellTimes SpellNew (messages_of before) messages entries × (first ≡ length (messages_of before)) × (first < 2 ^ 32) × (is_count (messages_of before) (length messages) ≡ true)
 SpellRight header before (Extent writer records) front = SpellsBlock (messages_of before) header (Extent writer records) front × IsRightAfter header before (Extent writer records)
+SpellRight header before (NewClock clock) front = SpellsBlock (messages_of before) header (NewClock clock) front × IsRightAfter header before (NewClock clock)
 SpellRight header before (Close writer) front = SpellsBlock (messages_of before) header (Close writer) front × IsRightAfter header before (Close writer)
 
 block_format : (header : Header) (before : List Block) → IsFormat causes.Cut (SpellRight header before) (block_at header before)
@@ -175,7 +226,8 @@ block_format header before =
     respelled (then_format (byte_format causes.Cut) (λ tag. chosen_format (nat_eq tag 1) (tested_then (λ first. nat_eq first (length (messages_of before))) causes.FragmentOrder (number_format 4 causes.Cut) (λ first next.
     tested_then (is_count (messages_of before)) causes.BadLength (number_format 2 causes.Cut) (λ count few. made_format (Fragment first) (times_format message_format (messages_of before) count))))
     (chosen_format (nat_eq tag 2) (then_format (writer_format header before) (λ writer. made_format (Extent writer) (body_format (messages_of before) header (last_stamp header.clock.tick (records_of writer before)))))
-    (chosen_format (nat_eq tag 4) (made_format Close (writer_format header before)) (broken_format causes.BadBlock)))))
+    (chosen_format (nat_eq tag 3 && has_clocks header.version) (made_format NewClock (clock_format header before))
+    (chosen_format (nat_eq tag 4) (made_format Close (writer_format header before)) (broken_format causes.BadBlock))))))
     (λ block front are (tag, a, b, ab, tag_is, which). elim which [
       | inl (one, (first, c, d, cd, (fits, first_is), (next, (count, e, f, ef, (small, count_is), (few, (messages, (many, new), made)))))) ↦
           let head : a ≡ 1 ∷ [] = tag_is ∙ ap (λ (n : ℕ). n ∷ []) (eqb-true tag 1 one) in
@@ -194,10 +246,15 @@ block_format header before =
             record { body = body; some = some; short = short; writer_fits = fits; body_spelled = is.spelled; joined = joined },
             record { writer_open = right; right = is.right; rising = is.rising },
           )
-      | inr (other, inr (another, inl (four, (writer, (fits, writer_is, right), made)))) ↦
+      | inr (other, inr (another, inl (three, (clock, (clock_is, right, tick_fits, nanos_fits, rate_fits), made)))) ↦
+          let both = and_parts (nat_eq tag 3) (has_clocks header.version) three in
+          let head : a ≡ 3 ∷ [] = tag_is ∙ ap (λ (n : ℕ). n ∷ []) (eqb-true tag 3 both.0) in
+          let joined = ab ∙ (λ t. head t ++ clock_is t) ∙ sym (append_assoc (3 ∷ le_bytes 8 clock.tick) (le_bytes 8 clock.nanos) (le_bytes 8 clock.rate)) in
+          subst (λ (bl : Block). SpellRight header before bl front) made (record { version_has = both.1; tick_fits = tick_fits; nanos_fits = nanos_fits; rate_fits = rate_fits; joined = joined }, right)
+      | inr (other, inr (another, inr (third, inl (four, (writer, (fits, writer_is, right), made))))) ↦
           let head : a ≡ 4 ∷ [] = tag_is ∙ ap (λ (n : ℕ). n ∷ []) (eqb-true tag 4 four) in
           subst (λ (bl : Block). SpellRight header before bl front) made (record { writer_fits = fits; joined = ab ∙ (λ t. head t ++ writer_is t) }, right)
-      | inr (other, inr (another, inr (last, none))) ↦ absurd none
+      | inr (other, inr (another, inr (third, inr (last, none)))) ↦ absurd none
     ])
     (elim [
       | Fragment first messages ↦ λ front (entries, joined, new, next, fits, few).
@@ -210,7 +267,10 @@ block_format header before =
           let parts = spelled.joined ∙ append_assoc (2 ∷ writer_bytes header.version writer) (le_bytes 4 (length body)) body in
           let is : IsBody (messages_of before) header.clock.tick (last_stamp header.clock.tick (records_of writer before)) records body = record { spelled = spelled.body_spelled; right = right.right; rising = right.rising } in
           (2, 2 ∷ [], _, parts, refl, inr (refl, inl (refl, (writer, writer_bytes header.version writer, _, refl, (spelled.writer_fits, refl, right.writer_open), (records, (body, refl, spelled.some, spelled.short, is), refl)))))
-      | Close writer ↦ λ front (spelled, right). (4, 4 ∷ [], _, spelled.joined, refl, inr (refl, inr (refl, inl (refl, (writer, (spelled.writer_fits, refl, right), refl)))))
+      | NewClock clock ↦ λ front (spelled, right).
+          let parts = spelled.joined ∙ append_assoc (3 ∷ le_bytes 8 clock.tick) (le_bytes 8 clock.nanos) (le_bytes 8 clock.rate) in
+          (3, 3 ∷ [], _, parts, refl, inr (refl, inr (refl, inl (spelled.version_has, (clock, (refl, right, spelled.tick_fits, spelled.nanos_fits, spelled.rate_fits), refl)))))
+      | Close writer ↦ λ front (spelled, right). (4, 4 ∷ [], _, spelled.joined, refl, inr (refl, inr (refl, inr (refl, inl (refl, (writer, (spelled.writer_fits, refl, right), refl))))))
     ])
 
 pub steady_block : (header : Header) (before : List Block) → IsSteady causes.Cut (block_at header before)
@@ -223,6 +283,7 @@ right_spelled header before (Fragment first messages) front right spelled =
     let few = and_from _ _ (le-leb 1 (length messages) spelled.some) (and_from _ _ (le-leb (length messages) 16 spelled.few) room) in
     (spelled.entries, spelled.joined, new_spelled (messages_of before) messages spelled.entries right.distinct spelled.entries_spelled, right.next, spelled.first_fits, few)
 right_spelled header before (Extent writer records) front right spelled = (spelled, right)
+right_spelled header before (NewClock clock) front right spelled = (spelled, right)
 right_spelled header before (Close writer) front right spelled = (spelled, right)
 
 -- a right block is read as what it is, whatever stands behind it
@@ -258,4 +319,5 @@ block_taken header before bytes block rest distinct small e =
           record { next = next; distinct = all.1; few = omega (arith, room, length-append (messages_of before) messages) },
         )
     keeps (Extent writer records) front both = both
+    keeps (NewClock clock) front both = both
     keeps (Close writer) front both = both

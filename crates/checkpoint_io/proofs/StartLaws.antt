@@ -13,6 +13,7 @@ use Rattle.checkpoint_io.specs.Reading.{header_at}
 use Rattle.checkpoint_io.specs.Fronts.{Break, at_header}
 use Rattle.checkpoint_io.specs.Places.{UnreadBytes, with_front, log_place, StandsBetween, TookSuch, Refuses}
 use Rattle.checkpoint_io.specs.Writers.{AreStatesOf}
+use Rattle.checkpoint_io.specs.Times.{AreTimesOf}
 use Rattle.checkpoint_io.specs.Readers.{ReaderState, StandsFor}
 use Rattle.checkpoint_io.proofs.lemmas.VersionLaws.{few_len}
 use Rattle.checkpoint_io.proofs.lemmas.BlockLaws.{length-header_bytes}
@@ -26,8 +27,8 @@ no_front : (told : Told) → with_front [] told ≡ told
 no_front None = refl
 no_front (Some content) = refl
 
-pub started : (reader : ReaderState) (none : UnreadBytes) (from to : Told) → none.bytes ≡ [] → none.offset ≡ 0 → reader.messages ≡ [] → AreStatesOf reader.writers reader.header [] → reader.offset ≡ reader.waiting.offset → StandsBetween header_at reader.header (log_place none from) (log_place reader.waiting to) → (taken : List ℕ) × (read : StandsFor reader taken) × (read.blocks ≡ []) × (from ≡ with_front (taken ++ reader.waiting.bytes) to)
-started reader none from to no_bytes front messages states offset takes =
+pub started : (reader : ReaderState) (none : UnreadBytes) (from to : Told) → none.bytes ≡ [] → none.offset ≡ 0 → reader.messages ≡ [] → AreStatesOf reader.writers reader.header [] → AreTimesOf reader.times reader.header [] → reader.offset ≡ reader.waiting.offset → StandsBetween header_at reader.header (log_place none from) (log_place reader.waiting to) → (taken : List ℕ) × (read : StandsFor reader taken) × (read.blocks ≡ []) × (from ≡ with_front (taken ++ reader.waiting.bytes) to)
+started reader none from to no_bytes front messages states times offset takes =
     let header = reader.header in
     let read = header_taken takes.front header [] takes.passes.small (ap header_at (sym (append-nil takes.front)) ∙ takes.found []) in
     let is : takes.front ≡ header_bytes header = read.joined ∙ append-nil (header_bytes header) in
@@ -42,6 +43,7 @@ started reader none from to no_bytes front messages states offset takes =
         valid = record { header_right = read.right; blocks_right = tt };
         messages = messages;
         states = states;
+        times = times;
         offset = omega (arith, offset, passes, front, len, few, length-header_bytes header);
         at = omega (arith, passes, front, len, few, length-header_bytes header);
         within = omega (arith, few, length-header_bytes header);

@@ -9,7 +9,7 @@ use Rattle.checkpoint_io.specs.Blocks.{Fragment, header_bytes}
 use Rattle.checkpoint_io.specs.Validity.{Valid}
 use Rattle.checkpoint_io.specs.Reading.{block_at}
 use Rattle.checkpoint_io.specs.Fronts.{Break, at_header, at_block}
-use Rattle.checkpoint_io.specs.Rows.{row_header, row_blocks, row_header_bytes, row_fragment_bytes, row_bytes}
+use Rattle.checkpoint_io.specs.Rows.{row_header, row_blocks, row_header_bytes, row_fragment_bytes, row_bytes, later_clock_bytes}
 use Rattle.checkpoint_io.proofs.lemmas.FrontLaws.{empty_file, file_goes_on}
 use Rattle.checkpoint_io.proofs.lemmas.Worked.{fragment_spelled, file, valid}
 
@@ -47,6 +47,10 @@ at_fragment rest cause some breaks = at_block row_header [] (header_bytes row_he
 
 pub other_tag : Break (slice_set row_bytes 30 7) 30 causes.BadBlock
 other_tag = at_fragment (7 ∷ drop 31 row_bytes) causes.BadBlock (lit≤ tt) refl
+
+-- clocks are no blocks of version 1
+pub early_clock : Break (row_header_bytes ++ later_clock_bytes) 30 causes.BadBlock
+early_clock = at_fragment later_clock_bytes causes.BadBlock (lit≤ tt) refl
 
 pub other_first_id : Break (slice_set row_bytes 31 1) 30 causes.FragmentOrder
 other_first_id = at_fragment (1 ∷ 1 ∷ drop 32 row_bytes) causes.FragmentOrder (lit≤ tt) refl

@@ -16,33 +16,33 @@ use Rattle.checkpoint_io.proofs.lemmas.ValidityLaws.{records-push}
 
 -- ---- the last stamp
 
-pub last_stamp-append : (least : ℕ) (before entries : List Call) → last_stamp least (before ++ entries) ≡ last_stamp (last_stamp least before) entries
-last_stamp-append least [] entries = refl
-last_stamp-append least (entry ∷ before) entries = last_stamp-append entry.stamp before entries
+pub last_stamp-append : (least : ℕ) (before records : List Call) → last_stamp least (before ++ records) ≡ last_stamp (last_stamp least before) records
+last_stamp-append least [] records = refl
+last_stamp-append least (call ∷ before) records = last_stamp-append call.stamp before records
 
-there_is_one : (first : Call) (entries : List Call) → slice_get (first ∷ entries) (length entries) ≡ None → ⊥
+there_is_one : (first : Call) (records : List Call) → slice_get (first ∷ records) (length records) ≡ None → ⊥
 there_is_one first [] none = cc
-there_is_one first (second ∷ entries) none = there_is_one second entries none
+there_is_one first (second ∷ records) none = there_is_one second records none
 
-the_last : (first : Call) (entries : List Call) (entry : Call) → slice_get (first ∷ entries) (length entries) ≡ Some entry → last_stamp first.stamp entries ≡ entry.stamp
-the_last first [] entry some = ap (λ (e : Option Call). stamp_or e) some
+the_last : (first : Call) (records : List Call) (call : Call) → slice_get (first ∷ records) (length records) ≡ Some call → last_stamp first.stamp records ≡ call.stamp
+the_last first [] call some = ap (λ (e : Option Call). stamp_or e) some
   where
     stamp_or : Option Call → ℕ
     stamp_or None = 0
     stamp_or (Some e) = e.stamp
-the_last first (second ∷ entries) entry some = the_last second entries entry some
+the_last first (second ∷ records) call some = the_last second records call some
 
-one_less : (first : Call) (entries : List Call) → length (first ∷ entries) - 1 ≡ length entries
-one_less first entries = omega arith
+one_less : (first : Call) (records : List Call) → length (first ∷ records) - 1 ≡ length records
+one_less first records = omega arith
 
 -- no last record, so none at all
-pub none_last : (least : ℕ) (entries : List Call) → slice_get entries (length entries - 1) ≡ None → last_stamp least entries ≡ least
+pub none_last : (least : ℕ) (records : List Call) → slice_get records (length records - 1) ≡ None → last_stamp least records ≡ least
 none_last least [] none = refl
-none_last least (first ∷ entries) none = absurd (there_is_one first entries (ap (slice_get (first ∷ entries)) (sym (one_less first entries)) ∙ none))
+none_last least (first ∷ records) none = absurd (there_is_one first records (ap (slice_get (first ∷ records)) (sym (one_less first records)) ∙ none))
 
-pub some_last : (least : ℕ) (entries : List Call) (entry : Call) → slice_get entries (length entries - 1) ≡ Some entry → last_stamp least entries ≡ entry.stamp
-some_last least [] entry some = cc
-some_last least (first ∷ entries) entry some = the_last first entries entry (ap (slice_get (first ∷ entries)) (sym (one_less first entries)) ∙ some)
+pub some_last : (least : ℕ) (records : List Call) (call : Call) → slice_get records (length records - 1) ≡ Some call → last_stamp least records ≡ call.stamp
+some_last least [] call some = cc
+some_last least (first ∷ records) call some = the_last first records call (ap (slice_get (first ∷ records)) (sym (one_less first records)) ∙ some)
 
 -- ---- the states
 

@@ -17,6 +17,10 @@ cause_number causes.AfterClose = 9
 cause_number causes.BadLength = 10
 cause_number (causes.Body cause) = body_number cause
 cause_number causes.TooLarge = 20
+cause_number causes.ClockOrder = 21
+cause_number causes.ClockLate = 22
+cause_number causes.BadRate = 23
+cause_number causes.ClockCount = 24
 
 abbrev pub cause_name : Cause → List ℕ
 cause_name causes.BadMagic = codes "BadMagic"
@@ -31,3 +35,7 @@ cause_name causes.AfterClose = codes "AfterClose"
 cause_name causes.BadLength = codes "BadLength"
 cause_name (causes.Body cause) = body_name cause
 cause_name causes.TooLarge = codes "TooLarge"
+cause_name causes.ClockOrder = codes "ClockOrder"
+cause_name causes.ClockLate = codes "ClockLate"
+cause_name causes.BadRate = codes "BadRate"
+cause_name causes.ClockCount = codes "ClockCount"

@@ -8,6 +8,7 @@ pub mod Reading
 pub mod Places
 pub mod Entries
 pub mod Writers
+pub mod Times
 pub mod NextBlocks
 pub mod Readers
 pub mod Rows

@@ -1,12 +1,12 @@
 -- The log that a run gives.
-use Rattle.std.specs.Prelude.{◌≡◌, ◌⊎◌, ℕ, ◌+◌, ◌≤◌, List, [], ◌∷◌, ◌++◌, length, map, max, take, drop}
+use Rattle.std.specs.Prelude.{◌≡◌, ◌⊎◌, ℕ, ◌+◌, ◌≤◌, nat_le, List, [], ◌∷◌, ◌++◌, length, map, max, take, drop, filter}
 use Rattle.std.specs.List.{range_with_len}
 use Rattle.log_dictionary.specs.declared.message.Message.{Message}
 use Rattle.log_dictionary.specs.declared.clock.Clock.{Clock}
 use Rattle.arg_records.specs.declared.call.Call.{Call}
 use Rattle.checkpoint_io.specs.declared.header.Header.{Header}
 use Rattle.checkpoint_io.specs.declared.heads.TheConstants.{MAX_FRAGMENT_MESSAGES}
-use Rattle.checkpoint_io.specs.Blocks.{Block, Fragment, Extent, Close, messages_of, FileOf}
+use Rattle.checkpoint_io.specs.Blocks.{Block, Fragment, Extent, NewClock, Close, messages_of, clocks_of, clocks_in, FileOf}
 use Rattle.checkpoint_io.specs.Validity.{records_of, Valid}
 
 -- one more than the greatest id of the records; 0 where there are none
@@ -21,6 +21,7 @@ AreFragments first messages (Fragment id front ∷ blocks) =
     (back : List Message) × (id ≡ first) × (messages ≡ front ++ back)
     × ((back ≡ []) ⊎ (length front ≡ MAX_FRAGMENT_MESSAGES)) × AreFragments (first + length front) back blocks
 AreFragments first messages (Extent writer records ∷ blocks) = ⊥
+AreFragments first messages (NewClock clock ∷ blocks) = ⊥
 AreFragments first messages (Close writer ∷ blocks) = ⊥
 
 -- the messages whose ids are used by the records and aren't defined yet
@@ -31,25 +32,44 @@ new_messages dictionary defined records = drop defined (take (ids_used records) 
 abbrev pub HasAtMost : ℕ → Block → Type 0
 HasAtMost batch (Fragment first messages) = Unit {0}
 HasAtMost batch (Extent writer records) = length records ≤ batch
+HasAtMost batch (NewClock clock) = Unit {0}
 HasAtMost batch (Close writer) = Unit {0}
 
--- Behind the blocks before, the blocks are extents of at most so many records, each with the fragments that it wants
--- right in front of it, and close marks. There are no other fragments.
-pub data IsLaidOut (dictionary : List Message) (batch : ℕ) : List Block → List Block → Type 0 where
-  ends : (before : List Block) → IsLaidOut dictionary batch before []
-  extent : (before fragments : List Block) (writer : ℕ) (records : List Call) (others : List Block)
-      → AreFragments (length (messages_of before))
-      (new_messages dictionary (length (messages_of before)) records) fragments
-      → length records ≤ batch
-      → IsLaidOut dictionary batch (before ++ fragments ++ Extent writer records ∷ []) others
-      → IsLaidOut dictionary batch before (fragments ++ Extent writer records ∷ others)
-  close : (before : List Block) (writer : ℕ) (others : List Block)
-      → IsLaidOut dictionary batch (before ++ Close writer ∷ []) others
-      → IsLaidOut dictionary batch before (Close writer ∷ others)
+-- the greatest stamp of the records; 0 where there are none
+abbrev pub greatest_stamp : List Call → ℕ
+greatest_stamp [] = 0
+greatest_stamp (call ∷ records) = max call.stamp (greatest_stamp records)
 
--- The bytes are the log of calls that were taken, per writer. The header has the version, the clock and the number of
--- writers, the messages are those of the dictionary, from its front, and the records of each writer are its calls, in
--- their order.
+-- of the clocks behind the first ones, so many of which were written, those whose ticks the records reach
+abbrev pub new_clocks : List Clock → ℕ → List Call → List Clock
+new_clocks clocks written records = filter (λ clock. nat_le clock.tick (greatest_stamp records)) (drop written clocks)
+
+-- What stands right in front of an extent of these records, behind the blocks before: the clocks that aren't written
+-- yet and whose ticks the records reach, and then the fragments of the messages that they want.
+pub record StandsInFront (clocks : List Clock) (dictionary : List Message) (before : List Block) (records : List Call)
+    (front : List Block) : Type 0 where
+  pub fragments : List Block
+  pub are : AreFragments (length (messages_of before))
+      (new_messages dictionary (length (messages_of before)) records) fragments
+  pub joined : front ≡ map NewClock (new_clocks clocks (1 + length (clocks_in before)) records) ++ fragments
+
+-- Behind the blocks before, the blocks are extents of at most so many records, each with the clocks and the fragments
+-- that it wants right in front of it, and close marks. There are no other clocks and no other fragments.
+pub data IsLaidOut (clocks : List Clock) (dictionary : List Message) (batch : ℕ)
+    : List Block → List Block → Type 0 where
+  ends : (before : List Block) → IsLaidOut clocks dictionary batch before []
+  extent : (before front : List Block) (writer : ℕ) (records : List Call) (others : List Block)
+      → StandsInFront clocks dictionary before records front
+      → length records ≤ batch
+      → IsLaidOut clocks dictionary batch (before ++ front ++ Extent writer records ∷ []) others
+      → IsLaidOut clocks dictionary batch before (front ++ Extent writer records ∷ others)
+  close : (before : List Block) (writer : ℕ) (others : List Block)
+      → IsLaidOut clocks dictionary batch (before ++ Close writer ∷ []) others
+      → IsLaidOut clocks dictionary batch before (Close writer ∷ others)
+
+-- The bytes are the log of calls that were taken, per writer. The header has the version, the first clock and the number
+-- of writers. The clocks and the messages are those of the run and of the dictionary, from the front, and the records of
+-- each writer are its calls, in their order.
 pub record LogOf (bytes : List ℕ) (taken : List (List Call)) (dictionary : List Message) (version : ℕ)
     (clocks : List Clock) (batch : ℕ) : Type 0 where
   pub header : Header
@@ -57,9 +77,10 @@ pub record LogOf (bytes : List ℕ) (taken : List (List Call)) (dictionary : Lis
   pub file : FileOf header blocks bytes
   pub valid : Valid header blocks
   pub version_is : header.version ≡ version
-  pub clocks_are : header.clock ∷ [] ≡ clocks
+  pub unwritten : List Clock
+  pub clocks_are : clocks ≡ clocks_of header blocks ++ unwritten
   pub writers_are : header.writers ≡ length taken
   pub undefined : List Message
   pub messages_are : dictionary ≡ messages_of blocks ++ undefined
   pub records_are : taken ≡ map (λ writer. records_of writer blocks) (range_with_len 0 (length taken))
-  pub laid_out : IsLaidOut dictionary batch [] blocks
+  pub laid_out : IsLaidOut clocks dictionary batch [] blocks

@@ -1,13 +1,15 @@
 -- What is said of a block that is read from a source.
-use Rattle.std.specs.Prelude.{◌≡◌, ◌⊎◌, ℕ, ◌<◌, List, [], ◌∷◌, ◌++◌, length, Option, Some, None}
+use Rattle.std.specs.Prelude.{◌≡◌, ◌⊎◌, ℕ, ◌<◌, ◌≤◌, List, [], ◌∷◌, ◌++◌, length, Option, Some, None, ⊤}
 use Rattle.nl_io.specs.Content.{Told, IsAtEnd}
+use Rattle.log_dictionary.specs.declared.clocks.TheConstants.{MAX_CLOCKS}
 use Rattle.log_dictionary.specs.declared.message.Message.{Message}
+use Rattle.log_dictionary.specs.Clocks.{last_tick}
 use Rattle.arg_records.specs.declared.call.Call.{Call}
 use Rattle.checkpoint_io.specs.declared.header.Header.{Header}
 use Rattle.checkpoint_io.specs.declared.writers.WriterState.{WriterState}
 use Rattle.checkpoint_io.specs.declared.block.Block.{Block as ReadBlock}
 use Rattle.checkpoint_io.specs.declared.block.Block.TheVariants as read
-use Rattle.checkpoint_io.specs.Blocks.{Block, Fragment, Extent, Close, messages_of, FileOf}
+use Rattle.checkpoint_io.specs.Blocks.{Block, Fragment, Extent, NewClock, Close, messages_of, FileOf}
 use Rattle.checkpoint_io.specs.declared.cause.Cause.{Cause}
 use Rattle.checkpoint_io.specs.declared.cause.Cause.TheVariants as causes
 use Rattle.checkpoint_io.specs.declared.heads.TheConstants.{MAX_LOG}
@@ -15,6 +17,7 @@ use Rattle.checkpoint_io.specs.Reading.{extent_at, close_at, block_at}
 use Rattle.checkpoint_io.specs.Fronts.{BeginsWithLog, Break}
 use Rattle.checkpoint_io.specs.Places.{LogPlace, with_front, StandsBetween}
 use Rattle.checkpoint_io.specs.Writers.{AreStatesOf}
+use Rattle.checkpoint_io.specs.Times.{TimeState, with_clock, AreTimesOf}
 use Rattle.checkpoint_io.specs.Readers.{ReaderState, StandsFor}
 
 -- the rest of the writer's close mark stands between the two places, and what is kept is that behind it
@@ -33,16 +36,33 @@ pub record TakesExtent (header : Header) (before : List Block) (writer : ℕ) (r
 abbrev pub Describes : ReadBlock → Block → Type 0
 Describes told (Fragment first messages) = told ≡ read.Fragment first (length messages)
 Describes told (Extent writer records) = told ≡ read.Extent writer records
+Describes told (NewClock clock) = told ≡ read.Clock clock
 Describes told (Close writer) = told ≡ read.Closed writer
 
--- the block stands between the two places, and what is kept is that behind it
+-- what is kept of clocks and stamps once a clock that was read counts
+abbrev pub times_behind : ReadBlock → TimeState → TimeState
+times_behind (read.Fragment first count) times = times
+times_behind (read.Extent writer records) times = times
+times_behind (read.Clock clock) times = with_clock clock times
+times_behind (read.Closed writer) times = times
+
+-- a clock that was read may follow the others
+abbrev pub MayCount : ReadBlock → TimeState → Type 0
+MayCount (read.Fragment first count) times = ⊤
+MayCount (read.Extent writer records) times = ⊤
+MayCount (read.Clock clock) times =
+    (length times.clocks < MAX_CLOCKS) × (last_tick times.clocks < clock.tick) × (1 ≤ clock.rate)
+MayCount (read.Closed writer) times = ⊤
+
+-- the block stands between the two places, and what is kept is that behind it, but for a clock, which doesn't count yet
 pub record TakesBlock (header : Header) (before : List Block) (told : ReadBlock) (messages : List Message)
-    (after : List WriterState) (from to : LogPlace) : Type 0 where
+    (after : List WriterState) (times : TimeState) (from to : LogPlace) : Type 0 where
   pub block : Block
   pub tells : Describes told block
   pub takes : StandsBetween (block_at header before) block from to
   pub defined : messages ≡ messages_of (before ++ block ∷ [])
   pub states : AreStatesOf after header (before ++ block ∷ [])
+  pub times_are : AreTimesOf (times_behind told times) header (before ++ block ∷ [])
 
 -- ---- the reader
 

@@ -8,12 +8,14 @@ use Rattle.checkpoint_io.specs.Validity.{Valid}
 use Rattle.checkpoint_io.specs.declared.heads.TheConstants.{MAX_LOG}
 use Rattle.checkpoint_io.specs.Places.{UnreadBytes}
 use Rattle.checkpoint_io.specs.Writers.{AreStatesOf}
+use Rattle.checkpoint_io.specs.Times.{TimeState, AreTimesOf}
 
 pub record ReaderState : Type 0 where
   pub header : Header
   -- the messages that were defined so far
   pub messages : List Message
   pub writers : List WriterState
+  pub times : TimeState
   -- bytes that came from the source and weren't read yet
   pub waiting : UnreadBytes
   -- where the next block begins, or the one that failed
@@ -27,6 +29,7 @@ pub record StandsFor (reader : ReaderState) (taken : List ℕ) : Type 0 where
   pub valid : Valid reader.header blocks
   pub messages : reader.messages ≡ messages_of blocks
   pub states : AreStatesOf reader.writers reader.header blocks
+  pub times : AreTimesOf reader.times reader.header blocks
   pub offset : reader.offset ≡ length taken
   pub at : reader.waiting.offset ≡ length taken
   pub within : length taken ≤ MAX_LOG

@@ -1,11 +1,14 @@
 -- A header or a block as it is read, from left to right: what the bytes give, or the first cause by which they break.
 use Rattle.std.specs.Prelude.{ℕ, ◌+◌, Bool, ◌&&◌, not, nat_eq, nat_lt, nat_le, if◌then◌else◌, List, length, codes, Ok, Err}
-use Rattle.std.specs.List.{list_any}
+use Rattle.std.specs.List.{list_any, list_all}
 use Rattle.nibble_pack.specs.Parsing.{Parse, ◌>>=◌, provided, caused_by, first_byte, so_many, low_first, these_bytes, so_many_times}
+use Rattle.log_dictionary.specs.declared.clock.Clock.{Clock}
+use Rattle.log_dictionary.specs.declared.clocks.TheConstants.{MAX_CLOCKS}
 use Rattle.log_dictionary.specs.declared.message.Message.{Message}
 use Rattle.log_dictionary.specs.declared.dictionary.TheConstants.{MAX_MESSAGES}
 use Rattle.log_dictionary.specs.declared.binary_entry.EntryCause.{EntryCause}
 use Rattle.log_dictionary.specs.declared.binary_entry.EntryCause.TheVariants as entries
+use Rattle.log_dictionary.specs.Clocks.{last_tick}
 use Rattle.log_dictionary.specs.Messages.{is_same}
 use Rattle.log_dictionary.specs.EntryReading.{entry_at}
 use Rattle.arg_records.specs.declared.call.Call.{Call}
@@ -14,8 +17,8 @@ use Rattle.checkpoint_io.specs.declared.cause.Cause.{Cause}
 use Rattle.checkpoint_io.specs.declared.cause.Cause.TheVariants as causes
 use Rattle.checkpoint_io.specs.declared.header.Header.{Header}
 use Rattle.checkpoint_io.specs.declared.heads.TheConstants.{MAX_FRAGMENT_MESSAGES}
-use Rattle.checkpoint_io.specs.Versions.{is_known, writer_len, most_writers, most_body}
-use Rattle.checkpoint_io.specs.Blocks.{Block, Fragment, Extent, Close, messages_of}
+use Rattle.checkpoint_io.specs.Versions.{is_known, has_clocks, writer_len, most_writers, most_body}
+use Rattle.checkpoint_io.specs.Blocks.{Block, Fragment, Extent, NewClock, Close, messages_of, clocks_of, all_records}
 use Rattle.checkpoint_io.specs.Validity.{records_of, last_stamp, closes}
 
 -- ---- the header
@@ -137,6 +140,39 @@ extent_at header before bytes = do
 abbrev pub close_at : Header → List Block → List ℕ → Parse Cause Block
 close_at header before bytes = open_writer_at header before bytes >>= (λ writer. Ok (Close writer.0, writer.1))
 
+-- ---- clocks
+
+-- no record has reached the tick
+abbrev pub are_early : ℕ → List Call → Bool
+are_early tick records = list_all (λ call. nat_lt call.stamp tick) records
+
+-- a tick above that of the clock before, and above the stamps before
+abbrev pub next_tick_at : Header → List Block → List ℕ → Parse Cause ℕ
+next_tick_at header before bytes = do
+  tick ← low_first 8 causes.Cut bytes
+  rising ← provided (nat_lt (last_tick (clocks_of header before)) tick.0) causes.ClockOrder tick
+  provided (are_early rising.0 (all_records before)) causes.ClockLate rising
+
+-- the rest of a clock of this tick: its nanoseconds and its rate
+abbrev pub clock_rate_at : ℕ → ℕ → List ℕ → Parse Cause Clock
+clock_rate_at tick nanos bytes = do
+  rate ← low_first 8 causes.Cut bytes
+  ticking ← provided (nat_le 1 rate.0) causes.BadRate rate
+  Ok (record { tick = tick; nanos = nanos; rate = ticking.0 }, ticking.1)
+
+abbrev pub clock_nanos_at : ℕ → List ℕ → Parse Cause Clock
+clock_nanos_at tick bytes = low_first 8 causes.Cut bytes >>= (λ nanos. clock_rate_at tick nanos.0 nanos.1)
+
+-- a clock, where there is room for one more
+abbrev pub next_clock_at : Header → List Block → List ℕ → Parse Cause Clock
+next_clock_at header before bytes =
+    if nat_lt (length (clocks_of header before)) MAX_CLOCKS
+    then (next_tick_at header before bytes >>= (λ tick. clock_nanos_at tick.0 tick.1))
+    else Err causes.ClockCount
+
+abbrev pub new_clock_at : Header → List Block → List ℕ → Parse Cause Block
+new_clock_at header before bytes = next_clock_at header before bytes >>= (λ clock. Ok (NewClock clock.0, clock.1))
+
 -- ---- blocks
 
 -- what stands behind a tag
@@ -144,6 +180,7 @@ abbrev pub tagged_at : Header → List Block → ℕ → List ℕ → Parse Caus
 tagged_at header before tag bytes =
     if nat_eq tag 1 then fragment_at (messages_of before) bytes
     else if nat_eq tag 2 then extent_at header before bytes
+    else if nat_eq tag 3 && has_clocks header.version then new_clock_at header before bytes
     else if nat_eq tag 4 then close_at header before bytes
     else Err causes.BadBlock
 

@@ -1,4 +1,5 @@
 use buffer_extent::Records;
+use log_dictionary::Clock;
 
 /// A block that was read.
 #[derive(Debug, Drop)]
@@ -7,6 +8,8 @@ pub enum Block {
     Fragment { first: u32, count: u32 },
     /// Records of a writer.
     Extent { writer: u32, records: Records },
+    /// A clock, which counts from its tick on.
+    Clock(Clock),
     /// The mark that closes a writer.
     Closed { writer: u32 },
 }

@@ -1,22 +1,26 @@
 //! Reading a block of a log.
 
-ghost use Rattle.std.specs.Prelude.{◌≡◌, ◌<◌, ◌≤◌, IfOk, List, length, take, IsErrOf, MatchResult};
+ghost use Rattle.std.specs.Prelude.{◌≡◌, ◌<◌, ◌≤◌, ℕ, IfOk, List, length, take, IsErrOf, MatchResult};
 ghost use Rattle.nl_io.specs.Count.{Rose};
+ghost use Rattle.arg_records.specs.Calls.{NeverFalls};
 ghost use Rattle.checkpoint_io.specs.Blocks.{Block as LogBlock, messages_of};
 ghost use Rattle.checkpoint_io.specs.Places.{log_place, Refuses, ReadsAs};
 ghost use Rattle.checkpoint_io.specs.Reading.{open_writer_at, close_at, sized_body_at, long_body_at, extent_at, block_at};
 ghost use Rattle.checkpoint_io.specs.Writers.{AreStatesOf};
+ghost use Rattle.checkpoint_io.specs.Times.{AreTimesOf};
 ghost use Rattle.checkpoint_io.specs.NextBlocks.{TakesClose, TakesExtent, TakesBlock};
 
 use crate::block::Block;
 use crate::cause::Cause;
+use crate::clock_reading::read_clock;
 use crate::fault::BlockFault;
 use crate::fragment_reading::read_fragment;
 use crate::header::Header;
-use crate::heads::{CLOSE, EXTENT, FRAGMENT};
+use crate::heads::{CLOCK, CLOSE, EXTENT, FRAGMENT};
 use crate::pending::Pending;
 use crate::steps::{take_byte, take_number};
-use crate::version::{most_body, writer_len};
+use crate::times::Times;
+use crate::version::{has_clocks, most_body, writer_len};
 use crate::writers::Writers;
 use buffer_extent::{BodyFault, Records, read_body};
 use log_dictionary::Dictionary;
@@ -90,6 +94,7 @@ fn take_body<S: Source>(
     ensures read { ReadsAs (sized_body_at dictionary.now tick last len)
         (log_place pending.old (S.left source.old)) (log_place pending.new (S.left source.new)) (S.left source.new)
         result }
+    ensures rising { IfOk result (λ records. NeverFalls last records) }
     ensures read_fault { IsErrOf result BlockFault.ReadFault
         → Rose (S.faults source.old) (S.faults source.new) }
     ensures counted { ¬ (IsErrOf result BlockFault.ReadFault)
@@ -121,6 +126,7 @@ fn read_records<S: Source>(
     ensures read { ReadsAs (long_body_at dictionary.now header.now last)
         (log_place pending.old (S.left source.old)) (log_place pending.new (S.left source.new)) (S.left source.new)
         result }
+    ensures rising { IfOk result (λ records. NeverFalls last records) }
     ensures read_fault { IsErrOf result BlockFault.ReadFault
         → Rose (S.faults source.old) (S.faults source.new) }
     ensures counted { ¬ (IsErrOf result BlockFault.ReadFault)
@@ -158,6 +164,7 @@ fn read_extent<S: Source>(
         (λ extent. TakesExtent header.now before extent.0 extent.1 writers.new
         (log_place pending.old (S.left source.old)) (log_place pending.new (S.left source.new)))
         (Refuses (extent_at header.now before) (log_place pending.old (S.left source.old)) (S.left source.new)) }
+    ensures rising { IfOk result (λ extent. (least : ℕ) × NeverFalls least extent.1) }
     ensures read_fault { IsErrOf result BlockFault.ReadFault
         → Rose (S.faults source.old) (S.faults source.new) }
     ensures counted { ¬ (IsErrOf result BlockFault.ReadFault)
@@ -172,8 +179,8 @@ fn read_extent<S: Source>(
     Ok((writer, records))
 }
 
-// The block that stands ahead. What it defines, closes or says last is kept; in front of a fault
-// some of it may be.
+// The block that stands ahead. What it defines, closes or says last is kept, but for a clock; in front of a
+// fault some of it may be.
 pub fn read_block<S: Source>(
     alloc: Global,
     pending: &mut Pending,
@@ -181,14 +188,16 @@ pub fn read_block<S: Source>(
     header: &Header,
     dictionary: &mut Dictionary,
     writers: &mut Writers,
+    times: &mut Times,
 ) -> Result<Block, BlockFault>
     ensures read { (before : List LogBlock) → dictionary.old ≡ messages_of before
-        → AreStatesOf writers.old header.now before
+        → AreStatesOf writers.old header.now before → AreTimesOf times.old header.now before
         → MatchResult result
-        (λ block. TakesBlock header.now before block dictionary.new writers.new
+        (λ block. TakesBlock header.now before block dictionary.new writers.new times.new
         (log_place pending.old (S.left source.old)) (log_place pending.new (S.left source.new)))
         (Refuses (block_at header.now before) (log_place pending.old (S.left source.old)) (S.left source.new)) }
     ensures defined { take (length dictionary.old) dictionary.new ≡ dictionary.old }
+    ensures clocks { times.new.clocks ≡ times.old.clocks }
     ensures read_fault { IsErrOf result BlockFault.ReadFault
         → Rose (S.faults source.old) (S.faults source.new) }
     ensures counted { ¬ (IsErrOf result BlockFault.ReadFault)
@@ -202,7 +211,12 @@ pub fn read_block<S: Source>(
     }
     if tag == EXTENT {
         let (writer, records) = read_extent(alloc, pending, source, header, dictionary, writers)?;
+        times.go_on(&records);
         return Ok(Block::Extent { writer, records });
+    }
+    if tag == CLOCK && has_clocks(header.version) {
+        let clock = read_clock(pending, source, times)?;
+        return Ok(Block::Clock(clock));
     }
     if tag == CLOSE {
         let writer = read_close(pending, source, header, writers)?;

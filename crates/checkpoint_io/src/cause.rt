@@ -17,7 +17,7 @@ pub enum Cause {
     BadHeader,
     /// The file ends inside the header or the block.
     Cut,
-    /// The block is none of the three kinds.
+    /// The block is none of the kinds that the version has.
     BadBlock,
     /// The first id of a fragment isn't the number of messages before.
     FragmentOrder,
@@ -34,6 +34,14 @@ pub enum Cause {
     Body(BodyCause),
     /// The block is right, and would end past offset 134,217,728.
     TooLarge,
+    /// The tick of a clock isn't above that of the clock before.
+    ClockOrder,
+    /// A record in front of a clock has reached its tick.
+    ClockLate,
+    /// A clock doesn't tick.
+    BadRate,
+    /// There are 256 clocks already.
+    ClockCount,
 }
 
 impl Cause {
@@ -54,6 +62,10 @@ impl Cause {
             Cause::BadLength => 10,
             Cause::Body(cause) => cause.number(),
             Cause::TooLarge => 20,
+            Cause::ClockOrder => 21,
+            Cause::ClockLate => 22,
+            Cause::BadRate => 23,
+            Cause::ClockCount => 24,
         }
     }
 
@@ -74,6 +86,10 @@ impl Cause {
             Cause::BadLength => "BadLength",
             Cause::Body(cause) => cause.name(),
             Cause::TooLarge => "TooLarge",
+            Cause::ClockOrder => "ClockOrder",
+            Cause::ClockLate => "ClockLate",
+            Cause::BadRate => "BadRate",
+            Cause::ClockCount => "ClockCount",
         }
     }
 }

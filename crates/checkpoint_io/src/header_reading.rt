@@ -1,6 +1,6 @@
 //! Reading the header of a log.
 
-ghost use Rattle.std.specs.Prelude.{IsErrOf, ◌≡◌, ◌≤◌};
+ghost use Rattle.std.specs.Prelude.{IfOk, IsErrOf, ◌≡◌, ◌≤◌};
 ghost use Rattle.nl_io.specs.Count.{Rose};
 ghost use Rattle.checkpoint_io.specs.Places.{log_place, ReadsAs};
 ghost use Rattle.checkpoint_io.specs.Reading.{header_clock_at, header_writers_at, header_version_at, header_letters_at, header_at};
@@ -24,6 +24,7 @@ fn read_clock<S: Source>(
     ensures read { ReadsAs (header_clock_at version writers)
         (log_place pending.old (S.left source.old)) (log_place pending.new (S.left source.new)) (S.left source.new)
         result }
+    ensures rate { IfOk result (λ header. 1 ≤ header.clock.rate) }
     ensures read_fault { IsErrOf result BlockFault.ReadFault
         → Rose (S.faults source.old) (S.faults source.new) }
     ensures counted { ¬ (IsErrOf result BlockFault.ReadFault)
@@ -53,6 +54,7 @@ fn read_writers<S: Source>(
     ensures read { ReadsAs (header_writers_at version)
         (log_place pending.old (S.left source.old)) (log_place pending.new (S.left source.new)) (S.left source.new)
         result }
+    ensures rate { IfOk result (λ header. 1 ≤ header.clock.rate) }
     ensures read_fault { IsErrOf result BlockFault.ReadFault
         → Rose (S.faults source.old) (S.faults source.new) }
     ensures counted { ¬ (IsErrOf result BlockFault.ReadFault)
@@ -71,6 +73,7 @@ fn read_version<S: Source>(pending: &mut Pending, source: &mut S) -> Result<Head
     ensures read { ReadsAs header_version_at
         (log_place pending.old (S.left source.old)) (log_place pending.new (S.left source.new)) (S.left source.new)
         result }
+    ensures rate { IfOk result (λ header. 1 ≤ header.clock.rate) }
     ensures read_fault { IsErrOf result BlockFault.ReadFault
         → Rose (S.faults source.old) (S.faults source.new) }
     ensures counted { ¬ (IsErrOf result BlockFault.ReadFault)
@@ -94,6 +97,7 @@ fn read_letters<S: Source>(
     ensures read { ReadsAs (header_letters_at letters.now)
         (log_place pending.old (S.left source.old)) (log_place pending.new (S.left source.new)) (S.left source.new)
         result }
+    ensures rate { IfOk result (λ header. 1 ≤ header.clock.rate) }
     ensures read_fault { IsErrOf result BlockFault.ReadFault
         → Rose (S.faults source.old) (S.faults source.new) }
     ensures counted { ¬ (IsErrOf result BlockFault.ReadFault)
@@ -115,6 +119,7 @@ pub fn read_header<S: Source>(pending: &mut Pending, source: &mut S) -> Result<H
     ensures read { ReadsAs header_at
         (log_place pending.old (S.left source.old)) (log_place pending.new (S.left source.new)) (S.left source.new)
         result }
+    ensures rate { IfOk result (λ header. 1 ≤ header.clock.rate) }
     ensures read_fault { IsErrOf result BlockFault.ReadFault
         → Rose (S.faults source.old) (S.faults source.new) }
     ensures counted { ¬ (IsErrOf result BlockFault.ReadFault)

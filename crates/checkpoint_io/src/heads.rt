@@ -1,15 +1,15 @@
 //! The parts of a log that have one length in its version, in bytes: its header, the heads of
-//! fragments and extents, and close marks. Numbers stand with the low byte first.
+//! fragments and extents, clocks, and close marks. Numbers stand with the low byte first.
 
 ghost use Rattle.std.specs.Prelude.{◌≡◌, ◌+◌, ◌<◌, ◌≤◌, ◌++◌, length, take, drop, true};
 ghost use Rattle.std.specs.Hash.{le_bytes};
-ghost use Rattle.checkpoint_io.specs.Blocks.{header_bytes, fragment_head_bytes, extent_head_bytes, close_bytes};
+ghost use Rattle.checkpoint_io.specs.Blocks.{header_bytes, fragment_head_bytes, extent_head_bytes, clock_bytes, close_bytes};
 ghost use Rattle.checkpoint_io.specs.Versions.{is_known, header_len, extent_head_len, close_len, most_writers, most_body};
 ghost use Rattle.checkpoint_io.specs.Versions as versions;
 
 use crate::header::Header;
 use crate::version::writer_len;
-use log_dictionary::put;
+use log_dictionary::{Clock, put};
 
 /// The most messages of a fragment.
 pub const MAX_FRAGMENT_MESSAGES: u16 = 16;
@@ -20,11 +20,16 @@ pub const MAX_LOG: u64 = 134_217_728;
 /// The bytes in front of a fragment's entries.
 pub const FRAGMENT_HEAD_LEN: usize = 7;
 
+/// The bytes of a clock.
+pub const CLOCK_LEN: usize = 25;
+
 pub(crate) const MAGIC: &[u8] = b"NLOG";
 
 pub(crate) const FRAGMENT: u8 = 1;
 
 pub(crate) const EXTENT: u8 = 2;
+
+pub(crate) const CLOCK: u8 = 3;
 
 pub(crate) const CLOSE: u8 = 4;
 
@@ -84,6 +89,20 @@ pub fn put_extent_head(version: u8, writer: u32, len: u32, into: &mut [u8]) -> u
     let at = put(into, 0, &[EXTENT]);
     let at = put_writer(version, writer, at, into);
     put(into, at, &len.to_le_bytes())
+}
+
+/// Writes a clock, which ticks, to the front, and gives its length, which is 25. A log has it in front of
+/// all records that have reached its tick.
+pub fn put_clock(clock: &Clock, into: &mut [u8]) -> usize
+    requires rate { 1 ≤ clock.now.rate }
+    requires room { 25 ≤ length into.now }
+    ensures put { into.new ≡ clock_bytes clock.now ++ drop 25 into.old }
+    ensures len { result ≡ 25 }
+{
+    let at = put(into, 0, &[CLOCK]);
+    let at = put(into, at, &clock.tick.to_le_bytes());
+    let at = put(into, at, &clock.nanos.to_le_bytes());
+    put(into, at, &clock.rate.to_le_bytes())
 }
 
 /// Writes the close mark of a writer to the front, and gives its length.

@@ -6,6 +6,7 @@ ghost use Rattle.nibble_pack.specs.Parsing.{IsSteady};
 ghost use Rattle.std.specs.List.{AllByRecursion, range_with_len};
 ghost use Rattle.log_dictionary.specs.declared.clock.Clock.{Clock};
 ghost use Rattle.log_dictionary.specs.declared.message.Message.{Message};
+ghost use Rattle.log_dictionary.specs.Clocks.{AreClocks, last_tick};
 ghost use Rattle.log_dictionary.specs.Messages.{AreDistinct};
 ghost use Rattle.log_dictionary.specs.BinaryEntries.{SpellsEntry};
 ghost use Rattle.arg_records.specs.declared.call.Call.{Call};
@@ -13,19 +14,19 @@ ghost use Rattle.buffer_extent.specs.declared.fault.BodyCause.{BodyCause};
 ghost use Rattle.buffer_extent.specs.Bodies.{SpellsRecords};
 ghost use Rattle.arg_records.specs.Calls.{IsCall, NeverFalls};
 ghost use Rattle.checkpoint_io.specs.declared.cause.Cause.{Cause};
-ghost use Rattle.checkpoint_io.specs.declared.cause.Cause.TheVariants.{BadMagic, BadVersion, BadHeader, Cut, BadBlock, FragmentOrder, BadEntry, UnknownWriter, AfterClose, BadLength, Body, TooLarge};
+ghost use Rattle.checkpoint_io.specs.declared.cause.Cause.TheVariants.{BadMagic, BadVersion, BadHeader, Cut, BadBlock, FragmentOrder, BadEntry, UnknownWriter, AfterClose, BadLength, Body, TooLarge, ClockOrder, ClockLate, BadRate, ClockCount};
 ghost use Rattle.checkpoint_io.specs.declared.header.Header.{Header};
-ghost use Rattle.checkpoint_io.specs.declared.heads.TheConstants.{MAX_FRAGMENT_MESSAGES, MAX_LOG};
+ghost use Rattle.checkpoint_io.specs.declared.heads.TheConstants.{CLOCK_LEN, MAX_FRAGMENT_MESSAGES, MAX_LOG};
 ghost use Rattle.checkpoint_io.specs.declared.version.TheConstants.{WRITTEN_VERSION, MAX_BODY, MAX_HEADER_LEN, MAX_EXTENT_HEAD_LEN, MAX_CLOSE_LEN};
-ghost use Rattle.checkpoint_io.specs.Blocks.{Block, Fragment, Extent, Close, IsFragment, messages_of, header_bytes, fragment_head_bytes, extent_head_bytes, close_bytes, SpellsEntries, SpellsFragment, SpellsExtent, SpellsClose, SpellsBlock, FileOf};
+ghost use Rattle.checkpoint_io.specs.Blocks.{Block, Fragment, Extent, NewClock, Close, IsPreface, messages_of, clocks_of, all_records, header_bytes, fragment_head_bytes, extent_head_bytes, clock_bytes, close_bytes, SpellsEntries, SpellsFragment, SpellsExtent, SpellsClock, SpellsClose, SpellsBlock, FileOf};
 ghost use Rattle.checkpoint_io.specs.Causes.{cause_number, cause_name};
 ghost use Rattle.checkpoint_io.specs.Fronts.{BeginsWithLog, Front, HasNoHeader, Break, BreaksByCutAlone, IsCutAt};
-ghost use Rattle.checkpoint_io.specs.Logs.{ids_used, new_messages, AreFragments, HasAtMost, IsLaidOut, LogOf};
+ghost use Rattle.checkpoint_io.specs.Logs.{ids_used, new_messages, AreFragments, HasAtMost, greatest_stamp, new_clocks, StandsInFront, IsLaidOut, LogOf};
 ghost use Rattle.checkpoint_io.specs.Reading.{header_at, block_at};
-ghost use Rattle.checkpoint_io.specs.Rows.{row_header, row_blocks, row_bytes, row_record, full_record, late_fragments};
+ghost use Rattle.checkpoint_io.specs.Rows.{row_header, row_header_bytes, row_blocks, row_bytes, row_record, full_record, late_fragments, two_clocks, call_at, clock_header, clock_blocks, clock_file, later_clock_bytes, late_clock_file};
 ghost use Rattle.arg_records.specs.Rows.{full_message};
-ghost use Rattle.log_dictionary.specs.Rows.{row_message};
-ghost use Rattle.checkpoint_io.specs.Versions.{is_known, writer_len, most_writers, most_body, header_len, extent_head_len, close_len};
+ghost use Rattle.log_dictionary.specs.Rows.{row_message, later_clock};
+ghost use Rattle.checkpoint_io.specs.Versions.{is_known, has_clocks, writer_len, most_writers, most_body, header_len, extent_head_len, close_len};
 ghost use Rattle.checkpoint_io.specs.Validity.{records_of, last_stamp, IsClosed, IsOf, IsRightAfter, IsHeader, Valid};
 
 /// A log of 68 bytes: a message, a call of it, and a close mark.
@@ -38,11 +39,22 @@ pub fn worked_log()
         (row_header.clock ∷ []) 1 }
 {}
 
+/// A log of version 2 with 97 bytes: a second clock, a message, a call of it behind the clock's tick, and a close mark.
+pub fn worked_log_of_two_clocks()
+    ensures length { length clock_file ≡ 97 }
+    ensures file { FileOf clock_header clock_blocks clock_file }
+    ensures valid { Valid clock_header clock_blocks }
+    ensures clocks { clocks_of clock_header clock_blocks ≡ two_clocks }
+    ensures log { LogOf clock_file ((call_at 2003 ∷ []) ∷ []) (row_message ∷ []) 2 two_clocks 4096 }
+{}
+
 /// What depends on the version of a log: the bytes of the number of writers and of each writer, the most
 /// writers, the most bytes of a body, and the bytes of a header, of an extent's head and of a close
-/// mark. Version 1 alone is known, and is the one that is written.
+/// mark. Versions 1 and 2 are known, of which 2 alone has clocks behind that of the header, and 1 is written.
 pub fn versions_have_a_table()
-    ensures known { (is_known 1 ≡ true) × ((version : ℕ) → is_known version ≡ true → version ≡ 1) }
+    ensures known { (is_known 1 ≡ true) × (is_known 2 ≡ true)
+        × ((version : ℕ) → is_known version ≡ true → (version ≡ 1) ⊎ (version ≡ 2)) }
+    ensures clocks { (has_clocks 1 ≡ false) × (has_clocks 2 ≡ true) }
     ensures written { WRITTEN_VERSION ≡ 1 }
     ensures numbers_of_1 { (writer_len 1 ≡ 1) × (most_writers 1 ≡ 64) × (most_body 1 ≡ 65536) }
     ensures lengths_of_1 { (header_len 1 ≡ 30) × (extent_head_len 1 ≡ 6) × (close_len 1 ≡ 2) }
@@ -57,7 +69,8 @@ pub fn versions_have_a_table()
 /// A header has a known version, a writer, no more of them than the version allows, numbers of 64 bits,
 /// and a clock that ticks.
 pub fn headers_are_within_limits()
-    ensures right { (header : Header) → header.version ≡ 1 → 1 ≤ header.writers → header.writers ≤ 64
+    ensures right { (header : Header) → is_known header.version ≡ true → 1 ≤ header.writers
+        → header.writers ≤ most_writers header.version
         → header.clock.tick < 2 ^ 64
         → header.clock.nanos < 2 ^ 64
         → header.clock.rate < 2 ^ 64
@@ -65,7 +78,8 @@ pub fn headers_are_within_limits()
         → IsHeader header }
     ensures other_version { (header : Header) → is_known header.version ≡ false → ¬ (IsHeader header) }
     ensures no_writer { (header : Header) → header.writers ≡ 0 → ¬ (IsHeader header) }
-    ensures too_many_writers { (header : Header) → header.version ≡ 1 → 64 < header.writers → ¬ (IsHeader header) }
+    ensures too_many_writers { (header : Header) → most_writers header.version < header.writers
+        → ¬ (IsHeader header) }
     ensures no_ticks { (header : Header) → header.clock.rate ≡ 0 → ¬ (IsHeader header) }
     ensures tick_fits { (header : Header) → IsHeader header → header.clock.tick < 2 ^ 64 }
     ensures nanos_fits { (header : Header) → IsHeader header → header.clock.nanos < 2 ^ 64 }
@@ -191,7 +205,8 @@ pub fn headers_stand_at_the_front()
 {}
 
 /// A log may go on with messages that have the next ids, with the records of a writer that is known
-/// and not closed, and with the close mark of such a writer.
+/// and not closed, with a clock whose tick is above that of the last clock and above all stamps, and with the
+/// close mark of such a writer.
 pub fn logs_go_on()
     ensures empty { (header : Header) → IsHeader header → Valid header [] }
     ensures more { (header : Header) (blocks : List Block) (block : Block) → Valid header blocks
@@ -207,9 +222,28 @@ pub fn logs_go_on()
         → AllByRecursion (IsCall (messages_of before)) records
         → NeverFalls (last_stamp header.clock.tick (records_of writer before)) records
         → IsRightAfter header before (Extent writer records) }
+    ensures clock { (header : Header) (before : List Block) (clock : Clock)
+        → length (clocks_of header before) < 256
+        → last_tick (clocks_of header before) < clock.tick
+        → AllByRecursion (λ call. call.stamp < clock.tick) (all_records before)
+        → 1 ≤ clock.rate
+        → IsRightAfter header before (NewClock clock) }
     ensures close { (header : Header) (before : List Block) (writer : ℕ) → writer < header.writers
         → ¬ (IsClosed writer before)
         → IsRightAfter header before (Close writer) }
+{}
+
+/// The clocks of a log are those of a run: there are 1 to 256, their ticks rise, and each ticks. No record in front of a
+/// clock has reached its tick.
+pub fn logs_have_clocks_of_a_run()
+    ensures clocks { (header : Header) (blocks : List Block) → Valid header blocks
+        → AreClocks (clocks_of header blocks) }
+    ensures early { (header : Header) (before : List Block) (clock : Clock) (others : List Block)
+        → Valid header (before ++ NewClock clock ∷ others)
+        → AllByRecursion (λ call. call.stamp < clock.tick) (all_records before) }
+    ensures worked { all_records late_fragments ≡ row_record ∷ full_record ∷ row_record ∷ full_record ∷ [] }
+    ensures version { (header : Header) (clock : Clock) (bytes : List ℕ) → header.version ≡ 1
+        → ¬ (SpellsClock header clock bytes) }
 {}
 
 /// A writer's records are those of its extents, in the order of the blocks, and its last stamp is
@@ -277,8 +311,8 @@ pub fn closed_writers_write_no_more()
 
 /// No extent of a log has more records than a batch.
 pub fn extents_are_within_a_batch()
-    ensures all { (dictionary : List Message) (batch : ℕ) (before blocks : List Block)
-        → IsLaidOut dictionary batch before blocks
+    ensures all { (clocks : List Clock) (dictionary : List Message) (batch : ℕ) (before blocks : List Block)
+        → IsLaidOut clocks dictionary batch before blocks
         → AllByRecursion (HasAtMost batch) blocks }
     ensures extent { (batch writer : ℕ) (records : List Call) → HasAtMost batch (Extent writer records)
         → length records ≤ batch }
@@ -286,10 +320,10 @@ pub fn extents_are_within_a_batch()
 
 /// Blocks that are laid out behind blocks that are laid out are so together.
 pub fn layouts_join()
-    ensures { (dictionary : List Message) (batch : ℕ) (before blocks more : List Block)
-        → IsLaidOut dictionary batch before blocks
-        → IsLaidOut dictionary batch (before ++ blocks) more
-        → IsLaidOut dictionary batch before (blocks ++ more) }
+    ensures { (clocks : List Clock) (dictionary : List Message) (batch : ℕ) (before blocks more : List Block)
+        → IsLaidOut clocks dictionary batch before blocks
+        → IsLaidOut clocks dictionary batch (before ++ blocks) more
+        → IsLaidOut clocks dictionary batch before (blocks ++ more) }
 {}
 
 /// Fragments of messages define these and no others, with ids that go on, and all but the last have
@@ -300,7 +334,7 @@ pub fn fragments_are_full_but_the_last()
         → messages_of blocks ≡ messages }
     ensures alone { (first : ℕ) (messages : List Message) (blocks : List Block)
         → AreFragments first messages blocks
-        → AllByRecursion IsFragment blocks }
+        → AllByRecursion IsPreface blocks }
     ensures ids { (first id : ℕ) (messages front : List Message) (before others : List Block)
         → AreFragments first messages (before ++ Fragment id front ∷ others)
         → id ≡ first + length (messages_of before) }
@@ -331,25 +365,38 @@ pub fn records_want_the_messages_up_to_their_ids()
         → new_messages dictionary defined records ≡ [] }
 {}
 
-/// In front of an extent stand the fragments of the messages that it wants, and no others. Behind
+/// Records reach the clocks up to their greatest stamp. Of these the ones are new that stand behind those that are
+/// written, and there are none where all clocks are.
+pub fn records_want_the_clocks_up_to_their_stamps()
+    ensures greatest { (records : List Call)
+        → AllByRecursion (λ call. call.stamp ≤ greatest_stamp records) records }
+    ensures least { (records : List Call) (stamp : ℕ)
+        → AllByRecursion (λ call. call.stamp ≤ stamp) records
+        → greatest_stamp records ≤ stamp }
+    ensures worked { (new_clocks two_clocks 1 (call_at 1999 ∷ []) ≡ [])
+        × (new_clocks two_clocks 1 (call_at 2000 ∷ []) ≡ later_clock ∷ []) }
+    ensures known { (clocks : List Clock) (written : ℕ) (records : List Call) → length clocks ≤ written
+        → new_clocks clocks written records ≡ [] }
+{}
+
+/// In front of an extent stand the clocks and the fragments of the messages that it wants, and no others. Behind
 /// the last extent there are none.
-pub fn fragments_stand_in_front_of_their_extent()
-    ensures worked { IsLaidOut (row_message ∷ full_message ∷ []) 2 [] late_fragments }
-    ensures wanted { (dictionary : List Message) (batch : ℕ) (before fragments : List Block) (writer : ℕ)
-        (records : List Call) (others : List Block)
-        → IsLaidOut dictionary batch before (fragments ++ Extent writer records ∷ others)
-        → AllByRecursion IsFragment fragments
-        → AreFragments (length (messages_of before))
-        (new_messages dictionary (length (messages_of before)) records) fragments }
-    ensures behind { (dictionary : List Message) (batch : ℕ) (before fragments : List Block) (writer : ℕ)
-        (records : List Call) (others : List Block)
-        → IsLaidOut dictionary batch before (fragments ++ Extent writer records ∷ others)
-        → AllByRecursion IsFragment fragments
-        → IsLaidOut dictionary batch (before ++ fragments ++ Extent writer records ∷ []) others }
-    ensures no_others { (dictionary : List Message) (batch : ℕ) (before fragments : List Block)
-        → IsLaidOut dictionary batch before fragments
-        → AllByRecursion IsFragment fragments
-        → fragments ≡ [] }
+pub fn clocks_and_fragments_stand_in_front_of_their_extent()
+    ensures worked { (clock : Clock) → IsLaidOut (clock ∷ []) (row_message ∷ full_message ∷ []) 2 [] late_fragments }
+    ensures wanted { (clocks : List Clock) (dictionary : List Message) (batch : ℕ) (before front : List Block)
+        (writer : ℕ) (records : List Call) (others : List Block)
+        → IsLaidOut clocks dictionary batch before (front ++ Extent writer records ∷ others)
+        → AllByRecursion IsPreface front
+        → StandsInFront clocks dictionary before records front }
+    ensures behind { (clocks : List Clock) (dictionary : List Message) (batch : ℕ) (before front : List Block)
+        (writer : ℕ) (records : List Call) (others : List Block)
+        → IsLaidOut clocks dictionary batch before (front ++ Extent writer records ∷ others)
+        → AllByRecursion IsPreface front
+        → IsLaidOut clocks dictionary batch (before ++ front ++ Extent writer records ∷ []) others }
+    ensures no_others { (clocks : List Clock) (dictionary : List Message) (batch : ℕ) (before front : List Block)
+        → IsLaidOut clocks dictionary batch before front
+        → AllByRecursion IsPreface front
+        → front ≡ [] }
 {}
 
 /// A log of a run tells of the run: its front is all of it, with the run's version, its clocks, its
@@ -362,7 +409,7 @@ pub fn logs_tell_of_their_run()
     ensures clocks { (bytes : List ℕ) (taken : List (List Call)) (dictionary : List Message) (version : ℕ)
         (clocks : List Clock) (batch : ℕ) (header : Header) (blocks : List Block) (count : ℕ)
         → LogOf bytes taken dictionary version clocks batch → Front bytes header blocks count
-        → header.clock ∷ [] ≡ clocks }
+        → (unwritten : List Clock) × (clocks ≡ clocks_of header blocks ++ unwritten) }
     ensures version { (bytes : List ℕ) (taken : List (List Call)) (dictionary : List Message) (version : ℕ)
         (clocks : List Clock) (batch : ℕ) (header : Header) (blocks : List Block) (count : ℕ)
         → LogOf bytes taken dictionary version clocks batch → Front bytes header blocks count
@@ -382,7 +429,7 @@ pub fn logs_tell_of_their_run()
     ensures layout { (bytes : List ℕ) (taken : List (List Call)) (dictionary : List Message) (version : ℕ)
         (clocks : List Clock) (batch : ℕ) (header : Header) (blocks : List Block) (count : ℕ)
         → LogOf bytes taken dictionary version clocks batch → Front bytes header blocks count
-        → IsLaidOut dictionary batch [] blocks }
+        → IsLaidOut clocks dictionary batch [] blocks }
 {}
 
 /// More bytes behind change nothing of a header or a block that is there, nor of the cause by which it breaks, unless
@@ -482,6 +529,22 @@ pub fn worked_breaks()
     ensures closed_twice { Break (row_bytes ++ 4 ∷ 0 ∷ []) 68 AfterClose }
 {}
 
+/// The worked log of two clocks with one field changed, cut off, or with the clock behind the call. In version 1 the
+/// block of a clock is none.
+pub fn worked_breaks_of_two_clocks()
+    ensures other_version { Break (slice_set clock_file 4 3) 0 BadVersion }
+    ensures no_writers { Break (slice_set clock_file 5 0) 0 BadHeader }
+    ensures too_many_writers { Break (slice_set (slice_set clock_file 5 1) 6 4) 0 BadHeader }
+    ensures other_tag { Break (slice_set clock_file 31 5) 31 BadBlock }
+    ensures same_tick { Break (slice_set (slice_set clock_file 32 232) 33 3) 31 ClockOrder }
+    ensures no_rate { Break (slice_set (slice_set (slice_set clock_file 49 0) 50 0) 51 0) 31 BadRate }
+    ensures late { Break late_clock_file 69 ClockLate }
+    ensures other_writer { Break (slice_set clock_file 84 1) 82 UnknownWriter }
+    ensures cut { Break (take 55 clock_file) 31 Cut }
+    ensures version_1 { Break (row_header_bytes ++ later_clock_bytes) 30 BadBlock }
+    ensures tick_before_rate { Break (take 40 (slice_set (slice_set clock_file 32 232) 33 3)) 31 ClockOrder }
+{}
+
 /// Where several causes hold the one is told that is met first, and a field is judged before the file ends behind it.
 pub fn worked_orders()
     ensures magic_before_version { Break (slice_set (slice_set row_bytes 0 0) 4 9) 0 BadMagic }
@@ -507,13 +570,15 @@ pub fn causes_have_numbers_and_names()
         ∷ (Body BodyCause.StampRange, 15, codes "StampRange")
         ∷ (Body BodyCause.StampFalls, 16, codes "StampFalls") ∷ (Body BodyCause.ArgRange, 17, codes "ArgRange")
         ∷ (Body BodyCause.NulInText, 18, codes "NulInText") ∷ (Body BodyCause.TooLong, 19, codes "TooLong")
-        ∷ (TooLarge, 20, codes "TooLarge") ∷ [])
+        ∷ (TooLarge, 20, codes "TooLarge") ∷ (ClockOrder, 21, codes "ClockOrder")
+        ∷ (ClockLate, 22, codes "ClockLate") ∷ (BadRate, 23, codes "BadRate")
+        ∷ (ClockCount, 24, codes "ClockCount") ∷ [])
         (cause, cause_number cause, cause_name cause) }
 {}
 
 /// A header begins with `NLOG`, the version and the number of writers. In version 1 it has 30 bytes, a
 /// fragment's head has 7 with the tag 1, an extent's has 6 with the tag 2, and a close mark has 2 with
-/// the tag 4.
+/// the tag 4. A clock has 25 with the tag 3.
 pub fn heads_have_lengths_and_tags()
     ensures header { (header : Header) → length (header_bytes header) ≡ header_len header.version }
     ensures magic { (header : Header) → take 5 (header_bytes header) ≡ codes "NLOG" ++ header.version ∷ [] }
@@ -526,6 +591,8 @@ pub fn heads_have_lengths_and_tags()
     ensures extent_tag { (version writer len : ℕ) → take 1 (extent_head_bytes version writer len) ≡ 2 ∷ [] }
     ensures extent_writer { (writer len : ℕ) → writer < 256
         → take 2 (extent_head_bytes 1 writer len) ≡ 2 ∷ writer ∷ [] }
+    ensures clock { (clock : Clock) → length (clock_bytes clock) ≡ CLOCK_LEN }
+    ensures clock_tag { (clock : Clock) → take 1 (clock_bytes clock) ≡ 3 ∷ [] }
     ensures close { (version writer : ℕ) → length (close_bytes version writer) ≡ close_len version }
     ensures close_tag { (version writer : ℕ) → take 1 (close_bytes version writer) ≡ 4 ∷ [] }
     ensures close_writer { (writer : ℕ) → writer < 256 → close_bytes 1 writer ≡ 4 ∷ writer ∷ [] }

@@ -4,6 +4,7 @@
 mod block;
 mod block_reading;
 mod cause;
+mod clock_reading;
 mod fault;
 mod fragment_reading;
 mod header;
@@ -13,6 +14,7 @@ pub mod laws;
 mod pending;
 mod reader;
 mod steps;
+mod times;
 mod version;
 mod writers;
 
@@ -21,11 +23,11 @@ pub use cause::Cause;
 pub use fault::BlockFault;
 pub use header::Header;
 pub use heads::{
-    FRAGMENT_HEAD_LEN, MAX_FRAGMENT_MESSAGES, MAX_LOG, put_close, put_extent_head,
-    put_fragment_head, put_header,
+    CLOCK_LEN, FRAGMENT_HEAD_LEN, MAX_FRAGMENT_MESSAGES, MAX_LOG, put_clock, put_close,
+    put_extent_head, put_fragment_head, put_header,
 };
 pub use reader::Reader;
 pub use version::{
     MAX_BODY, MAX_CLOSE_LEN, MAX_EXTENT_HEAD_LEN, MAX_HEADER_LEN, WRITTEN_VERSION, close_len,
-    extent_head_len, header_len, is_known, most_body, most_writers, writer_len,
+    extent_head_len, has_clocks, header_len, is_known, most_body, most_writers, writer_len,
 };

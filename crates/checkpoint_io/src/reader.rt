@@ -21,8 +21,9 @@ use crate::header::Header;
 use crate::header_reading::read_header;
 use crate::heads::MAX_LOG;
 use crate::pending::Pending;
+use crate::times::Times;
 use crate::writers::Writers;
-use log_dictionary::Dictionary;
+use log_dictionary::{Clocks, Dictionary};
 use nl_io::Source;
 use std::alloc::Global;
 use std::marker::Model;
@@ -35,6 +36,7 @@ pub struct Reader {
     header: Header,
     dictionary: Dictionary,
     writers: Writers,
+    times: Times,
     pending: Pending,
     offset: u64,
     failed: bool,
@@ -49,6 +51,7 @@ impl Model for Reader {
       header = r.header;
       messages = r.dictionary;
       writers = r.writers;
+      times = r.times;
       waiting = r.pending;
       offset = r.offset;
       failed = r.failed;
@@ -82,11 +85,13 @@ impl Reader {
         let header = read_header(&mut pending, source)?;
         let offset = pending.offset();
         let writers = Writers::make(alloc, header.writers, header.clock.tick)?;
+        let times = Times::make(alloc, header.clock)?;
         Ok(Reader {
             alloc,
             header,
             dictionary: Dictionary::make(alloc),
             writers,
+            times,
             pending,
             offset,
             failed: false,
@@ -109,6 +114,7 @@ impl Reader {
         ensures failed { self.new.failed ≡ self.old.failed }
         ensures header { self.new.header ≡ self.old.header }
         ensures defined { take (length self.old.messages) self.new.messages ≡ self.old.messages }
+        ensures clocks { OnErr result (self.new.times.clocks ≡ self.old.times.clocks) }
         ensures read_fault { IsErrOf result BlockFault.ReadFault
             → Rose (S.faults source.old) (S.faults source.new) }
         ensures counted { ¬ (IsErrOf result BlockFault.ReadFault)
@@ -126,12 +132,14 @@ impl Reader {
             &self.header,
             &mut self.dictionary,
             &mut self.writers,
+            &mut self.times,
         )?;
         let end = self.pending.offset();
         if end > MAX_LOG {
             return Err(BlockFault::Damaged(Cause::TooLarge));
         }
         self.offset = end;
+        self.times.add(&block);
         Ok(Some(block))
     }
 
@@ -160,6 +168,7 @@ impl Reader {
         ensures failed { OnErr result (self.new.failed ≡ true) }
         ensures header { self.new.header ≡ self.old.header }
         ensures defined { take (length self.old.messages) self.new.messages ≡ self.old.messages }
+        ensures clocks { OnErr result (self.new.times.clocks ≡ self.old.times.clocks) }
         ensures read_fault { IsErrOf result BlockFault.ReadFault
             → Rose (S.faults source.old) (S.faults source.new) }
         ensures counted { ¬ (IsErrOf result BlockFault.ReadFault)
@@ -188,6 +197,13 @@ impl Reader {
         ensures { result.now ≡ self.now.messages }
     {
         &self.dictionary
+    }
+
+    /// The clocks that were read so far: that of the header, and those of the blocks.
+    pub fn clocks(&self) -> &Clocks
+        ensures { result.now ≡ self.now.times.clocks }
+    {
+        self.times.clocks()
     }
 
     /// The offset at which the next block begins, or the one that failed.

@@ -24,7 +24,14 @@ pub const MAX_CLOSE_LEN: usize = 3;
 pub fn is_known(version: u8) -> bool
     ensures { result ≡ versions.is_known version }
 {
-    version == 1
+    version == 1 || version == 2
+}
+
+/// Whether such logs may have clocks behind that of the header.
+pub fn has_clocks(version: u8) -> bool
+    ensures { result ≡ versions.has_clocks version }
+{
+    version == 2
 }
 
 /// The bytes of the number of writers, and of each writer.

@@ -9,7 +9,7 @@ use Rattle.log_dictionary.specs.declared.message.Message.{Message}
 use Rattle.log_dictionary.specs.BinaryEntries.{SpellsEntry}
 use Rattle.checkpoint_io.specs.declared.header.Header.{Header}
 use Rattle.checkpoint_io.specs.Versions.{writer_len, header_len, extent_head_len}
-use Rattle.checkpoint_io.specs.Blocks.{writer_bytes, header_bytes, fragment_head_bytes, extent_head_bytes, SpellsEntries}
+use Rattle.checkpoint_io.specs.Blocks.{writer_bytes, header_bytes, extent_head_bytes, SpellsEntries}
 
 -- ---- numbers
 

@@ -10,7 +10,7 @@ use Rattle.checkpoint_io.specs.declared.cause.Cause.TheVariants as causes
 use Rattle.checkpoint_io.specs.declared.header.Header.{Header}
 use Rattle.checkpoint_io.specs.declared.block.Block.{Block as ReadBlock}
 use Rattle.checkpoint_io.specs.declared.block.Block.TheVariants as read
-use Rattle.checkpoint_io.specs.Blocks.{Block, Fragment, Extent, Close, FileOf}
+use Rattle.checkpoint_io.specs.Blocks.{Block, Fragment, Extent, NewClock, Close, FileOf}
 use Rattle.checkpoint_io.specs.Validity.{Valid}
 use Rattle.checkpoint_io.specs.Fronts.{BeginsWithLog, Front, HasNoHeader, Break, IsCutAt}
 use Rattle.checkpoint_io.specs.Places.{with_front}
@@ -120,10 +120,11 @@ no_header bytes cause breaks = at_start (front_of_break bytes 0 cause breaks)
 
 -- ---- a block that was read
 
-pub is_extent : (writer : ℕ) (entries : List Call) (block : Block) → Describes (read.Extent writer entries) block → block ≡ Extent writer entries
-is_extent writer entries (Fragment first messages) tells = cc
-is_extent writer entries (Extent w es) tells = cc
-is_extent writer entries (Close w) tells = cc
+pub is_extent : (writer : ℕ) (records : List Call) (block : Block) → Describes (read.Extent writer records) block → block ≡ Extent writer records
+is_extent writer records (Fragment first messages) tells = cc
+is_extent writer records (Extent w es) tells = cc
+is_extent writer records (NewClock clock) tells = cc
+is_extent writer records (Close w) tells = cc
 
 -- the reader stood for what was taken, and stands behind the next block
 module _ (old new : ReaderState) (taken : List ℕ) (stood : StandsFor old taken) (told : ReadBlock) (left behind : Told) (next : TakesNext old new taken stood told left behind) where

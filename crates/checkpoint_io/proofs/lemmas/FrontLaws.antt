@@ -3,7 +3,7 @@ use Rattle.std.proofs.Common.{◌≡◌, ◌≢◌, ℕ, ◌<◌, ◌≤◌, Lis
 use Rattle.std.proofs.lemmas.List.{append-nil, length-append}
 use Rattle.log_dictionary.specs.declared.message.Message.{Message}
 use Rattle.checkpoint_io.specs.declared.header.Header.{Header}
-use Rattle.checkpoint_io.specs.Blocks.{Block, Fragment, Extent, Close, messages_of, header_bytes, SpellsBlock, SpellsBlocks, FileOf}
+use Rattle.checkpoint_io.specs.Blocks.{Block, Fragment, Extent, NewClock, Close, messages_of, header_bytes, SpellsBlock, SpellsBlocks, FileOf}
 use Rattle.checkpoint_io.specs.Validity.{IsRightAfter, AreRightAfter, IsHeader, Valid}
 use Rattle.checkpoint_io.specs.Fronts.{BeginsWithLog, Front, HasNoHeader}
 use Rattle.log_dictionary.proofs.lemmas.BinaryLaws.{same_fronts}
@@ -16,7 +16,8 @@ use Rattle.checkpoint_io.proofs.ReadingForms.{one_header, one_block}
 -- a block's spelling has a byte
 some_byte : (messages : List Message) (header : Header) (block : Block) (front back : List ℕ) → SpellsBlock messages header block front → [] ≡ front ++ back → ⊥
 some_byte messages header (Fragment first added) front back s e = omega (arith, ap length (e ∙ ap (λ (f : List ℕ). f ++ back) s.joined))
-some_byte messages header (Extent writer entries) front back s e = omega (arith, ap length (e ∙ ap (λ (f : List ℕ). f ++ back) s.joined))
+some_byte messages header (Extent writer records) front back s e = omega (arith, ap length (e ∙ ap (λ (f : List ℕ). f ++ back) s.joined))
+some_byte messages header (NewClock clock) front back s e = omega (arith, ap length (e ∙ ap (λ (f : List ℕ). f ++ back) s.joined))
 some_byte messages header (Close writer) front back s e = omega (arith, ap length (e ∙ ap (λ (f : List ℕ). f ++ back) s.joined))
 
 -- the first blocks of two runs are one, and the others go on with the same bytes

@@ -6,7 +6,7 @@ use Rattle.nibble_pack.specs.Bytes.{AreBytes, back_bytes}
 use Rattle.nibble_pack.specs.Parsing.{Parse}
 use Rattle.checkpoint_io.specs.declared.cause.Cause.{Cause}
 use Rattle.checkpoint_io.specs.declared.header.Header.{Header}
-use Rattle.checkpoint_io.specs.Blocks.{Block, Fragment, Extent, Close, header_bytes, SpellsBlock, FileOf}
+use Rattle.checkpoint_io.specs.Blocks.{Block, Fragment, Extent, NewClock, Close, header_bytes, SpellsBlock, FileOf}
 use Rattle.checkpoint_io.specs.Validity.{Valid}
 use Rattle.checkpoint_io.specs.Reading.{header_at, block_at}
 use Rattle.checkpoint_io.specs.Fronts.{Front, HasNoHeader, Break, at_header, at_block}
@@ -29,7 +29,8 @@ found_or_broken (Err cause) = inr (cause, refl)
 -- a block has a byte
 some_byte : (messages : List Message) (header : Header) (block : Block) (bytes : List ℕ) → SpellsBlock messages header block bytes → 1 ≤ length bytes
 some_byte messages header (Fragment first added) bytes spelled = omega (arith, ap length spelled.joined)
-some_byte messages header (Extent writer entries) bytes spelled = omega (arith, ap length spelled.joined)
+some_byte messages header (Extent writer records) bytes spelled = omega (arith, ap length spelled.joined)
+some_byte messages header (NewClock clock) bytes spelled = omega (arith, ap length spelled.joined)
 some_byte messages header (Close writer) bytes spelled = omega (arith, ap length spelled.joined)
 
 shorter : (front back bytes : List ℕ) (most : ℕ) → bytes ≡ front ++ back → 1 ≤ length front → length bytes ≤ suc most → length back ≤ most

@@ -1,16 +1,18 @@
 -- The worked log is proved from its parts.
-use Rattle.std.proofs.Common.{ℕ, ◌≤◌, lit<, lit≤, [], ◌∷◌, ◌++◌, refl, inl, arith}
+use Rattle.std.proofs.Common.{ℕ, ◌≤◌, lit<, lit≤, List, [], ◌∷◌, ◌++◌, refl, inl, arith}
 use Rattle.std.specs.Hash.{le_bytes}
 use Rattle.nibble_pack.specs.Packing.{small}
 use Rattle.nibble_pack.proofs.lemmas.PackingLaws.{IsLeastCount-zero, IsLeastCount-suc}
+use Rattle.log_dictionary.specs.declared.clock.Clock.{Clock}
+use Rattle.log_dictionary.specs.declared.message.Message.{Message}
 use Rattle.log_dictionary.specs.BinaryEntries.{SpellsEntry}
 use Rattle.log_dictionary.proofs.lemmas.BinaryWorked.{formed}
 use Rattle.buffer_extent.specs.Bodies.{SpellsRecord}
 use Rattle.arg_records.specs.Calls.{IsCall}
 use Rattle.checkpoint_io.specs.Blocks.{Fragment, Close, SpellsFragment, SpellsExtent, FileOf}
 use Rattle.checkpoint_io.specs.Validity.{Valid}
-use Rattle.checkpoint_io.specs.Logs.{IsLaidOut, ends, extent, close, LogOf}
-use Rattle.checkpoint_io.specs.Rows.{row_record, row_header, row_blocks, row_entry_bytes, row_fragment_bytes, row_body, row_extent_bytes, row_bytes, full_record, late_fragments}
+use Rattle.checkpoint_io.specs.Logs.{StandsInFront, IsLaidOut, ends, extent, close, LogOf}
+use Rattle.checkpoint_io.specs.Rows.{row_record, row_header, row_blocks, row_entry_bytes, row_fragment_bytes, row_body, row_extent_bytes, row_bytes, full_record, late_fragments, call_at}
 use Rattle.arg_records.specs.Rows.{full_message}
 use Rattle.log_dictionary.specs.Rows.{row_message}
 
@@ -50,8 +52,8 @@ record_spelled = record {
   };
 }
 
-is_record : IsCall (row_message ∷ []) row_record
-is_record = record { message = row_message; known = refl; fits = (record { sfits = omega arith }, tt); short = lit≤ tt }
+pub is_record : (stamp : ℕ) → IsCall (row_message ∷ []) (call_at stamp)
+is_record stamp = record { message = row_message; known = refl; fits = (record { sfits = omega arith }, tt); short = lit≤ tt }
 
 extent_spelled : SpellsExtent (row_message ∷ []) row_header 0 (row_record ∷ []) row_extent_bytes
 unfolding le_bytes
@@ -86,11 +88,15 @@ valid = record {
   blocks_right = (
     record { next = refl; distinct = λ i j d earlier within. absurd (omega (arith, earlier, within)); few = lit≤ tt },
     (
-      record { writer_open = record { known = lit< tt; unclosed = λ e. cc }; right = (is_record, tt); rising = (lit≤ tt, tt) },
+      record { writer_open = record { known = lit< tt; unclosed = λ e. cc }; right = (is_record 1003, tt); rising = (lit≤ tt, tt) },
       (record { known = lit< tt; unclosed = λ e. cc }, tt),
     ),
   );
 }
+
+-- the fragment of the message, which the first extent wants
+first_stands : (clock : Clock) (others : List Message) → StandsInFront (clock ∷ []) (row_message ∷ others) [] (row_record ∷ []) (Fragment 0 (row_message ∷ []) ∷ [])
+first_stands clock others = record { fragments = _; are = ([], refl, refl, inl refl, refl); joined = refl }
 
 pub log : (batch : ℕ) → 1 ≤ batch → LogOf row_bytes ((row_record ∷ []) ∷ []) (row_message ∷ []) 1 (row_header.clock ∷ []) batch
 log batch some = record {
@@ -99,18 +105,19 @@ log batch some = record {
   file = file;
   valid = valid;
   version_is = refl;
+  unwritten = [];
   clocks_are = refl;
   writers_are = refl;
   undefined = [];
   messages_are = refl;
   records_are = refl;
-  laid_out = extent [] (Fragment 0 (row_message ∷ []) ∷ []) 0 (row_record ∷ []) (Close 0 ∷ []) ([], refl, refl, inl refl, refl) some (close _ 0 [] (ends _));
+  laid_out = extent [] (Fragment 0 (row_message ∷ []) ∷ []) 0 (row_record ∷ []) (Close 0 ∷ []) (first_stands row_header.clock []) some (close _ 0 [] (ends _));
 }
 
 -- ---- two writers
 
-pub mixed : IsLaidOut (row_message ∷ full_message ∷ []) 2 [] late_fragments
-mixed =
-    extent [] (Fragment 0 (row_message ∷ []) ∷ []) 0 (row_record ∷ []) _ ([], refl, refl, inl refl, refl) (lit≤ tt)
-    (extent _ (Fragment 1 (full_message ∷ []) ∷ []) 1 (full_record ∷ row_record ∷ []) _ ([], refl, refl, inl refl, refl) (lit≤ tt)
-    (close _ 1 _ (extent _ [] 0 (full_record ∷ []) [] refl (lit≤ tt) (ends _))))
+pub mixed : (clock : Clock) → IsLaidOut (clock ∷ []) (row_message ∷ full_message ∷ []) 2 [] late_fragments
+mixed clock =
+    extent [] (Fragment 0 (row_message ∷ []) ∷ []) 0 (row_record ∷ []) _ (first_stands clock (full_message ∷ [])) (lit≤ tt)
+    (extent _ (Fragment 1 (full_message ∷ []) ∷ []) 1 (full_record ∷ row_record ∷ []) _ (record { fragments = _; are = ([], refl, refl, inl refl, refl); joined = refl }) (lit≤ tt)
+    (close _ 1 _ (extent _ [] 0 (full_record ∷ []) [] (record { fragments = []; are = refl; joined = refl }) (lit≤ tt) (ends _))))

@@ -26,6 +26,10 @@ returns-clause-extent c = length-extent_head_bytes
 pub returns-clause-extent_writer : goal.returns-clause-extent_writer
 returns-clause-extent_writer c writer len small = ap (λ (w : List ℕ). take 2 (2 ∷ w ++ le_bytes 4 len)) (one_byte writer small)
 
+pub returns-clause-clock : goal.returns-clause-clock
+unfolding le_bytes
+returns-clause-clock c clock = refl
+
 pub returns-clause-close : goal.returns-clause-close
 returns-clause-close c version writer = omega (arith, le_length (writer_len version) writer)
 

@@ -1,7 +1,7 @@
-use Rattle.std.proofs.Common.{ℕ, List, [], ◌∷◌, ◌++◌, length, map, ◌∙◌, ap, sym, subst}
+use Rattle.std.proofs.Common.{ℕ, List, [], ◌++◌, length, map, ◌∙◌, ap, sym, subst}
 use Rattle.std.specs.List.{range_with_len}
 use Rattle.checkpoint_io.specs.declared.header.Header.{Header}
-use Rattle.checkpoint_io.specs.Blocks.{Block, messages_of}
+use Rattle.checkpoint_io.specs.Blocks.{Block, messages_of, clocks_of}
 use Rattle.checkpoint_io.specs.Validity.{records_of}
 use Rattle.checkpoint_io.specs.Logs.{IsLaidOut}
 use Rattle.checkpoint_io.proofs.lemmas.LogLaws.{front_of_run}
@@ -11,7 +11,9 @@ pub returns-clause-whole : goal.returns-clause-whole
 returns-clause-whole c = λ bytes taken dictionary version clocks batch header blocks count log front. (front_of_run bytes taken dictionary version clocks batch header blocks count log front).2
 
 pub returns-clause-clocks : goal.returns-clause-clocks
-returns-clause-clocks c = λ bytes taken dictionary version clocks batch header blocks count log front. ap (λ (h : Header). h.clock ∷ []) (front_of_run bytes taken dictionary version clocks batch header blocks count log front).0 ∙ log.clocks_are
+returns-clause-clocks c = λ bytes taken dictionary version clocks batch header blocks count log front.
+    let same = front_of_run bytes taken dictionary version clocks batch header blocks count log front in
+    (log.unwritten, log.clocks_are ∙ (λ i. clocks_of (sym same.0 i) (sym same.1 i) ++ log.unwritten))
 
 pub returns-clause-version : goal.returns-clause-version
 returns-clause-version c = λ bytes taken dictionary version clocks batch header blocks count log front. ap (λ (h : Header). h.version) (front_of_run bytes taken dictionary version clocks batch header blocks count log front).0 ∙ log.version_is
@@ -26,4 +28,4 @@ pub returns-clause-records : goal.returns-clause-records
 returns-clause-records c = λ bytes taken dictionary version clocks batch header blocks count log front. log.records_are ∙ ap (λ (b : List Block). map (λ (writer : ℕ). records_of writer b) (range_with_len 0 (length taken))) (sym (front_of_run bytes taken dictionary version clocks batch header blocks count log front).1)
 
 pub returns-clause-layout : goal.returns-clause-layout
-returns-clause-layout c = λ bytes taken dictionary version clocks batch header blocks count log front. subst (IsLaidOut dictionary batch []) (sym (front_of_run bytes taken dictionary version clocks batch header blocks count log front).1) log.laid_out
+returns-clause-layout c = λ bytes taken dictionary version clocks batch header blocks count log front. subst (IsLaidOut clocks dictionary batch []) (sym (front_of_run bytes taken dictionary version clocks batch header blocks count log front).1) log.laid_out
