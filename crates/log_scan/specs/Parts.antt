@@ -1,12 +1,10 @@
 -- Parts of a log, as they are read one block after the other.
 use Rattle.std.specs.Prelude.{◌≡◌, ℕ, ◌≤◌, List, [], ◌∷◌, ◌++◌, length, Option, Some, None}
-use Rattle.std.specs.List.{flat_map}
 use Rattle.log_dictionary.specs.declared.message.Message.{Message}
-use Rattle.arg_records.specs.declared.call.Call.{Call}
 use Rattle.checkpoint_io.specs.declared.block.Block.{Block as ReadBlock}
 use Rattle.checkpoint_io.specs.declared.header.Header.{Header}
 use Rattle.checkpoint_io.specs.declared.heads.TheConstants.{MAX_LOG}
-use Rattle.checkpoint_io.specs.Blocks.{Block, Fragment, Extent, Close, messages_of, FileOf}
+use Rattle.checkpoint_io.specs.Blocks.{Block, messages_of, FileOf}
 use Rattle.checkpoint_io.specs.Validity.{Valid}
 use Rattle.checkpoint_io.specs.NextBlocks.{Describes}
 use Rattle.checkpoint_io.specs.Readers.{ReaderState}
@@ -41,15 +39,3 @@ pub record StandsNext (part : LogPart) (messages : List Message) (told : ReadBlo
   pub valid : Valid part.header (part.blocks ++ block ∷ [])
   pub within : length bytes ≤ MAX_LOG
   pub known : messages ≡ messages_of (part.blocks ++ block ∷ [])
-
--- ---- records
-
--- the records of a block
-abbrev pub block_entries : Block → List Call
-block_entries (Fragment first messages) = []
-block_entries (Extent writer entries) = entries
-block_entries (Close writer) = []
-
--- the records of all blocks, of all writers, in the order of the file
-abbrev pub entries_of : List Block → List Call
-entries_of blocks = flat_map block_entries blocks
