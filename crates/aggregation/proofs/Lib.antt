@@ -1,6 +1,6 @@
 pub mod lemmas
 mod Sums
-mod Entries
+mod Records
 mod Tallying
 mod Arguments
 mod Outcomes

@@ -1,5 +1,5 @@
 -- What the answer says of a log that was scanned.
-use Rattle.std.proofs.Common.{◌≡◌, ℕ, ◌<◌, ◌≤◌, Bool, true, false, List, length, Option, Some, None, Result, Ok, Err, refl, sym, subst}
+use Rattle.std.proofs.Common.{◌≡◌, ℕ, ◌<◌, ◌≤◌, Bool, true, false, List, length, Option, Some, None, Ok, Err, refl, sym, subst}
 use Rattle.std.specs.Prelude.{IfSome, nat_lt, if◌then◌else◌}
 use Rattle.std.proofs.lemmas.Bool.{ltb-true, ltb-false}
 use Rattle.nl_io.specs.Content.{Told}
@@ -9,7 +9,6 @@ use Rattle.log_scan.specs.declared.scan.ScanEnd.TheVariants as ends
 use Rattle.log_scan.specs.Parts.{LogPart, blocks_read}
 use Rattle.log_scan.specs.Scans.{IsWholeScan, IsDamagedScan, EndsWhole, EndsScan}
 use Rattle.log_scan.proofs.lemmas.Ends.{some_of}
-use Rattle.aggregation.specs.declared.fault.AggregateFault.{AggregateFault}
 use Rattle.aggregation.specs.declared.fault.AggregateFault.TheVariants.{Damaged, NoSuchMessage, NoSuchArgument}
 use Rattle.aggregation.specs.Totals.{has_number, argument_totals, totals_in}
 use Rattle.aggregation.specs.Aggregating.{answer_for, answer_at, HaveAnswer, AnswersTotals}

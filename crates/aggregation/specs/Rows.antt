@@ -14,8 +14,8 @@ use Rattle.checkpoint_io.specs.Blocks.{Block, Fragment, Extent, Close}
 use Rattle.aggregation.specs.declared.totals.Totals.{Totals}
 
 -- a record of the message with this id
-abbrev pub entry_of : ℕ → List Value → Call
-entry_of id args = record { stamp = 1003; id = id; args = args }
+abbrev pub call_of : ℕ → List Value → Call
+call_of id args = record { stamp = 1003; id = id; args = args }
 
 -- a message with a width, a number that hh narrows where it is printed, and a text
 abbrev pub starred_message : Message
@@ -29,9 +29,9 @@ abbrev pub total_blocks : List Block
 total_blocks =
     Fragment 0 (row_message ∷ starred_message ∷ [])
     ∷ Extent 1
-    (entry_of 0 (Signed (pos 7) ∷ []) ∷ entry_of 1 (Signed (negsuc 4) ∷ Signed (pos 300) ∷ Text [] ∷ []) ∷ [])
+    (call_of 0 (Signed (pos 7) ∷ []) ∷ call_of 1 (Signed (negsuc 4) ∷ Signed (pos 300) ∷ Text [] ∷ []) ∷ [])
     ∷ Close 1
-    ∷ Extent 0 (entry_of 0 (Signed (negsuc 2) ∷ []) ∷ entry_of 0 (Signed (pos 7) ∷ []) ∷ []) ∷ []
+    ∷ Extent 0 (call_of 0 (Signed (negsuc 2) ∷ []) ∷ call_of 0 (Signed (pos 7) ∷ []) ∷ []) ∷ []
 
 abbrev pub plain_totals : Totals
 plain_totals = record { count = 3; range = Some (negsuc 2, pos 7); sum = pos 11 }

@@ -11,9 +11,8 @@ use Rattle.printf_grammar.specs.Types.{Types}
 use Rattle.log_dictionary.specs.declared.message.Message.{Message}
 use Rattle.arg_records.specs.declared.call.Call.{Call}
 use Rattle.checkpoint_io.specs.declared.header.Header.{Header}
-use Rattle.checkpoint_io.specs.Blocks.{Block, messages_of}
+use Rattle.checkpoint_io.specs.Blocks.{Block, messages_of, all_records}
 use Rattle.checkpoint_io.specs.Fronts.{Front, HasNoHeader}
-use Rattle.log_scan.specs.Parts.{entries_of}
 use Rattle.aggregation.specs.declared.totals.Totals.{Totals}
 
 -- ---- numbers
@@ -57,15 +56,15 @@ numeric_value (values.Text bytes) = None
 -- the number at a place of the arguments, counted from 0, of a record of the message with this id; any other record
 -- gives none
 abbrev pub number_in : ℕ → ℕ → Call → Option ℤ
-number_in id nth entry = if entry.id == id then option_and_then numeric_value (slice_get entry.args nth) else None
+number_in id nth call = if call.id == id then option_and_then numeric_value (slice_get call.args nth) else None
 
 -- those of all records of the message
 abbrev pub numbers_in : ℕ → ℕ → List Call → List ℤ
-numbers_in id nth entries = filter_map (number_in id nth) entries
+numbers_in id nth records = filter_map (number_in id nth) records
 
 -- the totals of argument `nth` of all records of the message with this id
 abbrev pub argument_totals : List Block → ℕ → ℕ → Totals
-argument_totals blocks id nth = totals_of (numbers_in id nth (entries_of blocks))
+argument_totals blocks id nth = totals_of (numbers_in id nth (all_records blocks))
 
 -- ---- arguments that are there
 

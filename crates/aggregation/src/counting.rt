@@ -21,26 +21,26 @@ fn number_of_value(value: &Value) -> Option<i128>
 }
 
 // The number at a place of the record's arguments, if it is a record of the message with this id.
-fn number_of_record(entry: &LogRecord, id: u32, nth: u32) -> Option<i128>
-    ensures number { result ≡ number_in id nth entry.now }
+fn number_of_record(call: &LogRecord, id: u32, nth: u32) -> Option<i128>
+    ensures number { result ≡ number_in id nth call.now }
     ensures fits { IfSome result IsNumber }
 {
-    if entry.id != id {
+    if call.id != id {
         return None;
     }
-    match entry.args.get(nth as usize) {
+    match call.args.get(nth as usize) {
         Some(value) => number_of_value(value),
         None => None,
     }
 }
 
 // The totals with the number of one record, if it has one.
-fn with_record(totals: Totals, entry: &LogRecord, id: u32, nth: u32) -> Totals
+fn with_record(totals: Totals, call: &LogRecord, id: u32, nth: u32) -> Totals
     requires few { totals.count < MAX_LOG }
     requires within { IsWithin totals.count totals.sum }
-    ensures { Adds totals result (numbers_in id nth (entry.now ∷ [])) 1 }
+    ensures { Adds totals result (numbers_in id nth (call.now ∷ [])) 1 }
 {
-    match number_of_record(entry, id, nth) {
+    match number_of_record(call, id, nth) {
         Some(number) => totals.with(number),
         None => totals,
     }
@@ -52,7 +52,7 @@ pub fn add_records(records: &Records, id: u32, nth: u32, totals: &mut Totals)
     requires within { IsWithin totals.old.count totals.old.sum }
     ensures { Adds totals.old totals.new (numbers_in id nth records.now) (length records.now) }
 {
-    for entry in records {
-        *totals = with_record(*totals, entry, id, nth);
+    for call in records {
+        *totals = with_record(*totals, call, id, nth);
     }
 }

@@ -60,7 +60,7 @@ impl BlockFold for Tally {
                 add_records(&records, self.id, self.nth, &mut self.totals);
             }
             Block::Fragment { .. } => self.defined = dictionary.len(),
-            Block::Closed { .. } => {}
+            Block::Clock(_) | Block::Closed { .. } => {}
         }
         Ok(())
     }

@@ -5,5 +5,5 @@ use Rattle.aggregation.specs.Totals.{numbers_in, Adds}
 use Rattle.aggregation.proofs.counting.add_records.Given as goal
 
 -- the numbers of the records that were seen came behind those before
-abbrev pub invariant-loop-entry : goal.invariant-loop-entry
-invariant-loop-entry l = (seen : List Call) × (seen ++ iter_rest l.entry-iterator ≡ l.records) × Adds l.initial.totals l.totals (numbers_in l.id l.nth seen) (length seen)
+abbrev pub invariant-loop-call : goal.invariant-loop-call
+invariant-loop-call l = (seen : List Call) × (seen ++ iter_rest l.call-iterator ≡ l.records) × Adds l.initial.totals l.totals (numbers_in l.id l.nth seen) (length seen)
