@@ -62,14 +62,14 @@ module _ {S : Type 0} (got : S → List (List ℕ)) (ended : S → Bool) (loads 
           was = one.was;
           now = same_ends ∙ one.now;
           step = record {
-            entries = gathers.entries;
+            records = gathers.records;
             comes = gathers.comes;
             right = gathers.right;
-            count = sym drafted.records;
+            count = sym drafted.count;
             fragments = sent.fragments;
-            defining = subst (λ (ms : List Message). FragmentsFor defined ms sent.fragments) (wanted_new (roamer_messages old) defined gathers.entries draft.ids drafted.ids) sent.spelled;
+            defining = subst (λ (ms : List Message). FragmentsFor defined ms sent.fragments) (wanted_new (roamer_messages old) defined gathers.records draft.ids drafted.ids) sent.spelled;
             extent = sent.extent;
-            spelled = spells_extent old writer gathers.entries draft body sent.extent drafted some (omega (arith, inside, few_ends)) room sent.extent_is;
+            spelled = spells_extent old writer gathers.records draft body sent.extent drafted some (omega (arith, inside, few_ends)) room sent.extent_is;
             puts = sent.put_is;
             stops = subst (λ (n : ℕ). StopsTaking got ended loads (roamer_batch old) draft.records (MAX_BODY - n) one.before one.after) (sym (length-take-le draft.len body drafted.within)) one.step.2;
           };
@@ -83,7 +83,7 @@ module _ {S : Type 0} (got : S → List (List ℕ)) (ended : S → Bool) (loads 
           let moved : Moved got ended old new writer one.before one.after draft body =
           record { was = one.was; ends = same_ends ∙ one.now; gathers = one.step.0; same_run = same_run_then old mid new keeps.same_run run; begun = now; unfaulted = unfaulted } in
           extent_stands got ended old new writer one.before one.after draft body fragments extent moved some few (λ over. (one.step.1.stays_ended over).0) (subst AreDistinct same distinct) (omega (arith, few_messages, ap length same)) few_ends room
-          (subst (λ (ms : List Message). FragmentsFor (roamer_progress old).defined ms fragments) (wanted_new (roamer_messages old) (roamer_progress old).defined one.step.0.entries draft.ids one.step.0.drafted.ids) spelled) extent_is wrote stood
+          (subst (λ (ms : List Message). FragmentsFor (roamer_progress old).defined ms fragments) (wanted_new (roamer_messages old) (roamer_progress old).defined one.step.0.records draft.ids one.step.0.drafted.ids) spelled) extent_is wrote stood
 
       pub extent_appended : false ≡ is_err r → roamer_progress new ≡ behind_draft mid draft → AppendsToLog got ended old new p q
       extent_appended passed progress =

@@ -16,10 +16,10 @@ use Rattle.roaming_consumer.specs.Drafts.{IsFrameOfCall, IsDraft}
 use Rattle.roaming_consumer.proofs.Used.{ids_used-push}
 
 -- one record more
-pub records-push : (messages : List Message) (before : ℕ) (entries : List Call) (entry : Call) (bytes packed : List ℕ) → SpellsRecords messages before entries bytes → SpellsRecord messages (last_stamp before entries) entry packed → SpellsRecords messages before (entries ++ entry ∷ []) (bytes ++ packed)
-records-push messages before [] entry bytes packed spelled is = (packed, [], ap (λ (b : List ℕ). b ++ packed) spelled ∙ sym (append-nil packed), is, refl)
-records-push messages before (e ∷ entries) entry bytes packed (front, back, joined, first, others) is =
-    (front, back ++ packed, ap (λ (b : List ℕ). b ++ packed) joined ∙ append_assoc front back packed, first, records-push messages e.stamp entries entry back packed others is)
+pub records-push : (messages : List Message) (before : ℕ) (records : List Call) (call : Call) (bytes packed : List ℕ) → SpellsRecords messages before records bytes → SpellsRecord messages (last_stamp before records) call packed → SpellsRecords messages before (records ++ call ∷ []) (bytes ++ packed)
+records-push messages before [] call bytes packed spelled is = (packed, [], ap (λ (b : List ℕ). b ++ packed) spelled ∙ sym (append-nil packed), is, refl)
+records-push messages before (another ∷ records) call bytes packed (front, back, joined, first, others) is =
+    (front, back ++ packed, ap (λ (b : List ℕ). b ++ packed) joined ∙ append_assoc front back packed, first, records-push messages another.stamp records call back packed others is)
 
 -- the message that a frame names is the one that its id finds
 pub same_message_of : (messages : List Message) (id : ℕ) (call : Call) (known found : Message) → id ≡ call.id → slice_get messages call.id ≡ Some known → slice_get messages id ≡ Some found → known ≡ found
@@ -34,15 +34,15 @@ abbrev pub PutsRecord : List ArgType → ℕ → Call → List ℕ → List ℕ 
 PutsRecord types before call body new at end =
     (packed : List ℕ) × RecordBytes types call.id call.stamp before call.args packed × (new ≡ take at body ++ packed ++ drop (at + length packed) body) × (end ≡ at + length packed)
 
-pub draft_goes_on : (messages : List Message) (tick : ℕ) (entries : List Call) (draft : Draft) (frame : List ℕ) (call : Call) (id : ℕ) (message : Message) (types : List ArgType) (body new : List ℕ) (end ids : ℕ) → IsFrameOfCall messages draft.last frame call → IsDraft messages tick entries draft body → id ≡ call.id → slice_get messages id ≡ Some message → types ≡ Types message.format.pieces → ids ≡ max draft.ids (id + 1)
+pub draft_goes_on : (messages : List Message) (tick : ℕ) (records : List Call) (draft : Draft) (frame : List ℕ) (call : Call) (id : ℕ) (message : Message) (types : List ArgType) (body new : List ℕ) (end ids : ℕ) → IsFrameOfCall messages draft.last frame call → IsDraft messages tick records draft body → id ≡ call.id → slice_get messages id ≡ Some message → types ≡ Types message.format.pieces → ids ≡ max draft.ids (id + 1)
     → (Fits call.args types → PutsRecord types draft.last call body new draft.len end)
-    → IsDraft messages tick (entries ++ call ∷ []) (record { records = draft.records + 1; len = end; ids = ids; last = call.stamp }) new
-draft_goes_on messages tick entries draft frame call id message types body new end ids is was same_id finds types_are ids_are puts =
+    → IsDraft messages tick (records ++ call ∷ []) (record { records = draft.records + 1; len = end; ids = ids; last = call.stamp }) new
+draft_goes_on messages tick records draft frame call id message types body new end ids is was same_id finds types_are ids_are puts =
     let messages_same = same_message_of messages id call is.named.message message same_id is.named.known finds in
     let fits : Fits call.args types = subst (Fits call.args) (ap (λ (m : Message). Types m.format.pieces) messages_same ∙ sym types_are) is.named.fits in
     let put = puts fits in
     let packed = put.0 in
-    let spelled : SpellsRecord messages (last_stamp tick entries) call packed = record {
+    let spelled : SpellsRecord messages (last_stamp tick records) call packed = record {
       message = message;
       known = ap (slice_get messages) (sym same_id) ∙ finds;
       spelled =
@@ -51,9 +51,9 @@ draft_goes_on messages tick entries draft frame call id message types body new e
     } in
     let behind : take end new ≡ take draft.len body ++ packed = front_with body packed (drop (draft.len + length packed) body) new draft.len end was.within put.2 put.3 in
     record {
-      records = omega (arith, was.records, length-append entries (call ∷ []));
-      ids = ids_are ∙ (λ i. max (was.ids i) (same_id i + 1)) ∙ sym (ids_used-push entries call);
-      last = sym (last_stamp-push tick entries call);
+      count = omega (arith, was.count, length-append records (call ∷ []));
+      ids = ids_are ∙ (λ i. max (was.ids i) (same_id i + 1)) ∙ sym (ids_used-push records call);
+      last = sym (last_stamp-push tick records call);
       within =
           omega (
             arith,
@@ -64,5 +64,5 @@ draft_goes_on messages tick entries draft frame call id message types body new e
             length-append (take draft.len body) packed,
             length-take-le draft.len body was.within,
           );
-      spelled = subst (SpellsRecords messages tick (entries ++ call ∷ [])) (sym behind) (records-push messages tick entries call (take draft.len body) packed was.spelled spelled);
+      spelled = subst (SpellsRecords messages tick (records ++ call ∷ [])) (sym behind) (records-push messages tick records call (take draft.len body) packed was.spelled spelled);
     }

@@ -1,7 +1,7 @@
 -- How the log of a run grows.
 use Rattle.std.proofs.Common.{◌≡◌, ℕ, ◌+◌, ◌-◌, ◌<◌, ◌≤◌, ◌^◌, Bool, true, false, ◌||◌, List, [], ◌∷◌, ◌++◌, length, map, get_or, take, drop, refl, sym, ap, subst, ◌∙◌, append_assoc, inl, inr, arith, true≢false}
 use Rattle.std.specs.Prelude.{max, slice_set, replicate}
-use Rattle.std.specs.List.{AllByRecursion, list_any, range_with_len}
+use Rattle.std.specs.List.{AllByRecursion, flat_map, list_any, range_with_len}
 use Rattle.std.proofs.Math.ListN.{length-set}
 use Rattle.std.proofs.Math.Bool.{or-false, or-true}
 use Rattle.std.proofs.lemmas.Bool.Decides.{eqb_tells}
@@ -17,13 +17,13 @@ use Rattle.arg_records.specs.Calls.{IsCall, NeverFalls, last_stamp}
 use Rattle.buffer_extent.specs.Bodies.{SpellsRecords}
 use Rattle.checkpoint_io.specs.declared.header.Header.{Header}
 use Rattle.checkpoint_io.specs.Versions.{writer_len, most_body}
-use Rattle.checkpoint_io.specs.Blocks.{Block, Fragment, Extent, Close, block_messages, messages_of, header_bytes, extent_head_bytes, close_bytes, SpellsBlocks, SpellsExtent, SpellsClose, FileOf}
+use Rattle.checkpoint_io.specs.Blocks.{Block, Fragment, Extent, NewClock, Close, block_messages, messages_of, block_clocks, clocks_of, header_bytes, extent_head_bytes, close_bytes, SpellsBlocks, SpellsExtent, SpellsClose, FileOf}
 use Rattle.checkpoint_io.specs.Validity.{block_records, records_of, closes, IsClosed, DefinesNext, AreRightAfter, IsHeader, Valid}
 use Rattle.checkpoint_io.specs.Logs.{ids_used, new_messages, AreFragments, IsLaidOut, ends, extent, close, LogOf}
 use Rattle.checkpoint_io.proofs.lemmas.FrontLaws.{empty_file, file_goes_on}
-use Rattle.checkpoint_io.proofs.lemmas.LogLaws.{messages_of-AreFragments, laid_out_join}
+use Rattle.checkpoint_io.proofs.lemmas.LogLaws.{messages_of-AreFragments, fragments_stand, laid_out_join}
 use Rattle.checkpoint_io.proofs.lemmas.VersionLaws.{writers_fit}
-use Rattle.checkpoint_io.proofs.lemmas.ValidityLaws.{messages-push, records-push, AreRightAfter-append, goes_on}
+use Rattle.checkpoint_io.proofs.lemmas.ValidityLaws.{messages-push, records-push, clocks-push, AreRightAfter-append, goes_on}
 use Rattle.roaming_consumer.specs.Growth.{LogProgress, IsLogSoFar, with_calls, IsNext, progress_behind, progress_closing}
 use Rattle.roaming_consumer.proofs.Used.{distinct_front, new_behind, ids_known, calls_of_front, spelled_with_front}
 use Rattle.roaming_consumer.proofs.Lists.{at_one, more_at_one, none_each}
@@ -42,7 +42,8 @@ file_goes_on_with header blocks (block ∷ more) bytes spelled file (front, back
 -- fragments of new messages are right
 pub fragments_right : (header : Header) (first : ℕ) (messages : List Message) (blocks before : List Block) → AreFragments first messages blocks → first ≡ length (messages_of before) → AreDistinct (messages_of before ++ messages) → length (messages_of before ++ messages) ≤ 65536 → AreRightAfter header before blocks
 fragments_right header first messages [] before are next distinct few = tt
-fragments_right header first messages (Extent writer entries ∷ blocks) before are next distinct few = absurd are
+fragments_right header first messages (Extent writer records ∷ blocks) before are next distinct few = absurd are
+fragments_right header first messages (NewClock clock ∷ blocks) before are next distinct few = absurd are
 fragments_right header first messages (Close writer ∷ blocks) before are next distinct few = absurd are
 fragments_right header first messages (Fragment id front ∷ blocks) before (back, is, joined, full, rest) next distinct few =
     let defined = messages_of before in
@@ -66,14 +67,22 @@ fragments_right header first messages (Fragment id front ∷ blocks) before (bac
 fragments_close_none : (writer first : ℕ) (messages : List Message) (blocks : List Block) → AreFragments first messages blocks → list_any (closes writer) blocks ≡ false
 fragments_close_none writer first messages [] are = refl
 fragments_close_none writer first messages (Fragment id front ∷ blocks) (back, is, joined, full, rest) = fragments_close_none writer (first + length front) back blocks rest
-fragments_close_none writer first messages (Extent w entries ∷ blocks) are = absurd are
+fragments_close_none writer first messages (Extent w records ∷ blocks) are = absurd are
+fragments_close_none writer first messages (NewClock clock ∷ blocks) are = absurd are
 fragments_close_none writer first messages (Close w ∷ blocks) are = absurd are
 
-fragments_have_no_records : (writer first : ℕ) (messages : List Message) (blocks : List Block) → AreFragments first messages blocks → records_of writer blocks ≡ []
-fragments_have_no_records writer first messages [] are = refl
-fragments_have_no_records writer first messages (Fragment id front ∷ blocks) (back, is, joined, full, rest) = fragments_have_no_records writer (first + length front) back blocks rest
-fragments_have_no_records writer first messages (Extent w entries ∷ blocks) are = absurd are
-fragments_have_no_records writer first messages (Close w ∷ blocks) are = absurd are
+-- what no fragment gives
+fragments_give_none : {A : Type 0} (f : Block → List A) → ((id : ℕ) (front : List Message) → f (Fragment id front) ≡ []) → (first : ℕ) (messages : List Message) (blocks : List Block) → AreFragments first messages blocks → flat_map f blocks ≡ []
+fragments_give_none f none first messages [] are = refl
+fragments_give_none f none first messages (Fragment id front ∷ blocks) (back, is, joined, full, rest) =
+    ap (λ (l : List _). l ++ flat_map f blocks) (none id front) ∙ fragments_give_none f none (first + length front) back blocks rest
+fragments_give_none f none first messages (Extent writer records ∷ blocks) are = absurd are
+fragments_give_none f none first messages (NewClock clock ∷ blocks) are = absurd are
+fragments_give_none f none first messages (Close writer ∷ blocks) are = absurd are
+
+given_before : {A : Type 0} (f : Block → List A) → ((id : ℕ) (front : List Message) → f (Fragment id front) ≡ []) → (blocks fragments : List Block) (first : ℕ) (messages : List Message) → AreFragments first messages fragments → flat_map f (blocks ++ fragments) ≡ flat_map f blocks
+given_before f none blocks fragments first messages are =
+    flat_map-append f blocks fragments ∙ ap (λ (l : List _). flat_map f blocks ++ l) (fragments_give_none f none first messages fragments are) ∙ append-nil (flat_map f blocks)
 
 -- ---- stamps
 
@@ -85,19 +94,19 @@ falls_behind least (call ∷ front) back rising = falls_behind call.stamp front 
 -- ---- messages
 
 -- behind the messages that are defined come the new ones, and others may be left
-record MessagesGrow (dictionary defined : List Message) (count : ℕ) (entries : List Call) : Type 0 where
+record MessagesGrow (dictionary defined : List Message) (count : ℕ) (records : List Call) : Type 0 where
   undefined : List Message
-  whole : dictionary ≡ defined ++ new_messages dictionary count entries ++ undefined
-  used : ids_used entries ≤ length (defined ++ new_messages dictionary count entries)
-  counted : max count (ids_used entries) ≡ length (defined ++ new_messages dictionary count entries)
+  whole : dictionary ≡ defined ++ new_messages dictionary count records ++ undefined
+  used : ids_used records ≤ length (defined ++ new_messages dictionary count records)
+  counted : max count (ids_used records) ≡ length (defined ++ new_messages dictionary count records)
 
-messages_grow : (dictionary defined others : List Message) (count : ℕ) (entries : List Call) → dictionary ≡ defined ++ others → count ≡ length defined → ids_used entries ≤ length dictionary → MessagesGrow dictionary defined count entries
-messages_grow dictionary defined others count entries whole counted known =
-    let more = ids_used entries - length defined in
-    let new : new_messages dictionary count entries ≡ take more others = (λ i. drop (counted i) (take (ids_used entries) (whole i))) ∙ new_behind defined others (ids_used entries) in
+messages_grow : (dictionary defined others : List Message) (count : ℕ) (records : List Call) → dictionary ≡ defined ++ others → count ≡ length defined → ids_used records ≤ length dictionary → MessagesGrow dictionary defined count records
+messages_grow dictionary defined others count records whole counted known =
+    let more = ids_used records - length defined in
+    let new : new_messages dictionary count records ≡ take more others = (λ i. drop (counted i) (take (ids_used records) (whole i))) ∙ new_behind defined others (ids_used records) in
     let sizes = length-append defined (take more others) in
-    let size : length (defined ++ new_messages dictionary count entries) ≡ length (defined ++ take more others) = ap (λ (l : List Message). length (defined ++ l)) new in
-    let all : ids_used entries ≤ length defined + length others = omega (arith, known, ap length whole, length-append defined others) in
+    let size : length (defined ++ new_messages dictionary count records) ≡ length (defined ++ take more others) = ap (λ (l : List Message). length (defined ++ l)) new in
+    let all : ids_used records ≤ length defined + length others = omega (arith, known, ap length whole, length-append defined others) in
     let took = length-take more others in
     record {
       undefined = drop more others;
@@ -112,16 +121,17 @@ messages_grow dictionary defined others count entries whole counted known =
 
 -- blocks, and behind them fragments and an extent
 abbrev with_extent : List Block → List Block → ℕ → List Call → List Block
-with_extent blocks fragments writer entries = blocks ++ fragments ++ Extent writer entries ∷ []
+with_extent blocks fragments writer records = blocks ++ fragments ++ Extent writer records ∷ []
 
 messages_now : (blocks fragments : List Block) (first : ℕ) (messages : List Message) → AreFragments first messages fragments → messages_of (blocks ++ fragments) ≡ messages_of blocks ++ messages
 messages_now blocks fragments first messages are =
     flat_map-append block_messages blocks fragments ∙ ap (λ (l : List Message). messages_of blocks ++ l) (messages_of-AreFragments first messages fragments are)
 
 records_now : (writer : ℕ) (blocks fragments : List Block) (first : ℕ) (messages : List Message) → AreFragments first messages fragments → records_of writer (blocks ++ fragments) ≡ records_of writer blocks
-records_now writer blocks fragments first messages are =
-    flat_map-append (block_records writer) blocks fragments ∙ ap (λ (l : List Call). records_of writer blocks ++ l) (fragments_have_no_records writer first messages fragments are)
-    ∙ append-nil (records_of writer blocks)
+records_now writer = given_before (block_records writer) (λ id front. refl)
+
+clocks_now : (header : Header) (blocks fragments : List Block) (first : ℕ) (messages : List Message) → AreFragments first messages fragments → clocks_of header (blocks ++ fragments) ≡ clocks_of header blocks
+clocks_now header blocks fragments first messages are = ap (λ (l : List Clock). header.clock ∷ l) (given_before block_clocks (λ id front. refl) blocks fragments first messages are)
 
 closed_now : (writer : ℕ) (blocks fragments : List Block) (first : ℕ) (messages : List Message) → AreFragments first messages fragments → list_any (closes writer) (blocks ++ fragments) ≡ list_any (closes writer) blocks
 closed_now writer blocks fragments first messages are =
@@ -132,23 +142,25 @@ same_taken : (wrote : List ℕ) (taken : List (List Call)) (dictionary : List Me
 same_taken wrote taken dictionary version clocks batch writer log known =
     ap (λ (l : List (List Call)). get_or l writer []) log.records_are ∙ get_or-map-range_with_len (λ w. records_of w log.blocks) 0 (length taken) writer writer [] known (omega arith)
 
-pub grown : (wrote : List ℕ) (taken : List (List Call)) (dictionary : List Message) (header : Header) (batch : ℕ) (progress : LogProgress) (writer : ℕ) (entries : List Call) (fragments extent_bytes : List ℕ) → IsLogSoFar wrote taken dictionary header.version (header.clock ∷ []) batch progress → AreDistinct dictionary → length dictionary ≤ 65536
-    → IsNext taken dictionary header batch progress writer entries fragments extent_bytes
-    → IsLogSoFar (wrote ++ fragments ++ extent_bytes) (with_calls taken writer entries) dictionary header.version (header.clock ∷ []) batch (progress_behind progress entries)
-grown wrote taken dictionary header batch progress writer entries fragments extent_bytes so_far distinct few next =
+pub grown : (wrote : List ℕ) (taken : List (List Call)) (dictionary : List Message) (header : Header) (batch : ℕ) (progress : LogProgress) (writer : ℕ) (records : List Call) (fragments extent_bytes : List ℕ) → IsLogSoFar wrote taken dictionary header.version (header.clock ∷ []) batch progress → AreDistinct dictionary → length dictionary ≤ 65536
+    → IsNext taken dictionary header batch progress writer records fragments extent_bytes
+    → IsLogSoFar (wrote ++ fragments ++ extent_bytes) (with_calls taken writer records) dictionary header.version (header.clock ∷ []) batch (progress_behind progress records)
+grown wrote taken dictionary header batch progress writer records fragments extent_bytes so_far distinct few next =
     let log = so_far.log in
     let own = log.header in
     let blocks = log.blocks in
     let front = next.fragments_spelled.blocks in
     let are = next.fragments_spelled.are in
     let first = progress.defined in
-    let new = new_messages dictionary first entries in
-    let known = ids_known dictionary entries next.right in
-    let grow = messages_grow dictionary (messages_of blocks) log.undefined first entries log.messages_are so_far.defined known in
+    let new = new_messages dictionary first records in
+    let known = ids_known dictionary records next.right in
+    let grow = messages_grow dictionary (messages_of blocks) log.undefined first records log.messages_are so_far.defined known in
     let fronts : messages_of (blocks ++ front) ≡ messages_of blocks ++ new = messages_now blocks front first new are in
-    let all_messages : messages_of (with_extent blocks front writer entries) ≡ messages_of blocks ++ new =
-    messages-push (blocks ++ front) (Extent writer entries) ∙ append-nil (messages_of (blocks ++ front)) ∙ fronts in
-    let tick : own.clock.tick ≡ header.clock.tick = ap (λ (clocks : List Clock). (get_or clocks 0 header.clock).tick) log.clocks_are in
+    let all_messages : messages_of (with_extent blocks front writer records) ≡ messages_of blocks ++ new =
+    messages-push (blocks ++ front) (Extent writer records) ∙ append-nil (messages_of (blocks ++ front)) ∙ fronts in
+    let tick : own.clock.tick ≡ header.clock.tick = ap (λ (clocks : List Clock). (get_or clocks 0 header.clock).tick) (sym log.clocks_are) in
+    let all_clocks : clocks_of own (with_extent blocks front writer records) ≡ clocks_of own blocks =
+    clocks-push own (blocks ++ front) (Extent writer records) ∙ append-nil (clocks_of own (blocks ++ front)) ∙ clocks_now own blocks front first new are in
     let same_calls : get_or taken writer [] ≡ records_of writer (blocks ++ front) =
     same_taken wrote taken dictionary header.version (header.clock ∷ []) batch writer log next.known ∙ sym (records_now writer blocks front first new are) in
     let unclosed : ¬ (IsClosed writer (blocks ++ front)) =
@@ -159,41 +171,44 @@ grown wrote taken dictionary header batch progress writer entries fragments exte
       header_right = log.valid.header_right;
       blocks_right = AreRightAfter-append own [] blocks front log.valid.blocks_right (fragments_right own first new front blocks are so_far.defined distinct_fronts few_fronts);
     } in
-    let used : ids_used entries ≤ length (messages_of (blocks ++ front)) = omega (arith, grow.used, ap length fronts) in
+    let used : ids_used records ≤ length (messages_of (blocks ++ front)) = omega (arith, grow.used, ap length fronts) in
     let whole : dictionary ≡ messages_of (blocks ++ front) ++ grow.undefined = grow.whole ∙ ap (λ (l : List Message). l ++ grow.undefined) (sym fronts) in
-    let right = calls_of_front (messages_of (blocks ++ front)) grow.undefined entries used (subst (λ (l : List Message). AllByRecursion (IsCall l) entries) whole next.right) in
-    let rising : NeverFalls (last_stamp own.clock.tick (records_of writer (blocks ++ front))) entries =
-    subst (λ (n : ℕ). NeverFalls (last_stamp n (records_of writer (blocks ++ front))) entries) (sym tick)
-    (subst (λ (l : List Call). NeverFalls (last_stamp header.clock.tick l) entries) same_calls (falls_behind header.clock.tick (get_or taken writer []) entries next.rising)) in
+    let right = calls_of_front (messages_of (blocks ++ front)) grow.undefined records used (subst (λ (l : List Message). AllByRecursion (IsCall l) records) whole next.right) in
+    let rising : NeverFalls (last_stamp own.clock.tick (records_of writer (blocks ++ front))) records =
+    subst (λ (n : ℕ). NeverFalls (last_stamp n (records_of writer (blocks ++ front))) records) (sym tick)
+    (subst (λ (l : List Call). NeverFalls (last_stamp header.clock.tick l) records) same_calls (falls_behind header.clock.tick (get_or taken writer []) records next.rising)) in
     let e = next.extent_spelled in
-    let body_spelled : SpellsRecords (messages_of (blocks ++ front)) own.clock.tick entries e.body =
-    spelled_with_front (messages_of (blocks ++ front)) grow.undefined own.clock.tick entries e.body used
-    (subst (λ (n : ℕ). SpellsRecords (messages_of (blocks ++ front) ++ grow.undefined) n entries e.body) (sym tick)
-    (subst (λ (l : List Message). SpellsRecords l header.clock.tick entries e.body) whole e.body_spelled)) in
+    let body_spelled : SpellsRecords (messages_of (blocks ++ front)) own.clock.tick records e.body =
+    spelled_with_front (messages_of (blocks ++ front)) grow.undefined own.clock.tick records e.body used
+    (subst (λ (n : ℕ). SpellsRecords (messages_of (blocks ++ front) ++ grow.undefined) n records e.body) (sym tick)
+    (subst (λ (l : List Message). SpellsRecords l header.clock.tick records e.body) whole e.body_spelled)) in
     let (short, writer_fits, joined) =
     subst (λ (v : ℕ). (length e.body ≤ most_body v) × (writer < 256 ^ writer_len v) × (extent_bytes ≡ extent_head_bytes v writer (length e.body) ++ e.body)) (sym log.version_is) (e.short, e.writer_fits, e.joined) in
-    let extent_spelled : SpellsExtent (messages_of (blocks ++ front)) own writer entries extent_bytes =
+    let extent_spelled : SpellsExtent (messages_of (blocks ++ front)) own writer records extent_bytes =
     record { body = e.body; some = e.some; short = short; writer_fits = writer_fits; body_spelled = body_spelled; joined = joined } in
-    let length_now : length (with_calls taken writer entries) ≡ length taken = length-set taken writer (get_or taken writer [] ++ entries) in
-    let records_all : (w : ℕ) → records_of w (with_extent blocks front writer entries) ≡ records_of w blocks ++ at_one writer entries w =
-    λ w. records-push w (blocks ++ front) (Extent writer entries) ∙ ap (λ (l : List Call). l ++ at_one writer entries w) (records_now w blocks front first new are) in
-    let records_are : with_calls taken writer entries ≡ map (λ w. records_of w (with_extent blocks front writer entries)) (range_with_len 0 (length (with_calls taken writer entries))) =
-    ap (λ (l : List (List Call)). slice_set l writer (get_or l writer [] ++ entries)) log.records_are
-    ∙ more_at_one (λ w. records_of w blocks) writer entries 0 (length taken) writer next.known (omega arith)
+    let length_now : length (with_calls taken writer records) ≡ length taken = length-set taken writer (get_or taken writer [] ++ records) in
+    let records_all : (w : ℕ) → records_of w (with_extent blocks front writer records) ≡ records_of w blocks ++ at_one writer records w =
+    λ w. records-push w (blocks ++ front) (Extent writer records) ∙ ap (λ (l : List Call). l ++ at_one writer records w) (records_now w blocks front first new are) in
+    let records_are : with_calls taken writer records ≡ map (λ w. records_of w (with_extent blocks front writer records)) (range_with_len 0 (length (with_calls taken writer records))) =
+    ap (λ (l : List (List Call)). slice_set l writer (get_or l writer [] ++ records)) log.records_are
+    ∙ more_at_one (λ w. records_of w blocks) writer records 0 (length taken) writer next.known (omega arith)
     ∙ (λ i. map (λ w. sym (records_all w) i) (range_with_len 0 (length taken)))
-    ∙ ap (λ (n : ℕ). map (λ w. records_of w (with_extent blocks front writer entries)) (range_with_len 0 n)) (sym length_now) in
-    let laid : IsLaidOut dictionary batch blocks (front ++ Extent writer entries ∷ []) =
-    extent blocks front writer entries [] (subst (λ (n : ℕ). AreFragments n (new_messages dictionary n entries) front) so_far.defined are) next.few (ends (blocks ++ front ++ Extent writer entries ∷ [])) in
-    let laid_out : IsLaidOut dictionary batch [] (with_extent blocks front writer entries) =
-    subst (IsLaidOut dictionary batch []) (sym (append_assoc blocks front (Extent writer entries ∷ []))) (laid_out_join dictionary batch [] blocks (front ++ Extent writer entries ∷ []) log.laid_out laid) in
+    ∙ ap (λ (n : ℕ). map (λ w. records_of w (with_extent blocks front writer records)) (range_with_len 0 n)) (sym length_now) in
+    let clocks = header.clock ∷ [] in
+    let stands = fragments_stand clocks dictionary blocks records front (omega arith) (subst (λ (n : ℕ). AreFragments n (new_messages dictionary n records) front) so_far.defined are) in
+    let laid : IsLaidOut clocks dictionary batch blocks (front ++ Extent writer records ∷ []) =
+    extent blocks front writer records [] stands next.few (ends (blocks ++ front ++ Extent writer records ∷ [])) in
+    let laid_out : IsLaidOut clocks dictionary batch [] (with_extent blocks front writer records) =
+    subst (IsLaidOut clocks dictionary batch []) (sym (append_assoc blocks front (Extent writer records ∷ []))) (laid_out_join clocks dictionary batch [] blocks (front ++ Extent writer records ∷ []) log.laid_out laid) in
     record {
       log = record {
         header = own;
-        blocks = with_extent blocks front writer entries;
-        file = file_goes_on own (blocks ++ front) (Extent writer entries) (wrote ++ fragments) extent_bytes (file_goes_on_with own blocks front wrote fragments log.file (next.fragments_spelled.spelled own blocks)) extent_spelled;
-        valid = goes_on own (blocks ++ front) (Extent writer entries) front_valid (record { writer_open = record { known = subst (λ (n : ℕ). writer < n) (sym log.writers_are) next.known; unclosed = unclosed }; right = right; rising = rising });
+        blocks = with_extent blocks front writer records;
+        file = file_goes_on own (blocks ++ front) (Extent writer records) (wrote ++ fragments) extent_bytes (file_goes_on_with own blocks front wrote fragments log.file (next.fragments_spelled.spelled own blocks)) extent_spelled;
+        valid = goes_on own (blocks ++ front) (Extent writer records) front_valid (record { writer_open = record { known = subst (λ (n : ℕ). writer < n) (sym log.writers_are) next.known; unclosed = unclosed }; right = right; rising = rising });
         version_is = log.version_is;
-        clocks_are = log.clocks_are;
+        unwritten = log.unwritten;
+        clocks_are = log.clocks_are ∙ ap (λ (l : List Clock). l ++ log.unwritten) (sym all_clocks);
         writers_are = log.writers_are ∙ sym length_now;
         undefined = grow.undefined;
         messages_are = grow.whole ∙ ap (λ (l : List Message). l ++ grow.undefined) (sym all_messages);
@@ -203,7 +218,7 @@ grown wrote taken dictionary header batch progress writer entries fragments exte
       defined = grow.counted ∙ ap length (sym all_messages);
       closed = λ w within.
           so_far.closed w (subst (λ (n : ℕ). w < n) length_now within) ∙ sym (closed_now w blocks front first new are)
-          ∙ sym (list_any-append (closes w) (blocks ++ front) (Extent writer entries ∷ []) ∙ or-false (list_any (closes w) (blocks ++ front)));
+          ∙ sym (list_any-append (closes w) (blocks ++ front) (Extent writer records ∷ []) ∙ or-false (list_any (closes w) (blocks ++ front)));
     }
 
 -- ---- a close mark
@@ -226,6 +241,7 @@ closing wrote taken dictionary version clocks batch progress writer so_far known
     let blocks = log.blocks in
     let few = log.valid.header_right.few_writers in
     let messages : messages_of (blocks ++ Close writer ∷ []) ≡ messages_of blocks = messages-push blocks (Close writer) ∙ append-nil (messages_of blocks) in
+    let all_clocks : clocks_of header (blocks ++ Close writer ∷ []) ≡ clocks_of header blocks = clocks-push header blocks (Close writer) ∙ append-nil (clocks_of header blocks) in
     let records : (w : ℕ) → records_of w (blocks ++ Close writer ∷ []) ≡ records_of w blocks = λ w. records-push w blocks (Close writer) ∙ append-nil (records_of w blocks) in
     let unclosed : ¬ (IsClosed writer blocks) = λ closed. true≢false (sym closed ∙ sym (so_far.closed writer known) ∙ not_closed) in
     let fits : writer < 256 ^ writer_len header.version = omega (arith, known, log.writers_are, few, writers_fit header.version) in
@@ -237,12 +253,13 @@ closing wrote taken dictionary version clocks batch progress writer so_far known
         file = file_goes_on header blocks (Close writer) wrote (close_bytes version writer) log.file spelled;
         valid = goes_on header blocks (Close writer) log.valid (record { known = subst (λ (n : ℕ). writer < n) (sym log.writers_are) known; unclosed = unclosed });
         version_is = log.version_is;
-        clocks_are = log.clocks_are;
+        unwritten = log.unwritten;
+        clocks_are = log.clocks_are ∙ ap (λ (l : List Clock). l ++ log.unwritten) (sym all_clocks);
         writers_are = log.writers_are;
         undefined = log.undefined;
         messages_are = log.messages_are ∙ ap (λ (l : List Message). l ++ log.undefined) (sym messages);
         records_are = log.records_are ∙ (λ i. map (λ w. sym (records w) i) (range_with_len 0 (length taken)));
-        laid_out = laid_out_join dictionary batch [] blocks (Close writer ∷ []) log.laid_out (close blocks writer [] (ends (blocks ++ Close writer ∷ [])));
+        laid_out = laid_out_join clocks dictionary batch [] blocks (Close writer ∷ []) log.laid_out (close blocks writer [] (ends (blocks ++ Close writer ∷ [])));
       };
       defined = so_far.defined ∙ ap length (sym messages);
       closed = λ w inside. closed_behind progress.closed blocks writer w within (so_far.closed w inside);
@@ -262,6 +279,7 @@ beginning header dictionary batch closed right none_closed =
         file = empty_file header;
         valid = record { header_right = right; blocks_right = tt };
         version_is = refl;
+        unwritten = [];
         clocks_are = refl;
         writers_are = sym count;
         undefined = dictionary;

@@ -103,12 +103,12 @@ same_new messages defined used =
           ∙ sym (drop_all defined (take used messages) (omega (arith, none, length-take used messages)))
     ]
 
-pub wanted_new : (messages : List Message) (defined : ℕ) (entries : List Call) (ids : ℕ) → ids ≡ ids_used entries → drop defined (take (max defined ids) messages) ≡ new_messages messages defined entries
-wanted_new messages defined entries ids same = same_new messages defined ids ∙ ap (λ (n : ℕ). drop defined (take n messages)) same
+pub wanted_new : (messages : List Message) (defined : ℕ) (records : List Call) (ids : ℕ) → ids ≡ ids_used records → drop defined (take (max defined ids) messages) ≡ new_messages messages defined records
+wanted_new messages defined records ids same = same_new messages defined ids ∙ ap (λ (n : ℕ). drop defined (take n messages)) same
 
-pub body_some : (messages : List Message) (before : ℕ) (entries : List Call) (body : List ℕ) → 1 ≤ length entries → SpellsRecords messages before entries body → 1 ≤ length body
+pub body_some : (messages : List Message) (before : ℕ) (records : List Call) (body : List ℕ) → 1 ≤ length records → SpellsRecords messages before records body → 1 ≤ length body
 body_some messages before [] body some spelled = absurd (omega (arith, some))
-body_some messages before (entry ∷ entries) body some (front, back, joined, is, others) =
+body_some messages before (call ∷ records) body some (front, back, joined, is, others) =
     omega (arith, ap length joined, length-append front back, ap length is.spelled.joined)
 
 -- ---- what a draft is, before it is written
@@ -116,31 +116,31 @@ body_some messages before (entry ∷ entries) body some (front, back, joined, is
 pub draft_some : (messages : List Message) (tick : ℕ) (before after : List (List ℕ)) (draft : Draft) (body : List ℕ) → DraftsFrames messages tick before after draft body → 1 ≤ draft.records → 1 ≤ draft.len
 draft_some messages tick before after draft body was some =
     let d = was.drafted in
-    let records = d.records in
-    omega (arith, d.within, length-take-le draft.len body d.within, body_some messages tick was.entries (take draft.len body) (omega (arith, some, records)) d.spelled)
+    let count = d.count in
+    omega (arith, d.within, length-take-le draft.len body d.within, body_some messages tick was.records (take draft.len body) (omega (arith, some, count)) d.spelled)
 
 pub draft_ids : (messages : List Message) (tick : ℕ) (before after : List (List ℕ)) (draft : Draft) (body : List ℕ) → DraftsFrames messages tick before after draft body → draft.ids ≤ length messages
-draft_ids messages tick before after draft body was = omega (arith, was.drafted.ids, ids_known messages was.entries was.right)
+draft_ids messages tick before after draft body was = omega (arith, was.drafted.ids, ids_known messages was.records was.right)
 
 -- nothing came where there is no record
 pub none_came : (messages : List Message) (tick : ℕ) (before after : List (List ℕ)) (draft : Draft) (body : List ℕ) → DraftsFrames messages tick before after draft body → draft.records ≡ 0 → after ≡ before
 none_came messages tick before after draft body was none =
-    let entries : was.entries ≡ [] = nil_from_length was.entries (omega (arith, was.drafted.records, none)) in
-    was.comes.joined ∙ ap (λ (calls : List Call). before ++ frames_of calls) entries ∙ append-nil before
+    let records : was.records ≡ [] = nil_from_length was.records (omega (arith, was.drafted.count, none)) in
+    was.comes.joined ∙ ap (λ (calls : List Call). before ++ frames_of calls) records ∙ append-nil before
 
 -- ---- an extent
 
 -- the records of a draft, behind the head of an extent
-abbrev pub spells_extent : {S : Type 0} (roamer : Roamer S) (writer : ℕ) (entries : List Call) (draft : Draft) (body extent : List ℕ) → IsDraft (roamer_messages roamer) (roamer_clock roamer).tick entries draft body → 1 ≤ draft.records → writer < 64 → length body ≤ 65536 → extent ≡ extent_head_bytes 1 writer (length (take draft.len body)) ++ take draft.len body → SpellsExtent (roamer_messages roamer) (roamer_header roamer) writer entries extent
-spells_extent roamer writer entries draft body extent drafted some known room is =
-    let records = drafted.records in
+abbrev pub spells_extent : {S : Type 0} (roamer : Roamer S) (writer : ℕ) (records : List Call) (draft : Draft) (body extent : List ℕ) → IsDraft (roamer_messages roamer) (roamer_clock roamer).tick records draft body → 1 ≤ draft.records → writer < 64 → length body ≤ 65536 → extent ≡ extent_head_bytes 1 writer (length (take draft.len body)) ++ take draft.len body → SpellsExtent (roamer_messages roamer) (roamer_header roamer) writer records extent
+spells_extent roamer writer records draft body extent drafted some known room is =
+    let count = drafted.count in
     let within = drafted.within in
     let long = length-take-le draft.len body within in
     let short : length (take draft.len body) ≤ 65536 = omega (arith, long, within, room) in
     let fits : writer < 256 = omega (arith, known) in
     record {
       body = take draft.len body;
-      some = body_some (roamer_messages roamer) (roamer_clock roamer).tick entries (take draft.len body) (omega (arith, some, records)) drafted.spelled;
+      some = body_some (roamer_messages roamer) (roamer_clock roamer).tick records (take draft.len body) (omega (arith, some, count)) drafted.spelled;
       short = short;
       writer_fits = fits;
       body_spelled = drafted.spelled;
@@ -191,13 +191,13 @@ abbrev pub behind_draft : {S : Type 0} → Roamer S → Draft → LogProgress
 behind_draft roamer draft = record (roamer_progress roamer) { defined = max (roamer_progress roamer).defined draft.ids }
 
 pub extent_stands : {S : Type 0} (got : S → List (List ℕ)) (ended : S → Bool) (old new : Roamer S) (writer : ℕ) (before after : S) (draft : Draft) (body fragments extent : List ℕ) (moved : Moved got ended old new writer before after draft body) → 1 ≤ draft.records → draft.records ≤ roamer_batch old → (ended before ≡ true → draft.records ≡ 0) → AreDistinct (roamer_messages old) → length (roamer_messages old) ≤ 65536 → length (ends_of old) ≤ 64 → length body ≤ 65536
-    → FragmentsFor (roamer_progress old).defined (new_messages (roamer_messages old) (roamer_progress old).defined moved.gathers.entries) fragments
+    → FragmentsFor (roamer_progress old).defined (new_messages (roamer_messages old) (roamer_progress old).defined moved.gathers.records) fragments
     → extent ≡ extent_head_bytes 1 writer (length (take draft.len body)) ++ take draft.len body
     → (wrote : List ℕ) → RoamerStandsFor got ended old wrote → IsLogOfEnds got ended new (behind_draft old draft) (wrote ++ (fragments ++ extent))
 extent_stands {S} got ended old new writer before after draft body fragments extent moved some few going distinct few_messages few_ends room spelled extent_is wrote stood =
     let log = stood.lawful moved.begun moved.unfaulted in
     let plan = plan_of_roamer old in
-    let entries = moved.gathers.entries in
+    let records = moved.gathers.records in
     let drafted = moved.gathers.drafted in
     let calls = get_or log.taken writer [] in
     let size = taken_length plan got (ends_of old) log.taken log.frames in
@@ -207,24 +207,24 @@ extent_stands {S} got ended old new writer before after draft body fragments ext
     let now = moved.gathers.comes.lawful calls are in
     let open_writer : get_or (roamer_progress old).closed writer false ≡ false =
     false_from_ne_true (get_or (roamer_progress old).closed writer false) (λ closed. omega (arith, some, going (log.closed writer before moved.was closed))) in
-    let records = drafted.records in
-    let next : IsNext log.taken (roamer_messages old) (roamer_header old) (roamer_batch old) (roamer_progress old) writer entries fragments extent = record {
+    let count = drafted.count in
+    let next : IsNext log.taken (roamer_messages old) (roamer_header old) (roamer_batch old) (roamer_progress old) writer records fragments extent = record {
       known = known;
       not_closed = open_writer;
-      few = omega (arith, few, records);
+      few = omega (arith, few, count);
       right = moved.gathers.right;
       rising = now.rising;
       fragments_spelled = spelled;
-      extent_spelled = spells_extent old writer entries draft body extent drafted some (omega (arith, inside, few_ends)) room extent_is;
+      extent_spelled = spells_extent old writer records draft body extent drafted some (omega (arith, inside, few_ends)) room extent_is;
     } in
-    let more = grown wrote log.taken (roamer_messages old) (roamer_header old) (roamer_batch old) (roamer_progress old) writer entries fragments extent log.log distinct few_messages next in
-    let progress_is : progress_behind (roamer_progress old) entries ≡ behind_draft old draft =
+    let more = grown wrote log.taken (roamer_messages old) (roamer_header old) (roamer_batch old) (roamer_progress old) writer records fragments extent log.log distinct few_messages next in
+    let progress_is : progress_behind (roamer_progress old) records ≡ behind_draft old draft =
     ap (λ (n : ℕ). record { defined = max (roamer_progress old).defined n; closed = (roamer_progress old).closed }) (sym drafted.ids) in
     record {
-      taken = with_calls log.taken writer entries;
-      frames = move_ends (λ p es. FramesAreTaken p got es (with_calls log.taken writer entries)) old new writer after moved.ends moved.same_run (zip_set (λ end calls. AreFramesOf plan (got end) calls) (ends_of old) log.taken writer after (calls ++ entries) log.frames now);
+      taken = with_calls log.taken writer records;
+      frames = move_ends (λ p es. FramesAreTaken p got es (with_calls log.taken writer records)) old new writer after moved.ends moved.same_run (zip_set (λ end calls. AreFramesOf plan (got end) calls) (ends_of old) log.taken writer after (calls ++ records) log.frames now);
       log =
-          same_log (wrote ++ fragments ++ extent) (wrote ++ (fragments ++ extent)) (with_calls log.taken writer entries) (roamer_messages old) (roamer_messages new) (roamer_clock old) (roamer_clock new) (roamer_batch old) (roamer_batch new) (progress_behind (roamer_progress old) entries) (behind_draft old draft) (append_assoc wrote fragments extent) (sym moved.same_run.messages) (sym moved.same_run.clock) (sym moved.same_run.batch) progress_is more;
+          same_log (wrote ++ fragments ++ extent) (wrote ++ (fragments ++ extent)) (with_calls log.taken writer records) (roamer_messages old) (roamer_messages new) (roamer_clock old) (roamer_clock new) (roamer_batch old) (roamer_batch new) (progress_behind (roamer_progress old) records) (behind_draft old draft) (append_assoc wrote fragments extent) (sym moved.same_run.messages) (sym moved.same_run.clock) (sym moved.same_run.batch) progress_is more;
       closed = still_said (EndedIfClosed ended (roamer_progress old).closed) (ends_of old) (ends_of new) writer before after moved.was moved.ends (λ over own. absurd (both_ways (get_or (roamer_progress old).closed writer false) open_writer own)) log.closed;
     }
 

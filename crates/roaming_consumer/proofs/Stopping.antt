@@ -22,21 +22,21 @@ stopped_in_extent got ended loads pair plan old mid ends_now writer draft all bo
     let gathers = one.step.0 in
     let drafted = gathers.drafted in
     let ids = drafted.ids in
-    let records = drafted.records in
+    let count = drafted.count in
     let sent = sends_of_old old mid writer draft body r p q f g keeps went in
     let within = sent.within in
-    let end : max (roamer_progress old).defined draft.ids ≡ max (roamer_progress old).defined (ids_used gathers.entries) = ap (max (roamer_progress old).defined) ids in
+    let end : max (roamer_progress old).defined draft.ids ≡ max (roamer_progress old).defined (ids_used gathers.records) = ap (max (roamer_progress old).defined) ids in
     record {
       before = one.before;
       after = one.after;
       was = one.was;
       now = same_ends ∙ one.now;
       step = inl (record {
-        entries = gathers.entries;
+        records = gathers.records;
         comes = gathers.comes;
         right = gathers.right;
-        some = omega (arith, some, records);
-        few = omega (arith, few, records);
+        some = omega (arith, some, count);
+        few = omega (arith, few, count);
         bytes = sent.fragments ++ sent.extent;
         are = record {
           up_to = sent.up_to;
@@ -46,7 +46,7 @@ stopped_in_extent got ended loads pair plan old mid ends_now writer draft all bo
           extent = sent.extent;
           behind = elim sent.behind [
             | inl none ↦ inl none
-            | inr both ↦ inr (both.0 ∙ end, spells_extent old writer gathers.entries draft body sent.extent drafted some known room both.1)
+            | inr both ↦ inr (both.0 ∙ end, spells_extent old writer gathers.records draft body sent.extent drafted some known room both.1)
           ];
           joined = refl;
         };

@@ -39,14 +39,14 @@ last_behind least (call ∷ front) back rising = omega (arith, last_rises least 
 -- ---- frames
 
 -- the next frame is that of a call which goes on with those that were taken
-record Next (messages : List Message) (tick : ℕ) (before after : List (List ℕ)) (entries : List Call) (last : ℕ)
+record Next (messages : List Message) (tick : ℕ) (before after : List (List ℕ)) (records : List Call) (last : ℕ)
     (frame : List ℕ) : Type 0 where
   call : Call
   is : IsFrameOfCall messages last frame call
-  comes : CallsCame (plan_of messages tick) before (after ++ frame ∷ []) (entries ++ call ∷ [])
+  comes : CallsCame (plan_of messages tick) before (after ++ frame ∷ []) (records ++ call ∷ [])
 
-next_call : (messages : List Message) (tick : ℕ) (before after : List (List ℕ)) (entries : List Call) (last : ℕ) (frame : List ℕ) → CallsCame (plan_of messages tick) before after entries → last ≡ last_stamp tick entries → Lawful (plan_of messages tick) (after ++ frame ∷ []) → Next messages tick before after entries last frame
-next_call messages tick before after entries last frame comes last_is lawful =
+next_call : (messages : List Message) (tick : ℕ) (before after : List (List ℕ)) (records : List Call) (last : ℕ) (frame : List ℕ) → CallsCame (plan_of messages tick) before after records → last ≡ last_stamp tick records → Lawful (plan_of messages tick) (after ++ frame ∷ []) → Next messages tick before after records last frame
+next_call messages tick before after records last frame comes last_is lawful =
     let plan = plan_of messages tick in
     let ends = Lawful-last plan after frame lawful in
     let calls = ends.0 in
@@ -54,43 +54,43 @@ next_call messages tick before after entries last frame comes last_is lawful =
     let are = ends.2 in
     let may = ends.4 in
     let all = Lawful-front plan after (frame ∷ []) lawful in
-    let first = Lawful-front plan before (frames_of entries) (subst (Lawful plan) comes.joined all) in
-    let whole : calls ≡ first.0 ++ entries = AreFramesOf-unique plan after calls (first.0 ++ entries) are (comes.lawful first.0 first.1) in
-    let rising : NeverFalls tick (first.0 ++ entries) = (comes.lawful first.0 first.1).rising in
-    let not_before : last ≤ call.stamp = omega (arith, last_is, last_behind tick first.0 entries rising, ap (last_stamp tick) whole, may.not_before) in
+    let first = Lawful-front plan before (frames_of records) (subst (Lawful plan) comes.joined all) in
+    let whole : calls ≡ first.0 ++ records = AreFramesOf-unique plan after calls (first.0 ++ records) are (comes.lawful first.0 first.1) in
+    let rising : NeverFalls tick (first.0 ++ records) = (comes.lawful first.0 first.1).rising in
+    let not_before : last ≤ call.stamp = omega (arith, last_is, last_behind tick first.0 records rising, ap (last_stamp tick) whole, may.not_before) in
     record {
       call = call;
       is = record { named = IsCall-from_IsPlanned messages call may.planned; bytes = may.planned.bytes; staged = may.planned.staged; not_before = not_before; is = ends.3 };
       comes = record {
         joined =
-            ap (λ (l : List (List ℕ)). l ++ frame ∷ []) comes.joined ∙ append_assoc before (frames_of entries) (frame ∷ [])
-            ∙ ap (λ (f : List ℕ). before ++ (frames_of entries ++ f ∷ [])) ends.3
-            ∙ ap (λ (l : List (List ℕ)). before ++ l) (sym (map-append frame_of entries (call ∷ [])));
+            ap (λ (l : List (List ℕ)). l ++ frame ∷ []) comes.joined ∙ append_assoc before (frames_of records) (frame ∷ [])
+            ∙ ap (λ (f : List ℕ). before ++ (frames_of records ++ f ∷ [])) ends.3
+            ∙ ap (λ (l : List (List ℕ)). before ++ l) (sym (map-append frame_of records (call ∷ [])));
         lawful = λ some are_some.
-            let same : calls ≡ some ++ entries = AreFramesOf-unique plan after calls (some ++ entries) are (comes.lawful some are_some) in
-            let more = AreFramesOf-push plan after (some ++ entries) call (comes.lawful some are_some) (subst (λ (cs : List Call). MayFollow plan (last_stamp tick cs) call) same may) in
-            subst (AreFramesOf plan (after ++ frame ∷ [])) (append_assoc some entries (call ∷ []))
-            (subst (λ (f : List ℕ). AreFramesOf plan (after ++ f ∷ []) (some ++ entries ++ call ∷ [])) (sym ends.3) more);
+            let same : calls ≡ some ++ records = AreFramesOf-unique plan after calls (some ++ records) are (comes.lawful some are_some) in
+            let more = AreFramesOf-push plan after (some ++ records) call (comes.lawful some are_some) (subst (λ (cs : List Call). MayFollow plan (last_stamp tick cs) call) same may) in
+            subst (AreFramesOf plan (after ++ frame ∷ [])) (append_assoc some records (call ∷ []))
+            (subst (λ (f : List ℕ). AreFramesOf plan (after ++ f ∷ []) (some ++ records ++ call ∷ [])) (sym ends.3) more);
       };
     }
 
 -- the frame that was taken is that of a call
 pub taken_call : (messages : List Message) (tick : ℕ) (before after : List (List ℕ)) (draft : Draft) (body : List ℕ) (frame : List ℕ) → DraftsFrames messages tick before after draft body → Lawful (plan_of messages tick) (after ++ frame ∷ []) → (call : Call) × IsFrameOfCall messages draft.last frame call
 taken_call messages tick before after draft body frame was lawful =
-    let next = next_call messages tick before after was.entries draft.last frame was.comes was.drafted.last lawful in
+    let next = next_call messages tick before after was.records draft.last frame was.comes was.drafted.last lawful in
     (next.call, next.is)
 
 -- behind it the draft has its record too
 pub gathers_more : (messages : List Message) (tick : ℕ) (before after : List (List ℕ)) (draft now : Draft) (body body_now : List ℕ) (frame : List ℕ) → DraftsFrames messages tick before after draft body → Lawful (plan_of messages tick) (after ++ frame ∷ [])
-    → ((call : Call) (from : ℕ) (entries : List Call) → IsFrameOfCall messages draft.last frame call → IsDraft messages from entries draft body → IsDraft messages from (entries ++ call ∷ []) now body_now)
+    → ((call : Call) (from : ℕ) (records : List Call) → IsFrameOfCall messages draft.last frame call → IsDraft messages from records draft body → IsDraft messages from (records ++ call ∷ []) now body_now)
     → DraftsFrames messages tick before (after ++ frame ∷ []) now body_now
 gathers_more messages tick before after draft now body body_now frame was lawful puts =
-    let next = next_call messages tick before after was.entries draft.last frame was.comes was.drafted.last lawful in
+    let next = next_call messages tick before after was.records draft.last frame was.comes was.drafted.last lawful in
     record {
-      entries = was.entries ++ next.call ∷ [];
+      records = was.records ++ next.call ∷ [];
       comes = next.comes;
-      right = recursion_from_All (IsCall messages) (was.entries ++ next.call ∷ []) (All-push (IsCall messages) was.entries next.call (All-from_recursion (IsCall messages) was.entries was.right) next.is.named);
-      drafted = puts next.call tick was.entries next.is was.drafted;
+      right = recursion_from_All (IsCall messages) (was.records ++ next.call ∷ []) (All-push (IsCall messages) was.records next.call (All-from_recursion (IsCall messages) was.records was.right) next.is.named);
+      drafted = puts next.call tick was.records next.is was.drafted;
     }
 
 -- ---- frames that are thrown away

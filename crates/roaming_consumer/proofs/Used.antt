@@ -17,21 +17,21 @@ front_get [] back i within = absurd (omega (arith, within))
 front_get (x ∷ front) back zero within = refl
 front_get (x ∷ front) back (suc i) within = front_get front back i (omega (arith, within))
 
-first_used : (entry : Call) (entries : List Call) (used : ℕ) → ids_used (entry ∷ entries) ≤ used → entry.id < used
-first_used entry entries used h = grind arith
+first_used : (call : Call) (records : List Call) (used : ℕ) → ids_used (call ∷ records) ≤ used → call.id < used
+first_used call records used h = grind arith
 
-others_used : (entry : Call) (entries : List Call) (used : ℕ) → ids_used (entry ∷ entries) ≤ used → ids_used entries ≤ used
-others_used entry entries used h = grind arith
+others_used : (call : Call) (records : List Call) (used : ℕ) → ids_used (call ∷ records) ≤ used → ids_used records ≤ used
+others_used call records used h = grind arith
 
 -- records that use the messages in front alone are spelled as they are with all messages
-pub spelled_with_front : (front back : List Message) (before : ℕ) (entries : List Call) (bytes : List ℕ) → ids_used entries ≤ length front → SpellsRecords (front ++ back) before entries bytes → SpellsRecords front before entries bytes
+pub spelled_with_front : (front back : List Message) (before : ℕ) (records : List Call) (bytes : List ℕ) → ids_used records ≤ length front → SpellsRecords (front ++ back) before records bytes → SpellsRecords front before records bytes
 spelled_with_front front back before [] bytes h spelled = spelled
-spelled_with_front front back before (entry ∷ entries) bytes h (first, rest, joined, is, others) = (
+spelled_with_front front back before (call ∷ records) bytes h (first, rest, joined, is, others) = (
   first,
   rest,
   joined,
-  record { message = is.message; known = front_get front back entry.id (first_used entry entries (length front) h) ∙ is.known; spelled = is.spelled },
-  spelled_with_front front back entry.stamp entries rest (others_used entry entries (length front) h) others,
+  record { message = is.message; known = front_get front back call.id (first_used call records (length front) h) ∙ is.known; spelled = is.spelled },
+  spelled_with_front front back call.stamp records rest (others_used call records (length front) h) others,
 )
 
 -- and they name these
@@ -51,9 +51,9 @@ ids_known messages (call ∷ calls) (is, named) =
     grind arith
 
 -- one record more
-pub ids_used-push : (entries : List Call) (entry : Call) → ids_used (entries ++ entry ∷ []) ≡ max (ids_used entries) (entry.id + 1)
-ids_used-push [] entry = grind arith
-ids_used-push (e ∷ entries) entry = let others = ids_used-push entries entry in grind arith
+pub ids_used-push : (records : List Call) (call : Call) → ids_used (records ++ call ∷ []) ≡ max (ids_used records) (call.id + 1)
+ids_used-push [] call = grind arith
+ids_used-push (another ∷ records) call = let others = ids_used-push records call in grind arith
 
 -- ---- messages
 

@@ -18,10 +18,10 @@ pub record IsFrameOfCall (messages : List Message) (before : ℕ) (frame : List 
   pub is : frame ≡ Frame call.id call.stamp call.args
 
 -- the records of these calls stand in the front of the body, and the draft tells of them
-pub record IsDraft (messages : List Message) (tick : ℕ) (entries : List Call) (draft : Draft)
+pub record IsDraft (messages : List Message) (tick : ℕ) (records : List Call) (draft : Draft)
     (body : List ℕ) : Type 0 where
-  pub records : draft.records ≡ length entries
-  pub ids : draft.ids ≡ ids_used entries
-  pub last : draft.last ≡ last_stamp tick entries
+  pub count : draft.records ≡ length records
+  pub ids : draft.ids ≡ ids_used records
+  pub last : draft.last ≡ last_stamp tick records
   pub within : draft.len ≤ length body
-  pub spelled : SpellsRecords messages tick entries (take draft.len body)
+  pub spelled : SpellsRecords messages tick records (take draft.len body)

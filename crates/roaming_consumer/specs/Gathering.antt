@@ -12,17 +12,17 @@ use Rattle.roaming_consumer.specs.Drafts.{IsDraft}
 
 -- The frames of these calls came behind those that were taken before. Of whatever calls those were, the frames of all are
 -- lawful together.
-pub record CallsCame (plan : Plan) (before after : List (List ℕ)) (entries : List Call) : Type 0 where
-  pub joined : after ≡ before ++ frames_of entries
-  pub lawful : (calls : List Call) → AreFramesOf plan before calls → AreFramesOf plan after (calls ++ entries)
+pub record CallsCame (plan : Plan) (before after : List (List ℕ)) (records : List Call) : Type 0 where
+  pub joined : after ≡ before ++ frames_of records
+  pub lawful : (calls : List Call) → AreFramesOf plan before calls → AreFramesOf plan after (calls ++ records)
 
 -- Frames of calls of the dictionary were taken, and the draft has the records of all of them.
 pub record DraftsFrames (messages : List Message) (tick : ℕ) (before after : List (List ℕ)) (draft : Draft)
     (body : List ℕ) : Type 0 where
-  pub entries : List Call
-  pub comes : CallsCame (plan_of messages tick) before after entries
-  pub right : AllByRecursion (IsCall messages) entries
-  pub drafted : IsDraft messages tick entries draft body
+  pub records : List Call
+  pub comes : CallsCame (plan_of messages tick) before after records
+  pub right : AllByRecursion (IsCall messages) records
+  pub drafted : IsDraft messages tick records draft body
 
 -- so many frames came behind those that were taken before
 abbrev pub FramesCame : List (List ℕ) → List (List ℕ) → ℕ → Type 0

@@ -27,7 +27,7 @@ pub record IsLogSoFar (wrote : List ℕ) (taken : List (List Call)) (dictionary 
 
 -- the calls that were taken of each writer, with these behind those of one writer
 abbrev pub with_calls : List (List Call) → ℕ → List Call → List (List Call)
-with_calls taken writer entries = slice_set taken writer (get_or taken writer [] ++ entries)
+with_calls taken writer records = slice_set taken writer (get_or taken writer [] ++ records)
 
 -- The bytes are fragments that define these messages, with ids that count from the first. All but the last have 16
 -- messages.
@@ -39,18 +39,18 @@ pub record FragmentsFor (first : ℕ) (messages : List Message) (bytes : List �
 -- Behind the log of these calls so many records of an open writer may be put: they name messages and fit them, and its
 -- stamps go on without falling. In front of their extent stand the fragments of the messages that it wants.
 pub record IsNext (taken : List (List Call)) (dictionary : List Message) (header : Header) (batch : ℕ)
-    (progress : LogProgress) (writer : ℕ) (entries : List Call) (fragments extent : List ℕ) : Type 0 where
+    (progress : LogProgress) (writer : ℕ) (records : List Call) (fragments extent : List ℕ) : Type 0 where
   pub known : writer < length taken
   pub not_closed : get_or progress.closed writer false ≡ false
-  pub few : length entries ≤ batch
-  pub right : AllByRecursion (IsCall dictionary) entries
-  pub rising : NeverFalls header.clock.tick (get_or taken writer [] ++ entries)
-  pub fragments_spelled : FragmentsFor progress.defined (new_messages dictionary progress.defined entries) fragments
-  pub extent_spelled : SpellsExtent dictionary header writer entries extent
+  pub few : length records ≤ batch
+  pub right : AllByRecursion (IsCall dictionary) records
+  pub rising : NeverFalls header.clock.tick (get_or taken writer [] ++ records)
+  pub fragments_spelled : FragmentsFor progress.defined (new_messages dictionary progress.defined records) fragments
+  pub extent_spelled : SpellsExtent dictionary header writer records extent
 
 -- what is kept behind an extent of these records
 abbrev pub progress_behind : LogProgress → List Call → LogProgress
-progress_behind progress entries = record progress { defined = max progress.defined (ids_used entries) }
+progress_behind progress records = record progress { defined = max progress.defined (ids_used records) }
 
 -- what is kept behind the close mark of a writer
 abbrev pub progress_closing : LogProgress → ℕ → LogProgress

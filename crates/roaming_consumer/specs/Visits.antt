@@ -63,15 +63,15 @@ TakesAtMost most (Discarded n) = n ≤ most
 -- want and that the log doesn't define yet, and behind them one extent of the records of all these calls.
 pub record WritesExtent {S : Type 0} (got : S → List (List ℕ)) (ended : S → Bool) (loads : S → ℕ) (roamer : Roamer S)
     (writer taken : ℕ) (put put_after : Told) (before after : S) : Type 0 where
-  pub entries : List Call
-  pub comes : CallsCame (plan_of_roamer roamer) (got before) (got after) entries
-  pub right : AllByRecursion (IsCall (roamer_messages roamer)) entries
-  pub count : length entries ≡ taken
+  pub records : List Call
+  pub comes : CallsCame (plan_of_roamer roamer) (got before) (got after) records
+  pub right : AllByRecursion (IsCall (roamer_messages roamer)) records
+  pub count : length records ≡ taken
   pub fragments : List ℕ
   pub defining : FragmentsFor (roamer_progress roamer).defined
-      (new_messages (roamer_messages roamer) (roamer_progress roamer).defined entries) fragments
+      (new_messages (roamer_messages roamer) (roamer_progress roamer).defined records) fragments
   pub extent : List ℕ
-  pub spelled : SpellsExtent (roamer_messages roamer) (roamer_header roamer) writer entries extent
+  pub spelled : SpellsExtent (roamer_messages roamer) (roamer_header roamer) writer records extent
   pub puts : put_after ≡ with_end (fragments ++ extent) put
   pub stops : StopsTaking got ended loads (roamer_batch roamer) taken (MAX_BODY - length spelled.body) before after
 
@@ -91,27 +91,27 @@ VisitWrites got ended loads roamer writer put put_after (Discarded n) before aft
 
 -- The bytes of an extent of these records and of the fragments that it wants, behind a log that defines so many messages;
 -- or those of fragments alone, of the messages up to some end.
-pub record AreBytesFor (messages : List Message) (header : Header) (defined writer : ℕ) (entries : List Call)
+pub record AreBytesFor (messages : List Message) (header : Header) (defined writer : ℕ) (records : List Call)
     (bytes : List ℕ) : Type 0 where
   pub up_to : ℕ
-  pub within : up_to ≤ max defined (ids_used entries)
+  pub within : up_to ≤ max defined (ids_used records)
   pub fragments : List ℕ
   pub spelled : FragmentsFor defined (drop defined (take up_to messages)) fragments
   pub extent : List ℕ
   pub behind : (extent ≡ [])
-      ⊎ ((up_to ≡ max defined (ids_used entries)) × SpellsExtent messages header writer entries extent)
+      ⊎ ((up_to ≡ max defined (ids_used records)) × SpellsExtent messages header writer records extent)
   pub joined : bytes ≡ fragments ++ extent
 
 -- Frames of these calls were taken, and the sink took some bytes, from the front, of what was to be written of them.
 pub record StopsInExtent {S : Type 0} (got : S → List (List ℕ)) (roamer : Roamer S) (writer : ℕ) (put put_after : Told)
     (before after : S) : Type 0 where
-  pub entries : List Call
-  pub comes : CallsCame (plan_of_roamer roamer) (got before) (got after) entries
-  pub right : AllByRecursion (IsCall (roamer_messages roamer)) entries
-  pub some : 1 ≤ length entries
-  pub few : length entries ≤ roamer_batch roamer
+  pub records : List Call
+  pub comes : CallsCame (plan_of_roamer roamer) (got before) (got after) records
+  pub right : AllByRecursion (IsCall (roamer_messages roamer)) records
+  pub some : 1 ≤ length records
+  pub few : length records ≤ roamer_batch roamer
   pub bytes : List ℕ
-  pub are : AreBytesFor (roamer_messages roamer) (roamer_header roamer) (roamer_progress roamer).defined writer entries
+  pub are : AreBytesFor (roamer_messages roamer) (roamer_header roamer) (roamer_progress roamer).defined writer records
       bytes
   pub puts : PutsFront bytes put put_after
 

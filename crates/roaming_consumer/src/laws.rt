@@ -23,13 +23,13 @@ use ring_core::StageOut;
 /// log of as many calls more.
 pub fn logs_grow_by_extents()
     ensures { (wrote : List ℕ) (taken : List (List Call)) (dictionary : List Message) (header : Header) (batch : ℕ)
-        (progress : LogProgress) (writer : ℕ) (entries : List Call) (fragments extent : List ℕ)
+        (progress : LogProgress) (writer : ℕ) (records : List Call) (fragments extent : List ℕ)
         → IsLogSoFar wrote taken dictionary header.version (header.clock ∷ []) batch progress
         → AreDistinct dictionary
         → length dictionary ≤ 65536
-        → IsNext taken dictionary header batch progress writer entries fragments extent
-        → IsLogSoFar (wrote ++ fragments ++ extent) (with_calls taken writer entries) dictionary header.version
-        (header.clock ∷ []) batch (progress_behind progress entries) }
+        → IsNext taken dictionary header batch progress writer records fragments extent
+        → IsLogSoFar (wrote ++ fragments ++ extent) (with_calls taken writer records) dictionary header.version
+        (header.clock ∷ []) batch (progress_behind progress records) }
 {}
 
 /// The header alone is the log of no calls.

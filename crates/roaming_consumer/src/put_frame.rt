@@ -20,10 +20,10 @@ pub(crate) fn put_frame(
     requires frame { (call : Call) × IsFrameOfCall dictionary.now draft.last frame.now call }
     requires room { draft.len + RECORD_ROOM ≤ length body.old }
     requires few { draft.records + 1 < 2 ^ 32 }
-    ensures goes_on { (call : Call) (tick : ℕ) (entries : List Call)
+    ensures goes_on { (call : Call) (tick : ℕ) (records : List Call)
         → IsFrameOfCall dictionary.now draft.last frame.now call
-        → IsDraft dictionary.now tick entries draft body.old
-        → IsDraft dictionary.now tick (entries ++ call ∷ []) result body.new }
+        → IsDraft dictionary.now tick records draft body.old
+        → IsDraft dictionary.now tick (records ++ call ∷ []) result body.new }
     ensures records { result.records ≡ draft.records + 1 }
     ensures last { (call : Call) → IsFrameOfCall dictionary.now draft.last frame.now call
         → result.last ≡ call.stamp }
