@@ -5,7 +5,7 @@ use Rattle.std.proofs.lemmas.List.{append-nil, length-append, drop-append-le}
 use Rattle.std.proofs.lemmas.List.Folds.{list_any-append}
 use Rattle.arg_records.specs.declared.call.Call.{Call}
 use Rattle.checkpoint_io.specs.declared.header.Header.{Header}
-use Rattle.checkpoint_io.specs.Blocks.{Block, Fragment, Extent, Close, messages_of}
+use Rattle.checkpoint_io.specs.Blocks.{Block, Fragment, Extent, NewClock, Close, messages_of}
 use Rattle.session_options.specs.declared.limits.TheConstants.{MAX_LOG_WRITERS}
 use Rattle.checkpoint_io.specs.Versions.{most_writers}
 use Rattle.checkpoint_io.specs.Validity.{block_records, records_of, closes, IsRightAfter, Valid}
@@ -27,8 +27,9 @@ use Rattle.decompressor.proofs.Turns.{no_more_calls}
 
 may_come : (header : Header) (first : List Block) (block : Block) → IsRightAfter header first block → MayStillCome (closed_by first) header.writers block
 may_come header first (Fragment f messages) right w of = absurd of
-may_come header first (Extent v entries) right w of =
+may_come header first (Extent v records) right w of =
     (subst (λ (u : ℕ). u < header.writers) of right.writer_open.known, subst (λ (u : ℕ). closed_by first u ≡ false) of (not_true right.writer_open.unclosed))
+may_come header first (NewClock clock) right w of = absurd of
 may_come header first (Close v) right w of =
     (subst (λ (u : ℕ). u < header.writers) of right.known, subst (λ (u : ℕ). closed_by first u ≡ false) of (not_true right.unclosed))
 
@@ -70,13 +71,14 @@ module _ {state : PrinterState} {first : List Block} {block : Block} (read : Has
       few = read.few;
       others = [];
       known = read.known ∙ sym (append-nil (messages_of all));
+      clocks = read.clocks;
       closed = read.closed;
       are_waiting = record {
         count = took.count ∙ ap length same ∙ read.are_waiting.count;
         each = λ w known.
             let n = count_of w (in_order (settled_calls header first)) in
             took.waiting w
-            ∙ ap (λ (entries : List Call). entries ++ block_records w block) (ap (λ (ws : List (List Call)). records_at ws w) same ∙ read.are_waiting.each w known)
+            ∙ ap (λ (records : List Call). records ++ block_records w block) (ap (λ (ws : List (List Call)). records_at ws w) same ∙ read.are_waiting.each w known)
             ∙ sym (drop-append-le n (records_of w first) (block_records w block) (few_printed w))
             ∙ ap (drop n) (sym (records-push w first block));
       };
@@ -106,6 +108,7 @@ module _ {state : PrinterState} {blocks : List Block} (last : HasLast state bloc
     few = last.few;
     others = last.others;
     known = last.known;
+    clocks = last.clocks;
     closed = λ w known. refl;
     are_waiting = last.are_waiting;
     heads = heads;

@@ -10,7 +10,7 @@ use Rattle.log_dictionary.specs.Calls.{LogCall}
 use Rattle.arg_records.specs.declared.call.Call.{Call}
 use Rattle.arg_records.specs.Calls.{IsCall, NeverFalls, log_call, writer_calls}
 use Rattle.checkpoint_io.specs.declared.header.Header.{Header}
-use Rattle.checkpoint_io.specs.Blocks.{Block, Fragment, Extent, Close, block_messages, messages_of}
+use Rattle.checkpoint_io.specs.Blocks.{Block, Fragment, Extent, NewClock, Close, block_messages, messages_of}
 use Rattle.checkpoint_io.specs.Validity.{block_records, records_of, closes, IsRightAfter, AreRightAfter, Valid}
 use Rattle.checkpoint_io.proofs.lemmas.ValidityLaws.{records-push, messages-push, records_fit, stamps_rise}
 use Rattle.stamp_merge.proofs.lemmas.Ordering.{IsRising, in_order_from}
@@ -28,32 +28,32 @@ use Rattle.decompressor.proofs.Printed.{HasCalls}
 -- ---- one writer
 
 module _ (messages : List Message) (writer : ℕ) where
-  calls_mine : (n : ℕ) (entries : List Call) → AllByRecursion (IsOf writer) (filter_map (log_call messages writer) (enumerate_from n entries))
+  calls_mine : (n : ℕ) (records : List Call) → AllByRecursion (IsOf writer) (filter_map (log_call messages writer) (enumerate_from n records))
   calls_mine n [] = tt
-  calls_mine n (entry ∷ entries) = at (slice_get messages entry.id) (calls_mine (n + 1) entries)
+  calls_mine n (logged ∷ records) = at (slice_get messages logged.id) (calls_mine (n + 1) records)
     where
-      at : (found : Option Message) → AllByRecursion (IsOf writer) (filter_map (log_call messages writer) (enumerate_from (n + 1) entries))
-          → AllByRecursion (IsOf writer) (cons_option (option_map (λ message. record { writer = writer; ordinal = n; stamp = entry.stamp; message = message; args = entry.args }) found) (filter_map (log_call messages writer) (enumerate_from (n + 1) entries)))
+      at : (found : Option Message) → AllByRecursion (IsOf writer) (filter_map (log_call messages writer) (enumerate_from (n + 1) records))
+          → AllByRecursion (IsOf writer) (cons_option (option_map (λ message. record { writer = writer; ordinal = n; stamp = logged.stamp; message = message; args = logged.args }) found) (filter_map (log_call messages writer) (enumerate_from (n + 1) records)))
       at None rest = rest
       at (Some message) rest = (refl, rest)
 
 -- records alone at the place of their writer
 abbrev alone : ℕ → List Call → List (List Call)
-alone zero entries = entries ∷ []
-alone (suc writer) entries = [] ∷ alone writer entries
+alone zero records = records ∷ []
+alone (suc writer) records = [] ∷ alone writer records
 
-alone_there : (writer : ℕ) (entries : List Call) → slice_get (alone writer entries) writer ≡ Some entries
-alone_there zero entries = refl
-alone_there (suc writer) entries = alone_there writer entries
+alone_there : (writer : ℕ) (records : List Call) → slice_get (alone writer records) writer ≡ Some records
+alone_there zero records = refl
+alone_there (suc writer) records = alone_there writer records
 
-alone_right : (messages : List Message) (writer : ℕ) (entries : List Call) → AllByRecursion (IsCall messages) entries → AllByRecursion (AllByRecursion (IsCall messages)) (alone writer entries)
-alone_right messages zero entries all = (all, tt)
-alone_right messages (suc writer) entries all = (tt, alone_right messages writer entries all)
+alone_right : (messages : List Message) (writer : ℕ) (records : List Call) → AllByRecursion (IsCall messages) records → AllByRecursion (AllByRecursion (IsCall messages)) (alone writer records)
+alone_right messages zero records all = (all, tt)
+alone_right messages (suc writer) records all = (tt, alone_right messages writer records all)
 
 -- calls of records whose stamps never fall rise
-calls_rise : (messages : List Message) (writer least : ℕ) (entries : List Call) → AllByRecursion (IsCall messages) entries → NeverFalls least entries → IsRising call_before (writer_calls messages (writer, entries))
-calls_rise messages writer least entries all rises =
-    let calls = own_in_order messages (alone writer entries) writer least entries (alone_there writer entries) (alone_right messages writer entries all) all rises in
+calls_rise : (messages : List Message) (writer least : ℕ) (records : List Call) → AllByRecursion (IsCall messages) records → NeverFalls least records → IsRising call_before (writer_calls messages (writer, records))
+calls_rise messages writer least records all rises =
+    let calls = own_in_order messages (alone writer records) writer least records (alone_there writer records) (alone_right messages writer records all) all rises in
     subst (IsRising call_before) calls (rising_kept call_before call_order (is_of writer) (in_order _) (rising_from call_before call_order (in_order _) (in_order_from call_before (in_order _) (in_order-rises _))))
 
 -- ---- a log
@@ -61,18 +61,19 @@ calls_rise messages writer least entries all rises =
 none_outside : (header : Header) (w : ℕ) → header.writers ≤ w → (before blocks : List Block) → AreRightAfter header before blocks → records_of w blocks ≡ []
 none_outside header w out before [] right = refl
 none_outside header w out before (Fragment first messages ∷ blocks) right = none_outside header w out (before ++ Fragment first messages ∷ []) blocks right.1
-none_outside header w out before (Extent v entries ∷ blocks) right =
+none_outside header w out before (Extent v records ∷ blocks) right =
     elim (eqb_tells v w) [
       | inl same ↦ absurd (omega (arith, out, same.1, right.0.writer_open.known))
-      | inr apart ↦ ap (λ (b : Bool). cond b entries [] ++ records_of w blocks) apart.0 ∙ none_outside header w out (before ++ Extent v entries ∷ []) blocks right.1
+      | inr apart ↦ ap (λ (b : Bool). cond b records [] ++ records_of w blocks) apart.0 ∙ none_outside header w out (before ++ Extent v records ∷ []) blocks right.1
     ]
+none_outside header w out before (NewClock clock ∷ blocks) right = none_outside header w out (before ++ NewClock clock ∷ []) blocks right.1
 none_outside header w out before (Close v ∷ blocks) right = none_outside header w out (before ++ Close v ∷ []) blocks right.1
 
 pub has_calls : {header : Header} {blocks : List Block} → Valid header blocks → HasCalls header blocks
 has_calls {header} {blocks} valid = record {
   mine = λ w. calls_mine (messages_of blocks) w 0 (records_of w blocks);
   rise = λ w. calls_rise (messages_of blocks) w header.clock.tick (records_of w blocks) (records_fit header blocks w valid) (stamps_rise header blocks w valid);
-  outside = λ w out. ap (λ (entries : List Call). writer_calls (messages_of blocks) (w, entries)) (none_outside header w out [] blocks valid.blocks_right);
+  outside = λ w out. ap (λ (records : List Call). writer_calls (messages_of blocks) (w, records)) (none_outside header w out [] blocks valid.blocks_right);
 }
 
 -- ---- one block more
@@ -93,28 +94,29 @@ module _ (header : Header) (blocks : List Block) (block : Block) (valid : Valid 
 
   pub calls_grow : (w : ℕ) → CallsOf behind w ≡ CallsOf blocks w ++ added w
   calls_grow w =
-      let entries = records_of w blocks in
-      let front : filter_map (log_call (messages_of behind) w) (enumerate_from 0 entries) ≡ CallsOf blocks w =
-      ap (λ (messages : List Message). filter_map (log_call messages w) (enumerate_from 0 entries)) (messages-push blocks block)
-      ∙ sym (same_calls (messages_of blocks) (block_messages block) w 0 entries (records_fit header blocks w valid)) in
+      let records = records_of w blocks in
+      let front : filter_map (log_call (messages_of behind) w) (enumerate_from 0 records) ≡ CallsOf blocks w =
+      ap (λ (messages : List Message). filter_map (log_call messages w) (enumerate_from 0 records)) (messages-push blocks block)
+      ∙ sym (same_calls (messages_of blocks) (block_messages block) w 0 records (records_fit header blocks w valid)) in
       ap (λ (all : List Call). filter_map (log_call (messages_of behind) w) (enumerate_from 0 all)) (records-push w blocks block)
-      ∙ ap (filter_map (log_call (messages_of behind) w)) (enumerate-append 0 entries (block_records w block))
-      ∙ filter_map-append (log_call (messages_of behind) w) (enumerate_from 0 entries) (enumerate_from (0 + length entries) (block_records w block))
+      ∙ ap (filter_map (log_call (messages_of behind) w)) (enumerate-append 0 records (block_records w block))
+      ∙ filter_map-append (log_call (messages_of behind) w) (enumerate_from 0 records) (enumerate_from (0 + length records) (block_records w block))
       ∙ ap (λ (calls : List LogCall). calls ++ added w) front
 
   -- a block has records of a writer that isn't closed
   pub added_open : IsRightAfter header blocks block → (w : ℕ) → (added w ≡ []) ⊎ ((w < header.writers) × (closed_by blocks w ≡ false))
   added_open right w = at block right
     where
-      none_by : (entries : List Call) → entries ≡ [] → filter_map (log_call (messages_of behind) w) (enumerate_from (0 + length (records_of w blocks)) entries) ≡ []
-      none_by entries none = ap (λ (es : List Call). filter_map (log_call (messages_of behind) w) (enumerate_from (0 + length (records_of w blocks)) es)) none
+      none_by : (records : List Call) → records ≡ [] → filter_map (log_call (messages_of behind) w) (enumerate_from (0 + length (records_of w blocks)) records) ≡ []
+      none_by records none = ap (λ (es : List Call). filter_map (log_call (messages_of behind) w) (enumerate_from (0 + length (records_of w blocks)) es)) none
 
       at : (b : Block) → IsRightAfter header blocks b → (filter_map (log_call (messages_of behind) w) (enumerate_from (0 + length (records_of w blocks)) (block_records w b)) ≡ []) ⊎ ((w < header.writers) × (closed_by blocks w ≡ false))
       at (Fragment first messages) r = inl refl
-      at (Extent v entries) r = elim (eqb_tells v w) [
+      at (Extent v records) r = elim (eqb_tells v w) [
         | inl same ↦ inr (subst (λ (u : ℕ). u < header.writers) same.1 r.writer_open.known, not_true (subst (λ (u : ℕ). ¬ (list_any (closes u) blocks ≡ true)) same.1 r.writer_open.unclosed))
-        | inr apart ↦ inl (none_by (cond (eqb v w) entries []) (ap (λ (b : Bool). cond b entries []) apart.0))
+        | inr apart ↦ inl (none_by (cond (eqb v w) records []) (ap (λ (b : Bool). cond b records []) apart.0))
       ]
+      at (NewClock clock) r = inl refl
       at (Close v) r = inl refl
 
   pub closed_grow : (w : ℕ) → closed_by behind w ≡ false → closed_by blocks w ≡ false

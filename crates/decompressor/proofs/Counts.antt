@@ -5,10 +5,9 @@ use Rattle.std.proofs.lemmas.Bool.Decides.{eqb_tells}
 use Rattle.std.proofs.lemmas.List.{length-append}
 use Rattle.arg_records.specs.declared.call.Call.{Call}
 use Rattle.checkpoint_io.specs.declared.header.Header.{Header}
-use Rattle.checkpoint_io.specs.Blocks.{Block, Fragment, Extent, Close, FileOf}
+use Rattle.checkpoint_io.specs.Blocks.{Block, Fragment, Extent, NewClock, Close, FileOf, block_calls, all_records}
 use Rattle.checkpoint_io.specs.Validity.{block_records, records_of, Valid}
-use Rattle.log_scan.specs.Parts.{block_entries, entries_of}
-use Rattle.log_scan.proofs.lemmas.Entries.{file_short}
+use Rattle.log_scan.proofs.lemmas.Records.{file_short}
 use Rattle.decompressor.specs.Decompression.{CallsOf, all_calls}
 use Rattle.decompressor.proofs.Turns.{no_more_calls}
 
@@ -37,46 +36,47 @@ no_records block from zero none = refl
 no_records block from (suc n) none = omega (arith, length-append (block_records from block) (in_block block (from + 1) n), ap length (none from), no_records block (from + 1) n none)
 
 -- an extent's records are those of one writer
-past_writer : (v : ℕ) (entries : List Call) (from n : ℕ) → v < from → length (in_block (Extent v entries) from n) ≡ 0
-past_writer v entries from zero past = refl
-past_writer v entries from (suc n) past =
+past_writer : (v : ℕ) (records : List Call) (from n : ℕ) → v < from → length (in_block (Extent v records) from n) ≡ 0
+past_writer v records from zero past = refl
+past_writer v records from (suc n) past =
     elim (eqb_tells v from) [
       | inl same ↦ absurd (omega (arith, past, same.1))
       | inr apart ↦
           omega (
             arith,
-            length-append (block_records from (Extent v entries)) (in_block (Extent v entries) (from + 1) n),
-            ap (λ (b : Bool). length (cond b entries [])) apart.0,
-            past_writer v entries (from + 1) n (omega (arith, past)),
+            length-append (block_records from (Extent v records)) (in_block (Extent v records) (from + 1) n),
+            ap (λ (b : Bool). length (cond b records [])) apart.0,
+            past_writer v records (from + 1) n (omega (arith, past)),
           )
     ]
 
-one_writer : (v : ℕ) (entries : List Call) (from n : ℕ) → length (in_block (Extent v entries) from n) ≤ length entries
-one_writer v entries from zero = omega arith
-one_writer v entries from (suc n) =
+one_writer : (v : ℕ) (records : List Call) (from n : ℕ) → length (in_block (Extent v records) from n) ≤ length records
+one_writer v records from zero = omega arith
+one_writer v records from (suc n) =
     elim (eqb_tells v from) [
       | inl same ↦
           omega (
             arith,
-            length-append (block_records from (Extent v entries)) (in_block (Extent v entries) (from + 1) n),
-            ap (λ (b : Bool). length (cond b entries [])) same.0,
-            past_writer v entries (from + 1) n (omega (arith, same.1)),
+            length-append (block_records from (Extent v records)) (in_block (Extent v records) (from + 1) n),
+            ap (λ (b : Bool). length (cond b records [])) same.0,
+            past_writer v records (from + 1) n (omega (arith, same.1)),
           )
       | inr apart ↦
           omega (
             arith,
-            length-append (block_records from (Extent v entries)) (in_block (Extent v entries) (from + 1) n),
-            ap (λ (b : Bool). length (cond b entries [])) apart.0,
-            one_writer v entries (from + 1) n,
+            length-append (block_records from (Extent v records)) (in_block (Extent v records) (from + 1) n),
+            ap (λ (b : Bool). length (cond b records [])) apart.0,
+            one_writer v records (from + 1) n,
           )
     ]
 
-block_few : (block : Block) (n : ℕ) → length (in_block block 0 n) ≤ length (block_entries block)
+block_few : (block : Block) (n : ℕ) → length (in_block block 0 n) ≤ length (block_calls block)
 block_few (Fragment first messages) n = omega (arith, no_records (Fragment first messages) 0 n (λ w. refl))
-block_few (Extent v entries) n = one_writer v entries 0 n
+block_few (Extent v records) n = one_writer v records 0 n
+block_few (NewClock clock) n = omega (arith, no_records (NewClock clock) 0 n (λ w. refl))
 block_few (Close v) n = omega (arith, no_records (Close v) 0 n (λ w. refl))
 
-records_few : (blocks : List Block) (n : ℕ) → length (flat_map (λ w. records_of w blocks) (range_with_len 0 n)) ≤ length (entries_of blocks)
+records_few : (blocks : List Block) (n : ℕ) → length (flat_map (λ w. records_of w blocks) (range_with_len 0 n)) ≤ length (all_records blocks)
 records_few [] n = none 0 n
   where
     none : (from k : ℕ) → length (flat_map (λ w. records_of w []) (range_with_len from k)) ≤ 0
@@ -88,7 +88,7 @@ records_few (block ∷ blocks) n =
       both_long (λ w. block_records w block) (λ w. records_of w blocks) (range_with_len 0 n),
       block_few block n,
       records_few blocks n,
-      length-append (block_entries block) (entries_of blocks),
+      length-append (block_calls block) (all_records blocks),
     )
 
 pub few_calls : (header : Header) (blocks : List Block) (bytes : List ℕ) → FileOf header blocks bytes → Valid header blocks → length bytes ≤ 134217728 → length (all_calls header blocks) ≤ 134217728

@@ -5,19 +5,20 @@ use Rattle.std.proofs.lemmas.List.{append-nil}
 use Rattle.std.proofs.lemmas.Grind.{flat_map-append}
 use Rattle.log_dictionary.specs.Calls.{LogCall}
 use Rattle.checkpoint_io.specs.declared.header.Header.{Header}
-use Rattle.checkpoint_io.specs.Blocks.{Block}
+use Rattle.checkpoint_io.specs.Blocks.{Block, clocks_of}
 use Rattle.checkpoint_io.specs.Validity.{Valid}
 use Rattle.checkpoint_io.proofs.lemmas.ValidityLaws.{AreRightAfter-split}
 use Rattle.stamp_merge.proofs.lemmas.Ordering.{NoneBefore, IsRising}
 use Rattle.direct_printf.specs.Lines.{call_before, in_order, Line, Direct}
 use Rattle.direct_printf.proofs.lemmas.Sorting.{call_order}
-use Rattle.decompressor.specs.Decompression.{CallsOf, all_calls, clocks_of, lines_of, whole_text}
+use Rattle.decompressor.specs.Decompression.{CallsOf, all_calls, lines_of, whole_text}
 use Rattle.decompressor.specs.Settling.{open_writers, reaches, closed_by, is_settled, settled_calls, settled_text}
 use Rattle.decompressor.proofs.Rising.{all_both, all_second, all_so, all_as, all_pass, rising_both, rising_second, rising_across}
 use Rattle.decompressor.proofs.WriterLists.{own}
 use Rattle.decompressor.proofs.Settled.{reaches_more, behind_reached, IsReached, settled_if, reached_if}
 use Rattle.decompressor.proofs.Printed.{IsPrinted, settled_later, settled_go_on, later, goes_on, settled_printed}
 use Rattle.decompressor.proofs.Calls.{has_calls, behind, added, calls_grow, added_open, closed_grow}
+use Rattle.decompressor.proofs.LinesByClocks.{same_lines, settled_early}
 
 -- a front of right blocks is right
 pub front_valid : (header : Header) (blocks more : List Block) → Valid header (blocks ++ more) → Valid header blocks
@@ -99,6 +100,10 @@ module _ (header : Header) where
   pub lines_go_on : (blocks : List Block) (calls printed more : List LogCall) → in_order calls ≡ printed ++ more → lines_of header blocks calls ≡ in_turn blocks printed ++ in_turn blocks more
   lines_go_on blocks calls printed more joined = text_is blocks calls ∙ ap (in_turn blocks) joined ∙ flat_map-append (Line (clocks_of header blocks)) printed more
 
+  -- blocks more change no line of calls that are settled without them
+  pub settled_lines : (blocks more : List Block) → Valid header (blocks ++ more) → in_turn (blocks ++ more) (in_order (settled_calls header blocks)) ≡ in_turn blocks (in_order (settled_calls header blocks))
+  settled_lines blocks more valid = same_lines header blocks more (in_order (settled_calls header blocks)) valid (settled_early header blocks)
+
   -- ---- lines that are settled stay
 
   module _ (blocks more : List Block) (valid : Valid header (blocks ++ more)) where
@@ -114,7 +119,7 @@ module _ (header : Header) where
     lines_first : (calls others : List LogCall) → in_order calls ≡ settled ++ others → (rest : List ℕ) × (lines_of header longer calls ≡ settled_text header blocks ++ rest)
     lines_first calls others joined =
         let rest = in_turn longer others in
-        (rest, lines_go_on longer calls settled others joined ∙ ap (λ (text : List ℕ). text ++ rest) (sym (text_is blocks (settled_calls header blocks))))
+        (rest, lines_go_on longer calls settled others joined ∙ ap (λ (text : List ℕ). text ++ rest) (settled_lines blocks more valid ∙ sym (text_is blocks (settled_calls header blocks))))
 
     -- the lines of any longer log begin with theirs
     pub settled_first : (rest : List ℕ) × (whole_text header (blocks ++ more) ≡ settled_text header blocks ++ rest)

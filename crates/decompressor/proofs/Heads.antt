@@ -7,7 +7,7 @@ use Rattle.std.proofs.lemmas.List.{append-nil, get_or-set_same, get_or-set_other
 use Rattle.arg_records.specs.declared.call.Call.{Call}
 use Rattle.checkpoint_io.specs.declared.block.Block.{Block as ReadBlock}
 use Rattle.checkpoint_io.specs.declared.block.Block.TheVariants as read
-use Rattle.checkpoint_io.specs.Blocks.{Block, Fragment, Extent, Close}
+use Rattle.checkpoint_io.specs.Blocks.{Block, Fragment, Extent, NewClock, Close}
 use Rattle.checkpoint_io.specs.Validity.{block_records, closes}
 use Rattle.checkpoint_io.specs.NextBlocks.{Describes}
 use Rattle.checkpoint_io.proofs.lemmas.FileLaws.{is_extent}
@@ -25,53 +25,53 @@ wanting_state list want =
     λ i. record { head = is.0 i; closed = is.1 i }
 
 -- what is there where a list has no first record, or has one
-none_first : (entries : List Call) → entries ≡ [] → (closed : Bool) → list_of closed entries ≡ record { head = None; closed = closed }
-none_first entries none closed = ap (list_of closed) none
+none_first : (records : List Call) → records ≡ [] → (closed : Bool) → list_of closed records ≡ record { head = None; closed = closed }
+none_first records none closed = ap (list_of closed) none
 
-first_shown : (closed : Bool) (entries : List Call) (first : Call) → slice_get entries 0 ≡ Some first → list_of closed entries ≡ record { head = Some first.stamp; closed = false }
+first_shown : (closed : Bool) (records : List Call) (first : Call) → slice_get records 0 ≡ Some first → list_of closed records ≡ record { head = Some first.stamp; closed = false }
 first_shown closed [] first is = cc
-first_shown closed (entry ∷ entries) first is = let same : entry ≡ first = cc in λ i. record { head = Some (same i).stamp; closed = false }
+first_shown closed (logged ∷ records) first is = let same : logged ≡ first = cc in λ i. record { head = Some (same i).stamp; closed = false }
 
 module _ (lists : List ListState) (writer : ℕ) where
-  pub shown_some : (closed : Bool) (entries : List Call) (first : Call) → wants (list_at lists writer) ≡ true → slice_get entries 0 ≡ Some first → with_head lists writer first.stamp ≡ slice_set lists writer (list_of closed entries)
-  shown_some closed entries first want is =
-      ap (slice_set lists writer) (ap (λ (s : ListState). record s { head = Some first.stamp }) (wanting_state (list_at lists writer) want) ∙ sym (first_shown closed entries first is))
+  pub shown_some : (closed : Bool) (records : List Call) (first : Call) → wants (list_at lists writer) ≡ true → slice_get records 0 ≡ Some first → with_head lists writer first.stamp ≡ slice_set lists writer (list_of closed records)
+  shown_some closed records first want is =
+      ap (slice_set lists writer) (ap (λ (s : ListState). record s { head = Some first.stamp }) (wanting_state (list_at lists writer) want) ∙ sym (first_shown closed records first is))
 
-  pub shown_closed : (closed : Bool) (entries : List Call) → closed ≡ true → wants (list_at lists writer) ≡ true → entries ≡ [] → with_close lists writer ≡ slice_set lists writer (list_of closed entries)
-  shown_closed closed entries is_closed want none =
-      ap (slice_set lists writer) (ap (λ (s : ListState). record s { closed = true }) (wanting_state (list_at lists writer) want) ∙ sym (none_first entries none closed ∙ ap (λ (c : Bool). record { head = None; closed = c }) is_closed))
+  pub shown_closed : (closed : Bool) (records : List Call) → closed ≡ true → wants (list_at lists writer) ≡ true → records ≡ [] → with_close lists writer ≡ slice_set lists writer (list_of closed records)
+  shown_closed closed records is_closed want none =
+      ap (slice_set lists writer) (ap (λ (s : ListState). record s { closed = true }) (wanting_state (list_at lists writer) want) ∙ sym (none_first records none closed ∙ ap (λ (c : Bool). record { head = None; closed = c }) is_closed))
 
   same_list : (list : ListState) → list_at lists writer ≡ list → lists ≡ slice_set lists writer list
   same_list list is = sym (set-get_or lists writer no_list) ∙ ap (slice_set lists writer) is
 
-  pub shown_open : (closed : Bool) (entries : List Call) → closed ≡ false → wants (list_at lists writer) ≡ true → entries ≡ [] → lists ≡ slice_set lists writer (list_of closed entries)
-  shown_open closed entries is_open want none =
-      same_list (list_of closed entries) (wanting_state (list_at lists writer) want ∙ sym (none_first entries none closed ∙ ap (λ (c : Bool). record { head = None; closed = c }) is_open))
+  pub shown_open : (closed : Bool) (records : List Call) → closed ≡ false → wants (list_at lists writer) ≡ true → records ≡ [] → lists ≡ slice_set lists writer (list_of closed records)
+  shown_open closed records is_open want none =
+      same_list (list_of closed records) (wanting_state (list_at lists writer) want ∙ sym (none_first records none closed ∙ ap (λ (c : Bool). record { head = None; closed = c }) is_open))
 
   -- ---- a writer is closed
 
-  pub close_none : (closed : Bool) (entries : List Call) → list_at lists writer ≡ list_of closed entries → entries ≡ [] → with_close lists writer ≡ slice_set lists writer (list_of true entries)
-  close_none closed entries is none =
-      ap (slice_set lists writer) (ap (λ (s : ListState). record s { closed = true }) (is ∙ none_first entries none closed) ∙ sym (none_first entries none true))
+  pub close_none : (closed : Bool) (records : List Call) → list_at lists writer ≡ list_of closed records → records ≡ [] → with_close lists writer ≡ slice_set lists writer (list_of true records)
+  close_none closed records is none =
+      ap (slice_set lists writer) (ap (λ (s : ListState). record s { closed = true }) (is ∙ none_first records none closed) ∙ sym (none_first records none true))
 
-  some_same : (one other : Bool) (entries : List Call) → entries ≢ [] → list_of one entries ≡ list_of other entries
+  some_same : (one other : Bool) (records : List Call) → records ≢ [] → list_of one records ≡ list_of other records
   some_same one other [] some = absurd (some refl)
-  some_same one other (entry ∷ entries) some = refl
+  some_same one other (logged ∷ records) some = refl
 
-  pub close_some : (closed : Bool) (entries : List Call) → list_at lists writer ≡ list_of closed entries → entries ≢ [] → lists ≡ slice_set lists writer (list_of true entries)
-  close_some closed entries is some = same_list (list_of true entries) (is ∙ some_same closed true entries some)
+  pub close_some : (closed : Bool) (records : List Call) → list_at lists writer ≡ list_of closed records → records ≢ [] → lists ≡ slice_set lists writer (list_of true records)
+  close_some closed records is some = same_list (list_of true records) (is ∙ some_same closed true records some)
 
   -- ---- records are added
 
-  pub add_wants : (entries : List Call) → list_at lists writer ≡ list_of false entries → entries ≡ [] → wants (list_at lists writer) ≡ true
-  add_wants entries is none = ap wants (is ∙ none_first entries none false)
+  pub add_wants : (records : List Call) → list_at lists writer ≡ list_of false records → records ≡ [] → wants (list_at lists writer) ≡ true
+  add_wants records is none = ap wants (is ∙ none_first records none false)
 
-  more_same : (entries more : List Call) → entries ≢ [] → list_of false entries ≡ list_of false (entries ++ more)
+  more_same : (records more : List Call) → records ≢ [] → list_of false records ≡ list_of false (records ++ more)
   more_same [] more some = absurd (some refl)
-  more_same (entry ∷ entries) more some = refl
+  more_same (logged ∷ records) more some = refl
 
-  pub add_some : (entries more all : List Call) → list_at lists writer ≡ list_of false entries → entries ≢ [] → all ≡ entries ++ more → lists ≡ slice_set lists writer (list_of false all)
-  add_some entries more all is some joined = same_list (list_of false all) (is ∙ more_same entries more some ∙ ap (list_of false) (sym joined))
+  pub add_some : (records more all : List Call) → list_at lists writer ≡ list_of false records → records ≢ [] → all ≡ records ++ more → lists ≡ slice_set lists writer (list_of false all)
+  add_some records more all is some joined = same_list (list_of false all) (is ∙ more_same records more some ∙ ap (list_of false) (sym joined))
 
 -- ---- all lists
 
@@ -81,18 +81,18 @@ module _ (closed : ℕ → Bool) (lists : List ListState) (waiting : List (List 
   heads_by other same = record { many = heads.many; each = λ w known. heads.each w known ∙ ap (λ (c : Bool). list_of c (records_at waiting w)) (same w known) }
 
   -- the list of one writer, and its records, change
-  pub heads_set : (other : ℕ → Bool) (writer : ℕ) (entries : List Call) → writer < length waiting → ((w : ℕ) → w ≢ writer → closed w ≡ other w) → HasHeads other (slice_set lists writer (list_of (other writer) entries)) (slice_set waiting writer entries)
-  heads_set other writer entries within same = record {
-    many = length-set lists writer (list_of (other writer) entries) ∙ heads.many ∙ sym (length-set waiting writer entries);
+  pub heads_set : (other : ℕ → Bool) (writer : ℕ) (records : List Call) → writer < length waiting → ((w : ℕ) → w ≢ writer → closed w ≡ other w) → HasHeads other (slice_set lists writer (list_of (other writer) records)) (slice_set waiting writer records)
+  heads_set other writer records within same = record {
+    many = length-set lists writer (list_of (other writer) records) ∙ heads.many ∙ sym (length-set waiting writer records);
     each = λ w known. elim (eqb_tells w writer) [
       | inl one ↦
-          subst (λ (v : ℕ). list_at (slice_set lists writer (list_of (other writer) entries)) v ≡ list_of (other v) (records_at (slice_set waiting writer entries) v)) (sym one.1)
-          (get_or-set_same lists writer (list_of (other writer) entries) no_list (omega (arith, within, heads.many))
-          ∙ ap (list_of (other writer)) (sym (get_or-set_same waiting writer entries [] within)))
+          subst (λ (v : ℕ). list_at (slice_set lists writer (list_of (other writer) records)) v ≡ list_of (other v) (records_at (slice_set waiting writer records) v)) (sym one.1)
+          (get_or-set_same lists writer (list_of (other writer) records) no_list (omega (arith, within, heads.many))
+          ∙ ap (list_of (other writer)) (sym (get_or-set_same waiting writer records [] within)))
       | inr apart ↦
-          get_or-set_other lists writer w (list_of (other writer) entries) no_list apart.1
-          ∙ heads.each w (omega (arith, known, length-set waiting writer entries))
-          ∙ (λ i. list_of (same w apart.1 i) (sym (get_or-set_other waiting writer w entries [] apart.1) i))
+          get_or-set_other lists writer w (list_of (other writer) records) no_list apart.1
+          ∙ heads.each w (omega (arith, known, length-set waiting writer records))
+          ∙ (λ i. list_of (same w apart.1 i) (sym (get_or-set_other waiting writer w records [] apart.1) i))
     ];
   }
 
@@ -100,12 +100,14 @@ module _ (closed : ℕ → Bool) (lists : List ListState) (waiting : List (List 
 
 pub is_fragment : (first count : ℕ) (block : Block) → Describes (read.Fragment first count) block → (writer : ℕ) → (block_records writer block ≡ []) × (closes writer block ≡ false)
 is_fragment first count (Fragment f messages) tells writer = (refl, refl)
-is_fragment first count (Extent w entries) tells writer = cc
+is_fragment first count (Extent w records) tells writer = cc
+is_fragment first count (NewClock clock) tells writer = cc
 is_fragment first count (Close w) tells writer = cc
 
 pub is_close : (writer : ℕ) (block : Block) → Describes (read.Closed writer) block → block ≡ Close writer
 is_close writer (Fragment first messages) tells = cc
-is_close writer (Extent w entries) tells = cc
+is_close writer (Extent w records) tells = cc
+is_close writer (NewClock clock) tells = cc
 is_close writer (Close w) tells = cc
 
 other_test : (v w : ℕ) → w ≢ v → eqb v w ≡ false
@@ -119,25 +121,25 @@ module _ (closed : ℕ → Bool) (lists : List ListState) (waiting : List (List 
     heads = heads_by closed lists waiting heads (closed_behind closed block) (λ w known. or_false (closed w) (none w).1);
   }
 
-  pub takes_extent : (writer : ℕ) (entries all : List Call) (changed : List (List Call)) (new : List ListState) → writer < length waiting → closed writer ≡ false → all ≡ records_at waiting writer ++ entries
-      → changed ≡ slice_set waiting writer all → new ≡ slice_set lists writer (list_of false all) → TakesRecords closed (Extent writer entries) waiting changed new
-  takes_extent writer entries all changed new within is_open joined changed_is new_is = record {
+  pub takes_extent : (writer : ℕ) (records all : List Call) (changed : List (List Call)) (new : List ListState) → writer < length waiting → closed writer ≡ false → all ≡ records_at waiting writer ++ records
+      → changed ≡ slice_set waiting writer all → new ≡ slice_set lists writer (list_of false all) → TakesRecords closed (Extent writer records) waiting changed new
+  takes_extent writer records all changed new within is_open joined changed_is new_is = record {
     count = ap length changed_is ∙ length-set waiting writer all;
     waiting = λ w.
         ap (λ (lists : List (List Call)). records_at lists w) changed_is
         ∙ elim (eqb_tells w writer) [
           | inl one ↦
-              subst (λ (v : ℕ). records_at (slice_set waiting writer all) v ≡ records_at waiting v ++ block_records v (Extent writer entries)) (sym one.1)
-              (get_or-set_same waiting writer all [] within ∙ joined ∙ ap (λ (b : Bool). records_at waiting writer ++ cond b entries []) (sym (eq-eqb writer writer refl)))
+              subst (λ (v : ℕ). records_at (slice_set waiting writer all) v ≡ records_at waiting v ++ block_records v (Extent writer records)) (sym one.1)
+              (get_or-set_same waiting writer all [] within ∙ joined ∙ ap (λ (b : Bool). records_at waiting writer ++ cond b records []) (sym (eq-eqb writer writer refl)))
           | inr apart ↦
               get_or-set_other waiting writer w all [] apart.1
               ∙ sym (append-nil (records_at waiting w))
-              ∙ ap (λ (b : Bool). records_at waiting w ++ cond b entries []) (sym (other_test writer w apart.1))
+              ∙ ap (λ (b : Bool). records_at waiting w ++ cond b records []) (sym (other_test writer w apart.1))
         ];
     heads =
-        subst (λ (ls : List ListState). HasHeads (closed_behind closed (Extent writer entries)) ls changed) (sym (new_is ∙ ap (λ (b : Bool). slice_set lists writer (list_of b all)) (sym is_open ∙ or_false (closed writer) refl)))
-        (subst (HasHeads (closed_behind closed (Extent writer entries)) (slice_set lists writer (list_of (closed writer || false) all))) (sym changed_is)
-        (heads_set closed lists waiting heads (closed_behind closed (Extent writer entries)) writer all within (λ w apart. or_false (closed w) refl)));
+        subst (λ (ls : List ListState). HasHeads (closed_behind closed (Extent writer records)) ls changed) (sym (new_is ∙ ap (λ (b : Bool). slice_set lists writer (list_of b all)) (sym is_open ∙ or_false (closed writer) refl)))
+        (subst (HasHeads (closed_behind closed (Extent writer records)) (slice_set lists writer (list_of (closed writer || false) all))) (sym changed_is)
+        (heads_set closed lists waiting heads (closed_behind closed (Extent writer records)) writer all within (λ w apart. or_false (closed w) refl)));
   }
 
   pub takes_close : (writer : ℕ) (new : List ListState) → writer < length waiting → new ≡ slice_set lists writer (list_of true (records_at waiting writer)) → TakesRecords closed (Close writer) waiting waiting new
@@ -164,9 +166,9 @@ module _ (closed : ℕ → Bool) (lists : List ListState) (waiting : List (List 
 
 -- ---- the writer of a block
 
-pub extent_may : (told : ReadBlock) (block : Block) (closed : ℕ → Bool) (count writer : ℕ) (entries : List Call) → told ≡ read.Extent writer entries → Describes told block → MayStillCome closed count block → (writer < count) × (closed writer ≡ false) × (block ≡ Extent writer entries)
-extent_may told block closed count writer entries named tells may =
-    let is = is_extent writer entries block (subst (λ (t : ReadBlock). Describes t block) named tells) in
+pub extent_may : (told : ReadBlock) (block : Block) (closed : ℕ → Bool) (count writer : ℕ) (records : List Call) → told ≡ read.Extent writer records → Describes told block → MayStillCome closed count block → (writer < count) × (closed writer ≡ false) × (block ≡ Extent writer records)
+extent_may told block closed count writer records named tells may =
+    let is = is_extent writer records block (subst (λ (t : ReadBlock). Describes t block) named tells) in
     let both = subst (MayStillCome closed count) is may writer refl in
     (both.0, both.1, is)
 

@@ -14,4 +14,4 @@ drop_some (y ∷ xs) (suc place) x there =
 
 -- one is taken
 pub left_from-more : {A : Type 0} (place : ℕ) (first : List A) (others : List (List A)) (x : A) → slice_get first place ≡ Some x → left_from place (first ∷ others) ≡ x ∷ left_from (place + 1) (first ∷ others)
-left_from-more place first others x there = ap (λ xs. xs ++ flat_map (λ entries. entries) others) (drop_some first place x there)
+left_from-more place first others x there = ap (λ xs. xs ++ flat_map (λ items. items) others) (drop_some first place x there)

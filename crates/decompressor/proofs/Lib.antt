@@ -13,6 +13,8 @@ mod WriterLists
 mod Settled
 mod Printed
 mod Calls
+mod ClockPlaces
+mod LinesByClocks
 mod Growing
 mod Queued
 mod Heads

@@ -14,7 +14,7 @@ use Rattle.log_dictionary.specs.declared.message.Message.{Message}
 use Rattle.log_dictionary.specs.Calls.{LogCall}
 use Rattle.arg_records.specs.declared.call.Call.{Call}
 use Rattle.checkpoint_io.specs.declared.header.Header.{Header}
-use Rattle.checkpoint_io.specs.Blocks.{Block, messages_of}
+use Rattle.checkpoint_io.specs.Blocks.{Block, messages_of, clocks_of}
 use Rattle.checkpoint_io.specs.Validity.{Valid}
 use Rattle.checkpoint_io.specs.Readers.{ReaderState}
 use Rattle.stamp_merge.specs.declared.merger.ListState.{ListState}
@@ -26,7 +26,7 @@ use Rattle.direct_printf.specs.Lines.{in_order, Line}
 use Rattle.direct_printf.proofs.lemmas.Sorting.{in_order-permutation}
 use Rattle.decompressor.specs.declared.fault.DecodeFault.{DecodeFault}
 use Rattle.decompressor.specs.declared.fault.DecodeFault.TheVariants.{WriteFault, NoMemory}
-use Rattle.decompressor.specs.Decompression.{all_calls, clocks_of}
+use Rattle.decompressor.specs.Decompression.{all_calls}
 use Rattle.decompressor.specs.Settling.{closed_by, settled_calls, settled_text}
 use Rattle.decompressor.specs.Waiting.{list_of}
 use Rattle.decompressor.specs.Decompressors.{AreWaiting, no_more_come, ready_calls, ready_text, HasToPrint, HasMore, CutsMore, PrintsReady}
@@ -38,7 +38,7 @@ use Rattle.decompressor.proofs.WriterLists.{IsOf}
 use Rattle.decompressor.proofs.Settled.{IsReached}
 use Rattle.decompressor.proofs.Printed.{HasCalls, IsPrinted, rest_mine, settled_later, settled_go_on, later, goes_on, settled_printed}
 use Rattle.decompressor.proofs.Calls.{has_calls}
-use Rattle.decompressor.proofs.Growing.{printed_on, front_valid, in_turn, text_is, lines_go_on}
+use Rattle.decompressor.proofs.Growing.{printed_on, front_valid, in_turn, text_is, lines_go_on, settled_lines}
 use Rattle.decompressor.proofs.Turns.{IsAt, calls_there, Takes, takes, taken, wishes, fewer, more_is, all_ready}
 
 many : (calls : List LogCall) → length (in_order calls) ≡ length calls
@@ -79,12 +79,18 @@ module _ {ended : Bool} {reader : ReaderState} {first all : List Block} {waiting
       ended_more header all (closed_by all) (no_more_come ended all) (in_order (settled_calls header first)) (λ w is_open. (either_false ended (closed_by all w) is_open).1)
       (subst (λ (blocks : List Block). IsPrinted header blocks (closed_by blocks) (in_order (settled_calls header first))) (sym ready.joined) (printed_on header first ready.more (in_order (settled_calls header first)) valid settled))
 
+  -- the blocks that were read since then change no line of what was settled
+  first_lines : in_turn header all (in_order (settled_calls header first)) ≡ in_turn header first (in_order (settled_calls header first))
+  first_lines =
+      ap (λ (blocks : List Block). in_turn header blocks (in_order (settled_calls header first))) ready.joined
+      ∙ settled_lines header first ready.more (subst (Valid header) ready.joined ready.valid)
+
   pub begin_lines : {was : Told} {held : List ℕ} → Carries [] was was held → HasLines ended header first all ready.valid 0 was was held waiting lists
   begin_lines carries = record {
     printed = in_order (settled_calls header first);
     at = record { is = begun; are_waiting = ready.are_waiting; heads = ready.heads };
     text = [];
-    joined = sym (text_is header first (settled_calls header first)) ∙ sym (append-nil (settled_text header first));
+    joined = first_lines ∙ sym (text_is header first (settled_calls header first)) ∙ sym (append-nil (settled_text header first));
     carries = carries;
     many = omega (arith, many (settled_calls header first));
   }
@@ -155,40 +161,41 @@ module _ {ended : Bool} {reader : ReaderState} {first all : List Block} {waiting
     abbrev pub longer : List LogCall
     longer = so_far.printed ++ call ∷ []
 
-    abbrev after_turn : (changed : List (List Call)) (new : List ListState) → changed ≡ slice_set now writer turn.entries → new ≡ slice_set (without_head heads writer) writer (list_of (no_more_come ended all writer) turn.entries) → IsAt ready.valid (no_more_come ended all) longer changed new
+    abbrev after_turn : (changed : List (List Call)) (new : List ListState) → changed ≡ slice_set now writer turn.records → new ≡ slice_set (without_head heads writer) writer (list_of (no_more_come ended all writer) turn.records) → IsAt ready.valid (no_more_come ended all) longer changed new
     after_turn = taken ready.valid so_far.at writer top.0 top.1 turn
 
     pub longer_is : IsPrinted header all (no_more_come ended all) longer
-    longer_is = (after_turn (slice_set now writer turn.entries) (slice_set (without_head heads writer) writer (list_of (no_more_come ended all writer) turn.entries)) refl refl).is
+    longer_is = (after_turn (slice_set now writer turn.records) (slice_set (without_head heads writer) writer (list_of (no_more_come ended all writer) turn.records)) refl refl).is
 
     -- the writer's records, where an index is read with some default
     module _ (default : List Call) where
       abbrev queue : List Call
       queue = get_or now writer default
 
-      queue_at : queue ≡ turn.entry ∷ turn.entries
+      queue_at : queue ≡ turn.logged ∷ turn.records
       queue_at = get_or_default now writer default [] within ∙ turn.there
 
       pub some_first : queue ≢ []
       some_first empty = let wrong = sym queue_at ∙ empty in cc
 
-      rest_is : drop 1 queue ≡ turn.entries
+      rest_is : drop 1 queue ≡ turn.records
       rest_is = ap (drop 1) queue_at
 
-      module _ {entry : Call} (first_is : slice_get queue 0 ≡ Some entry) where
-        entry_is : turn.entry ≡ entry
+      module _ {logged : Call} (first_is : slice_get queue 0 ≡ Some logged) where
+        entry_is : turn.logged ≡ logged
         entry_is = let same = sym (ap (λ (q : List Call). slice_get q 0) queue_at) ∙ first_is in cc
 
-        pub said : IsCallOf reader.messages header.clock.tick call entry
+        pub said : IsCallOf reader.messages header.clock.tick call logged
         said =
-            subst (λ (messages : List Message). IsCallOf messages header.clock.tick call entry) (sym ready.known)
-            (more_is (messages_of all) header.clock.tick ready.others call entry (subst (IsCallOf (messages_of all) header.clock.tick call) entry_is turn.first.is))
+            subst (λ (messages : List Message). IsCallOf messages header.clock.tick call logged) (sym ready.known)
+            (more_is (messages_of all) header.clock.tick ready.others call logged (subst (IsCallOf (messages_of all) header.clock.tick call) entry_is turn.first.is))
 
         -- the line of the record is that of the call
-        pub line_said : {line : List ℕ} → ((message : Message) (ordinal : ℕ) → slice_get reader.messages entry.id ≡ Some message → line ≡ Line clocks (record { writer = writer; ordinal = ordinal; stamp = entry.stamp; message = message; args = entry.args }))
+        pub line_said : {line : List ℕ} → ((message : Message) (ordinal : ℕ) → slice_get reader.messages logged.id ≡ Some message → line ≡ Line reader.times.clocks (record { writer = writer; ordinal = ordinal; stamp = logged.stamp; message = message; args = logged.args }))
             → line ≡ Line clocks call
         line_said made =
             made call.message call.ordinal said.message
+            ∙ ap (λ (l : List Clock). Line l (record { writer = writer; ordinal = call.ordinal; stamp = logged.stamp; message = call.message; args = logged.args })) ready.clocks
             ∙ line_is clocks said (subst (AllByRecursion (IsOf writer)) turn.first.there (rest_mine (calls_there ready.valid) so_far.at.is writer)).0
 
     -- the line stands behind those so far
@@ -206,7 +213,7 @@ module _ {ended : Bool} {reader : ReaderState} {first all : List Block} {waiting
           → new ≡ slice_set (without_head heads writer) writer (list_of (no_more_come ended all writer) (drop 1 (queue default))) → HasLines ended header first all ready.valid (lines + 1) was put left changed new
       next_lines default {put} {left} {changed} {new} carried changed_is new_is = record {
         printed = longer;
-        at = after_turn changed new (changed_is ∙ ap (slice_set now writer) (rest_is default)) (new_is ∙ ap (λ (entries : List Call). slice_set (without_head heads writer) writer (list_of (no_more_come ended all writer) entries)) (rest_is default));
+        at = after_turn changed new (changed_is ∙ ap (slice_set now writer) (rest_is default)) (new_is ∙ ap (λ (records : List Call). slice_set (without_head heads writer) writer (list_of (no_more_come ended all writer) records)) (rest_is default));
         text = text_next;
         joined = joined_next;
         carries = carries_more text_next so_far.text (Line clocks call) held left was is put refl so_far.carries (subst (λ (bytes : List ℕ). Carries (held ++ bytes) is put left) line_of carried);
@@ -223,7 +230,7 @@ module _ {ended : Bool} {reader : ReaderState} {first all : List Block} {waiting
     -- one less waits
     pub less_waits : (default : List Call) → sum_by length (slice_set now writer (drop 1 (queue default))) < sum_by length now
     less_waits default =
-        subst (λ (entries : List Call). sum_by length (slice_set now writer entries) < sum_by length now) (sym (rest_is default))
+        subst (λ (records : List Call). sum_by length (slice_set now writer records) < sum_by length now) (sym (rest_is default))
         (fewer ready.valid so_far.at writer top.0 top.1 turn)
 
     -- the list from which the head was taken wants one

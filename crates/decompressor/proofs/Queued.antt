@@ -23,9 +23,9 @@ module _ {A : Type 0} where
   pushed place [] list start some =
       (ap (λ (n : ℕ). drop n list ++ []) start ∙ append-nil list, (omega (arith, start, some_length list some), tt))
   pushed place (first ∷ others) list (within, filled) some = (
-    ap (λ (l : List A). drop place first ++ l) (flat_map-append (λ (entries : List A). entries) others (list ∷ []) ∙ ap (λ (l : List A). flat_map (λ (entries : List A). entries) others ++ l) (append-nil list))
-        ∙ sym (append_assoc (drop place first) (flat_map (λ (entries : List A). entries) others) list),
-    (within, all_both (λ (entries : List A). entries ≢ []) others (list ∷ []) filled (some, tt)),
+    ap (λ (l : List A). drop place first ++ l) (flat_map-append (λ (records : List A). records) others (list ∷ []) ∙ ap (λ (l : List A). flat_map (λ (records : List A). records) others ++ l) (append-nil list))
+        ∙ sym (append_assoc (drop place first) (flat_map (λ (records : List A). records) others) list),
+    (within, all_both (λ (records : List A). records ≢ []) others (list ∷ []) filled (some, tt)),
   )
 
   pub first_is : (place : ℕ) (first : List A) (others : List (List A)) (x : A) → slice_get first place ≡ Some x → slice_get (left_from place (first ∷ others)) 0 ≡ Some x
@@ -42,7 +42,7 @@ module _ {A : Type 0} where
       let x = there first place within in
       sym (ap (drop 1) (left_from-more place first others x.0 x.1))
 
-  from_start : (lists : List (List A)) → left_from 0 lists ≡ flat_map (λ (entries : List A). entries) lists
+  from_start : (lists : List (List A)) → left_from 0 lists ≡ flat_map (λ (records : List A). records) lists
   from_start [] = refl
   from_start (list ∷ lists) = refl
 
@@ -50,10 +50,10 @@ module _ {A : Type 0} where
   pub last_less : (place : ℕ) (first : List A) (others : List (List A)) → place < length first → length first ≤ place + 1 → left_from 0 others ≡ drop 1 (left_from place (first ∷ others))
   last_less place first others within end =
       from_start others
-      ∙ ap (λ (l : List A). l ++ flat_map (λ (entries : List A). entries) others) (sym (drop_all (place + 1) first end))
+      ∙ ap (λ (l : List A). l ++ flat_map (λ (records : List A). records) others) (sym (drop_all (place + 1) first end))
       ∙ one_less place first others within
 
-  pub others_left : (others : List (List A)) → AllByRecursion (λ (entries : List A). entries ≢ []) others → AreLeftFrom 0 others
+  pub others_left : (others : List (List A)) → AllByRecursion (λ (records : List A). records ≢ []) others → AreLeftFrom 0 others
   others_left [] filled = refl
   others_left (list ∷ others) filled = (some_length list filled.0, filled.1)
 

@@ -10,7 +10,7 @@ use Rattle.log_dictionary.specs.declared.message.Message.{Message}
 use Rattle.checkpoint_io.specs.declared.cause.Cause.{Cause}
 use Rattle.checkpoint_io.specs.declared.header.Header.{Header}
 use Rattle.checkpoint_io.specs.declared.block.Block.{Block as ReadBlock}
-use Rattle.checkpoint_io.specs.Blocks.{Block, messages_of, FileOf}
+use Rattle.checkpoint_io.specs.Blocks.{Block, messages_of, FileOf, clocks_of}
 use Rattle.checkpoint_io.specs.Validity.{Valid, closes}
 use Rattle.checkpoint_io.specs.Fronts.{IsCutAt}
 use Rattle.checkpoint_io.specs.Places.{with_front, TookSuch}
@@ -146,6 +146,7 @@ module _ {old : PrinterState} {taken text : List ℕ} (printed : HasPrinted old 
         valid = valid_all;
         few = few_calls new.header all (taken ++ next.front) file_all valid_all next.stands.within;
         known = next.stands.messages ∙ ap messages_of next.blocks;
+        clocks = next.stands.times.clocks_are ∙ ap (clocks_of new.header) next.blocks;
         closed = λ w known.
             next.stands.states.closed w known
             ∙ ap (λ (bs : List Block). list_any (closes w) bs) next.blocks;
@@ -191,22 +192,24 @@ module _ {old : PrinterState} {taken text : List ℕ} (printed : HasPrinted old 
 
     -- ---- nothing more was read
 
-    pub has_last : (others : List Message) → new.messages ≡ old.reader.messages ++ others → HasLast (at_reader old new) blocks
-    has_last others known = record {
+    pub has_last : (others : List Message) → new.messages ≡ old.reader.messages ++ others → new.times.clocks ≡ old.reader.times.clocks → HasLast (at_reader old new) blocks
+    has_last others known clocks = record {
       valid = subst (λ (h : Header). Valid h blocks) (sym same) read.valid;
       few = subst (λ (h : Header). length (all_calls h blocks) ≤ 134217728) (sym same) (few_calls header blocks taken read.file read.valid read.within);
       others = others;
       known = known ∙ ap (λ (messages : List Message). messages ++ others) read.messages;
+      clocks = clocks ∙ read.times.clocks_are ∙ ap (λ (h : Header). clocks_of h blocks) (sym same);
       lines = printed.lines ∙ sym settled_there;
       are_waiting = waiting_there;
       heads = printed.heads;
     }
 
     -- what was defined stays
-    pub had_last : take (length old.reader.messages) new.messages ≡ old.reader.messages → HasLast (at_reader old new) blocks
-    had_last kept =
+    pub had_last : new.times.clocks ≡ old.reader.times.clocks → take (length old.reader.messages) new.messages ≡ old.reader.messages → HasLast (at_reader old new) blocks
+    had_last clocks kept =
         has_last (drop (length old.reader.messages) new.messages)
         (sym (take-append-drop (length old.reader.messages) new.messages) ∙ ap (λ (messages : List Message). messages ++ drop (length old.reader.messages) new.messages) kept)
+        clocks
 
     -- the text is whole
     text_whole : (more : List ℕ) → whole_text new.header blocks ≡ settled_text new.header blocks ++ more → whole_text header blocks ≡ text ++ more

@@ -38,48 +38,48 @@ use Rattle.decompressor.proofs.Ready.{IsLeast, least_head, later_call, not_itsel
 -- ---- calls of records
 
 module _ (messages : List Message) (tick : ℕ) where
-  are_behind : (calls others : List LogCall) (entries : List Call) → AreCallsOf messages tick (calls ++ others) entries → AreCallsOf messages tick others (drop (length calls) entries)
-  are_behind [] others entries are = are
+  are_behind : (calls others : List LogCall) (records : List Call) → AreCallsOf messages tick (calls ++ others) records → AreCallsOf messages tick others (drop (length calls) records)
+  are_behind [] others records are = are
   are_behind (call ∷ calls) others [] are = absurd are
-  are_behind (call ∷ calls) others (entry ∷ entries) are = are_behind calls others entries are.1
+  are_behind (call ∷ calls) others (logged ∷ records) are = are_behind calls others records are.1
 
   are_none : (calls : List LogCall) → AreCallsOf messages tick calls [] → calls ≡ []
   are_none [] are = refl
   are_none (call ∷ calls) are = absurd are
 
-  none_are : (entries : List Call) → AreCallsOf messages tick [] entries → entries ≡ []
+  none_are : (records : List Call) → AreCallsOf messages tick [] records → records ≡ []
   none_are [] are = refl
-  none_are (entry ∷ entries) are = absurd are
+  none_are (logged ∷ records) are = absurd are
 
-  as_many : (calls : List LogCall) (entries : List Call) → AreCallsOf messages tick calls entries → length calls ≡ length entries
+  as_many : (calls : List LogCall) (records : List Call) → AreCallsOf messages tick calls records → length calls ≡ length records
   as_many [] [] are = refl
-  as_many [] (entry ∷ entries) are = absurd are
+  as_many [] (logged ∷ records) are = absurd are
   as_many (call ∷ calls) [] are = absurd are
-  as_many (call ∷ calls) (entry ∷ entries) are = ap suc (as_many calls entries are.1)
+  as_many (call ∷ calls) (logged ∷ records) are = ap suc (as_many calls records are.1)
 
   -- the call of the first record
-  pub record FirstCall (calls : List LogCall) (entry : Call) (entries : List Call) : Type 0 where
+  pub record FirstCall (calls : List LogCall) (logged : Call) (records : List Call) : Type 0 where
     pub call : LogCall
     pub others : List LogCall
     pub there : calls ≡ call ∷ others
-    pub is : IsCallOf messages tick call entry
+    pub is : IsCallOf messages tick call logged
 
-  first_call : (calls : List LogCall) (entry : Call) (entries : List Call) → AreCallsOf messages tick calls (entry ∷ entries) → FirstCall calls entry entries
-  first_call [] entry entries are = absurd are
-  first_call (call ∷ calls) entry entries are = record { call = call; others = calls; there = refl; is = are.0 }
+  first_call : (calls : List LogCall) (logged : Call) (records : List Call) → AreCallsOf messages tick calls (logged ∷ records) → FirstCall calls logged records
+  first_call [] logged records are = absurd are
+  first_call (call ∷ calls) logged records are = record { call = call; others = calls; there = refl; is = are.0 }
 
-  pub more_is : (others : List Message) (call : LogCall) (entry : Call) → IsCallOf messages tick call entry → IsCallOf (messages ++ others) tick call entry
-  more_is others call entry is = record {
+  pub more_is : (others : List Message) (call : LogCall) (logged : Call) → IsCallOf messages tick call logged → IsCallOf (messages ++ others) tick call logged
+  more_is others call logged is = record {
     stamp = is.stamp;
     args = is.args;
-    message = slice_get-front messages others entry.id call.message is.message;
-    right = (IsCall-front messages others (entry ∷ []) (is.right, tt)).0;
+    message = slice_get-front messages others logged.id call.message is.message;
+    right = (IsCall-front messages others (logged ∷ []) (is.right, tt)).0;
     not_before = is.not_before;
   }
 
 -- ---- the head of a list
 
-head_is : (closed : Bool) (entries : List Call) (stamp : ℕ) → (list_of closed entries).head ≡ Some stamp → (first : Call) × (others : List Call) × (entries ≡ first ∷ others) × (first.stamp ≡ stamp)
+head_is : (closed : Bool) (records : List Call) (stamp : ℕ) → (list_of closed records).head ≡ Some stamp → (first : Call) × (others : List Call) × (records ≡ first ∷ others) × (first.stamp ≡ stamp)
 head_is closed [] stamp is = cc
 head_is closed (first ∷ others) stamp is = (first, others, refl, cc)
 
@@ -88,17 +88,17 @@ head_there [] n stamp is = cc
 head_there (list ∷ lists) zero stamp is = omega arith
 head_there (list ∷ lists) (suc n) stamp is = omega (arith, head_there lists n stamp is)
 
-no_wish : (closed : Bool) (entries : List Call) → wants (list_of closed entries) ≡ false → closed ≡ false → (first : Call) × (others : List Call) × (entries ≡ first ∷ others)
+no_wish : (closed : Bool) (records : List Call) → wants (list_of closed records) ≡ false → closed ≡ false → (first : Call) × (others : List Call) × (records ≡ first ∷ others)
 no_wish true [] quiet is_open = cc
 no_wish false [] quiet is_open = cc
 no_wish closed (first ∷ others) quiet is_open = (first, others, refl)
 
-a_wish : (closed : Bool) (entries : List Call) → wants (list_of closed entries) ≡ true → (entries ≡ []) × (closed ≡ false)
+a_wish : (closed : Bool) (records : List Call) → wants (list_of closed records) ≡ true → (records ≡ []) × (closed ≡ false)
 a_wish true [] wish = cc
 a_wish false [] wish = (refl, refl)
 a_wish closed (first ∷ others) wish = cc
 
-no_head : (closed : Bool) (entries : List Call) → (list_of closed entries).head ≡ None → entries ≡ []
+no_head : (closed : Bool) (records : List Call) → (list_of closed records).head ≡ None → records ≡ []
 no_head closed [] is = refl
 no_head closed (first ∷ others) is = cc
 
@@ -142,10 +142,10 @@ module _ {header : Header} {all : List Block} (valid : Valid header all) where
     -- the record that is taken, and its call
     pub record Takes (writer : ℕ) : Type 0 where
       pub known : writer < header.writers
-      pub entry : Call
-      pub entries : List Call
-      pub there : records_at waiting writer ≡ entry ∷ entries
-      pub first : FirstCall (messages_of all) header.clock.tick (rest writer) entry entries
+      pub logged : Call
+      pub records : List Call
+      pub there : records_at waiting writer ≡ logged ∷ records
+      pub first : FirstCall (messages_of all) header.clock.tick (rest writer) logged records
 
     module _ (writer : ℕ) (none : NoneWants lists) (first : slice_get (merge_order (heads_of lists)) 0 ≡ Some writer) where
       abbrev top : IsLeast lists writer
@@ -159,8 +159,8 @@ module _ {header : Header} {all : List Block} (valid : Valid header all) where
           let e = head_is (closed writer) (records_at waiting writer) top.stamp (ap (λ (l : ListState). l.head) (sym (list_is writer writer_known)) ∙ top.head) in
           record {
             known = writer_known;
-            entry = e.0;
-            entries = e.1;
+            logged = e.0;
+            records = e.1;
             there = e.2;
             first = first_call (messages_of all) header.clock.tick (rest writer) e.0 e.1 (subst (AreCallsOf (messages_of all) header.clock.tick (rest writer)) e.2 (left_are writer writer_known));
           }
@@ -173,7 +173,7 @@ module _ {header : Header} {all : List Block} (valid : Valid header all) where
         call_stamp =
             t.first.is.stamp
             ∙ (let e = head_is (closed writer) (records_at waiting writer) top.stamp (ap (λ (l : ListState). l.head) (sym (list_is writer writer_known)) ∙ top.head) in
-            let same : t.entry ≡ e.0 = let both = sym t.there ∙ e.2 in cc in
+            let same : t.logged ≡ e.0 = let both = sym t.there ∙ e.2 in cc in
             ap (λ (c : Call). c.stamp) same ∙ e.3)
 
         call_mine : call.writer ≡ writer
@@ -216,19 +216,19 @@ module _ {header : Header} {all : List Block} (valid : Valid header all) where
         count_more v = ap length (filter-append (is_of v) printed (call ∷ [])) ∙ length-append (own v printed) (own v (call ∷ []))
 
         -- behind the record
-        pub taken : (changed : List (List Call)) (new : List ListState) → changed ≡ slice_set waiting writer t.entries → new ≡ slice_set (without_head lists writer) writer (list_of (closed writer) t.entries) → IsAt closed (printed ++ call ∷ []) changed new
+        pub taken : (changed : List (List Call)) (new : List ListState) → changed ≡ slice_set waiting writer t.records → new ≡ slice_set (without_head lists writer) writer (list_of (closed writer) t.records) → IsAt closed (printed ++ call ∷ []) changed new
         taken changed new changed_is new_is = record {
           is = one_more calls_there at.is writer call t.first.others t.first.there least ready;
           are_waiting = record {
-            count = ap length changed_is ∙ length-set waiting writer t.entries ∙ at.are_waiting.count;
+            count = ap length changed_is ∙ length-set waiting writer t.records ∙ at.are_waiting.count;
             each = λ v known.
                 ap (λ (ws : List (List Call)). records_at ws v) changed_is
                 ∙ elim (eqb_tells v writer) [
                   | inl same ↦
                       let one : length (own v (call ∷ [])) ≡ 1 = ap (λ (b : Bool). length (cond b (call ∷ []) [])) (eq-eqb call.writer v (call_mine ∙ sym same.1)) in
                       let n : count_of v (printed ++ call ∷ []) ≡ count_of v printed + 1 = count_more v ∙ ap (λ (k : ℕ). count_of v printed + k) one in
-                      ap (λ (u : ℕ). records_at (slice_set waiting writer t.entries) u) same.1
-                      ∙ get_or-set_same waiting writer t.entries [] (omega (arith, t.known, at.are_waiting.count))
+                      ap (λ (u : ℕ). records_at (slice_set waiting writer t.records) u) same.1
+                      ∙ get_or-set_same waiting writer t.records [] (omega (arith, t.known, at.are_waiting.count))
                       ∙ ap (drop 1) (sym t.there ∙ at.are_waiting.each writer t.known)
                       ∙ drop-drop 1 (count_of writer printed) (records_of writer all)
                       ∙ ap (λ (u : ℕ). drop (count_of u printed + 1) (records_of u all)) (sym same.1)
@@ -236,15 +236,15 @@ module _ {header : Header} {all : List Block} (valid : Valid header all) where
                   | inr apart ↦
                       let none_more : length (own v (call ∷ [])) ≡ 0 = ap (λ (b : Bool). length (cond b (call ∷ []) [])) (ne_eqb call.writer v (λ e. apart.1 (sym e ∙ call_mine))) in
                       let n : count_of v (printed ++ call ∷ []) ≡ count_of v printed = omega (arith, count_more v, none_more) in
-                      get_or-set_other waiting writer v t.entries [] apart.1
+                      get_or-set_other waiting writer v t.records [] apart.1
                       ∙ at.are_waiting.each v known
                       ∙ ap (λ (k : ℕ). drop k (records_of v all)) (sym n)
                 ];
           };
           heads =
-              subst (λ (ls : List ListState). HasHeads closed ls changed) (sym (new_is ∙ set-set lists writer _ (list_of (closed writer) t.entries)))
-              (subst (HasHeads closed (slice_set lists writer (list_of (closed writer) t.entries))) (sym changed_is)
-              (heads_set closed lists waiting at.heads closed writer t.entries (omega (arith, t.known, at.are_waiting.count)) (λ w apart. refl)));
+              subst (λ (ls : List ListState). HasHeads closed ls changed) (sym (new_is ∙ set-set lists writer _ (list_of (closed writer) t.records)))
+              (subst (HasHeads closed (slice_set lists writer (list_of (closed writer) t.records))) (sym changed_is)
+              (heads_set closed lists waiting at.heads closed writer t.records (omega (arith, t.known, at.are_waiting.count)) (λ w apart. refl)));
         }
 
         -- the list has no head now, and isn't closed
@@ -254,9 +254,9 @@ module _ {header : Header} {all : List Block} (valid : Valid header all) where
             ∙ ap (λ (l : ListState). record l { head = None }) (list_is writer t.known ∙ ap (list_of (closed writer)) t.there))
 
         -- one less waits
-        pub fewer : sum_by length (slice_set waiting writer t.entries) < sum_by length waiting
+        pub fewer : sum_by length (slice_set waiting writer t.records) < sum_by length waiting
         fewer =
-            let moved = sum_by-set length waiting writer t.entries [] (omega (arith, t.known, at.are_waiting.count)) in
+            let moved = sum_by-set length waiting writer t.records [] (omega (arith, t.known, at.are_waiting.count)) in
             omega (arith, moved, ap length t.there)
 
     -- ---- no more is taken

@@ -1,2 +1,3 @@
 pub mod DecompressionLaws
+pub mod UnwrittenClocks
 pub mod TextLaws

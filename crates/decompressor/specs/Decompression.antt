@@ -1,11 +1,10 @@
 -- The text that a log stands for.
-use Rattle.std.specs.Prelude.{◌≡◌, ℕ, List, [], ◌∷◌}
+use Rattle.std.specs.Prelude.{◌≡◌, ℕ, List, []}
 use Rattle.std.specs.List.{flat_map, range_with_len}
-use Rattle.log_dictionary.specs.declared.clock.Clock.{Clock}
 use Rattle.log_dictionary.specs.Calls.{LogCall}
 use Rattle.arg_records.specs.Calls.{writer_calls}
 use Rattle.checkpoint_io.specs.declared.header.Header.{Header}
-use Rattle.checkpoint_io.specs.Blocks.{Block, messages_of}
+use Rattle.checkpoint_io.specs.Blocks.{Block, messages_of, clocks_of}
 use Rattle.checkpoint_io.specs.Validity.{records_of}
 use Rattle.checkpoint_io.specs.Fronts.{Front, HasNoHeader}
 use Rattle.direct_printf.specs.Lines.{Direct}
@@ -18,11 +17,7 @@ CallsOf blocks writer = writer_calls (messages_of blocks) (writer, records_of wr
 abbrev pub all_calls : Header → List Block → List LogCall
 all_calls header blocks = flat_map (CallsOf blocks) (range_with_len 0 header.writers)
 
--- the clocks by which the calls of blocks are timed
-abbrev pub clocks_of : Header → List Block → List Clock
-clocks_of header blocks = header.clock ∷ []
-
--- the lines of calls of blocks, in order
+-- the lines of calls of blocks, in order, by the clocks of the header and the blocks
 abbrev pub lines_of : Header → List Block → List LogCall → List ℕ
 lines_of header blocks calls = Direct (clocks_of header blocks) calls
 

@@ -7,7 +7,7 @@ use Rattle.arg_records.specs.declared.call.Call.{Call}
 use Rattle.checkpoint_io.specs.declared.heads.TheConstants.{MAX_LOG}
 use Rattle.checkpoint_io.specs.declared.block.Block.{Block as ReadBlock}
 use Rattle.checkpoint_io.specs.declared.header.Header.{Header}
-use Rattle.checkpoint_io.specs.Blocks.{Block, messages_of}
+use Rattle.checkpoint_io.specs.Blocks.{Block, messages_of, clocks_of}
 use Rattle.checkpoint_io.specs.Validity.{records_of, Valid}
 use Rattle.checkpoint_io.specs.Fronts.{IsCutAt}
 use Rattle.checkpoint_io.specs.NextBlocks.{Describes, TakesNext}
@@ -98,6 +98,7 @@ pub record HasToPrint (ended : Bool) (reader : ReaderState) (first all : List Bl
   pub few : length (all_calls reader.header all) ≤ MAX_LOG
   pub others : List Message
   pub known : reader.messages ≡ messages_of all ++ others
+  pub clocks : reader.times.clocks ≡ clocks_of reader.header all
   pub closed : (writer : ℕ) → writer < reader.header.writers
       → (ended || closed_kept reader.writers writer) ≡ no_more_come ended all writer
   pub are_waiting : AreWaiting reader.header all (in_order (settled_calls reader.header first)) waiting
@@ -134,6 +135,7 @@ pub record HasTaken (printer : PrinterState) (first : List Block) (block : Block
   pub valid : Valid printer.reader.header (first ++ block ∷ [])
   pub few : length (all_calls printer.reader.header (first ++ block ∷ [])) ≤ MAX_LOG
   pub known : printer.reader.messages ≡ messages_of (first ++ block ∷ [])
+  pub clocks : printer.reader.times.clocks ≡ clocks_of printer.reader.header (first ++ block ∷ [])
   pub closed : (writer : ℕ) → writer < printer.reader.header.writers
       → closed_kept printer.reader.writers writer ≡ closed_by (first ++ block ∷ []) writer
   pub lines : printer.lines ≡ length (settled_calls printer.reader.header first)
@@ -151,6 +153,7 @@ pub record HasLast (printer : PrinterState) (blocks : List Block) : Type 0 where
   pub few : length (all_calls printer.reader.header blocks) ≤ MAX_LOG
   pub others : List Message
   pub known : printer.reader.messages ≡ messages_of blocks ++ others
+  pub clocks : printer.reader.times.clocks ≡ clocks_of printer.reader.header blocks
   pub lines : printer.lines ≡ length (settled_calls printer.reader.header blocks)
   pub are_waiting : AreWaiting printer.reader.header blocks (in_order (settled_calls printer.reader.header blocks))
       printer.waiting

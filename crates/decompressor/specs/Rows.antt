@@ -5,8 +5,9 @@ use Rattle.log_dictionary.specs.Calls.{LogCall}
 use Rattle.arg_records.specs.Rows.{row_call}
 use Rattle.log_dictionary.specs.Rows.{row_message}
 use Rattle.checkpoint_io.specs.declared.header.Header.{Header}
-use Rattle.checkpoint_io.specs.Blocks.{Block, Fragment, Extent, Close}
-use Rattle.checkpoint_io.specs.Rows.{row_header}
+use Rattle.log_dictionary.specs.declared.clock.Clock.{Clock}
+use Rattle.checkpoint_io.specs.Blocks.{Block, Fragment, Extent, NewClock, Close}
+use Rattle.checkpoint_io.specs.Rows.{row_header, call_at}
 
 -- the line of the worked log's one call
 abbrev pub row_line : List ℕ
@@ -52,3 +53,29 @@ paired_blocks =
     ∷ Extent 1 (row_call 7 ∷ [])
     ∷ Close 0
     ∷ Close 1 ∷ []
+
+-- ---- two clocks
+
+-- three ticks after those of the second clock
+abbrev pub clock_line : List ℕ
+clock_line = codes "1514764801.000000003 srv.cc:12 NOTICE[0]: x=7\n"
+
+-- at tick 2,000 it is a second before the first clock's time
+abbrev pub earlier_clock : Clock
+earlier_clock = record { tick = 2000; nanos = 1514764799000000000; rate = 1000000000 }
+
+-- calls a tick before the clock, at its tick, and a tick behind it
+abbrev pub stepped_blocks : List Block
+stepped_blocks =
+    Fragment 0 (row_message ∷ [])
+    ∷ Extent 0 (call_at 1999 ∷ [])
+    ∷ NewClock earlier_clock
+    ∷ Extent 0 (call_at 2000 ∷ call_at 2001 ∷ [])
+    ∷ Close 0 ∷ []
+
+-- the times fall, and the order is that of stamps
+abbrev pub stepped_lines : List ℕ
+stepped_lines =
+    codes "1514764800.000000499 srv.cc:12 NOTICE[0]: x=7\n"
+    ++ codes "1514764799.000000000 srv.cc:12 NOTICE[0]: x=7\n"
+    ++ codes "1514764799.000000001 srv.cc:12 NOTICE[0]: x=7\n"

@@ -10,7 +10,7 @@ use Rattle.stamp_merge.specs.Mergers.{list_at}
 -- come.
 abbrev pub list_of : Bool → List Call → ListState
 list_of closed [] = record { head = None; closed = closed }
-list_of closed (entry ∷ entries) = record { head = Some entry.stamp; closed = false }
+list_of closed (logged ∷ records) = record { head = Some logged.stamp; closed = false }
 
 abbrev pub records_at : List (List Call) → ℕ → List Call
 records_at waiting writer = get_or waiting writer []

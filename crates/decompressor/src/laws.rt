@@ -9,17 +9,19 @@ ghost use Rattle.checkpoint_io.specs.declared.header.Header.{Header};
 ghost use Rattle.checkpoint_io.specs.Blocks.{Block, FileOf};
 ghost use Rattle.checkpoint_io.specs.Validity.{Valid};
 ghost use Rattle.checkpoint_io.specs.Logs.{LogOf};
-ghost use Rattle.checkpoint_io.specs.Rows.{row_bytes};
+ghost use Rattle.checkpoint_io.specs.Rows.{row_bytes, clock_header, clock_blocks};
 ghost use Rattle.direct_printf.specs.Lines.{call_before, Direct};
 ghost use Rattle.decompressor.specs.Decompression.{CallsOf, all_calls, whole_text, Decompressed};
 ghost use Rattle.decompressor.specs.Settling.{open_writers, is_settled, settled_calls, settled_text};
 ghost use Rattle.arg_records.specs.Calls.{calls_by_writer};
-ghost use Rattle.decompressor.specs.Rows.{row_line, three_writers, mixed_blocks, second_calls, mixed_lines, two_writers, paired_blocks};
+ghost use Rattle.decompressor.specs.Rows.{row_line, clock_line, stepped_blocks, stepped_lines, three_writers, mixed_blocks, second_calls, mixed_lines, two_writers, paired_blocks};
 
 /// The log of one call is its line. Blocks of three writers give the calls of each in their order,
-/// and together the lines of all.
+/// and together the lines of all. A clock counts from its own tick on, also where it steps back.
 pub fn worked_logs()
     ensures one_call { Decompressed row_bytes row_line }
+    ensures two_clocks { whole_text clock_header clock_blocks ≡ clock_line }
+    ensures step_back { whole_text clock_header stepped_blocks ≡ stepped_lines }
     ensures calls { CallsOf mixed_blocks 1 ≡ second_calls }
     ensures mixed_writers { whole_text three_writers mixed_blocks ≡ mixed_lines }
 {}

@@ -1,10 +1,12 @@
 //! The text that a log stands for, and printing it.
 #![tactic(auto)]
 
+mod clock_place;
 mod decompressing;
 mod decompressor;
 mod fault;
 pub mod laws;
+mod line_context;
 mod log_printer;
 mod numbers;
 mod printing;

@@ -10,8 +10,10 @@ ghost use Rattle.checkpoint_io.specs.Places.{TookSuch};
 ghost use Rattle.stamp_merge.specs.Mergers.{fresh_list};
 ghost use Rattle.decompressor.specs.Decompressors.{IsStarted, CanStep, HasNext, HasRest, PrintsNext, PrintsRest, StepsFrom, IsLastStep};
 
+use crate::clock_place::ClockPlace;
 use crate::decompressing::open_writers;
 use crate::fault::DecodeFault;
+use crate::line_context::LineContext;
 use crate::printing::print_ready;
 use crate::queue::RecordQueue;
 use crate::report::Report;
@@ -29,8 +31,7 @@ use std::marker::Model;
 pub struct LogPrinter {
     alloc: Global,
     reader: Reader,
-    // Of the reader's messages, or the first of them where more were read since lines were printed.
-    origins: Origins,
+    context: LineContext,
     merger: Merger,
     // Of each writer the records that weren't printed yet.
     waiting: Vec<RecordQueue>,
@@ -50,7 +51,7 @@ impl Model for LogPrinter {
       lines = p.lines;
     } };
 
-    ghost invariant = { λ p. AreFirstOrigins p.origins p.reader.messages };
+    ghost invariant = { λ p. AreFirstOrigins p.context.origins p.reader.messages };
 }
 
 // A merger of so many lists, and as many queues.
@@ -91,7 +92,10 @@ impl LogPrinter {
             Ok((merger, waiting)) => Ok(LogPrinter {
                 alloc,
                 reader,
-                origins: Origins::make(alloc),
+                context: LineContext {
+                    origins: Origins::make(alloc),
+                    place: ClockPlace::first(),
+                },
                 merger,
                 waiting,
                 lines: 0,
@@ -123,7 +127,7 @@ impl LogPrinter {
         self.lines += print_ready(
             self.alloc,
             &self.reader,
-            &mut self.origins,
+            &mut self.context,
             false,
             &mut self.merger,
             &mut self.waiting,
@@ -154,7 +158,7 @@ impl LogPrinter {
         self.lines += print_ready(
             self.alloc,
             &self.reader,
-            &mut self.origins,
+            &mut self.context,
             true,
             &mut self.merger,
             &mut self.waiting,

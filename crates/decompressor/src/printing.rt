@@ -1,8 +1,9 @@
 //! Printing the lines of a log.
 
-ghost use Rattle.std.specs.Prelude.{◌≡◌, ◌⊎◌, ◌≤◌, ◌++◌, ◌||◌, ℕ, List, [], ◌∷◌, slice_get, Some, IsErrOf, OnOk, OnErr, map};
+ghost use Rattle.std.specs.Prelude.{◌≡◌, ◌⊎◌, ◌≤◌, ◌||◌, ℕ, List, [], slice_get, Some, IsErrOf, OnOk, OnErr, map};
 ghost use Rattle.nl_io.specs.Count.{Rose};
 ghost use Rattle.log_dictionary.specs.declared.message.Message.{Message};
+ghost use Rattle.log_dictionary.specs.Clocks.{first_tick};
 ghost use Rattle.arg_records.specs.Calls.{IsCall};
 ghost use Rattle.checkpoint_io.specs.Blocks.{Block};
 ghost use Rattle.checkpoint_io.specs.Writers.{closed_kept};
@@ -10,11 +11,12 @@ ghost use Rattle.direct_printf.specs.Lines.{Line, origin_text, AreFirstOrigins};
 ghost use Rattle.decompressor.specs.Decompressors.{HasToPrint, PrintsReady};
 
 use crate::fault::DecodeFault;
+use crate::line_context::LineContext;
 use crate::queue::RecordQueue;
 use crate::showing::show_first;
 use buffer_extent::LogRecord;
 use checkpoint_io::Reader;
-use direct_printf::{LineParts, LineWriter, Origins};
+use direct_printf::{LineParts, LineWriter};
 use nl_io::{Sink, TextWriter};
 use stamp_merge::{Merger, Next};
 use std::alloc::{AllocError, Global};
@@ -22,39 +24,40 @@ use std::alloc::{AllocError, Global};
 // Makes the line of a record, in place of what is there.
 fn make_line(
     reader: &Reader,
-    origins: &Origins,
+    context: &mut LineContext,
     writer: u32,
     call: &LogRecord,
     line_writer: &mut LineWriter,
     line: &mut Vec<u8>,
 ) -> Result<(), AllocError>
-    requires rate { 1 ≤ reader.now.header.clock.rate }
     requires named { IsCall reader.now.messages call.now }
-    requires not_before { reader.now.header.clock.tick ≤ call.now.stamp }
-    requires origins { origins.now ≡ map origin_text reader.now.messages }
-    ensures { OnOk result ((message : Message) (ordinal : ℕ)
+    requires not_before { first_tick reader.now.times.clocks ≤ call.now.stamp }
+    requires origins { context.old.origins ≡ map origin_text reader.now.messages }
+    ensures line { OnOk result ((message : Message) (ordinal : ℕ)
         → slice_get reader.now.messages call.now.id ≡ Some message
-        → line.new.items ≡ Line (reader.now.header.clock ∷ []) (record {
+        → line.new.items ≡ Line reader.now.times.clocks (record {
           writer = writer;
           ordinal = ordinal;
           stamp = call.now.stamp;
           message = message;
           args = call.now.args;
         })) }
+    ensures kept { context.new.origins ≡ context.old.origins }
 {
     line.clear();
     // Each record names a message that was read.
     let Some(message) = reader.dictionary().get(call.id) else {
         return Ok(());
     };
+    let clock = context.place.clock_at(reader.clocks(), call.stamp);
     let parts = LineParts {
         writer,
         message,
-        origin: origins.get(call.id),
+        origin: context.origins.get(call.id),
         stamp: call.stamp,
         args: call.args.as_slice(),
     };
-    line_writer.append(&reader.header().clock, &parts, line)
+    line_writer.append(&clock, &parts, line)
 }
 
 // Whether no records of the writer can come: the log has ended, or the writer is closed.
@@ -69,7 +72,7 @@ fn is_done(ended: bool, reader: &Reader, writer: u32) -> bool
 pub fn print_ready<K: Sink>(
     alloc: Global,
     reader: &Reader,
-    origins: &mut Origins,
+    context: &mut LineContext,
     ended: bool,
     merger: &mut Merger,
     waiting: &mut [RecordQueue],
@@ -77,7 +80,7 @@ pub fn print_ready<K: Sink>(
     out: &mut K,
 ) -> Result<u64, DecodeFault>
     requires ready { (first all : List Block) × HasToPrint ended reader.now first all waiting.old merger.old }
-    requires origins { AreFirstOrigins origins.old reader.now.messages }
+    requires origins { AreFirstOrigins context.old.origins reader.now.messages }
     requires held { text_writer.old ≡ [] }
     ensures printed { (first all : List Block) → HasToPrint ended reader.now first all waiting.old merger.old
         → PrintsReady ended reader.now.header first all (K.put out.old) (K.put out.new)
@@ -86,11 +89,11 @@ pub fn print_ready<K: Sink>(
     ensures written { ¬ (IsErrOf result DecodeFault.WriteFault) → K.faults out.new ≡ K.faults out.old }
     ensures count { K.faults out.old ≤ K.faults out.new }
     ensures fault { OnErr result (IsErrOf result DecodeFault.WriteFault ⊎ IsErrOf result DecodeFault.NoMemory) }
-    ensures origins { AreFirstOrigins origins.new reader.now.messages }
+    ensures origins { AreFirstOrigins context.new.origins reader.now.messages }
     ensures held { OnOk result (text_writer.new ≡ []) }
     ensures others { K.rest out.old out.new }
 {
-    origins.extend(reader.dictionary().as_slice())?;
+    context.origins.extend(reader.dictionary().as_slice())?;
     let mut line_writer = LineWriter::make();
     let mut line = Vec::new(alloc);
     let mut lines = 0;
@@ -100,7 +103,7 @@ pub fn print_ready<K: Sink>(
         let Some(record) = queue.first() else {
             continue;
         };
-        make_line(reader, origins, writer, record, &mut line_writer, &mut line)?;
+        make_line(reader, context, writer, record, &mut line_writer, &mut line)?;
         text_writer.put(out, line.as_slice())?;
         queue.remove_first();
         show_first(merger, writer, queue, is_done(ended, reader, writer));

@@ -71,7 +71,7 @@ pub fn add_block(
         → OnOk result (TakesRecords closed next waiting.old waiting.new merger.new) }
 {
     match block {
-        Block::Fragment { .. } => Ok(()),
+        Block::Fragment { .. } | Block::Clock(_) => Ok(()),
         Block::Extent { writer, records } => {
             add_records(merger, writer, &mut waiting[writer as usize], records)
         }

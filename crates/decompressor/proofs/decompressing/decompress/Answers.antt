@@ -1,4 +1,5 @@
-use Rattle.std.proofs.Common.{◌≡◌, Ok, Err, ap, sym, subst, ◌∙◌}
+use Rattle.std.proofs.Common.{◌≡◌, [], Ok, Err, refl, ap, sym, subst, ◌∙◌, rules}
+use Rattle.nl_io.proofs.lemmas.Contents.{with_end-none}
 use Rattle.decompressor.specs.declared.fault.DecodeFault.{DecodeFault}
 use Rattle.decompressor.specs.declared.step.Step.{Step}
 use Rattle.decompressor.specs.declared.step.Step.TheVariants.{More, End}
@@ -64,3 +65,15 @@ returns-in-End-clause-out_others g c = g.met.K.Sink.rest_then _ _ _ c.loop-print
 
 pub returns-in-End-clause-source_others : goal.returns-in-End-clause-source_others
 returns-in-End-clause-source_others g c = g.met.S.Source.rest_then _ _ _ c.loop-printer.invariant.source_others c.step.ensures.source_others
+
+pub loop-printer-init : goal.loop-printer-init
+loop-printer-init g c =
+    let (taken, printed, none, file_is) = c.in-Ok.ensures.ok in
+    record {
+      held = c.make-text_writer.ensures;
+      on = record { taken = taken; text = []; printed = printed; file_is = file_is; put_is = with_end-none [] (g.K.Sink.put c.args.out.now) };
+      counted = search rules;
+      written = refl;
+      source_others = c.make.ensures.others;
+      out_others = g.met.K.Sink.rest_same _;
+    }

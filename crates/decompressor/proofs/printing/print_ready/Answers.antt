@@ -1,7 +1,10 @@
-use Rattle.std.proofs.Common.{◌≡◌, ◌<◌, [], List, length, get_or, refl, ap, sym, subst, ◌∙◌, arith, rules}
+use Rattle.std.proofs.Common.{◌≡◌, ℕ, ◌<◌, ◌≤◌, [], List, length, get_or, refl, ap, sym, subst, ◌∙◌, arith, rules}
 use Rattle.std.specs.Prelude.{sum_by, slice_set}
 use Rattle.nl_io.proofs.lemmas.TextWriters.{carries_held}
+use Rattle.log_dictionary.specs.declared.clock.Clock.{Clock}
+use Rattle.log_dictionary.specs.Clocks.{first_tick}
 use Rattle.arg_records.specs.declared.call.Call.{Call}
+use Rattle.direct_printf.specs.Lines.{AreFirstOrigins}
 use Rattle.decompressor.specs.Waiting.{list_of}
 use Rattle.decompressor.specs.Decompressors.{HasMore}
 use Rattle.decompressor.proofs.LinesOut.{begin_lines, within, some_first, said, line_said, next_lines, line_cut, less_waits, few_next, wished, lacked, held_cut, all_out, turn}
@@ -10,6 +13,8 @@ use Rattle.decompressor.proofs.printing.print_ready.Goals as goal
 pub loop-writer-init : goal.loop-writer-init
 loop-writer-init g c = record {
   lines_so_far = λ first all ready. begin_lines ready (carries_held [] c.args.text_writer.now (g.K.Sink.put c.args.out.now) c.requires.held);
+  origins = search rules;
+  first = search rules;
   counted = refl;
   others = g.met.K.Sink.rest_same _;
 }
@@ -39,7 +44,8 @@ make_line-requires-clause-named g c =
 pub make_line-requires-clause-not_before : goal.make_line-requires-clause-not_before
 make_line-requires-clause-not_before g c =
     let (first, all, ready) = c.requires.ready in
-    (said ready (c.loop-writer.invariant.lines_so_far first all ready) ((c.in-Take.ensures.take c.in-Take.writer).0 refl) c.index-waiting-writer.result c.in-Some.ensures.some).not_before
+    let here = said ready (c.loop-writer.invariant.lines_so_far first all ready) ((c.in-Take.ensures.take c.in-Take.writer).0 refl) c.index-waiting-writer.result c.in-Some.ensures.some in
+    subst (λ (clocks : List Clock). first_tick clocks ≤ c.in-Some.record.now.stamp) (sym ready.clocks) here.not_before
 
 pub returns-in_err-extend-clause-printed : goal.returns-in_err-extend-clause-printed
 returns-in_err-extend-clause-printed g c first all ready =
@@ -55,7 +61,7 @@ pub returns-in_err-put-clause-printed : goal.returns-in_err-put-clause-printed
 returns-in_err-put-clause-printed g c first all ready =
     let so_far = c.loop-writer.invariant.lines_so_far first all ready in
     let top = (c.in-Take.ensures.take c.in-Take.writer).0 refl in
-    let line = c.as_slice-in-Take.ensures.value ∙ line_said ready so_far top c.index-waiting-writer.result c.in-Some.ensures.some c.in_ok-make_line.ensures in
+    let line = c.as_slice-in-Take.ensures.value ∙ line_said ready so_far top c.index-waiting-writer.result c.in-Some.ensures.some c.in_ok-make_line.ensures.line in
     line_cut ready so_far top line _ _ _ _ c.from_residual-in_err-put.result _ _ c.from_residual-in_err-put.ensures.1 c.loop-writer.invariant.counted c.in_err-put.ensures.cut_off
 
 pub show_first-requires : goal.show_first-requires
@@ -73,7 +79,7 @@ pub loop-writer-smaller : goal.loop-writer-smaller
 loop-writer-smaller g c =
     let (first, all, ready) = c.requires.ready in
     let l = c.loop-writer in
-    subst (λ (entries : List Call). sum_by length (slice_set l.waiting c.in-Take.writer entries) < sum_by length l.waiting) (sym c.remove_first.ensures)
+    subst (λ (records : List Call). sum_by length (slice_set l.waiting c.in-Take.writer records) < sum_by length l.waiting) (sym c.remove_first.ensures)
     (less_waits ready (l.invariant.lines_so_far first all ready) ((c.in-Take.ensures.take c.in-Take.writer).0 refl) c.index-waiting-writer.result)
 
 pub loop-writer-preserved : goal.loop-writer-preserved
@@ -83,9 +89,11 @@ loop-writer-preserved g c = record {
       let top = (c.in-Take.ensures.take c.in-Take.writer).0 refl in
       let t = turn ready so_far top in
       let done = c.is_done.ensures ∙ ready.closed c.in-Take.writer t.known in
-      let line = c.as_slice-in-Take.ensures.value ∙ line_said ready so_far top c.index-waiting-writer.result c.in-Some.ensures.some c.in_ok-make_line.ensures in
+      let line = c.as_slice-in-Take.ensures.value ∙ line_said ready so_far top c.index-waiting-writer.result c.in-Some.ensures.some c.in_ok-make_line.ensures.line in
       next_lines ready so_far top line c.index-waiting-writer.result c.in_ok-put.ensures.ok (ap (slice_set c.loop-writer.waiting c.in-Take.writer) c.remove_first.ensures)
       (c.show_first.ensures ∙ λ i. slice_set (c.next.ensures.taken c.in-Take.writer c.in-Take.is i) c.in-Take.writer (list_of (done i) (c.remove_first.ensures i)));
+  origins = c.make_line.ensures.kept ∙ c.loop-writer.invariant.origins;
+  first = subst (λ (texts : List (List ℕ)). AreFirstOrigins texts c.args.reader.now.messages) (sym c.make_line.ensures.kept) c.loop-writer.invariant.first;
   counted = c.in_ok-put.ensures.counted ∙ c.loop-writer.invariant.counted;
   others = g.met.K.Sink.rest_then _ _ _ c.loop-writer.invariant.others c.put.ensures.others;
 }
@@ -103,3 +111,9 @@ returns-clause-printed g c first all ready =
           (all_out ready so_far c.next.result c.in_default.not-Take (λ w is. (c.next.ensures.want w).0 is) c.next.ensures.done.0 c.in_ok-flush.ensures.ok),
       c.in_ok-flush.ensures.counted ∙ l.invariant.counted,
     )
+
+pub returns-in_err-make_line-clause-origins : goal.returns-in_err-make_line-clause-origins
+returns-in_err-make_line-clause-origins g c = subst (λ (texts : List (List ℕ)). AreFirstOrigins texts c.args.reader.now.messages) (sym c.make_line.ensures.kept) c.loop-writer.invariant.first
+
+pub returns-in_err-put-clause-origins : goal.returns-in_err-put-clause-origins
+returns-in_err-put-clause-origins g c = subst (λ (texts : List (List ℕ)). AreFirstOrigins texts c.args.reader.now.messages) (sym c.make_line.ensures.kept) c.loop-writer.invariant.first

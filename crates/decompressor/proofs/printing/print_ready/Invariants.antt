@@ -1,6 +1,7 @@
 use Rattle.std.proofs.Common.{◌≡◌, List, length}
-use Rattle.std.specs.Prelude.{sum_by}
+use Rattle.std.specs.Prelude.{map, sum_by}
 use Rattle.checkpoint_io.specs.Blocks.{Block}
+use Rattle.direct_printf.specs.Lines.{origin_text, AreFirstOrigins}
 use Rattle.decompressor.specs.Decompressors.{HasToPrint}
 use Rattle.decompressor.proofs.LinesOut.{HasLines}
 use Rattle.decompressor.proofs.printing.print_ready.Given as goal
@@ -11,6 +12,8 @@ invariant-loop-writer g l =
     record {
       lines_so_far : (first all : List Block) (ready : HasToPrint l.ended l.reader first all l.fn.waiting l.fn.merger)
           → HasLines l.ended l.reader.header first all ready.valid l.lines (g.K.Sink.put l.fn.out) (g.K.Sink.put l.out) l.text_writer l.waiting l.merger;
+      origins : l.context.origins ≡ map origin_text l.reader.messages;
+      first : AreFirstOrigins l.context.origins l.reader.messages;
       counted : g.K.Sink.faults l.out ≡ g.K.Sink.faults l.fn.out;
       others : g.K.Sink.rest l.fn.out l.out;
     }

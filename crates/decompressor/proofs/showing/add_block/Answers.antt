@@ -50,7 +50,7 @@ returns-in-Extent c closed next tells may heads =
     (on_both (queue ≡ get_or waiting writer c.index-waiting-writer.result ++ records) (new ≡ slice_set lists writer (list_of false queue)) (TakesRecords closed (Extent writer records) waiting (slice_set waiting writer queue) new) c.add_records.result
     (λ joined list.
     takes_extent closed lists waiting heads writer records queue (slice_set waiting writer queue) new known.0 known.1
-    (joined ∙ ap (λ (entries : List Call). entries ++ records) (get_or_default waiting writer c.index-waiting-writer.result [] known.0)) refl list)
+    (joined ∙ ap (λ (first : List Call). first ++ records) (get_or_default waiting writer c.index-waiting-writer.result [] known.0)) refl list)
     c.add_records.ensures.queue c.add_records.ensures.list)
 
 pub returns-in-Closed : goal.returns-in-Closed
@@ -63,4 +63,4 @@ returns-in-Closed c closed next tells may heads =
     let queue = get_or_default waiting writer c.index-waiting-writer-in-Closed.result [] known.0 in
     let shown = c.close_writer.ensures (closed writer) (heads.each writer known.0 ∙ ap (list_of (closed writer)) (sym queue)) in
     subst (λ (block : Block). TakesRecords closed block waiting waiting new) (sym known.1)
-    (takes_close closed lists waiting heads writer new known.0 (shown ∙ ap (λ (entries : List Call). slice_set lists writer (list_of true entries)) queue))
+    (takes_close closed lists waiting heads writer new known.0 (shown ∙ ap (λ (records : List Call). slice_set lists writer (list_of true records)) queue))

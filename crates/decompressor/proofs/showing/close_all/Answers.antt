@@ -20,7 +20,7 @@ loop-writer-preserved c =
     let queue : c.index-waiting-writer.result ≡ records_at waiting k = c.index-waiting-writer.is ∙ get_or_default waiting k c.index-waiting-writer.result [] c.loop-writer-test.true in
     let new = c.close_writer.ensures (closed k) (heads.each k c.loop-writer-test.true ∙ ap (list_of (closed k)) (sym queue)) in (
       (λ w. eqb w k || closed w),
-      close_one closed lists waiting heads k c.close_writer.new.merger c.loop-writer-test.true (new ∙ ap (λ (entries : List Call). slice_set lists k (list_of true entries)) queue),
+      close_one closed lists waiting heads k c.close_writer.new.merger c.loop-writer-test.true (new ∙ ap (λ (records : List Call). slice_set lists k (list_of true records)) queue),
       (λ w less. elim (eqb_tells w k) [
         | inl same ↦ ap (λ b. b || closed w) same.0
         | inr apart ↦ or_true (eqb w k) (before w (omega (arith, less, apart.1)))

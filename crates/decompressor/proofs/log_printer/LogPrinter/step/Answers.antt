@@ -1,6 +1,7 @@
 use Rattle.std.proofs.Common.{◌≡◌, ℕ, List, length, Option, Result, Ok, Err, refl, ap, sym, subst, ◌∙◌, rules}
 use Rattle.nl_io.specs.Count.{Rose}
 use Rattle.nl_io.specs.Content.{Told}
+use Rattle.checkpoint_io.specs.Blocks.{clocks_of}
 use Rattle.checkpoint_io.specs.declared.block.Block.{Block as ReadBlock}
 use Rattle.checkpoint_io.specs.declared.header.Header.{Header}
 use Rattle.checkpoint_io.specs.NextBlocks.{TakesNext, EndsThere, AnswersNext}
@@ -52,8 +53,8 @@ module _ (g : Over) where
     says : (state : PrinterState) (is : Told) (answer : Result Step DecodeFault) → StepsFrom old state left behind before after was is answer → StepsFrom c.args.self.now state left behind before after was is answer
     says state is answer = subst (λ (s : PrinterState). StepsFrom s state left behind before after was is answer) c.self.view_is
 
-    last : {taken text : List ℕ} (printed : HasPrinted old taken text) → HasLast (at_reader old new) (blocks printed)
-    last printed = had_last printed new c.next_block.ensures.header c.next_block.ensures.defined
+    last : {taken text : List ℕ} (printed : HasPrinted old taken text) → new.times.clocks ≡ old.reader.times.clocks → HasLast (at_reader old new) (blocks printed)
+    last printed clocks = had_last printed new c.next_block.ensures.header clocks c.next_block.ensures.defined
 
   -- a block was read
   module _ (c : In-Ok-Some g) {taken text : List ℕ} (printed : HasPrinted (the_view c.self.inside) taken text) where
@@ -71,6 +72,13 @@ module _ (g : Over) where
     ends =
         subst (λ (answer : Option ReadBlock). AnswersNext c.self.inside.reader c.next_block.new.self taken printed.read answer (g.S.Source.left c.args.source.now) (g.S.Source.left c.next_block.new.source))
         c.in-Ok-None.field-0-is (c.in-Ok-None.ensures.ok taken printed.read)
+
+    ended_clocks : c.next_block.new.self.times.clocks ≡ c.self.inside.reader.times.clocks
+    ended_clocks =
+        let end = ends in
+        end.stands.times.clocks_are
+        ∙ (λ i. clocks_of (c.next_block.ensures.header i) (end.blocks i))
+        ∙ sym printed.read.times.clocks_are
 
     whole : (state : PrinterState) (report : Report) → report.lines ≡ length (all_calls c.self.inside.reader.header (blocks printed)) → report.unclosed ≡ open_writers c.self.inside.reader.header (blocks printed)
         → EndsSo printed (g.S.Source.left c.args.source.now) state (g.S.Source.left c.next_block.new.source) (g.S.Source.faults c.args.source.now) (g.S.Source.faults c.next_block.new.source) (Ok report)
@@ -126,19 +134,19 @@ pub print_rest-requires-clause-last : goal.print_rest-requires-clause-last
 print_rest-requires-clause-last g c =
     let at = goal.at.print_rest-requires-clause-last g c in
     let (taken, text, printed) = begun g at.After-next_block in
-    (blocks printed, last g at.After-next_block printed)
+    (blocks printed, last g at.After-next_block printed (ended_clocks g at.In-Ok-None printed))
 
 pub print_rest-requires-in-Err-Damaged-clause-last : goal.print_rest-requires-in-Err-Damaged-clause-last
 print_rest-requires-in-Err-Damaged-clause-last g c =
     let at = goal.at.print_rest-requires-in-Err-Damaged-clause-last g c in
     let (taken, text, printed) = begun g at.After-next_block in
-    (blocks printed, last g at.After-next_block printed)
+    (blocks printed, last g at.After-next_block printed c.in-Err-Damaged.ensures.clocks)
 
 pub print_rest-requires-in-Err-ReadFault-clause-last : goal.print_rest-requires-in-Err-ReadFault-clause-last
 print_rest-requires-in-Err-ReadFault-clause-last g c =
     let at = goal.at.print_rest-requires-in-Err-ReadFault-clause-last g c in
     let (taken, text, printed) = begun g at.After-next_block in
-    (blocks printed, last g at.After-next_block printed)
+    (blocks printed, last g at.After-next_block printed c.in-Err-ReadFault.ensures.clocks)
 
 pub returns-in-Err-NoMemory-clause-step : goal.returns-in-Err-NoMemory-clause-step
 returns-in-Err-NoMemory-clause-step g c =
@@ -155,7 +163,7 @@ returns-in_err-print_rest-in-Ok-None-clause-step g c =
     (λ taken text printed.
     let report : Report = record { lines = length (all_calls c.self.inside.reader.header (blocks printed)); unclosed = open_writers c.self.inside.reader.header (blocks printed) } in
     rest_stops printed c.next_block.new.self c.next_block.ensures.header _ _ _ _ state _ _ (Ok report) (whole g at.In-Ok-None printed state report refl refl) c.from_residual-in_err-print_rest-in-Ok-None.result
-    c.from_residual-in_err-print_rest-in-Ok-None.ensures.1 (c.in_err-print_rest-in-Ok-None.ensures.printed (blocks printed) (last g at.After-next_block printed)))
+    c.from_residual-in_err-print_rest-in-Ok-None.ensures.1 (c.in_err-print_rest-in-Ok-None.ensures.printed (blocks printed) (last g at.After-next_block printed (ended_clocks g at.In-Ok-None printed))))
 
 pub returns-in_err-print_rest-in-Err-Damaged-clause-step : goal.returns-in_err-print_rest-in-Err-Damaged-clause-step
 returns-in_err-print_rest-in-Err-Damaged-clause-step g c =
@@ -165,7 +173,7 @@ returns-in_err-print_rest-in-Err-Damaged-clause-step g c =
     says g at.After-next_block state (g.K.Sink.put c.print_rest-in-Err-Damaged.new.out) c.from_residual-in_err-print_rest-in-Err-Damaged.result
     (λ taken text printed.
     rest_stops printed c.next_block.new.self c.next_block.ensures.header _ _ _ _ state _ _ (Err (Damaged offset c.in-Err-Damaged.cause)) (damaged g at.In-Err-Damaged printed state offset refl) c.from_residual-in_err-print_rest-in-Err-Damaged.result
-    c.from_residual-in_err-print_rest-in-Err-Damaged.ensures.1 (c.in_err-print_rest-in-Err-Damaged.ensures.printed (blocks printed) (last g at.After-next_block printed)))
+    c.from_residual-in_err-print_rest-in-Err-Damaged.ensures.1 (c.in_err-print_rest-in-Err-Damaged.ensures.printed (blocks printed) (last g at.After-next_block printed c.in-Err-Damaged.ensures.clocks)))
 
 pub returns-in_err-print_rest-in-Err-ReadFault-clause-step : goal.returns-in_err-print_rest-in-Err-ReadFault-clause-step
 returns-in_err-print_rest-in-Err-ReadFault-clause-step g c =
@@ -174,7 +182,7 @@ returns-in_err-print_rest-in-Err-ReadFault-clause-step g c =
     says g at.After-next_block state (g.K.Sink.put c.print_rest-in-Err-ReadFault.new.out) c.from_residual-in_err-print_rest-in-Err-ReadFault.result
     (λ taken text printed.
     rest_stops printed c.next_block.new.self c.next_block.ensures.header _ _ _ _ state _ _ (Err ReadFault) (failed g at.In-Err-ReadFault printed state) c.from_residual-in_err-print_rest-in-Err-ReadFault.result
-    c.from_residual-in_err-print_rest-in-Err-ReadFault.ensures.1 (c.in_err-print_rest-in-Err-ReadFault.ensures.printed (blocks printed) (last g at.After-next_block printed)))
+    c.from_residual-in_err-print_rest-in-Err-ReadFault.ensures.1 (c.in_err-print_rest-in-Err-ReadFault.ensures.printed (blocks printed) (last g at.After-next_block printed c.in-Err-ReadFault.ensures.clocks)))
 
 pub returns-in_err-open_writers-in-Ok-None-clause-step : goal.returns-in_err-open_writers-in-Ok-None-clause-step
 returns-in_err-open_writers-in-Ok-None-clause-step g c =
@@ -183,7 +191,7 @@ returns-in_err-open_writers-in-Ok-None-clause-step g c =
     says g at.After-next_block state (g.K.Sink.put c.print_rest.new.out) c.from_residual-in_err-open_writers-in-Ok-None.result
     (λ taken text printed.
     let report : Report = record { lines = length (all_calls c.self.inside.reader.header (blocks printed)); unclosed = open_writers c.self.inside.reader.header (blocks printed) } in
-    let did = c.in_ok-print_rest-in-Ok-None.ensures.printed (blocks printed) (last g at.After-next_block printed) in
+    let did = c.in_ok-print_rest-in-Ok-None.ensures.printed (blocks printed) (last g at.After-next_block printed (ended_clocks g at.In-Ok-None printed)) in
     lacks printed state _ _ _ _ _ _ c.from_residual-in_err-open_writers-in-Ok-None.result c.from_residual-in_err-open_writers-in-Ok-None.ensures.1
     (all_put printed c.next_block.new.self c.next_block.ensures.header _ _ _ _ state _ _ (Ok report) (whole g at.In-Ok-None printed state report refl refl) did.0))
 
@@ -195,7 +203,7 @@ returns-in_ok-open_writers-in-Ok-None-clause-step g c =
     let report : Report = record { lines = again.lines; unclosed = c.in_ok-open_writers-in-Ok-None.field-0 } in
     says g at.After-next_block state (g.K.Sink.put c.print_rest.new.out) (Ok (End report))
     (λ taken text printed.
-    let did = c.in_ok-print_rest-in-Ok-None.ensures.printed (blocks printed) (last g at.After-next_block printed) in
+    let did = c.in_ok-print_rest-in-Ok-None.ensures.printed (blocks printed) (last g at.After-next_block printed (ended_clocks g at.In-Ok-None printed)) in
     let end = ends g at.In-Ok-None printed in
     let lines : report.lines ≡ length (all_calls c.self.inside.reader.header (blocks printed)) =
     ap (λ (s : PrinterState). s.lines) c.self-in-Ok-None.view_is ∙ did.0.lines ∙ ap (λ (h : Header). length (all_calls h (blocks printed))) c.next_block.ensures.header in
@@ -214,7 +222,7 @@ returns-in_ok-print_rest-in-Err-Damaged-clause-step g c =
     let answer : Result Report DecodeFault = Err (Damaged c.offset.result c.in-Err-Damaged.cause) in
     says g at.After-next_block state (g.K.Sink.put c.print_rest-in-Err-Damaged.new.out) (Err (Damaged c.offset.result c.in-Err-Damaged.cause))
     (λ taken text printed.
-    let did = c.in_ok-print_rest-in-Err-Damaged.ensures.printed (blocks printed) (last g at.After-next_block printed) in
+    let did = c.in_ok-print_rest-in-Err-Damaged.ensures.printed (blocks printed) (last g at.After-next_block printed c.in-Err-Damaged.ensures.clocks) in
     completes printed c.next_block.new.self c.next_block.ensures.header _ (g.S.Source.left c.next_block.new.source) _ _ state _ _ answer (damaged g at.In-Err-Damaged printed state c.offset.result offset_is) did.0)
 
 pub returns-in_ok-print_rest-in-Err-ReadFault-clause-step : goal.returns-in_ok-print_rest-in-Err-ReadFault-clause-step
@@ -223,5 +231,5 @@ returns-in_ok-print_rest-in-Err-ReadFault-clause-step g c =
     let state : PrinterState = c.print_rest-in-Err-ReadFault.new.self in
     says g at.After-next_block state (g.K.Sink.put c.print_rest-in-Err-ReadFault.new.out) (Err ReadFault)
     (λ taken text printed.
-    let did = c.in_ok-print_rest-in-Err-ReadFault.ensures.printed (blocks printed) (last g at.After-next_block printed) in
+    let did = c.in_ok-print_rest-in-Err-ReadFault.ensures.printed (blocks printed) (last g at.After-next_block printed c.in-Err-ReadFault.ensures.clocks) in
     completes printed c.next_block.new.self c.next_block.ensures.header _ (g.S.Source.left c.next_block.new.source) _ _ state _ _ (Err ReadFault) (failed g at.In-Err-ReadFault printed state) did.0)
