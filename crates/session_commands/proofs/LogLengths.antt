@@ -23,7 +23,7 @@ use Rattle.buffer_extent.specs.Bodies.{SpellsRecord, SpellsRecords}
 use Rattle.buffer_extent.proofs.lemmas.Codes.{length-code_bytes}
 use Rattle.checkpoint_io.specs.declared.header.Header.{Header}
 use Rattle.checkpoint_io.specs.Versions.{writer_len}
-use Rattle.checkpoint_io.specs.Blocks.{Block, Fragment, Extent, Close, block_messages, messages_of, header_bytes, fragment_head_bytes, SpellsEntries, SpellsFragment, SpellsExtent, SpellsBlock, SpellsBlocks}
+use Rattle.checkpoint_io.specs.Blocks.{Block, Fragment, Extent, NewClock, Close, block_messages, messages_of, block_clocks, clocks_in, clocks_of, clock_bytes, header_bytes, fragment_head_bytes, SpellsEntries, SpellsFragment, SpellsExtent, SpellsBlock, SpellsBlocks}
 use Rattle.checkpoint_io.specs.Validity.{block_records, records_of, closes, IsClosed, IsRightAfter, AreRightAfter}
 use Rattle.checkpoint_io.specs.Logs.{LogOf}
 use Rattle.checkpoint_io.proofs.lemmas.BlockLaws.{le_length, length-header_bytes}
@@ -133,16 +133,16 @@ record_short messages before entry bytes spells =
     )
 
 -- and so do records, each for one
-records_short : (messages : List Message) (before : ℕ) (entries : List Call) (body : List ℕ) → SpellsRecords messages before entries body → length body + 7 * length entries ≤ sum_by call_size entries
+records_short : (messages : List Message) (before : ℕ) (records : List Call) (body : List ℕ) → SpellsRecords messages before records body → length body + 7 * length records ≤ sum_by call_size records
 records_short messages before [] body spells = omega (arith, ap length spells)
-records_short messages before (entry ∷ entries) body (front, back, joined, here, behind) =
-    omega (arith, ap length joined, length-append front back, record_short messages before entry front here, records_short messages entry.stamp entries back behind, sum_by-cons call_size entry entries)
+records_short messages before (entry ∷ records) body (front, back, joined, here, behind) =
+    omega (arith, ap length joined, length-append front back, record_short messages before entry front here, records_short messages entry.stamp records back behind, sum_by-cons call_size entry records)
 
 -- an extent has a record for its head
-extent_size : (messages : List Message) (header : Header) (writer : ℕ) (entries : List Call) (bytes : List ℕ) → SpellsExtent messages header writer entries bytes → length bytes ≤ sum_by call_size entries
+extent_size : (messages : List Message) (header : Header) (writer : ℕ) (records : List Call) (bytes : List ℕ) → SpellsExtent messages header writer records bytes → length bytes ≤ sum_by call_size records
 extent_size messages header writer [] bytes s = absurd (extent_has_records messages header writer bytes s)
-extent_size messages header writer (entry ∷ entries) bytes s =
-    omega (arith, extent_len messages header writer (entry ∷ entries) bytes s, few_len header.version, records_short messages header.clock.tick (entry ∷ entries) s.body s.body_spelled)
+extent_size messages header writer (entry ∷ records) bytes s =
+    omega (arith, extent_len messages header writer (entry ∷ records) bytes s, few_len header.version, records_short messages header.clock.tick (entry ∷ records) s.body s.body_spelled)
 
 -- ---- messages
 
@@ -169,7 +169,7 @@ entry_size message bytes spells =
       text_length message.format.bytes,
     )
 
--- and so do entries, each for one
+-- and so do records, each for one
 entries_size : (messages : List Message) (bytes : List ℕ) → SpellsEntries messages bytes → length bytes + 7 * length messages ≡ sum_by message_size messages
 entries_size [] bytes spells = omega (arith, ap length spells)
 entries_size (message ∷ messages) bytes (front, back, joined, here, behind) =
@@ -199,7 +199,8 @@ close_size writer block = cond (closes writer block) 3 0
 -- a close mark has none of the same writer before it
 closed_when_open : (header : Header) (before : List Block) (block : Block) (writer : ℕ) → IsRightAfter header before block → closes writer block ≡ true → ¬ (IsClosed writer before)
 closed_when_open header before (Fragment first messages) writer right is = absurd (true≢false (sym is))
-closed_when_open header before (Extent w entries) writer right is = absurd (true≢false (sym is))
+closed_when_open header before (Extent w records) writer right is = absurd (true≢false (sym is))
+closed_when_open header before (NewClock clock) writer right is = absurd (true≢false (sym is))
 closed_when_open header before (Close w) writer right is =
     elim (eqb_tells w writer) [
       | inl same ↦ subst (λ (k : ℕ). ¬ (IsClosed k before)) same.1 right.unclosed
@@ -234,25 +235,31 @@ abbrev written : List Block → ℕ → ℕ
 written blocks writer = sum_by call_size (records_of writer blocks) + sum_by (close_size writer) blocks
 
 -- an extent is of its writer
-extent_is_of : (w writer : ℕ) (entries : List Call) → only w (sum_by call_size entries) writer ≤ writer_size (Extent w entries) writer
-extent_is_of w writer entries = at_test (eqb w writer)
+extent_is_of : (w writer : ℕ) (records : List Call) → only w (sum_by call_size records) writer ≤ writer_size (Extent w records) writer
+extent_is_of w writer records = at_test (eqb w writer)
   where
-    at_test : (b : Bool) → cond b (sum_by call_size entries) 0 ≤ sum_by call_size (cond b entries []) + 0
+    at_test : (b : Bool) → cond b (sum_by call_size records) 0 ≤ sum_by call_size (cond b records []) + 0
     at_test true = omega arith
     at_test false = omega arith
 
--- a block has bytes for its messages or for one of the writers
-block_short : (header : Header) (before : List Block) (messages : List Message) (block : Block) (bytes : List ℕ) → SpellsBlock messages header block bytes → IsRightAfter header before block → length bytes ≤ sum_by message_size (block_messages block) + sum_by (writer_size block) (range_with_len 0 header.writers)
+-- a clock has 25 bytes
+clock_size : (clock : Clock) → length (clock_bytes clock) ≡ 25
+clock_size clock =
+    omega (arith, length-append (3 ∷ le_bytes 8 clock.tick ++ le_bytes 8 clock.nanos) (le_bytes 8 clock.rate), length-append (3 ∷ le_bytes 8 clock.tick) (le_bytes 8 clock.nanos), le_length 8 clock.tick, le_length 8 clock.nanos, le_length 8 clock.rate)
+
+-- a block has bytes for its messages, for one of the writers, or for a clock
+block_short : (header : Header) (before : List Block) (messages : List Message) (block : Block) (bytes : List ℕ) → SpellsBlock messages header block bytes → IsRightAfter header before block → length bytes ≤ sum_by message_size (block_messages block) + sum_by (writer_size block) (range_with_len 0 header.writers) + length (block_clocks block) * 25
 block_short header before messages (Fragment first added) bytes spells right =
     omega (arith, fragment_size first added bytes spells)
-block_short header before messages (Extent writer entries) bytes spells right =
-    let n = sum_by call_size entries in
+block_short header before messages (Extent writer records) bytes spells right =
+    let n = sum_by call_size records in
     omega (
       arith,
-      extent_size messages header writer entries bytes spells,
+      extent_size messages header writer records bytes spells,
       only_there writer n 0 header.writers (omega arith) (omega (arith, right.writer_open.known)),
-      sum_grows (only writer n) (writer_size (Extent writer entries)) (λ w. extent_is_of writer w entries) (range_with_len 0 header.writers),
+      sum_grows (only writer n) (writer_size (Extent writer records)) (λ w. extent_is_of writer w records) (range_with_len 0 header.writers),
     )
+block_short header before messages (NewClock clock) bytes spells right = omega (arith, ap length spells.joined, clock_size clock)
 block_short header before messages (Close writer) bytes spells right =
     omega (
       arith,
@@ -268,8 +275,8 @@ written_more : (block : Block) (blocks : List Block) (writer : ℕ) → writer_s
 written_more block blocks writer =
     omega (arith, sum_by-append call_size (block_records writer block) (records_of writer blocks), sum_by-cons (close_size writer) block blocks)
 
--- blocks have bytes for their messages and for the writers
-blocks_short : (header : Header) (before blocks : List Block) (bytes : List ℕ) → SpellsBlocks header before blocks bytes → AreRightAfter header before blocks → length bytes ≤ sum_by message_size (messages_of blocks) + sum_by (written blocks) (range_with_len 0 header.writers)
+-- blocks have bytes for their messages, for the writers and for the clocks
+blocks_short : (header : Header) (before blocks : List Block) (bytes : List ℕ) → SpellsBlocks header before blocks bytes → AreRightAfter header before blocks → length bytes ≤ sum_by message_size (messages_of blocks) + sum_by (written blocks) (range_with_len 0 header.writers) + length (clocks_in blocks) * 25
 blocks_short header before [] bytes spells right = omega (arith, ap length spells)
 blocks_short header before (block ∷ blocks) bytes (front, back, joined, here, behind) right =
     let writers = range_with_len 0 header.writers in
@@ -280,14 +287,15 @@ blocks_short header before (block ∷ blocks) bytes (front, back, joined, here, 
       block_short header before (messages_of before) block front here right.0,
       blocks_short header (before ++ block ∷ []) blocks back behind right.1,
       sum_by-append message_size (block_messages block) (messages_of blocks),
+      length-append (block_clocks block) (clocks_in blocks),
       sum_of_both (writer_size block) (written blocks) writers,
       sum_grows (λ w. writer_size block w + written blocks w) (written (block ∷ blocks)) (written_more block blocks) writers,
     )
 
 -- ---- logs
 
--- a log has bytes for its header, the messages, the calls, and a close mark for each writer
-log_short : (bytes : List ℕ) (taken : List (List Call)) (dictionary : List Message) (version : ℕ) (clocks : List Clock) (batch : ℕ) → LogOf bytes taken dictionary version clocks batch → length bytes ≤ 31 + sum_by message_size dictionary + sum_by (sum_by call_size) taken + length taken * 3
+-- a log has bytes for its header, the messages, the calls, the clocks, and a close mark for each writer
+log_short : (bytes : List ℕ) (taken : List (List Call)) (dictionary : List Message) (version : ℕ) (clocks : List Clock) (batch : ℕ) → LogOf bytes taken dictionary version clocks batch → length bytes ≤ 31 + sum_by message_size dictionary + sum_by (sum_by call_size) taken + length taken * 3 + length clocks * 25
 log_short bytes taken dictionary version clocks batch log =
     let header = log.header in
     let blocks = log.blocks in
@@ -306,6 +314,8 @@ log_short bytes taken dictionary version clocks batch log =
       few_len header.version,
       blocks_short header [] blocks log.file.block_bytes log.file.spelled log.valid.blocks_right,
       ap (sum_by message_size) log.messages_are,
+      ap length log.clocks_are,
+      length-append (clocks_of header blocks) log.unwritten,
       sum_by-append message_size (messages_of blocks) log.undefined,
       sum_of_both own marks writers,
       calls,
