@@ -10,7 +10,7 @@ use Rattle.log_dictionary.specs.BinaryEntries.{entry_bytes}
 use Rattle.arg_records.specs.declared.call.Call.{Call}
 use Rattle.checkpoint_io.specs.declared.header.Header.{Header}
 use Rattle.checkpoint_io.specs.Versions.{extent_head_len}
-use Rattle.checkpoint_io.specs.Blocks.{Block, Fragment, Extent, Close, SpellsEntries, SpellsBlocks, fragment_head_bytes, extent_head_bytes}
+use Rattle.checkpoint_io.specs.Blocks.{Block, Fragment, Extent, NewClock, Close, SpellsEntries, SpellsBlocks, fragment_head_bytes, extent_head_bytes}
 use Rattle.checkpoint_io.specs.Logs.{AreFragments}
 use Rattle.checkpoint_io.proofs.lemmas.BlockLaws.{le_length, length-extent_head_bytes}
 use Rattle.checkpoint_io.specs.declared.heads.TheConstants.{FRAGMENT_HEAD_LEN}
@@ -61,7 +61,8 @@ fragments_fit first header messages before (Fragment id front ∷ blocks) bytes 
     let here = entries_and_head_fit front fragment.entries fragment.some fragment.entries_spelled in
     let there = fragments_fit (first + length front) header back (before ++ Fragment id front ∷ []) blocks more others rest in
     omega (arith, ap length joined, length-append one more, ap length fragment.joined, head_long id (length front) fragment.entries, definitions_append front back messages parted, here, there)
-fragments_fit first header messages before (Extent writer entries ∷ blocks) bytes are spelled = absurd are
+fragments_fit first header messages before (Extent writer records ∷ blocks) bytes are spelled = absurd are
+fragments_fit first header messages before (NewClock clock ∷ blocks) bytes are spelled = absurd are
 fragments_fit first header messages before (Close writer ∷ blocks) bytes are spelled = absurd are
 
 part_fits : (messages : List Message) (n m : ℕ) → definitions_len (drop n (take m messages)) ≤ definitions_len messages
@@ -71,8 +72,8 @@ part_fits messages n m =
     omega (arith, sum_by-take-le f messages m, sum_by-take-drop f (take m messages) n)
 
 -- what a visit was to write
-pub visit_fits : {S : Type 0} (roamer : Roamer S) (writer : ℕ) (entries : List Call) (bytes : List ℕ) → AreBytesFor (roamer_messages roamer) (roamer_header roamer) (roamer_progress roamer).defined writer entries bytes → length bytes ≤ visit_len (roamer_messages roamer)
-visit_fits roamer writer entries bytes are =
+pub visit_fits : {S : Type 0} (roamer : Roamer S) (writer : ℕ) (records : List Call) (bytes : List ℕ) → AreBytesFor (roamer_messages roamer) (roamer_header roamer) (roamer_progress roamer).defined writer records bytes → length bytes ≤ visit_len (roamer_messages roamer)
+visit_fits roamer writer records bytes are =
     let messages = roamer_messages roamer in
     let defined = (roamer_progress roamer).defined in
     let fragments = fragments_fit defined (roamer_header roamer) _ [] are.spelled.blocks are.fragments are.spelled.are (are.spelled.spelled (roamer_header roamer) []) in
