@@ -37,7 +37,7 @@ fn push_header(log: &mut Vec<u8>) -> Result<(), AllocError> {
 }
 
 /// Puts a fragment that has this message alone behind the log.
-fn push_message(message: &Message, log: &mut Vec<u8>) -> Result<(), AllocError> {
+pub(crate) fn push_message(message: &Message, log: &mut Vec<u8>) -> Result<(), AllocError> {
     let mut head = [0; FRAGMENT_HEAD_LEN];
     put_fragment_head(0, 1, &mut head);
     log.extend_from_slice(&head)?;
@@ -101,7 +101,10 @@ fn ending(
 }
 
 /// How many blocks of a source are read, to its end or to a fault, or till there are very many.
-fn count_blocks<S: Source>(reader: &mut Reader, source: &mut S) -> (u64, Option<BlockFault>) {
+pub(crate) fn count_blocks<S: Source>(
+    reader: &mut Reader,
+    source: &mut S,
+) -> (u64, Option<BlockFault>) {
     for count in 0..10_000u64 {
         if reader.failed() {
             break;
@@ -130,7 +133,7 @@ fn read_blocks<S: Source>(
 }
 
 /// How a source is read to its end or to a fault.
-fn read_all<S: Source>(alloc: Global, source: &mut S) -> Result<String, AllocError> {
+pub(crate) fn read_all<S: Source>(alloc: Global, source: &mut S) -> Result<String, AllocError> {
     match Reader::start(alloc, source) {
         Ok(mut reader) => read_blocks(alloc, &mut reader, source),
         Err(fault) => ending(alloc, 0, 0, fault),
