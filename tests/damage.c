@@ -14,18 +14,21 @@
 #include <sys/wait.h>
 #include <unistd.h>
 
-enum { MAX_FILE = 4096, MESSAGES = 64, WRITERS = 64, ARGUMENTS = 64, MAX_TEXT = 4000, MAX_SIZE = 4095, FRAME = 512 };
+enum {
+    MAX_FILE = 4096, MESSAGES = 64, WRITERS = 1024, CLOCKS = 256, ARGUMENTS = 64, MAX_TEXT = 4000, MAX_SIZE = 4095,
+    FRAME = 512
+};
 
 enum cause {
     WHOLE, BAD_MAGIC, BAD_VERSION, BAD_HEADER, CUT, BAD_BLOCK, FRAGMENT_ORDER, BAD_ENTRY, UNKNOWN_WRITER, AFTER_CLOSE,
     BAD_LENGTH, RECORD_CUT, UNKNOWN_ID, BAD_NIBBLE, NOT_SHORTEST, STAMP_RANGE, STAMP_FALLS, ARG_RANGE, NUL_IN_TEXT,
-    TOO_LONG
+    TOO_LONG, TOO_LARGE, CLOCK_ORDER, CLOCK_LATE, BAD_RATE, CLOCK_COUNT
 };
 
 static const char *const names[] = {
     "whole", "BadMagic", "BadVersion", "BadHeader", "Cut", "BadBlock", "FragmentOrder", "BadEntry", "UnknownWriter",
     "AfterClose", "BadLength", "RecordCut", "UnknownId", "BadNibble", "NotShortest", "StampRange", "StampFalls",
-    "ArgRange", "NulInText", "TooLong",
+    "ArgRange", "NulInText", "TooLong", "TooLarge", "ClockOrder", "ClockLate", "BadRate", "ClockCount",
 };
 
 enum type { INT, UINT, LONG, ULONG, WIDTH, PRECISION, TEXT };
@@ -37,11 +40,16 @@ struct message {
     int count;
 };
 
-/* What stands in front of the block that is read. */
+/* What stands in front of the block that is read. `tick` is the header's, and `greatest` the greatest stamp of all. */
 static struct message messages[MESSAGES];
-static unsigned message_count, writer_count;
-static uint64_t tick, last[WRITERS];
+static unsigned message_count, writer_count, clock_count;
+static uint64_t version, tick, last_tick, greatest, last[WRITERS];
 static char closed[WRITERS];
+
+/* What goes by the version: the bytes of a writer, and the most writers and the longest body. */
+static int writer_bytes(void) { return version == 1 ? 1 : 2; }
+static unsigned most_writers(void) { return version == 1 ? 64 : WRITERS; }
+static unsigned longest_body(void) { return version == 1 ? 65536 : 1048576; }
 
 /* The bytes that are read, and where. */
 struct cursor {
@@ -235,7 +243,7 @@ static enum cause take_fragment(struct cursor *from) {
 }
 
 static enum cause take_writer(struct cursor *from, uint64_t *writer) {
-    if (!take(from, 1, writer)) return CUT;
+    if (!take(from, writer_bytes(), writer)) return CUT;
     if (*writer >= writer_count) return UNKNOWN_WRITER;
     return closed[*writer] ? AFTER_CLOSE : WHOLE;
 }
@@ -245,12 +253,26 @@ static enum cause take_extent(struct cursor *from) {
     enum cause cause = take_writer(from, &writer);
     if (cause) return cause;
     if (!take(from, 4, &length)) return CUT;
-    if (length < 1 || length > 65536) return BAD_LENGTH;
+    if (length < 1 || length > longest_body()) return BAD_LENGTH;
     if ((uint64_t)(from->end - from->at) < length) return CUT;
     struct cursor body = {from->at, from->at + length};
     from->at += length;
     while (!cause && body.at < body.end) cause = take_record(&body, &before, &last[writer]);
+    if (last[writer] > greatest) greatest = last[writer];
     return cause;
+}
+
+static enum cause take_clock(struct cursor *from) {
+    uint64_t from_tick, nanos, rate;
+    if (clock_count == CLOCKS) return CLOCK_COUNT;
+    if (!take(from, 8, &from_tick)) return CUT;
+    if (from_tick <= last_tick) return CLOCK_ORDER;
+    if (from_tick <= greatest) return CLOCK_LATE;
+    if (!take(from, 8, &nanos) || !take(from, 8, &rate)) return CUT;
+    if (!rate) return BAD_RATE;
+    clock_count++;
+    last_tick = from_tick;
+    return WHOLE;
 }
 
 static enum cause take_block(struct cursor *from) {
@@ -259,6 +281,7 @@ static enum cause take_block(struct cursor *from) {
     switch (*from->at++) {
     case 1: return take_fragment(from);
     case 2: return take_extent(from);
+    case 3: return version == 1 ? BAD_BLOCK : take_clock(from);
     case 4:
         cause = take_writer(from, &writer);
         if (!cause) closed[writer] = 1;
@@ -268,17 +291,19 @@ static enum cause take_block(struct cursor *from) {
 }
 
 static enum cause take_header(struct cursor *from) {
-    uint64_t version, count, nanos, rate;
+    uint64_t count, nanos, rate;
     for (const char *magic = "NLOG"; *magic; magic++) {
         if (from->at == from->end) return CUT;
         if (*from->at++ != (unsigned char)*magic) return BAD_MAGIC;
     }
     if (!take(from, 1, &version)) return CUT;
-    if (version != 1) return BAD_VERSION;
-    if (!take(from, 1, &count)) return CUT;
-    if (count < 1 || count > WRITERS) return BAD_HEADER;
+    if (version != 1 && version != 2) return BAD_VERSION;
+    if (!take(from, writer_bytes(), &count)) return CUT;
+    if (count < 1 || count > most_writers()) return BAD_HEADER;
     writer_count = (unsigned)count;
     if (!take(from, 8, &tick) || !take(from, 8, &nanos) || !take(from, 8, &rate)) return CUT;
+    last_tick = greatest = tick;
+    clock_count = 1;
     return rate ? WHOLE : BAD_HEADER;
 }
 
@@ -324,7 +349,7 @@ static int run(const char *program, const char *file, char *said, size_t room) {
 
 static int compare(const char *program, const unsigned char *bytes, size_t size, size_t at) {
     static const char file[] = "changed.log";
-    char said[4096], wanted[256] = "";
+    char said[8192], wanted[256] = "";
     size_t offset;
     enum cause cause = judge(bytes, size, &offset);
     FILE *out = fopen(file, "wb");
