@@ -97,10 +97,14 @@ static char *read_arguments(char *line, unsigned id, struct argument *arguments)
     return line;
 }
 
+/* The version of the log; a writer's number has as many bytes. */
+static unsigned version = 1;
+
 /* Writes the header, and the fragment of all messages. */
 static void write_front(FILE *log, unsigned writers, const unsigned long long clock[3]) {
-    fwrite("NLOG\1", 1, 5, log);
-    write_number(log, writers, 1);
+    fwrite("NLOG", 1, 4, log);
+    write_number(log, version, 1);
+    write_number(log, writers, version);
     for (size_t at = 0; at < 3; at++) write_number(log, clock[at], 8);
     if (!messages) return;
     write_number(log, 1, 1);
@@ -111,14 +115,14 @@ static void write_front(FILE *log, unsigned writers, const unsigned long long cl
 
 static void write_extent(FILE *log, unsigned writer, const unsigned char *body, size_t length) {
     write_number(log, 2, 1);
-    write_number(log, writer, 1);
+    write_number(log, writer, version);
     write_number(log, length, 4);
     fwrite(body, 1, length, log);
 }
 
 static void write_mark(FILE *log, unsigned writer) {
     write_number(log, 4, 1);
-    write_number(log, writer, 1);
+    write_number(log, writer, version);
 }
 
 /* Writes the record of a call of the message, whose stamp is so many ticks behind the one in front. */
