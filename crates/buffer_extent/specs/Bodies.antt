@@ -46,7 +46,7 @@ pub record BodyBreak (messages : List Message) (tick last : ℕ) (body : List �
 
 -- The bytes are a record's, and behind it a body of the others. The record is read again whatever stands behind it, and
 -- where more messages came: the least stamp may be any that isn't above its own, as the one before.
-pub record BeginsWith (messages : List Message) (before : ℕ) (call : Call) (others : List Call)
+pub record BeginsWithRecord (messages : List Message) (before : ℕ) (call : Call) (others : List Call)
     (bytes : List ℕ) : Type 0 where
   pub front : List ℕ
   pub back : List ℕ

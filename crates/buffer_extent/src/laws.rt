@@ -11,7 +11,7 @@ ghost use Rattle.buffer_extent.specs.declared.fault.BodyCause.{BodyCause};
 ghost use Rattle.buffer_extent.specs.declared.put.TheConstants.{RECORD_ROOM};
 ghost use Rattle.buffer_extent.specs.Rows.{BreaksSo};
 ghost use Rattle.buffer_extent.specs.Causes.{cause_number, cause_name};
-ghost use Rattle.buffer_extent.specs.Bodies.{body_at, SpellsRecord, IsBody, BodyBreak, BeginsWith};
+ghost use Rattle.buffer_extent.specs.Bodies.{body_at, SpellsRecord, IsBody, BodyBreak, BeginsWithRecord};
 ghost use Rattle.arg_records.specs.Calls.{IsCall};
 
 /// A call of id 0 at the stamp 1003, where the step counts from 1000, with the number 7.
@@ -107,7 +107,7 @@ pub fn bodies_are_read()
 pub fn records_are_read_again()
     ensures first { (messages : List Message) (tick last : ℕ) (call : Call) (others : List Call) (body : List ℕ)
         → IsBody messages tick last (call ∷ others) body
-        → BeginsWith messages tick call others body }
+        → BeginsWithRecord messages tick call others body }
     ensures more { (messages more : List Message) (tick last : ℕ) (records : List Call) (body : List ℕ)
         → IsBody messages tick last records body
         → IsBody (messages ++ more) tick last records body }

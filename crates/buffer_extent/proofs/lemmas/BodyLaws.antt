@@ -12,7 +12,7 @@ use Rattle.buffer_extent.specs.declared.fault.BodyCause.{BodyCause}
 use Rattle.buffer_extent.specs.declared.fault.BodyCause.TheVariants as causes
 use Rattle.nibble_pack.specs.Parsing.{Parse}
 use Rattle.buffer_extent.specs.Reading.{record_at}
-use Rattle.buffer_extent.specs.Bodies.{SpellsRecord, IsBody, BodyBreak, BeginsWith, records_to_end, body_at}
+use Rattle.buffer_extent.specs.Bodies.{SpellsRecord, IsBody, BodyBreak, BeginsWithRecord, records_to_end, body_at}
 use Rattle.nibble_pack.proofs.lemmas.Parsing.{given}
 use Rattle.nibble_pack.proofs.lemmas.Formats.{BeginWith, one_reading, one_spelling}
 use Rattle.buffer_extent.proofs.RecordForms.{SpellRecord, record_format}
@@ -206,7 +206,7 @@ still_body messages more tick last (call ∷ others) body is =
     (record_first (messages ++ more) tick last call others first.front first.back here (still_body messages more call.stamp call.stamp others first.back first.rest))
 
 -- what a body begins with is read again
-pub begins_with : (messages : List Message) (tick last : ℕ) (call : Call) (others : List Call) (body : List ℕ) → IsBody messages tick last (call ∷ others) body → BeginsWith messages tick call others body
+pub begins_with : (messages : List Message) (tick last : ℕ) (call : Call) (others : List Call) (body : List ℕ) → IsBody messages tick last (call ∷ others) body → BeginsWithRecord messages tick call others body
 begins_with messages tick last call others body is =
     let first = first_record messages tick last call others body is in
     let (spelled, right, rises) = first.here in
