@@ -11,7 +11,7 @@ use Rattle.buffer_extent.specs.declared.fault.BodyFault.{BodyFault}
 use Rattle.buffer_extent.specs.declared.fault.BodyFault.TheVariants.{Damaged, NoMemory}
 use Rattle.nibble_pack.specs.Parsing.{◌>>=◌}
 use Rattle.buffer_extent.specs.Records.{RecordBytes}
-use Rattle.buffer_extent.specs.Reading.{record_at}
+use Rattle.buffer_extent.specs.Reading.{types_of, header_of, head_at, arguments_at, record_at}
 
 -- the bytes spell the record, whose id names one of the messages; its step counts from the stamp before
 pub record SpellsRecord (messages : List Message) (before : ℕ) (call : Call) (bytes : List ℕ) : Type 0 where
@@ -55,6 +55,25 @@ pub record BeginsWithRecord (messages : List Message) (before : ℕ) (call : Cal
   pub again : (more : List Message) (least : ℕ) (rest : List ℕ) → least ≤ call.stamp
       → record_at (messages ++ more) before least (front ++ rest) ≡ Ok (call, rest)
   pub behind : IsBody messages call.stamp call.stamp others back
+
+-- The bytes stand behind what the call's record begins with: its arguments, and then a body of the others.
+pub record GoesOn (messages : List Message) (call : Call) (others : List Call) (bytes : List ℕ) : Type 0 where
+  pub right : IsCall messages call
+  pub front : List ℕ
+  pub back : List ℕ
+  pub joined : bytes ≡ front ++ back
+  pub arguments : arguments_at (types_of (slice_get messages call.id)) bytes ≡ Ok (call.args, back)
+  pub behind : IsBody messages call.stamp call.stamp others back
+
+-- The bytes are what the call's record begins with, which is read where no least stamp is asked for, and behind it what
+-- follows.
+pub record BeginsWithHead (messages : List Message) (before : ℕ) (call : Call) (others : List Call)
+    (bytes : List ℕ) : Type 0 where
+  pub front : List ℕ
+  pub back : List ℕ
+  pub joined : bytes ≡ front ++ back
+  pub head : head_at (length messages) before 0 bytes ≡ Ok (header_of call, back)
+  pub behind : GoesOn messages call others back
 
 -- ---- bodies as they are read
 

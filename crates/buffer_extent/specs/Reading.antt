@@ -178,6 +178,10 @@ value_at type (numbers.Signed z) bytes = Ok (values.Signed z, bytes)
 abbrev pub values_at : List ArgType → List Number → List ℕ → Parse BodyCause (List Value)
 values_at types numbers bytes = each_of causes.RecordCut value_at types numbers bytes
 
+-- the arguments of these types: the codes of their numbers, the numbers, and the texts
+abbrev pub arguments_at : List ArgType → List ℕ → Parse BodyCause (List Value)
+arguments_at types bytes = coded_numbers_at types bytes >>= (λ given. values_at types given.0 given.1)
+
 -- ---- records
 
 -- how many words of a frame the argument takes
@@ -202,6 +206,10 @@ start_at messages before least bytes = do
   given ← coded_numbers_at (types_of (slice_get messages head.0.id)) head.1
   provided (nat_le (2 + words_taken (types_of (slice_get messages head.0.id)) given.0) MAX_FRAME_WORDS) causes.TooLong
       ((head.0, given.0), given.1)
+
+-- what the record of a call begins with
+abbrev pub header_of : Call → RecordHeader
+header_of call = record { id = call.id; stamp = call.stamp }
 
 -- the call of a record that begins so and has these arguments
 abbrev pub call_of : RecordHeader → List Value → Call

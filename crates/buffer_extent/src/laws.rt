@@ -11,7 +11,7 @@ ghost use Rattle.buffer_extent.specs.declared.fault.BodyCause.{BodyCause};
 ghost use Rattle.buffer_extent.specs.declared.put.TheConstants.{RECORD_ROOM};
 ghost use Rattle.buffer_extent.specs.Rows.{BreaksSo};
 ghost use Rattle.buffer_extent.specs.Causes.{cause_number, cause_name};
-ghost use Rattle.buffer_extent.specs.Bodies.{body_at, SpellsRecord, IsBody, BodyBreak, BeginsWithRecord};
+ghost use Rattle.buffer_extent.specs.Bodies.{body_at, SpellsRecord, IsBody, BodyBreak, BeginsWithRecord, GoesOn, BeginsWithHead};
 ghost use Rattle.arg_records.specs.Calls.{IsCall};
 
 /// A call of id 0 at the stamp 1003, where the step counts from 1000, with the number 7.
@@ -111,6 +111,18 @@ pub fn records_are_read_again()
     ensures more { (messages more : List Message) (tick last : ℕ) (records : List Call) (body : List ℕ)
         → IsBody messages tick last records body
         → IsBody (messages ++ more) tick last records body }
+{}
+
+/// What the first record of a body begins with is read before its arguments, which are read later, also where more
+/// messages came.
+pub fn heads_are_read_first()
+    ensures first { (messages : List Message) (tick last : ℕ) (call : Call) (others : List Call) (body : List ℕ)
+        → All (λ byte. byte < 256) body
+        → IsBody messages tick last (call ∷ others) body
+        → BeginsWithHead messages tick call others body }
+    ensures more { (messages more : List Message) (call : Call) (others : List Call) (bytes : List ℕ)
+        → GoesOn messages call others bytes
+        → GoesOn (messages ++ more) call others bytes }
 {}
 
 /// A body of bytes is records that keep the rules, from its first byte to its last, or it breaks,

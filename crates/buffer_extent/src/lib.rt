@@ -20,9 +20,10 @@ pub use fault::{BodyCause, BodyFault};
 pub use judge::judge_body;
 pub use laws::{
     a_record_with_a_number, a_record_with_a_text, bodies_are_read, bodies_are_told_apart,
-    body_or_break, causes_have_numbers_and_names, no_record_begins_another, records_are_read_again,
-    records_break_by_these_causes, records_have_room, three_codes_in_two_bytes,
+    body_or_break, causes_have_numbers_and_names, heads_are_read_first, no_record_begins_another,
+    records_are_read_again, records_break_by_these_causes, records_have_room,
+    three_codes_in_two_bytes,
 };
 pub use put::{RECORD_ROOM, put_record};
 pub use take::RecordHeader;
-pub use unpack::{RecordRoom, unpack_record};
+pub use unpack::{NumberRoom, RecordRoom, unpack_arguments, unpack_head, unpack_record};

@@ -20,7 +20,7 @@ pub(crate) struct HeadCodes {
 }
 
 /// What a record begins with.
-#[derive(Clone, Copy)]
+#[derive(Clone, Copy, Debug)]
 pub struct RecordHeader {
     pub id: u32,
     pub stamp: u64,

@@ -1,8 +1,8 @@
 //! Unpacking one record, which takes no memory.
 
-ghost use Rattle.std.specs.Prelude.{◌≡◌, [], length, take, slice_get, MatchResult, Ok, Err};
+ghost use Rattle.std.specs.Prelude.{◌≡◌, ◌<◌, [], length, take, slice_get, MatchResult, Ok, Err};
 ghost use Rattle.printf_grammar.specs.Types.{values_of};
-ghost use Rattle.buffer_extent.specs.Reading.{types_of, start_at, call_of, record_at};
+ghost use Rattle.buffer_extent.specs.Reading.{types_of, head_at, arguments_at, start_at, call_of, record_at};
 
 use crate::fault::BodyCause;
 use crate::numbers::{NO_NUMBERS, Number, is_staged};
@@ -27,6 +27,21 @@ impl RecordRoom<'_> {
     {
         RecordRoom {
             args: ArrayVec::new(),
+            numbers: NO_NUMBERS,
+        }
+    }
+}
+
+/// Room for the numbers that stand for the arguments of one record.
+#[derive(Drop)]
+pub struct NumberRoom {
+    numbers: [Number; MAX_ARGUMENTS],
+}
+
+impl NumberRoom {
+    /// Room that serves for any number of records, one after another.
+    pub fn new() -> Self {
+        NumberRoom {
             numbers: NO_NUMBERS,
         }
     }
@@ -78,4 +93,47 @@ pub fn unpack_record<'a>(
     let types = dictionary.message(head.id).format.types();
     let rest = take_texts(types, &room.numbers[..types.len()], rest, &mut room.args)?;
     Ok((head, rest))
+}
+
+/// Unpacks what the record at the front of bytes begins with: its id and stamp, with the bytes behind them. Its step
+/// counts from `before`, and its stamp isn't below `least`.
+///
+/// # Errors
+///
+/// The bytes don't begin so.
+pub fn unpack_head<'a>(
+    dictionary: &Dictionary,
+    before: u64,
+    least: u64,
+    bytes: &'a [u8],
+) -> Result<(RecordHeader, &'a [u8]), BodyCause>
+    ensures { MatchResult result
+        (λ pair. head_at (length dictionary.now) before least bytes.now ≡ Ok (pair.0, pair.1.now))
+        (λ cause. head_at (length dictionary.now) before least bytes.now ≡ Err cause) }
+{
+    take_head(dictionary.len(), before, least, bytes)
+}
+
+/// Unpacks the arguments of a record of the message with this id, which stand at the front of bytes: sets `args` to
+/// them, and gives the bytes behind them. How long the frame of the call is isn't judged.
+///
+/// # Errors
+///
+/// The bytes don't begin with such arguments. What `args` holds then means nothing.
+pub fn unpack_arguments<'a>(
+    dictionary: &Dictionary,
+    id: u32,
+    bytes: &'a [u8],
+    room: &mut NumberRoom,
+    args: &mut ArrayVec<Arg<'a>, MAX_ARGUMENTS>,
+) -> Result<&'a [u8], BodyCause>
+    requires { id < length dictionary.now }
+    ensures { MatchResult result
+        (λ rest. arguments_at (types_of (slice_get dictionary.now id)) bytes.now
+        ≡ Ok (values_of args.new.items, rest.now))
+        (λ cause. arguments_at (types_of (slice_get dictionary.now id)) bytes.now ≡ Err cause) }
+{
+    let types = dictionary.message(id).format.types();
+    let rest = take_coded_numbers(types, bytes, &mut room.numbers)?;
+    take_texts(types, &room.numbers[..types.len()], rest, args)
 }

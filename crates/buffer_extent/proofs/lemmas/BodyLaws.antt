@@ -1,5 +1,5 @@
 -- A body is one list of records, or it breaks by one cause.
-use Rattle.std.proofs.Common.{◌≡◌, inl, inr, ℕ, zero, suc, ◌<◌, ◌≤◌, true, List, [], ◌∷◌, ◌++◌, length, Some, Ok, Err, refl, sym, ap, subst, ◌∙◌, append_assoc, append-nil, arith}
+use Rattle.std.proofs.Common.{◌≡◌, inl, inr, ℕ, zero, suc, ◌<◌, ◌≤◌, true, List, [], ◌∷◌, ◌++◌, length, Option, Some, Result, Ok, Err, refl, sym, ap, subst, ◌∙◌, append_assoc, append-nil, arith}
 use Rattle.std.specs.Prelude.{◌≢◌, ◌⊎◌, slice_get}
 use Rattle.std.proofs.Math.ListN.{get_or-append}
 use Rattle.std.proofs.lemmas.List.{length-append}
@@ -10,12 +10,15 @@ use Rattle.arg_records.specs.declared.call.Call.{Call}
 use Rattle.arg_records.specs.Calls.{IsCall, last_stamp}
 use Rattle.buffer_extent.specs.declared.fault.BodyCause.{BodyCause}
 use Rattle.buffer_extent.specs.declared.fault.BodyCause.TheVariants as causes
-use Rattle.nibble_pack.specs.Parsing.{Parse}
-use Rattle.buffer_extent.specs.Reading.{record_at}
-use Rattle.buffer_extent.specs.Bodies.{SpellsRecord, IsBody, BodyBreak, BeginsWithRecord, records_to_end, body_at}
-use Rattle.nibble_pack.proofs.lemmas.Parsing.{given}
-use Rattle.nibble_pack.proofs.lemmas.Formats.{BeginWith, one_reading, one_spelling}
-use Rattle.buffer_extent.proofs.RecordForms.{SpellRecord, record_format}
+use Rattle.nibble_pack.specs.Parsing.{Parse, ◌>>=◌}
+use Rattle.buffer_extent.specs.declared.take.RecordHeader.{RecordHeader}
+use Rattle.buffer_extent.specs.declared.numbers.Number.{Number}
+use Rattle.buffer_extent.specs.Reading.{header_of, head_at, coded_numbers_at, values_at, types_of, start_at, call_of, arguments_at, record_at}
+use Rattle.buffer_extent.specs.Bodies.{SpellsRecord, IsBody, BodyBreak, BeginsWithRecord, GoesOn, BeginsWithHead, records_to_end, body_at}
+use Rattle.nibble_pack.proofs.lemmas.Parsing.{given, found}
+use Rattle.nibble_pack.proofs.lemmas.Formats.{BeginWith, one_reading, one_spelling, then_format}
+use Rattle.buffer_extent.proofs.Arguments.{coded_format, values_format}
+use Rattle.buffer_extent.proofs.RecordForms.{Start, SpellRecord, head_format, record_format}
 
 -- ---- one reading
 
@@ -217,4 +220,66 @@ begins_with messages tick last call others body is =
       not_before = spelled.spelled.not_before;
       again = λ more least rest within. (record_format (messages ++ more) tick least).again call first.front rest (still_record messages more tick least call first.front (spelled, right, within));
       behind = first.rest;
+    }
+
+-- ---- heads and arguments
+
+-- the head of a record is read, and its arguments behind it
+record Parted (messages : List Message) (before least : ℕ) (call : Call) (rest bytes : List ℕ) : Type 0 where
+  pub back : List ℕ
+  pub head : head_at (length messages) before least bytes ≡ Ok (header_of call, back)
+  pub arguments : arguments_at (types_of (slice_get messages call.id)) back ≡ Ok (call.args, rest)
+
+same_ok : {A E : Type 0} (x y : A) (a b : Result A E) → a ≡ Ok x → b ≡ Ok y → a ≡ b → x ≡ y
+same_ok x y a b first second is = let same : Ok x ≡ Ok y = sym first ∙ is ∙ second in cc
+
+parted : (messages : List Message) (before least : ℕ) (call : Call) (rest bytes : List ℕ) → record_at messages before least bytes ≡ Ok (call, rest) → Parted messages before least call rest bytes
+parted messages before least call rest bytes is =
+    let start = found (start_at messages before least bytes) _ (call, rest) is in
+    let values = found (values_at (types_of (slice_get messages start.x.0.0.id)) start.x.0.1 start.x.1) _ (call, rest) start.second in
+    let head = found (head_at (length messages) before least bytes) _ start.x start.first in
+    let numbers = found (coded_numbers_at (types_of (slice_get messages head.x.0.id)) head.x.1) _ start.x head.second in
+    let made : ((head.x.0, numbers.x.0), numbers.x.1) ≡ start.x = (given _ _ _ start.x numbers.second).1 in
+    let whole = same_ok (call_of start.x.0.0 values.x.0, values.x.1) (call, rest) (Ok _) (Ok _) refl refl values.second in
+    let starts : head.x.0 ≡ header_of call = λ t. (ap (λ (s : Start × List ℕ). s.0.0) made ∙ ap (λ (p : Call × List ℕ). header_of p.0) whole) t in
+    let spelled = subst (λ (s : Start × List ℕ). values_at (types_of (slice_get messages s.0.0.id)) s.0.1 s.1 ≡ Ok values.x) (sym made) values.first in
+    let read : arguments_at (types_of (slice_get messages head.x.0.id)) head.x.1 ≡ Ok values.x =
+    ap (λ (r : Parse BodyCause (List Number)). r >>= (λ given. values_at (types_of (slice_get messages head.x.0.id)) given.0 given.1)) numbers.first ∙ spelled in
+    record {
+      back = head.x.1;
+      head = head.first ∙ ap (λ (h : RecordHeader). Ok (h, head.x.1)) starts;
+      arguments = subst (λ (h : RecordHeader). arguments_at (types_of (slice_get messages h.id)) head.x.1 ≡ Ok (call.args, rest)) starts
+          (read ∙ ap (λ (p : Call × List ℕ). Ok (p.0.args, p.1)) whole);
+    }
+
+-- what the first record of a body begins with is read first
+pub head_first : (messages : List Message) (tick last : ℕ) (call : Call) (others : List Call) (body : List ℕ) → AreBytes body → IsBody messages tick last (call ∷ others) body
+    → BeginsWithHead messages tick call others body
+head_first messages tick last call others body small is =
+    let first = first_record messages tick last call others body is in
+    let (spelled, right, rises) = first.here in
+    let parts = parted messages tick 0 call first.back body (ap (record_at messages tick 0) first.parts ∙ (record_format messages tick 0).again call first.front first.back (spelled, right, omega arith)) in
+    let types = types_of (slice_get messages call.id) in
+    let (front, joined, _) = (head_format (length messages) tick 0).taken body (header_of call) parts.back small parts.head in
+    let (between, rejoined, _) = (then_format (coded_format types) (values_format types)).taken parts.back call.args first.back (back_bytes body front parts.back joined small) parts.arguments in
+    record {
+      front = front;
+      back = parts.back;
+      joined = joined;
+      head = parts.head;
+      behind = record { right = right; front = between; back = first.back; joined = rejoined; arguments = parts.arguments; behind = first.rest };
+    }
+
+-- the same stands behind it where more messages come
+pub still_goes_on : (messages more : List Message) (call : Call) (others : List Call) (bytes : List ℕ) → GoesOn messages call others bytes → GoesOn (messages ++ more) call others bytes
+still_goes_on messages more call others bytes on =
+    let right = on.right in
+    let known = still_known messages more call.id right.message right.known in
+    record {
+      right = record { message = right.message; known = known; fits = right.fits; short = right.short };
+      front = on.front;
+      back = on.back;
+      joined = on.joined;
+      arguments = ap (λ (o : Option Message). arguments_at (types_of o) bytes) (known ∙ sym right.known) ∙ on.arguments;
+      behind = still_body messages more call.stamp call.stamp others on.back on.behind;
     }
