@@ -36,7 +36,7 @@ use Rattle.checkpoint_io.specs.Places.{UnreadBytes, LogPlace, with_front, log_pl
 use Rattle.checkpoint_io.specs.Entries.{TakesMessage, TakesMessages, TakesFragment}
 use Rattle.checkpoint_io.specs.Writers.{AreStatesOf}
 use Rattle.checkpoint_io.specs.Times.{TimeState, AreTimesOf}
-use Rattle.checkpoint_io.specs.NextBlocks.{TakesClose, TakesExtent, times_behind, TakesBlock}
+use Rattle.checkpoint_io.specs.NextBlocks.{TakesClose, TakesBody, TakesExtent, times_behind, TakesBlock}
 use Rattle.checkpoint_io.proofs.lemmas.ValidityLaws.{messages-push}
 use Rattle.checkpoint_io.proofs.ReadingForms.{new_by_test, clock_taken}
 use Rattle.checkpoint_io.proofs.StepLaws.{front_taken, of_all, of_behind, stands_then, stands_last, refused_then, refused_first, answers_then}
@@ -150,6 +150,21 @@ body_stands messages tick last len records from mid to left behind small same st
       found = λ rest. rw (so_many_again len causes.Cut body rest whole, body_again messages tick last records body is) refl;
     }
 
+-- a body that has bytes has a record, and its last stamp is told
+some_last : (messages : List Message) (tick last stamp : ℕ) (records : List Call) (body : List ℕ) → 1 ≤ length body → IsBody messages tick last records body → stamp ≡ last_stamp last records → (least : ℕ) → stamp ≡ last_stamp least records
+some_last messages tick last stamp [] body some is ends least = absurd (omega (arith, some, ap length is.spelled))
+some_last messages tick last stamp (call ∷ records) body some is ends least = ends
+
+-- the body that was judged is kept
+pub body_kept : (messages : List Message) (tick last stamp len : ℕ) (kept : List ℕ) (from mid to : UnreadBytes) (left behind : Told) → AreBytes (take len mid.bytes) → with_front mid.bytes behind ≡ with_front from.bytes left → mid.offset ≡ from.offset → 1 ≤ len → len ≤ length mid.bytes → (judged : (records : List Call) × IsBody messages tick last records (take len mid.bytes) × (stamp ≡ last_stamp last records)) → kept ≡ take len mid.bytes → to.bytes ≡ drop len mid.bytes → to.offset ≡ further mid.offset len
+    → TakesBody (sized_body_at messages tick last len) messages tick last stamp kept (log_place from left) (log_place to behind)
+body_kept messages tick last stamp len kept from mid to left behind small same start some long (records, is, ends) same_body moved offset = record {
+  records = records;
+  takes = body_stands messages tick last len records from mid to left behind small same start long is moved offset;
+  body = subst (IsBody messages tick last records) (sym same_body) is;
+  ends = some_last messages tick last stamp records (take len mid.bytes) (omega (arith, some, length-take-le len mid.bytes long)) is ends;
+}
+
 pub body_refused : (messages : List Message) (tick last len : ℕ) (cause : BodyCause) (from mid : UnreadBytes) (left behind : Told) → with_front mid.bytes behind ≡ with_front from.bytes left → len ≤ length mid.bytes → BodyBreak messages tick last (take len mid.bytes) cause → Refuses (sized_body_at messages tick last len) (log_place from left) behind (Damaged (causes.Body cause))
 body_refused messages tick last len cause from mid left behind same long breaks =
     of_behind mid.bytes (with_front from.bytes left) behind (λ rest. Unit {0}) _ (sym same) (λ rest _. there rest) (of_all behind _ (λ rest. tt))
@@ -162,41 +177,44 @@ body_refused messages tick last len cause from mid left behind same long breaks 
 
 -- ---- blocks
 
-pub fragment_block : (r : Result ReadBlock BlockFault) (header : Header) (before : List Block) (defined after : List Message) (states : List WriterState) (times : TimeState) (tag : ℕ) (from mid to : LogPlace) (left : Told) → tag ≡ 1 → defined ≡ messages_of before → AreStatesOf states header before → AreTimesOf times header before → StandsBetween (first_byte causes.Cut) tag from mid
-    → MatchResult r (λ block. TakesFragment defined block after mid to) (Refuses (fragment_at defined) mid left) → MatchResult r (λ block. TakesBlock header before block after states times from to) (Refuses (block_at header before) from left)
-fragment_block (Ok told) header before defined after states times tag from mid to left is known are times_are stands takes =
+pub fragment_block : (r : Result ReadBlock BlockFault) (header : Header) (before : List Block) (defined after : List Message) (states : List WriterState) (times : TimeState) (kept_body : List ℕ) (tag : ℕ) (from mid to : LogPlace) (left : Told) → tag ≡ 1 → defined ≡ messages_of before → AreStatesOf states header before → AreTimesOf times header before → StandsBetween (first_byte causes.Cut) tag from mid
+    → MatchResult r (λ block. TakesFragment defined block after mid to) (Refuses (fragment_at defined) mid left) → MatchResult r (λ block. TakesBlock header before block after states times kept_body from to) (Refuses (block_at header before) from left)
+fragment_block (Ok told) header before defined after states times kept_body tag from mid to left is known are times_are stands takes =
     let block = Fragment takes.first takes.messages in
     let behind : StandsBetween (fragment_at (messages_of before)) block mid to = subst (λ (m : List Message). StandsBetween (fragment_at m) block mid to) known takes.takes in
     record {
       block = block;
       tells = takes.is;
+      body = tt;
       takes = stands_then (first_byte causes.Cut) _ tag block from mid to stands (subst (λ (t : ℕ). StandsBetween (tagged_at header before t) block mid to) (sym is) behind);
       defined = takes.added ∙ ap (λ (m : List Message). m ++ takes.messages) known ∙ sym (messages-push before block);
       states = states_kept states header before block (λ writer. refl) (λ writer. refl) are;
       times_are = subst (λ (b : ReadBlock). AreTimesOf (times_behind b times) header (before ++ block ∷ [])) (sym takes.is) (times_kept times header before block refl refl times_are);
     }
-fragment_block (Err fault) header before defined after states times tag from mid to left is known are times_are stands refused =
+fragment_block (Err fault) header before defined after states times kept_body tag from mid to left is known are times_are stands refused =
     let behind : Refuses (fragment_at (messages_of before)) mid left fault = subst (λ (m : List Message). Refuses (fragment_at m) mid left fault) known refused in
     refused_then (first_byte causes.Cut) _ tag from mid left fault stands (subst (λ (t : ℕ). Refuses (tagged_at header before t) mid left fault) (sym is) behind)
 
-pub extent_block : (header : Header) (before : List Block) (defined : List Message) (writer : ℕ) (records : List Call) (after : List WriterState) (times : TimeState) (tag : ℕ) (from mid to : LogPlace) → tag ≡ 2 → defined ≡ messages_of before → AreTimesOf times header (before ++ Extent writer records ∷ []) → StandsBetween (first_byte causes.Cut) tag from mid → TakesExtent header before writer records after mid to → TakesBlock header before (read.Extent writer records) defined after times from to
-extent_block header before defined writer records after times tag from mid to is known times_are stands takes =
-    let block = Extent writer records in
+pub extent_block : (header : Header) (before : List Block) (defined : List Message) (writer stamp : ℕ) (kept_body : List ℕ) (after : List WriterState) (times : TimeState) (tag : ℕ) (from mid to : LogPlace) → tag ≡ 2 → defined ≡ messages_of before → StandsBetween (first_byte causes.Cut) tag from mid → (takes : TakesExtent header before defined writer stamp kept_body after mid to) → AreTimesOf times header (before ++ Extent writer takes.records ∷ []) → TakesBlock header before (read.Extent writer) defined after times kept_body from to
+extent_block header before defined writer stamp kept_body after times tag from mid to is known stands takes times_are =
+    let block = Extent writer takes.records in
     record {
       block = block;
       tells = refl;
+      body = (takes.last, takes.body);
       takes = stands_then (first_byte causes.Cut) _ tag block from mid to stands (subst (λ (t : ℕ). StandsBetween (tagged_at header before t) block mid to) (sym is) takes.takes);
       defined = known ∙ sym (messages-push before block ∙ append-nil (messages_of before));
       states = takes.states;
       times_are = times_are;
     }
 
-pub close_block : (header : Header) (before : List Block) (defined : List Message) (writer : ℕ) (after : List WriterState) (times : TimeState) (tag : ℕ) (from mid to : LogPlace) → tag ≡ 4 → defined ≡ messages_of before → AreTimesOf times header before → StandsBetween (first_byte causes.Cut) tag from mid → TakesClose header before writer after mid to → TakesBlock header before (read.Closed writer) defined after times from to
-close_block header before defined writer after times tag from mid to is known times_are stands takes =
+pub close_block : (header : Header) (before : List Block) (defined : List Message) (writer : ℕ) (after : List WriterState) (times : TimeState) (kept_body : List ℕ) (tag : ℕ) (from mid to : LogPlace) → tag ≡ 4 → defined ≡ messages_of before → AreTimesOf times header before → StandsBetween (first_byte causes.Cut) tag from mid → TakesClose header before writer after mid to → TakesBlock header before (read.Closed writer) defined after times kept_body from to
+close_block header before defined writer after times kept_body tag from mid to is known times_are stands takes =
     let block = Close writer in
     record {
       block = block;
       tells = refl;
+      body = tt;
       takes = stands_then (first_byte causes.Cut) _ tag block from mid to stands (subst (λ (t : ℕ). StandsBetween (tagged_at header before t) block mid to) (sym is) takes.takes);
       defined = known ∙ sym (messages-push before block ∙ append-nil (messages_of before));
       states = takes.states;
@@ -204,8 +222,8 @@ close_block header before defined writer after times tag from mid to is known ti
     }
 
 -- a clock, in a version that has them
-pub clock_block : (header : Header) (before : List Block) (defined : List Message) (clock : Clock) (states : List WriterState) (times : TimeState) (tag : ℕ) (from mid to : LogPlace) → tag ≡ 3 → has_clocks header.version ≡ true → defined ≡ messages_of before → AreStatesOf states header before → AreTimesOf times header before → StandsBetween (first_byte causes.Cut) tag from mid → StandsBetween (next_clock_at header before) clock mid to → TakesBlock header before (read.Clock clock) defined states times from to
-clock_block header before defined clock states times tag from mid to is has known are times_are stands takes =
+pub clock_block : (header : Header) (before : List Block) (defined : List Message) (clock : Clock) (states : List WriterState) (times : TimeState) (kept_body : List ℕ) (tag : ℕ) (from mid to : LogPlace) → tag ≡ 3 → has_clocks header.version ≡ true → defined ≡ messages_of before → AreStatesOf states header before → AreTimesOf times header before → StandsBetween (first_byte causes.Cut) tag from mid → StandsBetween (next_clock_at header before) clock mid to → TakesBlock header before (read.Clock clock) defined states times kept_body from to
+clock_block header before defined clock states times kept_body tag from mid to is has known are times_are stands takes =
     let block = NewClock clock in
     let here : StandsBetween (new_clock_at header before) block mid to = stands_last (next_clock_at header before) _ clock block mid to takes (λ rest. refl) in
     let behind : StandsBetween (tagged_at header before 3) block mid to = subst (λ (b : Bool). StandsBetween (λ bytes. if b then new_clock_at header before bytes else Err causes.BadBlock) block mid to) (sym has) here in
@@ -213,6 +231,7 @@ clock_block header before defined clock states times tag from mid to is has know
     record {
       block = block;
       tells = refl;
+      body = tt;
       takes = stands_then (first_byte causes.Cut) _ tag block from mid to stands (subst (λ (t : ℕ). StandsBetween (tagged_at header before t) block mid to) (sym is) behind);
       defined = known ∙ sym (messages-push before block ∙ append-nil (messages_of before));
       states = states_kept states header before block (λ writer. refl) (λ writer. refl) are;
@@ -233,9 +252,21 @@ refused_behind header before tag same from mid left fault is stands refused =
 -- ---- extents
 
 -- a length, and the body
-pub long_body_answer : (r : Result (List Call) BlockFault) (messages : List Message) (header : Header) (last len : ℕ) (from mid to : LogPlace) (left : Told) → 1 ≤ len → len ≤ most_body header.version → StandsBetween (low_first 4 causes.Cut) len from mid → ReadsAs (sized_body_at messages header.clock.tick last len) mid to left r → ReadsAs (long_body_at messages header last) from to left r
+long_body_answer : (r : Result (List Call) BlockFault) (messages : List Message) (header : Header) (last len : ℕ) (from mid to : LogPlace) (left : Told) → 1 ≤ len → len ≤ most_body header.version → StandsBetween (low_first 4 causes.Cut) len from mid → ReadsAs (sized_body_at messages header.clock.tick last len) mid to left r → ReadsAs (long_body_at messages header last) from to left r
 long_body_answer r messages header last len from mid to left some short stands answers =
     answers_then r (low_first 4 causes.Cut) _ (sized_body_at messages header.clock.tick last len) len from mid to left stands (λ rest. rw (le-leb 1 len some, le-leb len (most_body header.version) short) refl) answers
+
+pub long_body_kept : (r : Result ℕ BlockFault) (messages : List Message) (header : Header) (last len : ℕ) (kept : List ℕ) (from mid to : LogPlace) (left : Told) → 1 ≤ len → len ≤ most_body header.version → StandsBetween (low_first 4 causes.Cut) len from mid
+    → MatchResult r (λ stamp. TakesBody (sized_body_at messages header.clock.tick last len) messages header.clock.tick last stamp kept mid to) (Refuses (sized_body_at messages header.clock.tick last len) mid left)
+    → MatchResult r (λ stamp. TakesBody (long_body_at messages header last) messages header.clock.tick last stamp kept from to) (Refuses (long_body_at messages header last) from left)
+long_body_kept (Ok stamp) messages header last len kept from mid to left some short stands takes = record {
+  records = takes.records;
+  takes = long_body_answer (Ok takes.records) messages header last len from mid to left some short stands takes.takes;
+  body = takes.body;
+  ends = takes.ends;
+}
+long_body_kept (Err fault) messages header last len kept from mid to left some short stands refused =
+    long_body_answer (Err fault) messages header last len from mid to left some short stands refused
 
 -- what the reader keeps is what the blocks give
 same_body : (header : Header) (before : List Block) (messages : List Message) (last writer : ℕ) → messages ≡ messages_of before → last ≡ last_stamp header.clock.tick (records_of writer before) → (rest : List ℕ) → writer_records_at header before writer rest ≡ long_body_at messages header last rest

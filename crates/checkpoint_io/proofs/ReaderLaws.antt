@@ -24,7 +24,7 @@ use Rattle.checkpoint_io.specs.Places.{UnreadBytes, LogPlace, with_front, log_pl
 use Rattle.checkpoint_io.specs.Writers.{closed_kept, AreStatesOf}
 use Rattle.checkpoint_io.specs.Times.{TimeState, AreTimesOf}
 use Rattle.checkpoint_io.specs.Readers.{ReaderState, StandsFor}
-use Rattle.checkpoint_io.specs.NextBlocks.{Describes, times_behind, MayCount, TakesBlock, TakesNext, EndsThere, StopsAt}
+use Rattle.checkpoint_io.specs.NextBlocks.{Describes, HasBody, times_behind, MayCount, TakesBlock, TakesNext, EndsThere, StopsAt}
 use Rattle.checkpoint_io.proofs.lemmas.FileLaws.{with_front-both}
 use Rattle.checkpoint_io.proofs.lemmas.FrontLaws.{file_goes_on}
 use Rattle.checkpoint_io.proofs.lemmas.ValidityLaws.{goes_on, messages_differ}
@@ -84,7 +84,7 @@ may_count told (NewClock clock) times header before tells clocks right =
 may_count told (Close writer) times header before tells clocks right = subst (λ (b : ReadBlock). MayCount b times) (sym tells) tt
 
 pub takes_next : (old new : ReaderState) (taken : List ℕ) (before : StandsFor old taken) (told : ReadBlock) (times : TimeState) (mid : UnreadBytes) (left between behind : Told) → with_front mid.bytes between ≡ with_front old.waiting.bytes left → mid.offset ≡ old.waiting.offset → new.header ≡ old.header → (MayCount told times → new.times ≡ times_behind told times) → new.offset ≡ new.waiting.offset → new.waiting.offset ≤ 134217728 → times.clocks ≡ old.times.clocks
-    → TakesBlock old.header before.blocks told new.messages new.writers times (log_place mid between) (log_place new.waiting behind) → TakesNext old new taken before told left behind
+    → TakesBlock old.header before.blocks told new.messages new.writers times new.body (log_place mid between) (log_place new.waiting behind) → TakesNext old new taken before told left behind
 takes_next old new taken before told times mid left between behind same start header counts offset within clocks takes =
     let block = takes.block in
     let front = takes.takes.front in
@@ -96,6 +96,7 @@ takes_next old new taken before told times mid left between behind same start he
     record {
       block = block;
       tells = takes.tells;
+      body = subst (λ (h : Header). HasBody h.clock.tick new.messages block new.body) (sym header) takes.body;
       front = front;
       joined = sym same ∙ takes.takes.passes.ahead ∙ sym (with_front-both front new.waiting.bytes behind);
       stands = record {
@@ -155,9 +156,9 @@ cut_next old taken before mid left between behind same (bytes, split, reads) = (
 pub none_next : (header : Header) (blocks : List Block) (from : LogPlace) (left : Told) → TookFewer 1 from left → Refuses (block_at header blocks) from left ReadFault
 none_next header blocks from left (bytes, split, none) = (bytes, split, ap (block_at header blocks) (no_bytes bytes none))
 
-pub too_large : (old : ReaderState) (taken : List ℕ) (before : StandsFor old taken) (told : ReadBlock) (mid : UnreadBytes) (left between : Told) (to : LogPlace) (messages : List Message) (writers : List WriterState) (times : TimeState) → with_front mid.bytes between ≡ with_front old.waiting.bytes left → mid.offset ≡ old.waiting.offset → 134217728 < to.offset → TakesBlock old.header before.blocks told messages writers times (log_place mid between) to
+pub too_large : (old : ReaderState) (taken : List ℕ) (before : StandsFor old taken) (told : ReadBlock) (mid : UnreadBytes) (left between : Told) (to : LogPlace) (messages : List Message) (writers : List WriterState) (times : TimeState) (kept_body : List ℕ) → with_front mid.bytes between ≡ with_front old.waiting.bytes left → mid.offset ≡ old.waiting.offset → 134217728 < to.offset → TakesBlock old.header before.blocks told messages writers times kept_body (log_place mid between) to
     → IfSome (with_front (taken ++ old.waiting.bytes) left) (λ bytes. StopsAt bytes old.offset causes.TooLarge)
-too_large old taken before told mid left between to messages writers times same start large takes =
+too_large old taken before told mid left between to messages writers times kept_body same start large takes =
     in_file taken old.waiting.bytes left (λ bytes. StopsAt bytes old.offset causes.TooLarge)
     (subst (λ (t : Told). IfSome t (λ bytes. StopsAt (taken ++ bytes) old.offset causes.TooLarge)) (sym takes.takes.passes.ahead ∙ same) (there to.ahead))
   where

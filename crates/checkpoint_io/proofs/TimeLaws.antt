@@ -60,13 +60,9 @@ early_by_last tick least [] rising below = tt
 early_by_last tick least (call ∷ records) rising below =
     (omega (arith, below, not_above_last call.stamp records rising.1), early_by_last tick call.stamp records rising.1 below)
 
-from_zero : (least : ℕ) (records : List Call) → NeverFalls least records → NeverFalls 0 records
-from_zero least [] rising = tt
-from_zero least (call ∷ records) rising = (omega arith, rising.1)
-
 -- behind an extent
-pub times_go_on : (old new : TimeState) (header : Header) (before : List Block) (writer least : ℕ) (records : List Call) → new.clocks ≡ old.clocks → new.greatest ≡ max old.greatest (last_stamp 0 records) → NeverFalls least records → AreTimesOf old header before → AreTimesOf new header (before ++ Extent writer records ∷ [])
-times_go_on old new header before writer least records same greatest rising are =
+pub times_go_on : (old new : TimeState) (header : Header) (before : List Block) (writer least stamp : ℕ) (records : List Call) → new.clocks ≡ old.clocks → new.greatest ≡ max old.greatest stamp → ((before : ℕ) → stamp ≡ last_stamp before records) → NeverFalls least records → AreTimesOf old header before → AreTimesOf new header (before ++ Extent writer records ∷ [])
+times_go_on old new header before writer least stamp records same greatest ends rising are =
     let block : Block = Extent writer records in
     let all_are : all_records (before ++ block ∷ []) ≡ all_records before ++ records = all_records-push before block in
     record {
@@ -76,10 +72,10 @@ times_go_on old new header before writer least records same greatest rising are 
           let had = are.early tick above_old in (
             λ all.
                 let parts = all_parts (λ (call : Call). call.stamp < tick) (all_records before) records (early_in tick (all_records (before ++ block ∷ [])) (all_records before ++ records) all_are all) in
-                omega (arith, greatest, had.0 parts.0, last_early tick 0 records (omega (arith, above)) parts.1),
+                omega (arith, greatest, ends 0, had.0 parts.0, last_early tick 0 records (omega (arith, above)) parts.1),
             λ below.
                 early_in tick (all_records before ++ records) (all_records (before ++ block ∷ [])) (sym all_are)
-                (all_both (λ (call : Call). call.stamp < tick) (all_records before) records (had.1 (omega (arith, greatest, below))) (early_by_last tick 0 records (from_zero least records rising) (omega (arith, greatest, below)))),
+                (all_both (λ (call : Call). call.stamp < tick) (all_records before) records (had.1 (omega (arith, greatest, below))) (early_by_last tick least records rising (omega (arith, greatest, ends least, below)))),
           );
     }
 

@@ -1,6 +1,6 @@
 -- What is kept of the writers goes on with the blocks.
-use Rattle.std.proofs.Common.{◌≡◌, ◌≢◌, ℕ, ◌-◌, ◌<◌, ◌≤◌, ◌||◌, Bool, true, false, List, [], ◌∷◌, ◌++◌, length, map, get_or, Option, Some, None, refl, sym, ap, subst, ◌∙◌, inl, inr, cond, arith}
-use Rattle.std.specs.Prelude.{slice_get, slice_set}
+use Rattle.std.proofs.Common.{◌≡◌, ◌≢◌, ℕ, ◌<◌, ◌≤◌, ◌||◌, Bool, true, false, List, [], ◌∷◌, ◌++◌, length, map, get_or, refl, sym, ap, subst, ◌∙◌, inl, inr, cond, arith}
+use Rattle.std.specs.Prelude.{slice_set}
 use Rattle.std.specs.List.{list_any}
 use Rattle.std.proofs.lemmas.Bool.Decides.{eqb_tells}
 use Rattle.std.proofs.lemmas.Bool.{or_right}
@@ -19,30 +19,6 @@ use Rattle.checkpoint_io.proofs.lemmas.ValidityLaws.{records-push}
 pub last_stamp-append : (least : ℕ) (before records : List Call) → last_stamp least (before ++ records) ≡ last_stamp (last_stamp least before) records
 last_stamp-append least [] records = refl
 last_stamp-append least (call ∷ before) records = last_stamp-append call.stamp before records
-
-there_is_one : (first : Call) (records : List Call) → slice_get (first ∷ records) (length records) ≡ None → ⊥
-there_is_one first [] none = cc
-there_is_one first (second ∷ records) none = there_is_one second records none
-
-the_last : (first : Call) (records : List Call) (call : Call) → slice_get (first ∷ records) (length records) ≡ Some call → last_stamp first.stamp records ≡ call.stamp
-the_last first [] call some = ap (λ (e : Option Call). stamp_or e) some
-  where
-    stamp_or : Option Call → ℕ
-    stamp_or None = 0
-    stamp_or (Some e) = e.stamp
-the_last first (second ∷ records) call some = the_last second records call some
-
-one_less : (first : Call) (records : List Call) → length (first ∷ records) - 1 ≡ length records
-one_less first records = omega arith
-
--- no last record, so none at all
-pub none_last : (least : ℕ) (records : List Call) → slice_get records (length records - 1) ≡ None → last_stamp least records ≡ least
-none_last least [] none = refl
-none_last least (first ∷ records) none = absurd (there_is_one first records (ap (slice_get (first ∷ records)) (sym (one_less first records)) ∙ none))
-
-pub some_last : (least : ℕ) (records : List Call) (call : Call) → slice_get records (length records - 1) ≡ Some call → last_stamp least records ≡ call.stamp
-some_last least [] call some = cc
-some_last least (first ∷ records) call some = the_last first records call (ap (slice_get (first ∷ records)) (sym (one_less first records)) ∙ some)
 
 -- ---- the states
 
@@ -64,8 +40,8 @@ states_kept states header before block no_records unclosed are = record {
 }
 
 -- behind an extent
-pub states_go_on : (old new : List WriterState) (header : Header) (before : List Block) (w : ℕ) (records : List Call) → w < header.writers → length new ≡ length old → (w < length old → last_kept new w ≡ last_stamp (last_kept old w) records) → ((other : ℕ) → other ≢ w → last_kept new other ≡ last_kept old other) → ((other : ℕ) → closed_kept new other ≡ closed_kept old other) → AreStatesOf old header before → AreStatesOf new header (before ++ Extent w records ∷ [])
-states_go_on old new header before w records known many own others same are = record {
+pub states_go_on : (old new : List WriterState) (header : Header) (before : List Block) (w stamp : ℕ) (records : List Call) → w < header.writers → ((least : ℕ) → stamp ≡ last_stamp least records) → length new ≡ length old → (w < length old → last_kept new w ≡ stamp) → ((other : ℕ) → other ≢ w → last_kept new other ≡ last_kept old other) → ((other : ℕ) → closed_kept new other ≡ closed_kept old other) → AreStatesOf old header before → AreStatesOf new header (before ++ Extent w records ∷ [])
+states_go_on old new header before w stamp records known ends many own others same are = record {
   many = many ∙ are.many;
   lasts = lasts;
   closed = λ writer known. same writer ∙ are.closed writer known ∙ sym (closed-push writer before (Extent w records) refl);
@@ -76,8 +52,8 @@ states_go_on old new header before w records known many own others same are = re
         elim (eqb_tells w writer) [
           | inl is ↦
               let within : w < length old = omega (arith, known, are.many) in
-              let here : last_kept new writer ≡ last_stamp (last_kept old writer) records = subst (λ (n : ℕ). last_kept new n ≡ last_stamp (last_kept old n) records) is.1 (own within) in
-              here ∙ ap (λ (n : ℕ). last_stamp n records) (are.lasts writer fits) ∙ sym (last_stamp-append header.clock.tick (records_of writer before) records)
+              let here : last_kept new writer ≡ stamp = subst (λ (n : ℕ). last_kept new n ≡ stamp) is.1 (own within) in
+              here ∙ ends (last_stamp header.clock.tick (records_of writer before)) ∙ sym (last_stamp-append header.clock.tick (records_of writer before) records)
               ∙ ap (last_stamp header.clock.tick) (sym (records-push writer before (Extent w records) ∙ ap (λ (b : Bool). records_of writer before ++ cond b records []) is.0))
           | inr differs ↦
               others writer (λ e. differs.1 (sym e)) ∙ are.lasts writer fits

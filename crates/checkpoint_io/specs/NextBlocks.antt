@@ -4,7 +4,10 @@ use Rattle.nl_io.specs.Content.{Told, IsAtEnd}
 use Rattle.log_dictionary.specs.declared.clocks.TheConstants.{MAX_CLOCKS}
 use Rattle.log_dictionary.specs.declared.message.Message.{Message}
 use Rattle.log_dictionary.specs.Clocks.{last_tick}
+use Rattle.nibble_pack.specs.Parsing.{Parse}
 use Rattle.arg_records.specs.declared.call.Call.{Call}
+use Rattle.arg_records.specs.Calls.{last_stamp}
+use Rattle.buffer_extent.specs.Bodies.{IsBody}
 use Rattle.checkpoint_io.specs.declared.header.Header.{Header}
 use Rattle.checkpoint_io.specs.declared.writers.WriterState.{WriterState}
 use Rattle.checkpoint_io.specs.declared.block.Block.{Block as ReadBlock}
@@ -26,39 +29,62 @@ pub record TakesClose (header : Header) (before : List Block) (writer : ℕ) (af
   pub takes : StandsBetween (close_at header before) (Close writer) from to
   pub states : AreStatesOf after header (before ++ Close writer ∷ [])
 
--- the rest of the writer's extent stands between the two places, and what is kept is that behind it
-pub record TakesExtent (header : Header) (before : List Block) (writer : ℕ) (records : List Call)
-    (after : List WriterState) (from to : LogPlace) : Type 0 where
+-- A body stands between the two places as it is read, and this is it. It has a record, and the stamp is that of the last
+-- one, whatever stands in front of it.
+pub record TakesBody (read : List ℕ → Parse Cause (List Call)) (messages : List Message) (tick last stamp : ℕ)
+    (kept_body : List ℕ) (from to : LogPlace) : Type 0 where
+  pub records : List Call
+  pub takes : StandsBetween read records from to
+  pub body : IsBody messages tick last records kept_body
+  pub ends : (least : ℕ) → stamp ≡ last_stamp least records
+
+-- The rest of the writer's extent stands between the two places, and what is kept is that behind it, and its body. It
+-- has a record, and the stamp is that of the last one.
+pub record TakesExtent (header : Header) (before : List Block) (messages : List Message) (writer stamp : ℕ)
+    (kept_body : List ℕ) (after : List WriterState) (from to : LogPlace) : Type 0 where
+  pub records : List Call
   pub takes : StandsBetween (extent_at header before) (Extent writer records) from to
+  pub last : ℕ
+  pub body : IsBody messages header.clock.tick last records kept_body
+  pub ends : (least : ℕ) → stamp ≡ last_stamp least records
   pub states : AreStatesOf after header (before ++ Extent writer records ∷ [])
 
 -- what is told of a block that was read
 abbrev pub Describes : ReadBlock → Block → Type 0
 Describes told (Fragment first messages) = told ≡ read.Fragment first (length messages)
-Describes told (Extent writer records) = told ≡ read.Extent writer records
+Describes told (Extent writer records) = told ≡ read.Extent writer
 Describes told (NewClock clock) = told ≡ read.Clock clock
 Describes told (Close writer) = told ≡ read.Closed writer
+
+-- where the block is an extent, these are its body: records that are whole and keep the rules, of these messages
+abbrev pub HasBody : ℕ → List Message → Block → List ℕ → Type 0
+HasBody tick messages (Fragment first defined) body = ⊤
+HasBody tick messages (Extent writer records) body = (last : ℕ) × IsBody messages tick last records body
+HasBody tick messages (NewClock clock) body = ⊤
+HasBody tick messages (Close writer) body = ⊤
 
 -- what is kept of clocks and stamps once a clock that was read counts
 abbrev pub times_behind : ReadBlock → TimeState → TimeState
 times_behind (read.Fragment first count) times = times
-times_behind (read.Extent writer records) times = times
+times_behind (read.Extent writer) times = times
 times_behind (read.Clock clock) times = with_clock clock times
 times_behind (read.Closed writer) times = times
 
 -- a clock that was read may follow the others
 abbrev pub MayCount : ReadBlock → TimeState → Type 0
 MayCount (read.Fragment first count) times = ⊤
-MayCount (read.Extent writer records) times = ⊤
+MayCount (read.Extent writer) times = ⊤
 MayCount (read.Clock clock) times =
     (length times.clocks < MAX_CLOCKS) × (last_tick times.clocks < clock.tick) × (1 ≤ clock.rate)
 MayCount (read.Closed writer) times = ⊤
 
--- the block stands between the two places, and what is kept is that behind it, but for a clock, which doesn't count yet
+-- The block stands between the two places, and what is kept is that behind it, but for a clock, which doesn't count
+-- yet. The body of an extent is kept too.
 pub record TakesBlock (header : Header) (before : List Block) (told : ReadBlock) (messages : List Message)
-    (after : List WriterState) (times : TimeState) (from to : LogPlace) : Type 0 where
+    (after : List WriterState) (times : TimeState) (kept_body : List ℕ) (from to : LogPlace) : Type 0 where
   pub block : Block
   pub tells : Describes told block
+  pub body : HasBody header.clock.tick messages block kept_body
   pub takes : StandsBetween (block_at header before) block from to
   pub defined : messages ≡ messages_of (before ++ block ∷ [])
   pub states : AreStatesOf after header (before ++ block ∷ [])
@@ -66,11 +92,13 @@ pub record TakesBlock (header : Header) (before : List Block) (told : ReadBlock)
 
 -- ---- the reader
 
--- Behind what the reader stood for stands this block, and now the reader stands for it too.
+-- Behind what the reader stood for stands this block, and now the reader stands for it too. It has the body of an
+-- extent.
 pub record TakesNext (old new : ReaderState) (taken : List ℕ) (before : StandsFor old taken) (told : ReadBlock)
     (left behind : Told) : Type 0 where
   pub block : Block
   pub tells : Describes told block
+  pub body : HasBody new.header.clock.tick new.messages block new.body
   pub front : List ℕ
   pub joined : with_front old.waiting.bytes left ≡ with_front (front ++ new.waiting.bytes) behind
   pub stands : StandsFor new (taken ++ front)

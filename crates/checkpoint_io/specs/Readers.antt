@@ -18,6 +18,8 @@ pub record ReaderState : Type 0 where
   pub times : TimeState
   -- bytes that came from the source and weren't read yet
   pub waiting : UnreadBytes
+  -- the body of the extent that was read last
+  pub body : List ℕ
   -- where the next block begins, or the one that failed
   pub offset : ℕ
   pub failed : Bool

@@ -1,4 +1,3 @@
-use buffer_extent::Records;
 use log_dictionary::Clock;
 
 /// A block that was read.
@@ -6,8 +5,8 @@ use log_dictionary::Clock;
 pub enum Block {
     /// Messages, whose ids count from the first one.
     Fragment { first: u32, count: u32 },
-    /// Records of a writer.
-    Extent { writer: u32, records: Records },
+    /// Records of a writer. The reader has their body.
+    Extent { writer: u32 },
     /// A clock, which counts from its tick on.
     Clock(Clock),
     /// The mark that closes a writer.

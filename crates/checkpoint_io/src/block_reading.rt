@@ -1,14 +1,14 @@
 //! Reading a block of a log.
 
-ghost use Rattle.std.specs.Prelude.{◌≡◌, ◌<◌, ◌≤◌, ℕ, IfOk, List, length, take, IsErrOf, MatchResult};
+ghost use Rattle.std.specs.Prelude.{◌≡◌, ◌<◌, ◌≤◌, IfOk, List, length, take, IsErrOf, MatchResult};
 ghost use Rattle.nl_io.specs.Count.{Rose};
-ghost use Rattle.arg_records.specs.Calls.{NeverFalls};
+ghost use Rattle.checkpoint_io.specs.declared.version.TheConstants.{MAX_READ_BODY};
 ghost use Rattle.checkpoint_io.specs.Blocks.{Block as LogBlock, messages_of};
 ghost use Rattle.checkpoint_io.specs.Places.{log_place, Refuses, ReadsAs};
 ghost use Rattle.checkpoint_io.specs.Reading.{open_writer_at, close_at, sized_body_at, long_body_at, extent_at, block_at};
 ghost use Rattle.checkpoint_io.specs.Writers.{AreStatesOf};
 ghost use Rattle.checkpoint_io.specs.Times.{AreTimesOf};
-ghost use Rattle.checkpoint_io.specs.NextBlocks.{TakesClose, TakesExtent, TakesBlock};
+ghost use Rattle.checkpoint_io.specs.NextBlocks.{TakesClose, TakesBody, TakesExtent, TakesBlock};
 
 use crate::block::Block;
 use crate::cause::Cause;
@@ -22,7 +22,7 @@ use crate::steps::{take_byte, take_number};
 use crate::times::Times;
 use crate::version::{has_clocks, most_body, writer_len};
 use crate::writers::Writers;
-use buffer_extent::{BodyFault, Records, read_body};
+use buffer_extent::judge_body;
 use log_dictionary::Dictionary;
 use nl_io::Source;
 use std::alloc::Global;
@@ -81,20 +81,23 @@ fn read_close<S: Source>(
     Ok(writer)
 }
 
-// The records of a body of so many bytes.
+// Keeps a body of so many bytes, and tells the stamp of its last record.
 fn take_body<S: Source>(
-    alloc: Global,
     pending: &mut Pending,
     source: &mut S,
     dictionary: &Dictionary,
     tick: u64,
     last: u64,
     len: usize,
-) -> Result<Records, BlockFault>
-    ensures read { ReadsAs (sized_body_at dictionary.now tick last len)
-        (log_place pending.old (S.left source.old)) (log_place pending.new (S.left source.new)) (S.left source.new)
-        result }
-    ensures rising { IfOk result (λ records. NeverFalls last records) }
+    body: &mut Vec<u8>,
+) -> Result<u64, BlockFault>
+    requires { 1 ≤ len }
+    ensures few { length body.old.items ≤ MAX_READ_BODY → len ≤ MAX_READ_BODY → length body.new.items ≤ MAX_READ_BODY }
+    ensures read { MatchResult result
+        (λ stamp. TakesBody (sized_body_at dictionary.now tick last len) dictionary.now tick last stamp body.new.items
+        (log_place pending.old (S.left source.old)) (log_place pending.new (S.left source.new)))
+        (Refuses (sized_body_at dictionary.now tick last len)
+        (log_place pending.old (S.left source.old)) (S.left source.new)) }
     ensures read_fault { IsErrOf result BlockFault.ReadFault
         → Rose (S.faults source.old) (S.faults source.new) }
     ensures counted { ¬ (IsErrOf result BlockFault.ReadFault)
@@ -105,28 +108,35 @@ fn take_body<S: Source>(
     if !pending.fill(source, len)? {
         return Err(BlockFault::Damaged(Cause::Cut));
     }
-    let records = match read_body(alloc, &pending.bytes()[..len], dictionary, tick, last) {
-        Ok(records) => records,
-        Err(BodyFault::Damaged(cause)) => return Err(BlockFault::Damaged(Cause::Body(cause))),
-        Err(BodyFault::NoMemory) => return Err(BlockFault::NoMemory),
+    let bytes = &pending.bytes()[..len];
+    let stamp = match judge_body(bytes, dictionary, tick, last) {
+        Ok(stamp) => stamp,
+        Err(cause) => return Err(BlockFault::Damaged(Cause::Body(cause))),
+    };
+    body.clear();
+    let Ok(()) = body.extend_from_slice(bytes) else {
+        return Err(BlockFault::NoMemory);
     };
     pending.skip(len);
-    Ok(records)
+    Ok(stamp)
 }
 
-// The records behind the writer of an extent: their length, and the body.
+// Keeps the body behind the writer of an extent, which has its length in front, and tells the stamp of its last record.
 fn read_records<S: Source>(
-    alloc: Global,
     pending: &mut Pending,
     source: &mut S,
     dictionary: &Dictionary,
     header: &Header,
     last: u64,
-) -> Result<Records, BlockFault>
-    ensures read { ReadsAs (long_body_at dictionary.now header.now last)
-        (log_place pending.old (S.left source.old)) (log_place pending.new (S.left source.new)) (S.left source.new)
-        result }
-    ensures rising { IfOk result (λ records. NeverFalls last records) }
+    body: &mut Vec<u8>,
+) -> Result<u64, BlockFault>
+    ensures few { length body.old.items ≤ MAX_READ_BODY → length body.new.items ≤ MAX_READ_BODY }
+    ensures read { MatchResult result
+        (λ stamp. TakesBody (long_body_at dictionary.now header.now last) dictionary.now header.now.clock.tick last
+        stamp body.new.items
+        (log_place pending.old (S.left source.old)) (log_place pending.new (S.left source.new)))
+        (Refuses (long_body_at dictionary.now header.now last)
+        (log_place pending.old (S.left source.old)) (S.left source.new)) }
     ensures read_fault { IsErrOf result BlockFault.ReadFault
         → Rose (S.faults source.old) (S.faults source.new) }
     ensures counted { ¬ (IsErrOf result BlockFault.ReadFault)
@@ -139,32 +149,32 @@ fn read_records<S: Source>(
         return Err(BlockFault::Damaged(Cause::BadLength));
     }
     take_body(
-        alloc,
         pending,
         source,
         dictionary,
         header.clock.tick,
         last,
         len as usize,
+        body,
     )
 }
 
-// The writer and the records of the extent behind its tag. The stamp of the last one is kept.
+// The writer of the extent behind its tag, and the stamp of its last record, which is kept, as its body is.
 fn read_extent<S: Source>(
-    alloc: Global,
     pending: &mut Pending,
     source: &mut S,
     header: &Header,
     dictionary: &Dictionary,
     writers: &mut Writers,
-) -> Result<(u32, Records), BlockFault>
+    body: &mut Vec<u8>,
+) -> Result<(u32, u64), BlockFault>
+    ensures few { length body.old.items ≤ MAX_READ_BODY → length body.new.items ≤ MAX_READ_BODY }
     ensures read { (before : List LogBlock) → dictionary.now ≡ messages_of before
         → AreStatesOf writers.old header.now before
         → MatchResult result
-        (λ extent. TakesExtent header.now before extent.0 extent.1 writers.new
+        (λ extent. TakesExtent header.now before dictionary.now extent.0 extent.1 body.new.items writers.new
         (log_place pending.old (S.left source.old)) (log_place pending.new (S.left source.new)))
         (Refuses (extent_at header.now before) (log_place pending.old (S.left source.old)) (S.left source.new)) }
-    ensures rising { IfOk result (λ extent. (least : ℕ) × NeverFalls least extent.1) }
     ensures read_fault { IsErrOf result BlockFault.ReadFault
         → Rose (S.faults source.old) (S.faults source.new) }
     ensures counted { ¬ (IsErrOf result BlockFault.ReadFault)
@@ -174,13 +184,13 @@ fn read_extent<S: Source>(
 {
     let writer = take_writer(pending, source, header, writers)?;
     let last = writers.last(writer);
-    let records = read_records(alloc, pending, source, dictionary, header, last)?;
-    writers.go_on(writer, &records);
-    Ok((writer, records))
+    let stamp = read_records(pending, source, dictionary, header, last, body)?;
+    writers.go_on(writer, stamp);
+    Ok((writer, stamp))
 }
 
-// The block that stands ahead. What it defines, closes or says last is kept, but for a clock; in front of a
-// fault some of it may be.
+// The block that stands ahead. What it defines, closes or says last is kept, as its body is, but for a clock; in front
+// of a fault some of it may be.
 pub fn read_block<S: Source>(
     alloc: Global,
     pending: &mut Pending,
@@ -189,15 +199,17 @@ pub fn read_block<S: Source>(
     dictionary: &mut Dictionary,
     writers: &mut Writers,
     times: &mut Times,
+    body: &mut Vec<u8>,
 ) -> Result<Block, BlockFault>
     ensures read { (before : List LogBlock) → dictionary.old ≡ messages_of before
         → AreStatesOf writers.old header.now before → AreTimesOf times.old header.now before
         → MatchResult result
-        (λ block. TakesBlock header.now before block dictionary.new writers.new times.new
+        (λ block. TakesBlock header.now before block dictionary.new writers.new times.new body.new.items
         (log_place pending.old (S.left source.old)) (log_place pending.new (S.left source.new)))
         (Refuses (block_at header.now before) (log_place pending.old (S.left source.old)) (S.left source.new)) }
     ensures defined { take (length dictionary.old) dictionary.new ≡ dictionary.old }
     ensures clocks { times.new.clocks ≡ times.old.clocks }
+    ensures few { length body.old.items ≤ MAX_READ_BODY → length body.new.items ≤ MAX_READ_BODY }
     ensures read_fault { IsErrOf result BlockFault.ReadFault
         → Rose (S.faults source.old) (S.faults source.new) }
     ensures counted { ¬ (IsErrOf result BlockFault.ReadFault)
@@ -210,9 +222,9 @@ pub fn read_block<S: Source>(
         return read_fragment(alloc, pending, source, dictionary);
     }
     if tag == EXTENT {
-        let (writer, records) = read_extent(alloc, pending, source, header, dictionary, writers)?;
-        times.go_on(&records);
-        return Ok(Block::Extent { writer, records });
+        let (writer, last) = read_extent(pending, source, header, dictionary, writers, body)?;
+        times.go_on(last);
+        return Ok(Block::Extent { writer });
     }
     if tag == CLOCK && has_clocks(header.version) {
         let clock = read_clock(pending, source, times)?;

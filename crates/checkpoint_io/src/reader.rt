@@ -6,6 +6,7 @@ ghost use Rattle.nl_io.specs.Count.{Rose};
 ghost use Rattle.nl_io.specs.Content.{IsAtEnd};
 ghost use Rattle.checkpoint_io.specs.declared.cause.Cause.{Cause as LogCause};
 ghost use Rattle.checkpoint_io.specs.declared.cause.Cause.TheVariants.{Cut};
+ghost use Rattle.checkpoint_io.specs.declared.version.TheConstants.{MAX_READ_BODY};
 ghost use Rattle.checkpoint_io.specs.Places.{with_front, TookSuch};
 ghost use Rattle.checkpoint_io.specs.Readers.{StandsFor};
 ghost use Rattle.checkpoint_io.specs.Writers.{closed_kept};
@@ -38,11 +39,14 @@ pub struct Reader {
     writers: Writers,
     times: Times,
     pending: Pending,
+    body: Vec<u8>,
     offset: u64,
     failed: bool,
 }
 
 impl Model for Reader {
+    ghost use Rattle.std.specs.Prelude.{◌≤◌, length};
+    ghost use Rattle.checkpoint_io.specs.declared.version.TheConstants.{MAX_READ_BODY};
     ghost use Rattle.checkpoint_io.specs.Readers.{ReaderState};
 
     ghost Value = { ReaderState };
@@ -53,9 +57,12 @@ impl Model for Reader {
       writers = r.writers;
       times = r.times;
       waiting = r.pending;
+      body = r.body.items;
       offset = r.offset;
       failed = r.failed;
     } };
+
+    ghost invariant = { λ r. length r.body.items ≤ MAX_READ_BODY };
 }
 
 impl Reader {
@@ -93,6 +100,7 @@ impl Reader {
             writers,
             times,
             pending,
+            body: Vec::new(alloc),
             offset,
             failed: false,
         })
@@ -110,11 +118,11 @@ impl Reader {
         ensures cut { (taken : List ℕ) → StandsFor self.old taken → IsErrOf result BlockFault.ReadFault
             → TookSuch (λ bytes. IsCutAt (taken ++ bytes) self.old.offset)
             (with_front self.old.waiting.bytes (S.left source.old)) (S.left source.new) }
-        ensures offset { OnErr result (self.new.offset ≡ self.old.offset) }
+        ensures kept { OnErr result ((self.new.offset ≡ self.old.offset)
+            × (self.new.times.clocks ≡ self.old.times.clocks)) }
         ensures failed { self.new.failed ≡ self.old.failed }
         ensures header { self.new.header ≡ self.old.header }
         ensures defined { take (length self.old.messages) self.new.messages ≡ self.old.messages }
-        ensures clocks { OnErr result (self.new.times.clocks ≡ self.old.times.clocks) }
         ensures read_fault { IsErrOf result BlockFault.ReadFault
             → Rose (S.faults source.old) (S.faults source.new) }
         ensures counted { ¬ (IsErrOf result BlockFault.ReadFault)
@@ -133,6 +141,7 @@ impl Reader {
             &mut self.dictionary,
             &mut self.writers,
             &mut self.times,
+            &mut self.body,
         )?;
         let end = self.pending.offset();
         if end > MAX_LOG {
@@ -163,12 +172,11 @@ impl Reader {
         ensures cut { (taken : List ℕ) → StandsFor self.old taken → IsErrOf result BlockFault.ReadFault
             → TookSuch (λ bytes. IsCutAt (taken ++ bytes) self.old.offset)
             (with_front self.old.waiting.bytes (S.left source.old)) (S.left source.new) }
-        ensures offset { OnErr result (self.new.offset ≡ self.old.offset) }
-        ensures right { OnOk result (self.new.failed ≡ false) }
-        ensures failed { OnErr result (self.new.failed ≡ true) }
+        ensures kept { OnErr result ((self.new.offset ≡ self.old.offset)
+            × (self.new.times.clocks ≡ self.old.times.clocks)) }
+        ensures failed { OnOk result (self.new.failed ≡ false) × OnErr result (self.new.failed ≡ true) }
         ensures header { self.new.header ≡ self.old.header }
         ensures defined { take (length self.old.messages) self.new.messages ≡ self.old.messages }
-        ensures clocks { OnErr result (self.new.times.clocks ≡ self.old.times.clocks) }
         ensures read_fault { IsErrOf result BlockFault.ReadFault
             → Rose (S.faults source.old) (S.faults source.new) }
         ensures counted { ¬ (IsErrOf result BlockFault.ReadFault)
@@ -197,6 +205,14 @@ impl Reader {
         ensures { result.now ≡ self.now.messages }
     {
         &self.dictionary
+    }
+
+    /// The body of the extent that was read last.
+    pub fn body(&self) -> &[u8]
+        ensures same { result.now ≡ self.now.body }
+        ensures few { length result.now ≤ MAX_READ_BODY }
+    {
+        self.body.as_slice()
     }
 
     /// The clocks that were read so far: that of the header, and those of the blocks.

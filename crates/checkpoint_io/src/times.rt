@@ -3,11 +3,9 @@
 ghost use Rattle.std.specs.Prelude.{◌≡◌, ◌↔◌, ◌≤◌, max, [], ◌∷◌, length, IfOk, IsTrue};
 ghost use Rattle.log_dictionary.specs.declared.clocks.TheConstants.{MAX_CLOCKS};
 ghost use Rattle.log_dictionary.specs.Clocks.{last_tick as last_tick_of};
-ghost use Rattle.arg_records.specs.Calls.{last_stamp};
 ghost use Rattle.checkpoint_io.specs.NextBlocks.{times_behind, MayCount};
 
 use crate::block::Block;
-use buffer_extent::Records;
 use log_dictionary::{Clock, Clocks, MAX_CLOCKS};
 use std::alloc::{AllocError, Global};
 use std::marker::Model;
@@ -74,14 +72,12 @@ impl Times {
         self.greatest
     }
 
-    /// Records follow. Their stamps never fall.
-    pub fn go_on(&mut self, records: &Records)
+    /// Records follow, of which the last one has this stamp. None has a greater one.
+    pub fn go_on(&mut self, last: u64)
         ensures clocks { self.new.clocks ≡ self.old.clocks }
-        ensures greatest { self.new.greatest ≡ max self.old.greatest (last_stamp 0 records.now) }
+        ensures greatest { self.new.greatest ≡ max self.old.greatest last }
     {
-        if let Some(record) = records.last() {
-            self.greatest = self.greatest.max(record.stamp);
-        }
+        self.greatest = self.greatest.max(last);
     }
 
     /// A block was read. If it is a clock that may follow the others, it counts from now on.

@@ -11,6 +11,9 @@ pub const WRITTEN_VERSION: u8 = 1;
 /// The most bytes of an extent's body in the version that is written.
 pub const MAX_BODY: u32 = 65_536;
 
+/// At least as many bytes as an extent's body has, in any version.
+pub const MAX_READ_BODY: usize = 1_048_576;
+
 /// At least as many bytes as a header has, in any version.
 pub const MAX_HEADER_LEN: usize = 31;
 

@@ -1,10 +1,8 @@
 //! What is kept of the writers of a log while it is read.
 
 ghost use Rattle.std.specs.Prelude.{◌≡◌, ◌≢◌, ◌<◌, ℕ, true, false, length, IfOk};
-ghost use Rattle.checkpoint_io.specs.Validity.{last_stamp};
 ghost use Rattle.checkpoint_io.specs.Writers.{last_kept, closed_kept};
 
-use buffer_extent::Records;
 use std::alloc::{AllocError, Global};
 use std::marker::Model;
 
@@ -65,19 +63,17 @@ impl Writers {
         }
     }
 
-    /// Its records go on with these.
-    pub fn go_on(&mut self, writer: u32, records: &Records)
+    /// Its records go on, and the last one has this stamp.
+    pub fn go_on(&mut self, writer: u32, last: u64)
         ensures many { length self.new ≡ length self.old }
-        ensures own { writer < length self.old
-            → last_kept self.new writer ≡ last_stamp (last_kept self.old writer) records.now }
+        ensures own { writer < length self.old → last_kept self.new writer ≡ last }
         ensures others { (other : ℕ) → other ≢ writer → last_kept self.new other ≡ last_kept self.old other }
         ensures closed { (other : ℕ) → closed_kept self.new other ≡ closed_kept self.old other }
     {
-        if let Some(record) = records.last() {
-            if let Some(state) = self.states.get_mut(writer as usize) {
-                state.last = record.stamp;
-            }
-        }
+        let Some(state) = self.states.get_mut(writer as usize) else {
+            return;
+        };
+        state.last = last;
     }
 
     /// Closes it.

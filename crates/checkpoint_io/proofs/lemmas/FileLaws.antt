@@ -4,7 +4,9 @@ use Rattle.std.specs.Prelude.{IfSome}
 use Rattle.std.proofs.lemmas.List.{append-nil, length-append}
 use Rattle.nl_io.specs.Content.{Told, IsAtEnd}
 use Rattle.log_dictionary.proofs.lemmas.BinaryLaws.{same_fronts}
+use Rattle.log_dictionary.specs.declared.message.Message.{Message}
 use Rattle.arg_records.specs.declared.call.Call.{Call}
+use Rattle.buffer_extent.specs.Bodies.{IsBody}
 use Rattle.checkpoint_io.specs.declared.cause.Cause.{Cause}
 use Rattle.checkpoint_io.specs.declared.cause.Cause.TheVariants as causes
 use Rattle.checkpoint_io.specs.declared.header.Header.{Header}
@@ -15,7 +17,7 @@ use Rattle.checkpoint_io.specs.Validity.{Valid}
 use Rattle.checkpoint_io.specs.Fronts.{BeginsWithLog, Front, HasNoHeader, Break, IsCutAt}
 use Rattle.checkpoint_io.specs.Places.{with_front}
 use Rattle.checkpoint_io.specs.Readers.{ReaderState, StandsFor}
-use Rattle.checkpoint_io.specs.NextBlocks.{Describes, TakesNext, IsTooLarge}
+use Rattle.checkpoint_io.specs.NextBlocks.{Describes, HasBody, TakesNext, IsTooLarge}
 use Rattle.checkpoint_io.proofs.lemmas.FrontLaws.{whole_is_front, one_front, short_bytes}
 use Rattle.checkpoint_io.proofs.lemmas.BreakLaws.{front_of_break}
 use Rattle.checkpoint_io.proofs.lemmas.ValidityLaws.{AreRightAfter-split}
@@ -120,11 +122,15 @@ no_header bytes cause breaks = at_start (front_of_break bytes 0 cause breaks)
 
 -- ---- a block that was read
 
-pub is_extent : (writer : ℕ) (records : List Call) (block : Block) → Describes (read.Extent writer records) block → block ≡ Extent writer records
-is_extent writer records (Fragment first messages) tells = cc
-is_extent writer records (Extent w es) tells = cc
-is_extent writer records (NewClock clock) tells = cc
-is_extent writer records (Close w) tells = cc
+-- an extent, whose records the body has
+pub is_extent : (tick writer : ℕ) (messages : List Message) (body : List ℕ) (block : Block) → Describes (read.Extent writer) block → HasBody tick messages block body
+    → (records : List Call) × (block ≡ Extent writer records) × (last : ℕ) × IsBody messages tick last records body
+is_extent tick writer messages body (Fragment first defined) tells has = absurd cc
+is_extent tick writer messages body (Extent w records) tells has =
+    let same : writer ≡ w = cc in
+    (records, ap (λ (n : ℕ). Extent n records) (sym same), has.0, has.1)
+is_extent tick writer messages body (NewClock clock) tells has = absurd cc
+is_extent tick writer messages body (Close w) tells has = absurd cc
 
 -- the reader stood for what was taken, and stands behind the next block
 module _ (old new : ReaderState) (taken : List ℕ) (stood : StandsFor old taken) (told : ReadBlock) (left behind : Told) (next : TakesNext old new taken stood told left behind) where

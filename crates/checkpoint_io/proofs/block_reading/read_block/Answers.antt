@@ -7,7 +7,7 @@ use Rattle.checkpoint_io.proofs.block_reading.read_block.Goals as goal
 
 pub returns-then-tag-eq-FRAGMENT-clause-read : goal.returns-then-tag-eq-FRAGMENT-clause-read
 returns-then-tag-eq-FRAGMENT-clause-read g c before known are times =
-    fragment_block c.read_fragment.result c.args.header.now before c.args.dictionary.now c.read_fragment.new.dictionary c.args.writers.now c.args.times.now c.in_ok-tag.tag _ _ _ _ c.if-tag-eq-FRAGMENT.true known are times c.in_ok-tag.ensures.read c.read_fragment.ensures.read
+    fragment_block c.read_fragment.result c.args.header.now before c.args.dictionary.now c.read_fragment.new.dictionary c.args.writers.now c.args.times.now c.args.body.now.items c.in_ok-tag.tag _ _ _ _ c.if-tag-eq-FRAGMENT.true known are times c.in_ok-tag.ensures.read c.read_fragment.ensures.read
 
 pub returns-in_err-writer-clause-read : goal.returns-in_err-writer-clause-read
 returns-in_err-writer-clause-read g c before known are times =
@@ -16,10 +16,10 @@ returns-in_err-writer-clause-read g c before known are times =
 pub returns-then-tag-eq-EXTENT-clause-read : goal.returns-then-tag-eq-EXTENT-clause-read
 returns-then-tag-eq-EXTENT-clause-read g c before known are times =
     let writer = c.in_ok-writer.writer in
-    let records = c.in_ok-writer.records in
-    let rising = c.in_ok-writer.ensures.rising in
-    let timed = times_go_on c.args.times.now c.go_on.new.self c.args.header.now before writer rising.0 records c.go_on.ensures.clocks c.go_on.ensures.greatest rising.1 times in
-    extent_block c.args.header.now before c.args.dictionary.now writer records c.read_extent.new.writers c.go_on.new.self c.in_ok-tag.tag _ _ _ c.if-tag-eq-EXTENT.true known timed c.in_ok-tag.ensures.read (c.in_ok-writer.ensures.read before known are)
+    let last = c.in_ok-writer.last in
+    let takes = c.in_ok-writer.ensures.read before known are in
+    let timed = times_go_on c.args.times.now c.go_on.new.self c.args.header.now before writer takes.last last takes.records c.go_on.ensures.clocks c.go_on.ensures.greatest takes.ends takes.body.rising times in
+    extent_block c.args.header.now before c.args.dictionary.now writer last c.read_extent.new.body.items c.read_extent.new.writers c.go_on.new.self c.in_ok-tag.tag _ _ _ c.if-tag-eq-EXTENT.true known c.in_ok-tag.ensures.read takes timed
 
 pub returns-in_err-writer-2-clause-read : goal.returns-in_err-writer-2-clause-read
 returns-in_err-writer-2-clause-read g c before known are times =
@@ -27,7 +27,7 @@ returns-in_err-writer-2-clause-read g c before known are times =
 
 pub returns-then-tag-eq-CLOSE-clause-read : goal.returns-then-tag-eq-CLOSE-clause-read
 returns-then-tag-eq-CLOSE-clause-read g c before known are times =
-    close_block c.args.header.now before c.args.dictionary.now c.in_ok-writer-2.writer c.read_close.new.writers c.args.times.now c.in_ok-tag.tag _ _ _ c.if-tag-eq-CLOSE.true known times c.in_ok-tag.ensures.read (c.in_ok-writer-2.ensures.read before are)
+    close_block c.args.header.now before c.args.dictionary.now c.in_ok-writer-2.writer c.read_close.new.writers c.args.times.now c.args.body.now.items c.in_ok-tag.tag _ _ _ c.if-tag-eq-CLOSE.true known times c.in_ok-tag.ensures.read (c.in_ok-writer-2.ensures.read before are)
 
 pub returns-in_err-clock-clause-read : goal.returns-in_err-clock-clause-read
 returns-in_err-clock-clause-read g c before known are times =
@@ -37,4 +37,4 @@ returns-in_err-clock-clause-read g c before known are times =
 pub returns-then-has_clocks-clause-read : goal.returns-then-has_clocks-clause-read
 returns-then-has_clocks-clause-read g c before known are times =
     let has : has_clocks c.args.header.now.version ≡ true = search rules in
-    clock_block c.args.header.now before c.args.dictionary.now c.in_ok-clock.clock c.args.writers.now c.args.times.now c.in_ok-tag.tag _ _ _ c.if-tag-eq-CLOCK.true has known are times c.in_ok-tag.ensures.read (c.in_ok-clock.ensures.read c.args.header.now before times)
+    clock_block c.args.header.now before c.args.dictionary.now c.in_ok-clock.clock c.args.writers.now c.args.times.now c.args.body.now.items c.in_ok-tag.tag _ _ _ c.if-tag-eq-CLOCK.true has known are times c.in_ok-tag.ensures.read (c.in_ok-clock.ensures.read c.args.header.now before times)

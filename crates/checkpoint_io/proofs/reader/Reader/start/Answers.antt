@@ -9,7 +9,7 @@ use Rattle.checkpoint_io.proofs.reader.Reader.start.Goals as goal
 
 pub returns-clause-ok : goal.returns-clause-ok
 returns-clause-ok g c =
-    started (record { header = c.in_ok-header.header; messages = c.make-3.result; writers = c.in_ok-writers.writers; times = c.in_ok-times.times; waiting = c.read_header.new.pending; offset = c.offset-offset.result; failed = false })
+    started (record { header = c.in_ok-header.header; messages = c.make-3.result; writers = c.in_ok-writers.writers; times = c.in_ok-times.times; waiting = c.read_header.new.pending; body = c.new.result.items; offset = c.offset-offset.result; failed = false })
     c.none-pending.result _ _ c.none-pending.ensures.bytes c.none-pending.ensures.offset c.make-3.ensures (record { many = c.in_ok-writers.ensures.many; lasts = c.in_ok-writers.ensures.lasts; closed = λ writer known. c.in_ok-writers.ensures.closed writer }) (subst (λ (t : TimeState). AreTimesOf t c.in_ok-header.header []) (sym c.in_ok-times.ensures) (times_at_start c.in_ok-header.header.clock c.in_ok-header.header refl)) c.offset-offset.ensures c.in_ok-header.ensures.read
 
 pub returns-in_err-header-clause-damaged : goal.returns-in_err-header-clause-damaged

@@ -15,8 +15,8 @@ use Rattle.checkpoint_io.proofs.reader.Reader.take_block.Goals as goal
 pub returns-then-not-branch-clause-ok : goal.returns-then-not-branch-clause-ok
 returns-then-not-branch-clause-ok g c =
     let inside = c.self.inside in
-    let old : ReaderState = record { header = inside.header; messages = inside.dictionary; writers = inside.writers; times = inside.times; waiting = inside.pending; offset = inside.offset; failed = inside.failed } in
-    let new : ReaderState = record { header = inside.header; messages = inside.dictionary; writers = inside.writers; times = inside.times; waiting = c.fill.new.self; offset = inside.offset; failed = inside.failed } in
+    let old : ReaderState = record { header = inside.header; messages = inside.dictionary; writers = inside.writers; times = inside.times; waiting = inside.pending; body = inside.body.items; offset = inside.offset; failed = inside.failed } in
+    let new : ReaderState = record { header = inside.header; messages = inside.dictionary; writers = inside.writers; times = inside.times; waiting = c.fill.new.self; body = inside.body.items; offset = inside.offset; failed = inside.failed } in
     let left = g.S.Source.left c.args.source.now in
     let behind = g.S.Source.left c.fill.new.source in
     let short : length c.fill.new.self.bytes < 1 = search rules in
@@ -26,7 +26,7 @@ returns-then-not-branch-clause-ok g c =
 pub returns-in_err-block-clause-damaged : goal.returns-in_err-block-clause-damaged
 returns-in_err-block-clause-damaged g c =
     let inside = c.self.inside in
-    let old : ReaderState = record { header = inside.header; messages = inside.dictionary; writers = inside.writers; times = inside.times; waiting = inside.pending; offset = inside.offset; failed = inside.failed } in
+    let old : ReaderState = record { header = inside.header; messages = inside.dictionary; writers = inside.writers; times = inside.times; waiting = inside.pending; body = inside.body.items; offset = inside.offset; failed = inside.failed } in
     let left = g.S.Source.left c.args.source.now in
     let between = g.S.Source.left c.fill.new.source in
     let behind = g.S.Source.left c.read_block.new.source in
@@ -41,7 +41,7 @@ returns-in_err-block-clause-damaged g c =
 pub returns-in_err-block-clause-cut : goal.returns-in_err-block-clause-cut
 returns-in_err-block-clause-cut g c =
     let inside = c.self.inside in
-    let old : ReaderState = record { header = inside.header; messages = inside.dictionary; writers = inside.writers; times = inside.times; waiting = inside.pending; offset = inside.offset; failed = inside.failed } in
+    let old : ReaderState = record { header = inside.header; messages = inside.dictionary; writers = inside.writers; times = inside.times; waiting = inside.pending; body = inside.body.items; offset = inside.offset; failed = inside.failed } in
     let left = g.S.Source.left c.args.source.now in
     let between = g.S.Source.left c.fill.new.source in
     let behind = g.S.Source.left c.read_block.new.source in
@@ -55,7 +55,7 @@ returns-in_err-block-clause-cut g c =
 pub returns-in_err-fill-clause-cut : goal.returns-in_err-fill-clause-cut
 returns-in_err-fill-clause-cut g c =
     let inside = c.self.inside in
-    let old : ReaderState = record { header = inside.header; messages = inside.dictionary; writers = inside.writers; times = inside.times; waiting = inside.pending; offset = inside.offset; failed = inside.failed } in
+    let old : ReaderState = record { header = inside.header; messages = inside.dictionary; writers = inside.writers; times = inside.times; waiting = inside.pending; body = inside.body.items; offset = inside.offset; failed = inside.failed } in
     let left = g.S.Source.left c.args.source.now in
     let behind = g.S.Source.left c.fill.new.source in
     subst (λ (s : ReaderState). (taken : List ℕ) → StandsFor s taken → IsErrOf c.from_residual.result ReadFault → TookSuch (λ bytes. IsCutAt (taken ++ bytes) s.offset) (with_front s.waiting.bytes left) behind) c.self.view_is
@@ -66,7 +66,7 @@ returns-in_err-fill-clause-cut g c =
 pub returns-then-end-gt-MAX_LOG-clause-damaged : goal.returns-then-end-gt-MAX_LOG-clause-damaged
 returns-then-end-gt-MAX_LOG-clause-damaged g c taken cause stands is =
     let inside = c.self.inside in
-    let old : ReaderState = record { header = inside.header; messages = inside.dictionary; writers = inside.writers; times = inside.times; waiting = inside.pending; offset = inside.offset; failed = inside.failed } in
+    let old : ReaderState = record { header = inside.header; messages = inside.dictionary; writers = inside.writers; times = inside.times; waiting = inside.pending; body = inside.body.items; offset = inside.offset; failed = inside.failed } in
     let left = g.S.Source.left c.args.source.now in
     let between = g.S.Source.left c.fill.new.source in
     let to = log_place c.read_block.new.pending (g.S.Source.left c.read_block.new.source) in
@@ -74,14 +74,14 @@ returns-then-end-gt-MAX_LOG-clause-damaged g c taken cause stands is =
     subst (λ (s : ReaderState). StandsFor s taken → IfSome (with_front (taken ++ s.waiting.bytes) left) (λ bytes. StopsAt bytes s.offset cause)) c.self.view_is
     (λ before.
     subst (λ (k : Cause). IfSome (with_front (taken ++ old.waiting.bytes) left) (λ bytes. StopsAt bytes old.offset k)) (same_damage causes.TooLarge cause is)
-    (too_large old taken before c.in_ok-block.block c.fill.new.self left between to c.read_block.new.dictionary c.read_block.new.writers c.read_block.new.times c.in_ok-fill.ensures.same c.fill.ensures.offset large (c.in_ok-block.ensures.read before.blocks before.messages before.states before.times)))
+    (too_large old taken before c.in_ok-block.block c.fill.new.self left between to c.read_block.new.dictionary c.read_block.new.writers c.read_block.new.times c.read_block.new.body.items c.in_ok-fill.ensures.same c.fill.ensures.offset large (c.in_ok-block.ensures.read before.blocks before.messages before.states before.times)))
     stands
 
 pub returns-clause-ok : goal.returns-clause-ok
 returns-clause-ok g c =
     let inside = c.self.inside in
-    let old : ReaderState = record { header = inside.header; messages = inside.dictionary; writers = inside.writers; times = inside.times; waiting = inside.pending; offset = inside.offset; failed = inside.failed } in
-    let new : ReaderState = record { header = inside.header; messages = c.read_block.new.dictionary; writers = c.read_block.new.writers; times = c.add.new.self; waiting = c.read_block.new.pending; offset = c.offset-end.result; failed = inside.failed } in
+    let old : ReaderState = record { header = inside.header; messages = inside.dictionary; writers = inside.writers; times = inside.times; waiting = inside.pending; body = inside.body.items; offset = inside.offset; failed = inside.failed } in
+    let new : ReaderState = record { header = inside.header; messages = c.read_block.new.dictionary; writers = c.read_block.new.writers; times = c.add.new.self; waiting = c.read_block.new.pending; body = c.read_block.new.body.items; offset = c.offset-end.result; failed = inside.failed } in
     let left = g.S.Source.left c.args.source.now in
     let between = g.S.Source.left c.fill.new.source in
     let behind = g.S.Source.left c.read_block.new.source in
