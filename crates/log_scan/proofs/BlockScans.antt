@@ -15,7 +15,7 @@ use Rattle.checkpoint_io.specs.Validity.{Valid}
 use Rattle.checkpoint_io.specs.Fronts.{Break, IsCutAt}
 use Rattle.checkpoint_io.specs.Places.{with_front, TookSuch}
 use Rattle.checkpoint_io.specs.Readers.{ReaderState, StandsFor}
-use Rattle.checkpoint_io.specs.NextBlocks.{TakesNext, EndsThere, AnswersNext, StopsAt}
+use Rattle.checkpoint_io.specs.NextBlocks.{HasBody, TakesNext, EndsThere, AnswersNext, StopsAt}
 use Rattle.checkpoint_io.proofs.lemmas.FileLaws.{file_behind, file_on, file_begins, file_ends, offset_rises, offset_within}
 use Rattle.log_scan.specs.declared.scan.ScanEnd.{ScanEnd}
 use Rattle.log_scan.specs.declared.scan.ScanEnd.TheVariants.{Whole, Damaged, ReadFault}
@@ -54,9 +54,11 @@ module _ {V : Type 0} (has : V → Option LogPart → Type 0) (file : Told) (old
     abbrev pub bytes_behind : List ℕ
     bytes_behind = on.taken ++ next.front
 
-    pub stands_next : StandsNext part new.messages told next.block
+    pub stands_next : StandsNext part new told next.block
     stands_next = record {
       tells = next.tells;
+      header = same_header;
+      body = subst (λ (h : Header). HasBody h.clock.tick new.messages next.block new.body) same_header next.body;
       bytes = bytes_behind;
       file = subst (λ (blocks : List Block). FileOf old.header blocks bytes_behind) next.blocks (subst (λ (h : Header). FileOf h next.stands.blocks bytes_behind) same_header next.stands.file);
       valid = subst (Valid old.header) next.blocks (subst (λ (h : Header). Valid h next.stands.blocks) same_header next.stands.valid);

@@ -5,8 +5,7 @@ ghost use Rattle.checkpoint_io.specs.Blocks.{Block as LogBlock};
 ghost use Rattle.checkpoint_io.specs.Validity.{IsHeader};
 ghost use Rattle.log_scan.specs.Parts.{LogPart, header_alone, with_block, StandsNext};
 
-use checkpoint_io::{Block, Header};
-use log_dictionary::Dictionary;
+use checkpoint_io::{Block, Header, Reader};
 use std::alloc::AllocError;
 
 /// What a reader makes of a log, block by block.
@@ -24,11 +23,12 @@ pub trait BlockFold {
         ensures begun { OnOk result (has self.new (Some (header_alone header.now))) }
         ensures others { rest self.old self.new };
 
-    /// Takes the next block, which is right behind those before. The dictionary has the messages of all of them.
-    fn add(&mut self, dictionary: &Dictionary, block: Block) -> Result<(), AllocError>
-        requires { (part : LogPart) × (next : LogBlock) × StandsNext part dictionary.now block next
+    /// Takes the next block, which is right behind those before. The reader has the messages of all of them, and the
+    /// body of an extent.
+    fn add(&mut self, reader: &Reader, block: Block) -> Result<(), AllocError>
+        requires { (part : LogPart) × (next : LogBlock) × StandsNext part reader.now block next
             × has self.old (Some part) }
-        ensures added { (part : LogPart) (next : LogBlock) → StandsNext part dictionary.now block next
+        ensures added { (part : LogPart) (next : LogBlock) → StandsNext part reader.now block next
             → has self.old (Some part)
             → OnOk result (has self.new (Some (with_block part next))) }
         ensures others { rest self.old self.new };

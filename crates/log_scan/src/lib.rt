@@ -7,4 +7,4 @@ mod scanning;
 
 pub use fold::BlockFold;
 pub use scan::{Scan, ScanEnd};
-pub use scanning::scan_log;
+pub use scanning::{scan_log, scan_rest};

@@ -14,8 +14,13 @@ use checkpoint_io::{BlockFault, Reader};
 use nl_io::Source;
 use std::alloc::{AllocError, Global};
 
-// Reads the blocks behind a header, and folds them.
-fn scan_blocks<S: Source, F: BlockFold>(
+/// Reads the rest of a log, of which the reader has the front and the fold what that gives, and folds its blocks, up to
+/// its end or to a fault.
+///
+/// # Errors
+///
+/// There is no memory. Damage and a failed read are no errors here, but ends of the scan.
+pub fn scan_rest<S: Source, F: BlockFold>(
     reader: &mut Reader,
     source: &mut S,
     fold: &mut F,
@@ -27,6 +32,7 @@ fn scan_blocks<S: Source, F: BlockFold>(
         → F.has fold.old (Some (log_part reader.old read.blocks))
         → IfOk result (λ end. Scans F.has (with_front (taken ++ reader.old.waiting.bytes) (S.left source.old))
         (S.left source.new) fold.new (scan_of end reader.new)) }
+    ensures header { reader.new.header ≡ reader.old.header }
     ensures end { IsOkAnd result (λ end. end ≡ ScanEnd.Whole) → IsAtEnd (S.left source.new) }
     ensures read_fault { IsOkAnd result (λ end. end ≡ ScanEnd.ReadFault)
         → Rose (S.faults source.old) (S.faults source.new) }
@@ -38,7 +44,7 @@ fn scan_blocks<S: Source, F: BlockFold>(
 {
     loop {
         match reader.next_block(source) {
-            Ok(Some(block)) => fold.add(reader.dictionary(), block)?,
+            Ok(Some(block)) => fold.add(reader, block)?,
             Ok(None) => return Ok(ScanEnd::Whole),
             Err(BlockFault::Damaged(cause)) => {
                 return Ok(ScanEnd::Damaged {
@@ -98,7 +104,7 @@ pub fn scan_log<S: Source, F: BlockFold>(
         Err(fault) => return no_header(fault),
     };
     fold.begin(reader.header())?;
-    let end = scan_blocks(&mut reader, source, fold)?;
+    let end = scan_rest(&mut reader, source, fold)?;
     Ok(Scan {
         end,
         reader: Some(reader),
