@@ -2,6 +2,9 @@
 use Rattle.std.proofs.Common.{◌≡◌, ℕ, ◌+◌, ◌≤◌, List, [], ◌∷◌, ◌++◌, length, ap, sym, ◌∙◌, subst, arith}
 use Rattle.std.proofs.lemmas.List.{append-nil, length-append}
 use Rattle.log_dictionary.specs.declared.message.Message.{Message}
+use Rattle.buffer_extent.specs.Bodies.{IsBody}
+use Rattle.checkpoint_io.specs.declared.header.Header.{Header}
+use Rattle.checkpoint_io.specs.Readers.{ReaderState}
 use Rattle.arg_records.specs.declared.call.Call.{Call}
 use Rattle.checkpoint_io.specs.declared.block.Block.{Block as ReadBlock}
 use Rattle.checkpoint_io.specs.declared.block.Block.TheVariants as read
@@ -19,7 +22,7 @@ use Rattle.aggregation.proofs.Records.{numbers_few, numbers-push}
 
 -- ---- what a block adds
 
-module _ (part : LogPart) (messages : List Message) (told : ReadBlock) (block : Block) (next : StandsNext part messages told block) (tally : Tally) (is : IsTally part.blocks tally) where
+module _ (part : LogPart) (reader : ReaderState) (told : ReadBlock) (block : Block) (next : StandsNext part reader told block) (tally : Tally) (is : IsTally part.blocks tally) where
   abbrev behind : List Block
   behind = part.blocks ++ block ∷ []
 
@@ -32,12 +35,18 @@ module _ (part : LogPart) (messages : List Message) (told : ReadBlock) (block : 
 
   -- ---- an extent
 
-  module _ (writer : ℕ) (records : List Call) (named : told ≡ read.Extent writer records) where
+  module _ (writer : ℕ) (named : told ≡ read.Extent writer) where
+    extent : (records : List Call) × (block ≡ Extent writer records) × (last : ℕ) × IsBody reader.messages part.header.clock.tick last records reader.body
+    extent = is_extent part.header.clock.tick writer reader.messages reader.body block (subst (λ (t : ReadBlock). Describes t block) named next.tells) next.body
+
+    abbrev records : List Call
+    records = extent.0
+
     extent_is : block ≡ Extent writer records
-    extent_is = is_extent writer records block (subst (λ (t : ReadBlock). Describes t block) named next.tells)
+    extent_is = extent.1
 
     -- its records are no more than the most bytes that are read, with those before
-    pub few_records : tally.totals.count + length records ≤ 134217728
+    few_records : tally.totals.count + length records ≤ 134217728
     few_records =
         let blocks : List Block = part.blocks ++ Extent writer records ∷ [] in
         let file : FileOf part.header blocks next.bytes = subst (λ (b : Block). FileOf part.header (part.blocks ++ b ∷ []) next.bytes) extent_is next.file in
@@ -52,8 +61,21 @@ module _ (part : LogPart) (messages : List Message) (told : ReadBlock) (block : 
           next.within,
         )
 
-    pub extent_tallied : (changed : Tally) → IsSame changed → changed.defined ≡ tally.defined → Adds tally.totals changed.totals (numbers_in tally.id tally.nth records) (length records) → IsTally behind changed
-    extent_tallied changed same kept adds =
+    -- the reader has its body
+    own_body : (header : Header) (messages : List Message) (body : List ℕ) → header ≡ reader.header → messages ≡ reader.messages → body ≡ reader.body → IsBody messages header.clock.tick extent.2 records body
+    own_body header messages body header_is messages_are body_is =
+        subst (λ (b : List ℕ). IsBody messages header.clock.tick extent.2 records b) (sym body_is)
+        (subst (λ (ms : List Message). IsBody ms header.clock.tick extent.2 records reader.body) (sym messages_are)
+        (subst (λ (h : Header). IsBody reader.messages h.clock.tick extent.2 records reader.body) (sym (header_is ∙ next.header)) extent.3))
+
+    pub its_body : (header : Header) (messages : List Message) (body : List ℕ) → header ≡ reader.header → messages ≡ reader.messages → body ≡ reader.body
+        → (last : ℕ) × (own : List Call) × IsBody messages header.clock.tick last own body × (tally.totals.count + length own ≤ 134217728)
+    its_body header messages body header_is messages_are body_is = (extent.2, records, own_body header messages body header_is messages_are body_is, few_records)
+
+    pub extent_tallied : (header : Header) (messages : List Message) (body : List ℕ) (changed : Tally) → header ≡ reader.header → messages ≡ reader.messages → body ≡ reader.body → IsSame changed → changed.defined ≡ tally.defined
+        → ((last : ℕ) (own : List Call) → IsBody messages header.clock.tick last own body → Adds tally.totals changed.totals (numbers_in tally.id tally.nth own) (length own)) → IsTally behind changed
+    extent_tallied header messages body changed header_is messages_are body_is same kept each =
+        let adds : Adds tally.totals changed.totals (numbers_in tally.id tally.nth records) (length records) = each extent.2 records (own_body header messages body header_is messages_are body_is) in
         let numbers = numbers-push tally.id tally.nth part.blocks (Extent writer records) in
         let blocks : part.blocks ++ Extent writer records ∷ [] ≡ behind = ap (λ (b : Block). part.blocks ++ b ∷ []) (sym extent_is) in
         let defined : messages_of (part.blocks ++ Extent writer records ∷ []) ≡ messages_of part.blocks = messages-push part.blocks (Extent writer records) ∙ append-nil (messages_of part.blocks) in

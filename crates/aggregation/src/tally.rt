@@ -7,8 +7,7 @@ ghost use Rattle.aggregation.specs.Tallying.{IsTally};
 
 use crate::counting::add_records;
 use crate::totals::Totals;
-use checkpoint_io::{Block, Header};
-use log_dictionary::Dictionary;
+use checkpoint_io::{Block, Header, Reader};
 use log_scan::BlockFold;
 use std::alloc::AllocError;
 
@@ -54,12 +53,17 @@ impl BlockFold for Tally {
         Ok(())
     }
 
-    fn add(&mut self, dictionary: &Dictionary, block: Block) -> Result<(), AllocError> {
+    fn add(&mut self, reader: &Reader, block: Block) -> Result<(), AllocError> {
         match block {
-            Block::Extent { records, .. } => {
-                add_records(&records, self.id, self.nth, &mut self.totals);
-            }
-            Block::Fragment { .. } => self.defined = dictionary.len(),
+            Block::Extent { .. } => add_records(
+                reader.body(),
+                reader.dictionary(),
+                reader.header().clock.tick,
+                self.id,
+                self.nth,
+                &mut self.totals,
+            ),
+            Block::Fragment { .. } => self.defined = reader.dictionary().len(),
             Block::Clock(_) | Block::Closed { .. } => {}
         }
         Ok(())

@@ -1,28 +1,26 @@
-use Rattle.std.proofs.Common.{List, [], ◌∷◌, ◌++◌, length, refl, subst, arith}
-use Rattle.arg_records.specs.declared.call.Call.{Call}
-use Rattle.arg_records.proofs.lemmas.Walks.{walked, walked_all}
+use Rattle.std.proofs.Common.{List, [], ◌∷◌, subst}
+use Rattle.printf_grammar.specs.declared.argument.Arg.{Arg}
+use Rattle.printf_grammar.specs.Types.{values_of}
+use Rattle.buffer_extent.specs.Reading.{call_of}
 use Rattle.aggregation.specs.Totals.{numbers_in, Adds}
-use Rattle.aggregation.proofs.Sums.{adds_none}
-use Rattle.aggregation.proofs.Records.{adds_more, seen_few}
+use Rattle.aggregation.proofs.Records.{none_counted, one_counted, falls, all_counted}
 use Rattle.aggregation.proofs.counting.add_records.Goals as goal
 
-pub loop-call-init : goal.loop-call-init
-loop-call-init c = ([], c.into_iter-call-iterator.ensures.into_iter_gives, adds_none c.args.totals.now [] 0 c.requires.within refl)
+pub loop-head-init : goal.loop-head-init
+loop-head-init c = none_counted c.args.dictionary.now c.args.base c.args.body.now c.args.id c.args.nth c.args.totals.now c.requires.few c.requires.within
 
-pub with_record-requires : goal.with_record-requires
-with_record-requires c =
-    let (seen, joined, adds) = c.loop-call.invariant in
-    record { few = omega (arith, seen_few seen _ _ _ c.in-Some.call.now joined c.in-Some.ensures.steps, adds.count, c.requires.few); within = adds.within }
+pub loop-head-smaller : goal.loop-head-smaller
+loop-head-smaller c =
+    let l = c.loop-head in
+    falls c.args.dictionary.now c.args.base c.args.body.now c.args.id c.args.nth c.args.totals.now l.before l.rest.now l.totals l.invariant _ c.in-Ok.back.now c.in-Ok.ensures
 
-pub loop-call-preserved : goal.loop-call-preserved
-loop-call-preserved c =
-    let (seen, joined, adds) = c.loop-call.invariant in (
-      seen ++ c.in-Some.call.now ∷ [],
-      walked seen _ _ _ c.in-Some.call.now joined c.in-Some.ensures.steps,
-      adds_more c.args.totals.now c.loop-call.totals c.with_record.result c.args.id c.args.nth seen c.in-Some.call.now adds c.with_record.ensures,
-    )
+pub loop-head-preserved : goal.loop-head-preserved
+loop-head-preserved c =
+    let l = c.loop-head in
+    let adds = subst (λ (args : List Arg). Adds l.totals c.with_record.result (numbers_in c.args.id c.args.nth (call_of c.in-Ok.head (values_of args) ∷ [])) 1) c.as_slice.ensures.value c.with_record.ensures in
+    one_counted c.args.dictionary.now c.args.base c.args.body.now c.args.id c.args.nth c.args.totals.now l.before l.rest.now l.totals l.invariant _ c.in-Ok.back.now c.in-Ok.ensures c.with_record.result adds
 
 pub returns : goal.returns
 returns c =
-    let (seen, joined, adds) = c.loop-call.invariant in
-    subst (λ (records : List Call). Adds c.args.totals.now c.loop-call.totals (numbers_in c.args.id c.args.nth records) (length records)) (walked_all seen _ _ joined c.in-None.ensures.steps.0) adds
+    let l = c.loop-head in
+    all_counted c.args.dictionary.now c.args.base c.args.body.now c.args.id c.args.nth c.args.totals.now l.before l.rest.now l.totals l.invariant c.in_default.field-0 c.in_default.ensures

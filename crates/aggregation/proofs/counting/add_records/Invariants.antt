@@ -1,9 +1,11 @@
-use Rattle.std.proofs.Common.{◌≡◌, List, ◌++◌, length}
-use Rattle.std.specs.Slice.Iter.{iter_rest}
-use Rattle.arg_records.specs.declared.call.Call.{Call}
-use Rattle.aggregation.specs.Totals.{numbers_in, Adds}
+use Rattle.std.proofs.Common.{length}
+use Rattle.aggregation.proofs.Records.{AreCounted}
 use Rattle.aggregation.proofs.counting.add_records.Given as goal
 
--- the numbers of the records that were seen came behind those before
-abbrev pub invariant-loop-call : goal.invariant-loop-call
-invariant-loop-call l = (seen : List Call) × (seen ++ iter_rest l.call-iterator ≡ l.records) × Adds l.initial.totals l.totals (numbers_in l.id l.nth seen) (length seen)
+-- the numbers of the records that were unpacked came behind those before
+abbrev pub invariant-loop-head : goal.invariant-loop-head
+invariant-loop-head l = AreCounted l.dictionary l.base l.body l.id l.nth l.initial.totals l.before l.rest l.totals
+
+-- each record takes a byte
+abbrev pub decreases-loop-head : goal.decreases-loop-head
+decreases-loop-head l = length l.rest
