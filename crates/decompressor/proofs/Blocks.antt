@@ -13,7 +13,7 @@ use Rattle.checkpoint_io.proofs.lemmas.ValidityLaws.{records-push, AreRightAfter
 use Rattle.stamp_merge.specs.declared.merger.ListState.{ListState}
 use Rattle.direct_printf.specs.Lines.{in_order}
 use Rattle.decompressor.specs.Settling.{closed_by, settled_calls}
-use Rattle.decompressor.specs.Waiting.{records_at, HasHeads, MayStillCome, closed_behind, TakesRecords}
+use Rattle.decompressor.specs.Waiting.{QueueState, HasHeads, AreShown, MayStillCome, closed_behind, TakesRecords, IsAdded}
 use Rattle.decompressor.specs.Decompressors.{PrinterState, count_of, no_more_come, HasToPrint, HasTaken, HasLast}
 use Rattle.decompressor.proofs.Tests.{not_true, or_false}
 use Rattle.decompressor.proofs.WriterLists.{own}
@@ -41,12 +41,12 @@ module _ {state : PrinterState} {first : List Block} {block : Block} (read : Has
   all = first ++ block ∷ []
 
   -- the block may be added to what waits
-  pub may_add : {waiting : List (List Call)} → waiting ≡ state.waiting → MayStillCome (closed_by first) (length waiting) block × HasHeads (closed_by first) state.lists waiting
+  pub may_add : {waiting : List QueueState} → waiting ≡ state.waiting → MayStillCome (closed_by first) (length waiting) block × AreShown (closed_by first) state.reader waiting state.lists read.records
   may_add same = (
     λ w of.
         let both = may_come header first block (AreRightAfter-split header [] first (block ∷ []) read.valid.blocks_right).1.0 w of in
-        (omega (arith, both.0, read.are_waiting.count, ap length same), both.1),
-    subst (HasHeads (closed_by first) state.lists) (sym same) read.heads,
+        (omega (arith, both.0, read.are_waiting.count, read.shown.held.many, ap length same), both.1),
+    subst (λ (queues : List QueueState). AreShown (closed_by first) state.reader queues state.lists read.records) (sym same) read.shown,
   )
 
   -- ---- what is ready to be printed
@@ -62,9 +62,12 @@ module _ {state : PrinterState} {first : List Block} {block : Block} (read : Has
         no_more_calls was w,
       )
 
-  module _ {waiting changed shown : List (List Call)} {new : List ListState} (same : waiting ≡ state.waiting) (is : shown ≡ changed) (took : TakesRecords (closed_by first) block waiting changed new) where
+  module _ {changed shown : List QueueState} {new : List ListState} (is : shown ≡ changed) (added : IsAdded (closed_by first) block state.reader read.records changed new) where
+    took : TakesRecords (closed_by first) block read.records added.records new
+    took = added.takes
+
     pub ready : HasToPrint false state.reader first all shown new
-    ready = subst (λ (w : List (List Call)). HasToPrint false state.reader first all w new) (sym is) (record {
+    ready = subst (λ (w : List QueueState). HasToPrint false state.reader first all w new) (sym is) (record {
       more = block ∷ [];
       joined = refl;
       valid = read.valid;
@@ -73,17 +76,21 @@ module _ {state : PrinterState} {first : List Block} {block : Block} (read : Has
       known = read.known ∙ sym (append-nil (messages_of all));
       clocks = read.clocks;
       closed = read.closed;
+      records = added.records;
       are_waiting = record {
-        count = took.count ∙ ap length same ∙ read.are_waiting.count;
+        count = took.count ∙ read.are_waiting.count;
         each = λ w known.
             let n = count_of w (in_order (settled_calls header first)) in
             took.waiting w
-            ∙ ap (λ (records : List Call). records ++ block_records w block) (ap (λ (ws : List (List Call)). records_at ws w) same ∙ read.are_waiting.each w known)
+            ∙ ap (λ (records : List Call). records ++ block_records w block) (read.are_waiting.each w known)
             ∙ sym (drop-append-le n (records_of w first) (block_records w block) (few_printed w))
             ∙ ap (drop n) (sym (records-push w first block));
       };
-      heads = heads_by (closed_behind (closed_by first) block) new changed took.heads (no_more_come false all)
-          (λ w known. sym (list_any-append (closes w) first (block ∷ []) ∙ ap (λ (b : Bool). closed_by first w || b) (sym (or_false (closes w block) refl))));
+      shown = record {
+        held = added.held;
+        heads = heads_by (closed_behind (closed_by first) block) new added.records took.heads (no_more_come false all)
+            (λ w known. sym (list_any-append (closes w) first (block ∷ []) ∙ ap (λ (b : Bool). closed_by first w || b) (sym (or_false (closes w block) refl))));
+      };
     })
 
 -- ---- nothing more comes
@@ -98,9 +105,9 @@ most_few version = at (nat_eq version 1)
 module _ {state : PrinterState} {blocks : List Block} (last : HasLast state blocks) where
   -- few writers have records that wait
   pub few_wait : length state.waiting ≤ 1024
-  few_wait = omega (arith, last.are_waiting.count, last.valid.header_right.few_writers, most_few state.reader.header.version)
+  few_wait = omega (arith, last.are_waiting.count, last.shown.held.many, last.valid.header_right.few_writers, most_few state.reader.header.version)
 
-  pub all_ready_now : {new : List ListState} → HasHeads (λ writer. true) new state.waiting → HasToPrint true state.reader blocks blocks state.waiting new
+  pub all_ready_now : {new : List ListState} → HasHeads (λ writer. true) new last.records → HasToPrint true state.reader blocks blocks state.waiting new
   all_ready_now heads = record {
     more = [];
     joined = sym (append-nil blocks);
@@ -110,6 +117,7 @@ module _ {state : PrinterState} {blocks : List Block} (last : HasLast state bloc
     known = last.known;
     clocks = last.clocks;
     closed = λ w known. refl;
+    records = last.records;
     are_waiting = last.are_waiting;
-    heads = heads;
+    shown = record { held = last.shown.held; heads = heads };
   }

@@ -1,20 +1,22 @@
 -- What a merger has of the records that wait.
 use Rattle.std.proofs.Common.{◌≡◌, ◌≢◌, ℕ, ◌<◌, Bool, true, false, ◌||◌, eqb, cond, Some, None, List, [], ◌∷◌, ◌++◌, length, refl, ap, sym, subst, ◌∙◌, inl, inr, arith}
-use Rattle.std.specs.Prelude.{slice_get, slice_set, OnOk, Result, Ok, Err}
+use Rattle.std.specs.Prelude.{slice_set}
 use Rattle.std.proofs.lemmas.Bool.{eq-eqb, ne_eqb}
 use Rattle.std.proofs.lemmas.Bool.Decides.{eqb_tells}
+use Rattle.std.proofs.lemmas.Option.{same_Some}
 use Rattle.std.proofs.lemmas.List.{append-nil, get_or-set_same, get_or-set_other, set-get_or, length-set}
+use Rattle.log_dictionary.specs.declared.message.Message.{Message}
 use Rattle.arg_records.specs.declared.call.Call.{Call}
+use Rattle.buffer_extent.specs.declared.take.RecordHeader.{RecordHeader}
 use Rattle.checkpoint_io.specs.declared.block.Block.{Block as ReadBlock}
 use Rattle.checkpoint_io.specs.declared.block.Block.TheVariants as read
 use Rattle.checkpoint_io.specs.Blocks.{Block, Fragment, Extent, NewClock, Close}
-use Rattle.checkpoint_io.specs.Validity.{block_records, closes}
+use Rattle.checkpoint_io.specs.Validity.{block_records}
 use Rattle.checkpoint_io.specs.NextBlocks.{Describes}
-use Rattle.checkpoint_io.proofs.lemmas.FileLaws.{is_extent}
 use Rattle.stamp_merge.specs.declared.merger.ListState.{ListState}
 use Rattle.stamp_merge.specs.Mergers.{no_list, list_at, wants, with_head, with_close}
 use Rattle.stamp_merge.proofs.lemmas.Mergers.{wanting_is}
-use Rattle.decompressor.specs.Waiting.{list_of, records_at, HasHeads, MayStillCome, closed_behind, TakesRecords}
+use Rattle.decompressor.specs.Waiting.{QueueState, first_of, Holds, list_of, records_at, HasHeads, MayStillCome, closed_behind, TakesRecords}
 use Rattle.decompressor.proofs.Tests.{or_true, or_false}
 
 -- ---- one list
@@ -28,14 +30,18 @@ wanting_state list want =
 none_first : (records : List Call) → records ≡ [] → (closed : Bool) → list_of closed records ≡ record { head = None; closed = closed }
 none_first records none closed = ap (list_of closed) none
 
-first_shown : (closed : Bool) (records : List Call) (first : Call) → slice_get records 0 ≡ Some first → list_of closed records ≡ record { head = Some first.stamp; closed = false }
-first_shown closed [] first is = cc
-first_shown closed (logged ∷ records) first is = let same : logged ≡ first = cc in λ i. record { head = Some (same i).stamp; closed = false }
+first_shown : (closed : Bool) (records : List Call) (messages : List Message) (tick : ℕ) (queue : QueueState) (stamp : ℕ) → Holds messages tick queue records → first_of queue.bodies queue.head ≡ Some stamp → list_of closed records ≡ record { head = Some stamp; closed = false }
+first_shown closed [] messages tick queue stamp none is = let wrong = sym (ap (λ (bodies : List (List ℕ)). first_of bodies queue.head) none) ∙ is in absurd cc
+first_shown closed (first ∷ others) messages tick queue stamp holds is =
+    let shown = sym (ap (λ (bodies : List (List ℕ)). first_of bodies queue.head) holds.bodies_are) ∙ is in
+    let same : first.stamp ≡ stamp = ap (λ (h : RecordHeader). h.stamp) (sym holds.head_is) ∙ same_Some queue.head.stamp stamp shown in
+    ap (λ (s : ℕ). record { head = Some s; closed = false }) same
 
 module _ (lists : List ListState) (writer : ℕ) where
-  pub shown_some : (closed : Bool) (records : List Call) (first : Call) → wants (list_at lists writer) ≡ true → slice_get records 0 ≡ Some first → with_head lists writer first.stamp ≡ slice_set lists writer (list_of closed records)
-  shown_some closed records first want is =
-      ap (slice_set lists writer) (ap (λ (s : ListState). record s { head = Some first.stamp }) (wanting_state (list_at lists writer) want) ∙ sym (first_shown closed records first is))
+  pub shown_some : (closed : Bool) (records : List Call) (messages : List Message) (tick : ℕ) (queue : QueueState) (stamp : ℕ) → wants (list_at lists writer) ≡ true → Holds messages tick queue records → first_of queue.bodies queue.head ≡ Some stamp
+      → with_head lists writer stamp ≡ slice_set lists writer (list_of closed records)
+  shown_some closed records messages tick queue stamp want holds is =
+      ap (slice_set lists writer) (ap (λ (s : ListState). record s { head = Some stamp }) (wanting_state (list_at lists writer) want) ∙ sym (first_shown closed records messages tick queue stamp holds is))
 
   pub shown_closed : (closed : Bool) (records : List Call) → closed ≡ true → wants (list_at lists writer) ≡ true → records ≡ [] → with_close lists writer ≡ slice_set lists writer (list_of closed records)
   shown_closed closed records is_closed want none =
@@ -98,12 +104,6 @@ module _ (closed : ℕ → Bool) (lists : List ListState) (waiting : List (List 
 
 -- ---- a block
 
-pub is_fragment : (first count : ℕ) (block : Block) → Describes (read.Fragment first count) block → (writer : ℕ) → (block_records writer block ≡ []) × (closes writer block ≡ false)
-is_fragment first count (Fragment f messages) tells writer = (refl, refl)
-is_fragment first count (Extent w records) tells writer = cc
-is_fragment first count (NewClock clock) tells writer = cc
-is_fragment first count (Close w) tells writer = cc
-
 pub is_close : (writer : ℕ) (block : Block) → Describes (read.Closed writer) block → block ≡ Close writer
 is_close writer (Fragment first messages) tells = cc
 is_close writer (Extent w records) tells = cc
@@ -114,13 +114,6 @@ other_test : (v w : ℕ) → w ≢ v → eqb v w ≡ false
 other_test v w apart = ne_eqb v w (λ e. apart (sym e))
 
 module _ (closed : ℕ → Bool) (lists : List ListState) (waiting : List (List Call)) (heads : HasHeads closed lists waiting) where
-  pub takes_fragment : (block : Block) → ((writer : ℕ) → (block_records writer block ≡ []) × (closes writer block ≡ false)) → TakesRecords closed block waiting waiting lists
-  takes_fragment block none = record {
-    count = refl;
-    waiting = λ w. sym (ap (λ (es : List Call). records_at waiting w ++ es) (none w).0 ∙ append-nil (records_at waiting w));
-    heads = heads_by closed lists waiting heads (closed_behind closed block) (λ w known. or_false (closed w) (none w).1);
-  }
-
   pub takes_extent : (writer : ℕ) (records all : List Call) (changed : List (List Call)) (new : List ListState) → writer < length waiting → closed writer ≡ false → all ≡ records_at waiting writer ++ records
       → changed ≡ slice_set waiting writer all → new ≡ slice_set lists writer (list_of false all) → TakesRecords closed (Extent writer records) waiting changed new
   takes_extent writer records all changed new within is_open joined changed_is new_is = record {
@@ -166,18 +159,25 @@ module _ (closed : ℕ → Bool) (lists : List ListState) (waiting : List (List 
 
 -- ---- the writer of a block
 
-pub extent_may : (told : ReadBlock) (block : Block) (closed : ℕ → Bool) (count writer : ℕ) (records : List Call) → told ≡ read.Extent writer records → Describes told block → MayStillCome closed count block → (writer < count) × (closed writer ≡ false) × (block ≡ Extent writer records)
-extent_may told block closed count writer records named tells may =
-    let is = is_extent writer records block (subst (λ (t : ReadBlock). Describes t block) named tells) in
+is_extent : (writer : ℕ) (block : Block) → Describes (read.Extent writer) block → (records : List Call) × (block ≡ Extent writer records)
+is_extent writer (Fragment first messages) tells = cc
+is_extent writer (Extent w records) tells = (records, let same : w ≡ writer = cc in ap (λ (v : ℕ). Extent v records) same)
+is_extent writer (NewClock clock) tells = cc
+is_extent writer (Close w) tells = cc
+
+pub record MayAdd (block : Block) (closed : ℕ → Bool) (count writer : ℕ) : Type 0 where
+  pub records : List Call
+  pub known : writer < count
+  pub is_open : closed writer ≡ false
+  pub is : block ≡ Extent writer records
+
+pub extent_may : (told : ReadBlock) (block : Block) (closed : ℕ → Bool) (count writer : ℕ) → told ≡ read.Extent writer → Describes told block → MayStillCome closed count block → MayAdd block closed count writer
+extent_may told block closed count writer named tells may =
+    let (records, is) = is_extent writer block (subst (λ (t : ReadBlock). Describes t block) named tells) in
     let both = subst (MayStillCome closed count) is may writer refl in
-    (both.0, both.1, is)
+    record { records = records; known = both.0; is_open = both.1; is = is }
 
 pub close_may : (told : ReadBlock) (block : Block) (closed : ℕ → Bool) (count writer : ℕ) → told ≡ read.Closed writer → Describes told block → MayStillCome closed count block → (writer < count) × (block ≡ Close writer)
 close_may told block closed count writer named tells may =
     let is = is_close writer block (subst (λ (t : ReadBlock). Describes t block) named tells) in
     ((subst (MayStillCome closed count) is may writer refl).0, is)
-
--- both hold where a call succeeded
-pub on_both : {T E : Type 0} (A B C : Type 0) (r : Result T E) → (A → B → C) → OnOk r A → OnOk r B → OnOk r C
-on_both A B C (Ok x) then a b = then a b
-on_both A B C (Err e) then a b = tt

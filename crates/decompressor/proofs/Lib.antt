@@ -2,7 +2,6 @@ pub mod lemmas
 mod Endings
 mod RecordCalls
 mod Unclosed
-mod LeftFrom
 mod NextRead
 mod Outcomes
 mod Worked

@@ -1,12 +1,11 @@
 -- Later clocks change no line of a call that stands before them.
 use Rattle.std.proofs.Common.{◌≡◌, ℕ, ◌+◌, ◌<◌, ◌≤◌, List, [], ◌∷◌, ◌++◌, Option, Some, None, refl, ap, sym, subst, ◌∙◌, append_assoc, append-nil}
-use Rattle.std.specs.Prelude.{option_map, unwrap_or, slice_get, codes, Result, Ok, Err, OnOk}
+use Rattle.std.specs.Prelude.{option_map, unwrap_or, slice_get, codes}
 use Rattle.std.specs.List.{AllByRecursion, flat_map, filter_map, enumerate_from, cons_option, range_with_len}
 use Rattle.std.specs.Fmt.{decimal}
 use Rattle.std.proofs.lemmas.Bool.{le-leb}
 use Rattle.std.proofs.lemmas.List.Sorted.{All-permutation, IsPermutation-sym}
 use Rattle.std.proofs.lemmas.List.Elements.{All-from_recursion, recursion_from_All}
-use Rattle.printf_grammar.specs.declared.argument.Value.{Value}
 use Rattle.log_dictionary.specs.declared.clock.Clock.{Clock}
 use Rattle.log_dictionary.specs.declared.message.Message.{Message}
 use Rattle.log_dictionary.specs.Calls.{LogCall}
@@ -54,14 +53,6 @@ line_by_clock clocks clock call counts since =
     let alone : clock_at (clock ∷ []) call.stamp ≡ Some clock = rw (le-leb clock.tick call.stamp since) refl in
     let time : Time (clock ∷ []) call.stamp ≡ Time clocks call.stamp = ap (λ (found : Option Clock). unwrap_or (option_map (clock_time call.stamp) found) 0) (alone ∙ sym counts) in
     line_has_time (clock ∷ []) call ∙ ap (λ (t : ℕ). line_at t call) time ∙ sym (line_has_time clocks call)
-
--- so it is of what was made where that succeeded
-pub line_by_all : {T E : Type 0} (made : Result T E) (clocks : List Clock) (clock : Clock) (writer stamp : ℕ) (args : List Value) (Is : Message → Type 0) (line : List ℕ) → clock_at clocks stamp ≡ Some clock → clock.tick ≤ stamp
-    → OnOk made ((message : Message) (ordinal : ℕ) → Is message → line ≡ Line (clock ∷ []) (record { writer = writer; ordinal = ordinal; stamp = stamp; message = message; args = args }))
-    → OnOk made ((message : Message) (ordinal : ℕ) → Is message → line ≡ Line clocks (record { writer = writer; ordinal = ordinal; stamp = stamp; message = message; args = args }))
-line_by_all (Ok x) clocks clock writer stamp args Is line counts since said =
-    λ message ordinal is. said message ordinal is ∙ line_by_clock clocks clock (record { writer = writer; ordinal = ordinal; stamp = stamp; message = message; args = args }) counts since
-line_by_all (Err e) clocks clock writer stamp args Is line counts since said = tt
 
 -- ---- calls in front of a tick
 

@@ -1,6 +1,6 @@
 -- The text of records that are printed one after the other.
-use Rattle.std.proofs.Common.{◌≡◌, ◌≢◌, ℕ, ◌+◌, ◌<◌, ◌≤◌, Bool, true, false, Some, List, [], ◌∷◌, ◌++◌, length, drop, Result, Ok, Err, refl, ap, sym, subst, ◌∙◌, append_assoc, arith}
-use Rattle.std.specs.Prelude.{slice_get, slice_set, get_or, position, All, sum_by}
+use Rattle.std.proofs.Common.{◌≡◌, ℕ, ◌+◌, ◌<◌, ◌≤◌, Bool, true, false, Some, List, [], ◌∷◌, ◌++◌, length, Result, Ok, Err, refl, ap, sym, subst, ◌∙◌, append_assoc, arith}
+use Rattle.std.specs.Prelude.{slice_get, slice_set, get_or, position, All}
 use Rattle.std.specs.List.{AllByRecursion}
 use Rattle.std.specs.Result.{IsErrAnd}
 use Rattle.std.proofs.lemmas.List.{append-nil, length-append, get_or_default}
@@ -28,10 +28,11 @@ use Rattle.decompressor.specs.declared.fault.DecodeFault.{DecodeFault}
 use Rattle.decompressor.specs.declared.fault.DecodeFault.TheVariants.{WriteFault, NoMemory}
 use Rattle.decompressor.specs.Decompression.{all_calls}
 use Rattle.decompressor.specs.Settling.{closed_by, settled_calls, settled_text}
-use Rattle.decompressor.specs.Waiting.{list_of}
+use Rattle.decompressor.specs.Waiting.{QueueState, HoldsFirst, Holds, list_of, no_queue, queue_at, AreHeld}
 use Rattle.decompressor.specs.Decompressors.{AreWaiting, no_more_come, ready_calls, ready_text, HasToPrint, HasMore, CutsMore, PrintsReady}
 use Rattle.decompressor.specs.Printing.{CutsText}
 use Rattle.decompressor.proofs.RecordCalls.{IsCallOf, line_is}
+use Rattle.decompressor.proofs.Queued.{held_set}
 use Rattle.decompressor.proofs.Tests.{either_false}
 use Rattle.decompressor.proofs.Rising.{all_as}
 use Rattle.decompressor.proofs.WriterLists.{IsOf}
@@ -39,7 +40,7 @@ use Rattle.decompressor.proofs.Settled.{IsReached}
 use Rattle.decompressor.proofs.Printed.{HasCalls, IsPrinted, rest_mine, settled_later, settled_go_on, later, goes_on, settled_printed}
 use Rattle.decompressor.proofs.Calls.{has_calls}
 use Rattle.decompressor.proofs.Growing.{printed_on, front_valid, in_turn, text_is, lines_go_on, settled_lines}
-use Rattle.decompressor.proofs.Turns.{IsAt, calls_there, Takes, takes, taken, wishes, fewer, more_is, all_ready}
+use Rattle.decompressor.proofs.Turns.{IsAt, calls_there, Takes, takes, taken, wishes, more_is, all_ready}
 
 many : (calls : List LogCall) → length (in_order calls) ≡ length calls
 many calls = sym (length_permutation (in_order calls) calls (in_order-permutation calls))
@@ -60,15 +61,17 @@ ready_go_on true header all printed has is = (later has is, goes_on has is)
 ready_go_on false header all printed has is = (settled_later has is refl, settled_go_on has is refl)
 
 -- Some of the records were printed, and their lines are on their way.
-pub record HasLines (ended : Bool) (header : Header) (first all : List Block) (valid : Valid header all) (lines : ℕ) (was is : Told) (held : List ℕ) (waiting : List (List Call)) (lists : List ListState) : Type 0 where
+pub record HasLines (ended : Bool) (reader : ReaderState) (first all : List Block) (valid : Valid reader.header all) (lines : ℕ) (was is : Told) (held : List ℕ) (waiting : List QueueState) (lists : List ListState) : Type 0 where
   pub printed : List LogCall
-  pub at : IsAt valid (no_more_come ended all) printed waiting lists
+  pub records : List (List Call)
+  pub at : IsAt valid (no_more_come ended all) printed records lists
+  pub queues : AreHeld reader.messages reader.header.clock.tick waiting records
   pub text : List ℕ
-  pub joined : in_turn header all printed ≡ settled_text header first ++ text
+  pub joined : in_turn reader.header all printed ≡ settled_text reader.header first ++ text
   pub carries : Carries text was is held
-  pub many : length (settled_calls header first) + lines ≡ length printed
+  pub many : length (settled_calls reader.header first) + lines ≡ length printed
 
-module _ {ended : Bool} {reader : ReaderState} {first all : List Block} {waiting : List (List Call)} {lists : List ListState} (ready : HasToPrint ended reader first all waiting lists) where
+module _ {ended : Bool} {reader : ReaderState} {first all : List Block} {waiting : List QueueState} {lists : List ListState} (ready : HasToPrint ended reader first all waiting lists) where
   abbrev pub header : Header
   header = reader.header
 
@@ -85,10 +88,12 @@ module _ {ended : Bool} {reader : ReaderState} {first all : List Block} {waiting
       ap (λ (blocks : List Block). in_turn header blocks (in_order (settled_calls header first))) ready.joined
       ∙ settled_lines header first ready.more (subst (Valid header) ready.joined ready.valid)
 
-  pub begin_lines : {was : Told} {held : List ℕ} → Carries [] was was held → HasLines ended header first all ready.valid 0 was was held waiting lists
+  pub begin_lines : {was : Told} {held : List ℕ} → Carries [] was was held → HasLines ended reader first all ready.valid 0 was was held waiting lists
   begin_lines carries = record {
     printed = in_order (settled_calls header first);
-    at = record { is = begun; are_waiting = ready.are_waiting; heads = ready.heads };
+    records = ready.records;
+    at = record { is = begun; are_waiting = ready.are_waiting; heads = ready.shown.heads };
+    queues = ready.shown.held;
     text = [];
     joined = first_lines ∙ sym (text_is header first (settled_calls header first)) ∙ sym (append-nil (settled_text header first));
     carries = carries;
@@ -121,29 +126,30 @@ module _ {ended : Bool} {reader : ReaderState} {first all : List Block} {waiting
       )
 
   -- the printing was cut off
-  pub cut_lines : (printed : List LogCall) (text : List ℕ) (was is : Told) (before after : ℕ) (fault : DecodeFault) (answer : Result ℕ DecodeFault) (changed : List (List Call)) (new : List ListState)
+  pub cut_lines : (printed : List LogCall) (text : List ℕ) (was is : Told) (before after : ℕ) (fault : DecodeFault) (answer : Result ℕ DecodeFault) (changed : List QueueState) (new : List ListState)
       → IsErrAnd answer (λ e. e ≡ fault) → IsPrinted header all (no_more_come ended all) printed → in_turn header all printed ≡ settled_text header first ++ text
-      → ((whole rest : List ℕ) → whole ≡ text ++ rest → CutsText whole was is before after fault) → PrintsReady ended header first all was is before after changed new answer
+      → ((whole rest : List ℕ) → whole ≡ text ++ rest → CutsText whole was is before after fault) → PrintsReady ended reader first all was is before after changed new answer
   cut_lines printed text was is before after fault (Ok lines) changed new same is_printed joined cut = absurd same
   cut_lines printed text was is before after fault (Err e) changed new same is_printed joined cut =
       let behind = lines_behind printed text is_printed joined in
       subst (CutsMore ended header first all was is before after) (sym same) (record { rest = text ++ behind.0; joined = behind.1; cut = cut (text ++ behind.0) behind.0 refl })
 
   -- all that can be printed was
-  pub all_lines : (printed : List LogCall) (text : List ℕ) (lines : ℕ) (was is : Told) (changed : List (List Call)) (new : List ListState) → (at : IsAt ready.valid (no_more_come ended all) printed changed new) → in_turn header all printed ≡ settled_text header first ++ text
-      → length (settled_calls header first) + lines ≡ length printed → printed ≡ in_order (ready_calls ended header all) → is ≡ with_end text was → HasMore ended header first all lines was is changed new
-  all_lines printed text lines was is changed new at joined counted printed_are put = record {
+  pub all_lines : (printed : List LogCall) (text : List ℕ) (lines : ℕ) (was is : Told) (changed : List QueueState) (new : List ListState) (records : List (List Call)) → (at : IsAt ready.valid (no_more_come ended all) printed records new) → AreHeld reader.messages header.clock.tick changed records → in_turn header all printed ≡ settled_text header first ++ text
+      → length (settled_calls header first) + lines ≡ length printed → printed ≡ in_order (ready_calls ended header all) → is ≡ with_end text was → HasMore ended reader first all lines was is changed new
+  all_lines printed text lines was is changed new records at queues joined counted printed_are put = record {
     text = text;
     put = put;
     joined = text_is header all (ready_calls ended header all) ∙ ap (in_turn header all) (sym printed_are) ∙ joined;
     lines_are = counted ∙ ap length printed_are ∙ many (ready_calls ended header all);
-    are_waiting = subst (λ (calls : List LogCall). AreWaiting header all calls changed) printed_are at.are_waiting;
-    heads = at.heads;
+    records = records;
+    are_waiting = subst (λ (calls : List LogCall). AreWaiting header all calls records) printed_are at.are_waiting;
+    shown = record { held = queues; heads = at.heads };
   }
 
   -- ---- a turn
 
-  module _ {lines : ℕ} {was is : Told} {held : List ℕ} {now : List (List Call)} {heads : List ListState} (so_far : HasLines ended header first all ready.valid lines was is held now heads) {writer : ℕ}
+  module _ {lines : ℕ} {was is : Told} {held : List ℕ} {now : List QueueState} {heads : List ListState} (so_far : HasLines ended reader first all ready.valid lines was is held now heads) {writer : ℕ}
       (top : NoneWants heads × (slice_get (merge_order (heads_of heads)) 0 ≡ Some writer)) where
     abbrev pub turn : Takes ready.valid so_far.at writer
     turn = takes ready.valid so_far.at writer top.0 top.1
@@ -154,49 +160,40 @@ module _ {ended : Bool} {reader : ReaderState} {first all : List Block} {waiting
     abbrev clocks : List Clock
     clocks = clocks_of header all
 
+    among : writer < length so_far.records
+    among = omega (arith, turn.known, so_far.at.are_waiting.count)
+
     pub within : writer < length now
-    within = omega (arith, turn.known, so_far.at.are_waiting.count)
+    within = omega (arith, among, so_far.queues.many)
 
     -- the calls that are printed behind the turn
     abbrev pub longer : List LogCall
     longer = so_far.printed ++ call ∷ []
 
-    abbrev after_turn : (changed : List (List Call)) (new : List ListState) → changed ≡ slice_set now writer turn.records → new ≡ slice_set (without_head heads writer) writer (list_of (no_more_come ended all writer) turn.records) → IsAt ready.valid (no_more_come ended all) longer changed new
+    abbrev after_turn : (changed : List (List Call)) (new : List ListState) → changed ≡ slice_set so_far.records writer turn.records → new ≡ slice_set (without_head heads writer) writer (list_of (no_more_come ended all writer) turn.records) → IsAt ready.valid (no_more_come ended all) longer changed new
     after_turn = taken ready.valid so_far.at writer top.0 top.1 turn
 
     pub longer_is : IsPrinted header all (no_more_come ended all) longer
-    longer_is = (after_turn (slice_set now writer turn.records) (slice_set (without_head heads writer) writer (list_of (no_more_come ended all writer) turn.records)) refl refl).is
+    longer_is = (after_turn (slice_set so_far.records writer turn.records) (slice_set (without_head heads writer) writer (list_of (no_more_come ended all writer) turn.records)) refl refl).is
 
-    -- the writer's records, where an index is read with some default
-    module _ (default : List Call) where
-      abbrev queue : List Call
-      queue = get_or now writer default
+    -- the writer's queue, where an index is read with some default
+    pub holds : (default : QueueState) → HoldsFirst reader.messages header.clock.tick (get_or now writer default) turn.logged turn.records
+    holds default =
+        subst (λ (queue : QueueState). HoldsFirst reader.messages header.clock.tick queue turn.logged turn.records) (sym (get_or_default now writer default no_queue within))
+        (subst (Holds reader.messages header.clock.tick (queue_at now writer)) turn.there (so_far.queues.each writer among))
 
-      queue_at : queue ≡ turn.logged ∷ turn.records
-      queue_at = get_or_default now writer default [] within ∙ turn.there
+    pub said : IsCallOf reader.messages header.clock.tick call turn.logged
+    said =
+        subst (λ (messages : List Message). IsCallOf messages header.clock.tick call turn.logged) (sym ready.known)
+        (more_is (messages_of all) header.clock.tick ready.others call turn.logged turn.first.is)
 
-      pub some_first : queue ≢ []
-      some_first empty = let wrong = sym queue_at ∙ empty in cc
-
-      rest_is : drop 1 queue ≡ turn.records
-      rest_is = ap (drop 1) queue_at
-
-      module _ {logged : Call} (first_is : slice_get queue 0 ≡ Some logged) where
-        entry_is : turn.logged ≡ logged
-        entry_is = let same = sym (ap (λ (q : List Call). slice_get q 0) queue_at) ∙ first_is in cc
-
-        pub said : IsCallOf reader.messages header.clock.tick call logged
-        said =
-            subst (λ (messages : List Message). IsCallOf messages header.clock.tick call logged) (sym ready.known)
-            (more_is (messages_of all) header.clock.tick ready.others call logged (subst (IsCallOf (messages_of all) header.clock.tick call) entry_is turn.first.is))
-
-        -- the line of the record is that of the call
-        pub line_said : {line : List ℕ} → ((message : Message) (ordinal : ℕ) → slice_get reader.messages logged.id ≡ Some message → line ≡ Line reader.times.clocks (record { writer = writer; ordinal = ordinal; stamp = logged.stamp; message = message; args = logged.args }))
-            → line ≡ Line clocks call
-        line_said made =
-            made call.message call.ordinal said.message
-            ∙ ap (λ (l : List Clock). Line l (record { writer = writer; ordinal = call.ordinal; stamp = logged.stamp; message = call.message; args = logged.args })) ready.clocks
-            ∙ line_is clocks said (subst (AllByRecursion (IsOf writer)) turn.first.there (rest_mine (calls_there ready.valid) so_far.at.is writer)).0
+    -- the line of the record is that of the call
+    pub line_said : {line : List ℕ} → ((message : Message) (ordinal : ℕ) → slice_get reader.messages turn.logged.id ≡ Some message → line ≡ Line reader.times.clocks (record { writer = writer; ordinal = ordinal; stamp = turn.logged.stamp; message = message; args = turn.logged.args }))
+        → line ≡ Line clocks call
+    line_said made =
+        made call.message call.ordinal said.message
+        ∙ ap (λ (l : List Clock). Line l (record { writer = writer; ordinal = call.ordinal; stamp = turn.logged.stamp; message = call.message; args = turn.logged.args })) ready.clocks
+        ∙ line_is clocks said (subst (AllByRecursion (IsOf writer)) turn.first.there (rest_mine (calls_there ready.valid) so_far.at.is writer)).0
 
     -- the line stands behind those so far
     module _ {line : List ℕ} (line_of : line ≡ Line clocks call) where
@@ -209,11 +206,13 @@ module _ {ended : Bool} {reader : ReaderState} {first all : List Block} {waiting
           ∙ (λ i. so_far.joined i ++ append-nil (Line clocks call) i)
           ∙ append_assoc (settled_text header first) so_far.text (Line clocks call)
 
-      pub next_lines : (default : List Call) {put : Told} {left : List ℕ} {changed : List (List Call)} {new : List ListState} → Carries (held ++ line) is put left → changed ≡ slice_set now writer (drop 1 (queue default))
-          → new ≡ slice_set (without_head heads writer) writer (list_of (no_more_come ended all writer) (drop 1 (queue default))) → HasLines ended header first all ready.valid (lines + 1) was put left changed new
-      next_lines default {put} {left} {changed} {new} carried changed_is new_is = record {
+      pub next_lines : {put : Told} {left : List ℕ} (queue : QueueState) {new : List ListState} → Carries (held ++ line) is put left → Holds reader.messages header.clock.tick queue turn.records
+          → new ≡ slice_set (without_head heads writer) writer (list_of (no_more_come ended all writer) turn.records) → HasLines ended reader first all ready.valid (lines + 1) was put left (slice_set now writer queue) new
+      next_lines {put} {left} queue {new} carried rest new_is = record {
         printed = longer;
-        at = after_turn changed new (changed_is ∙ ap (slice_set now writer) (rest_is default)) (new_is ∙ ap (λ (records : List Call). slice_set (without_head heads writer) writer (list_of (no_more_come ended all writer) records)) (rest_is default));
+        records = slice_set so_far.records writer turn.records;
+        at = after_turn (slice_set so_far.records writer turn.records) new refl new_is;
+        queues = held_set reader.messages header.clock.tick so_far.queues writer queue turn.records among rest;
         text = text_next;
         joined = joined_next;
         carries = carries_more text_next so_far.text (Line clocks call) held left was is put refl so_far.carries (subst (λ (bytes : List ℕ). Carries (held ++ bytes) is put left) line_of carried);
@@ -221,17 +220,11 @@ module _ {ended : Bool} {reader : ReaderState} {first all : List Block} {waiting
       }
 
       -- the text was cut off with the line
-      pub line_cut : (low mid high : ℕ) (put : Told) (answer : Result ℕ DecodeFault) (changed : List (List Call)) (new : List ListState) → IsErrAnd answer (λ e. e ≡ WriteFault) → mid ≡ low → IsCutOff (held ++ line) is put mid high
-          → PrintsReady ended header first all was put low high changed new answer
+      pub line_cut : (low mid high : ℕ) (put : Told) (answer : Result ℕ DecodeFault) (changed : List QueueState) (new : List ListState) → IsErrAnd answer (λ e. e ≡ WriteFault) → mid ≡ low → IsCutOff (held ++ line) is put mid high
+          → PrintsReady ended reader first all was put low high changed new answer
       line_cut low mid high put answer changed new same counted cut =
           cut_lines longer text_next was put low high WriteFault answer changed new same longer_is joined_next
           (λ whole rest whole_is. cut_more whole so_far.text (Line clocks call) rest held was is put low mid high whole_is so_far.carries counted (subst (λ (bytes : List ℕ). IsCutOff (held ++ bytes) is put mid high) line_of cut))
-
-    -- one less waits
-    pub less_waits : (default : List Call) → sum_by length (slice_set now writer (drop 1 (queue default))) < sum_by length now
-    less_waits default =
-        subst (λ (records : List Call). sum_by length (slice_set now writer records) < sum_by length now) (sym (rest_is default))
-        (fewer ready.valid so_far.at writer top.0 top.1 turn)
 
     -- the list from which the head was taken wants one
     pub wished : {new : List ListState} → new ≡ without_head heads writer → wants (list_at new writer) ≡ true
@@ -242,19 +235,19 @@ module _ {ended : Bool} {reader : ReaderState} {first all : List Block} {waiting
     few_next = few_lines longer (lines + 1) longer_is (omega (arith, so_far.many, length-append so_far.printed (call ∷ [])))
 
   -- memory was wanting for a line, or what is held back was cut off
-  module _ {lines : ℕ} {was is : Told} {held : List ℕ} {now : List (List Call)} {heads : List ListState} (so_far : HasLines ended header first all ready.valid lines was is held now heads) where
-    pub lacked : (low high : ℕ) (answer : Result ℕ DecodeFault) (changed : List (List Call)) (new : List ListState) → IsErrAnd answer (λ e. e ≡ NoMemory) → high ≡ low → PrintsReady ended header first all was is low high changed new answer
+  module _ {lines : ℕ} {was is : Told} {held : List ℕ} {now : List QueueState} {heads : List ListState} (so_far : HasLines ended reader first all ready.valid lines was is held now heads) where
+    pub lacked : (low high : ℕ) (answer : Result ℕ DecodeFault) (changed : List QueueState) (new : List ListState) → IsErrAnd answer (λ e. e ≡ NoMemory) → high ≡ low → PrintsReady ended reader first all was is low high changed new answer
     lacked low high answer changed new same counted =
         cut_lines so_far.printed so_far.text was is low high NoMemory answer changed new same so_far.at.is so_far.joined
         (λ whole rest whole_is. (carries_front whole so_far.text rest held was is whole_is so_far.carries, counted))
 
-    pub held_cut : (low mid high : ℕ) (put : Told) (answer : Result ℕ DecodeFault) (changed : List (List Call)) (new : List ListState) → IsErrAnd answer (λ e. e ≡ WriteFault) → mid ≡ low → IsCutOff held is put mid high → PrintsReady ended header first all was put low high changed new answer
+    pub held_cut : (low mid high : ℕ) (put : Told) (answer : Result ℕ DecodeFault) (changed : List QueueState) (new : List ListState) → IsErrAnd answer (λ e. e ≡ WriteFault) → mid ≡ low → IsCutOff held is put mid high → PrintsReady ended reader first all was put low high changed new answer
     held_cut low mid high put answer changed new same counted cut =
         cut_lines so_far.printed so_far.text was put low high WriteFault answer changed new same so_far.at.is so_far.joined
         (λ whole rest whole_is. cut_held whole so_far.text rest held was is put low mid high whole_is so_far.carries counted cut)
 
     -- where the merger takes no record what is held back ends all that can be printed
-    pub all_out : {put : Told} (answer : Next) → ((w : ℕ) → ¬ (answer ≡ Take w)) → ((w : ℕ) → answer ≡ Want w → position wants heads ≡ Some w) → (answer ≡ Done → All IsSpent heads) → put ≡ with_end held is → HasMore ended header first all lines was put now heads
+    pub all_out : {put : Told} (answer : Next) → ((w : ℕ) → ¬ (answer ≡ Take w)) → ((w : ℕ) → answer ≡ Want w → position wants heads ≡ Some w) → (answer ≡ Done → All IsSpent heads) → put ≡ with_end held is → HasMore ended reader first all lines was put now heads
     all_out {put} answer none want done flushed =
-        all_lines so_far.printed so_far.text lines was put now heads so_far.at so_far.joined so_far.many
+        all_lines so_far.printed so_far.text lines was put now heads so_far.records so_far.at so_far.queues so_far.joined so_far.many
         (all_ready ready.valid ended so_far.at answer none want done) (carries_all so_far.text held was is put so_far.carries flushed)

@@ -4,18 +4,17 @@ use Rattle.std.specs.Prelude.{filter, ⊤}
 use Rattle.std.specs.Result.{IsErrAnd}
 use Rattle.nl_io.specs.Content.{Told}
 use Rattle.nl_io.proofs.lemmas.Contents.{with_end-none}
-use Rattle.arg_records.specs.declared.call.Call.{Call}
 use Rattle.checkpoint_io.specs.declared.header.Header.{Header}
 use Rattle.checkpoint_io.specs.Blocks.{Block}
 use Rattle.checkpoint_io.specs.Validity.{Valid}
+use Rattle.checkpoint_io.specs.Readers.{ReaderState}
 use Rattle.stamp_merge.specs.declared.merger.ListState.{ListState}
-use Rattle.direct_printf.specs.Lines.{in_order}
 use Rattle.decompressor.specs.declared.fault.DecodeFault.{DecodeFault}
 use Rattle.decompressor.specs.declared.fault.DecodeFault.TheVariants.{NoMemory}
 use Rattle.decompressor.specs.Decompression.{all_calls}
 use Rattle.decompressor.specs.Settling.{is_settled, settled_calls}
-use Rattle.decompressor.specs.Waiting.{HasHeads}
-use Rattle.decompressor.specs.Decompressors.{PrinterState, AreWaiting, no_more_come, ready_calls, HasMore, CutsMore, PrintsOn, PrintsTo}
+use Rattle.decompressor.specs.Waiting.{QueueState, AreShown}
+use Rattle.decompressor.specs.Decompressors.{PrinterState, no_more_come, ready_calls, HasMore, CutsMore, PrintsOn, PrintsTo}
 use Rattle.decompressor.proofs.Growing.{settled_more}
 
 kept_few : {X : Type 0} (test : X → Bool) (xs : List X) → length (filter test xs) ≤ length xs
@@ -31,18 +30,19 @@ ready_few true header all = omega arith
 ready_few false header all = kept_few (is_settled header all) (all_calls header all)
 
 -- the count of lines fits
-pub lines_fit : {ended : Bool} {header : Header} {first all : List Block} {count lines : ℕ} {was is : Told} {waiting : List (List Call)} {lists : List ListState} → count ≡ length (settled_calls header first) → HasMore ended header first all lines was is waiting lists → length (all_calls header all) ≤ 134217728 → count + lines ≤ 134217728
-lines_fit {ended} {header} {first} {all} counted more few = omega (arith, counted, more.lines_are, ready_few ended header all, few)
+pub lines_fit : {ended : Bool} {reader : ReaderState} {first all : List Block} {count lines : ℕ} {was is : Told} {waiting : List QueueState} {lists : List ListState} → count ≡ length (settled_calls reader.header first) → HasMore ended reader first all lines was is waiting lists → length (all_calls reader.header all) ≤ 134217728 → count + lines ≤ 134217728
+lines_fit {ended} {reader} {first} {all} counted more few = omega (arith, counted, more.lines_are, ready_few ended reader.header all, few)
 
-pub prints_on : {ended : Bool} {state : PrinterState} {first all : List Block} {lines : ℕ} {was is : Told} {waiting changed : List (List Call)} {lists : List ListState} → state.lines ≡ length (settled_calls state.reader.header first)
-    → HasMore ended state.reader.header first all lines was is waiting lists → changed ≡ waiting → PrintsOn ended state (record { reader = state.reader; waiting = changed; lists = lists; lines = state.lines + lines }) first all was is
+pub prints_on : {ended : Bool} {state : PrinterState} {first all : List Block} {lines : ℕ} {was is : Told} {waiting changed : List QueueState} {lists : List ListState} → state.lines ≡ length (settled_calls state.reader.header first)
+    → HasMore ended state.reader first all lines was is waiting lists → changed ≡ waiting → PrintsOn ended state (record { reader = state.reader; waiting = changed; lists = lists; lines = state.lines + lines }) first all was is
 prints_on {ended} {state} {first} {all} {lines} {lists = lists} counted more same = record {
   text = more.text;
   put = more.put;
   joined = more.joined;
   lines = ap (λ (n : ℕ). n + lines) counted ∙ more.lines_are;
-  are_waiting = subst (AreWaiting state.reader.header all (in_order (ready_calls ended state.reader.header all))) (sym same) more.are_waiting;
-  heads = subst (HasHeads (no_more_come ended all) lists) (sym same) more.heads;
+  records = more.records;
+  are_waiting = more.are_waiting;
+  shown = subst (λ (queues : List QueueState). AreShown (no_more_come ended all) state.reader queues lists more.records) (sym same) more.shown;
 }
 
 pub prints_cut : {ended : Bool} (state new : PrinterState) {first all : List Block} {was is : Told} {before after : ℕ} (result : Result ⊤ DecodeFault) {fault : DecodeFault} → IsErrAnd result (λ e. e ≡ fault) → CutsMore ended state.reader.header first all was is before after fault → PrintsTo ended state new first all was is before after result

@@ -3,6 +3,7 @@ use Rattle.std.proofs.Common.{◌≡◌, ℕ, zero, suc, ◌+◌, ◌<◌, false
 use Rattle.std.specs.Prelude.{filter}
 use Rattle.std.specs.List.{flat_map, range_with_len}
 use Rattle.std.proofs.lemmas.List.{length-replicate, get_or-replicate}
+use Rattle.log_dictionary.specs.declared.message.Message.{Message}
 use Rattle.log_dictionary.specs.Calls.{LogCall}
 use Rattle.arg_records.specs.declared.call.Call.{Call}
 use Rattle.checkpoint_io.specs.declared.header.Header.{Header}
@@ -14,7 +15,7 @@ use Rattle.stamp_merge.specs.Mergers.{fresh_list, no_list}
 use Rattle.direct_printf.specs.Lines.{in_order, Direct}
 use Rattle.decompressor.specs.Decompression.{CallsOf, lines_of}
 use Rattle.decompressor.specs.Settling.{closed_by, is_settled, settled_calls, settled_text}
-use Rattle.decompressor.specs.Waiting.{list_of, HasHeads}
+use Rattle.decompressor.specs.Waiting.{QueueState, Holds, list_of, HasHeads, no_queue, queue_at, AreHeld}
 use Rattle.decompressor.specs.Decompressors.{AreWaiting, HasPrinted}
 
 no_calls : (from n : ℕ) → flat_map (CallsOf []) (range_with_len from n) ≡ []
@@ -47,7 +48,15 @@ fresh_heads n = record {
       get_or-replicate n w fresh_list no_list below ∙ ap (list_of false) (sym (get_or-replicate {A = List Call} n w [] [] below));
 }
 
-pub started : (reader : ReaderState) (taken : List ℕ) (waiting : List (List Call)) (lists : List ListState) → reader.failed ≡ false → (read : StandsFor reader taken) → read.blocks ≡ [] → waiting ≡ replicate reader.header.writers [] → lists ≡ replicate reader.header.writers fresh_list
+none_held : (messages : List Message) (tick n : ℕ) → AreHeld messages tick (replicate n no_queue) (replicate n [])
+none_held messages tick n = record {
+  many = length-replicate n no_queue ∙ sym (length-replicate n []);
+  each = λ w known.
+      let below : w < n = omega (arith, known, length-replicate {A = List Call} n []) in
+      subst (Holds messages tick (queue_at (replicate n no_queue) w)) (sym (get_or-replicate {A = List Call} n w [] [] below)) (ap (λ (q : QueueState). q.bodies) (get_or-replicate n w no_queue no_queue below));
+}
+
+pub started : (reader : ReaderState) (taken : List ℕ) (waiting : List QueueState) (lists : List ListState) → reader.failed ≡ false → (read : StandsFor reader taken) → read.blocks ≡ [] → waiting ≡ replicate reader.header.writers no_queue → lists ≡ replicate reader.header.writers fresh_list
     → (printed : HasPrinted (record { reader = reader; waiting = waiting; lists = lists; lines = 0 }) taken []) × (printed.read.blocks ≡ [])
 started reader taken waiting lists right read none waiting_is lists_is = (
   record {
@@ -55,9 +64,13 @@ started reader taken waiting lists right read none waiting_is lists_is = (
     read = read;
     text_is = sym (ap (λ (bs : List Block). settled_text reader.header bs) none ∙ ap (lines_of reader.header []) (none_settled reader.header) ∙ no_text reader.header);
     lines = sym (ap (λ (bs : List Block). length (settled_calls reader.header bs)) none ∙ ap length (none_settled reader.header));
-    waiting = subst (λ (bs : List Block). AreWaiting reader.header bs (in_order (settled_calls reader.header bs)) waiting) (sym none) (subst (AreWaiting reader.header [] (in_order (settled_calls reader.header []))) (sym waiting_is) (none_wait reader.header (in_order (settled_calls reader.header []))));
-    heads = subst (λ (bs : List Block). HasHeads (closed_by bs) lists waiting) (sym none)
-        (subst (λ (ls : List ListState). HasHeads (closed_by []) ls waiting) (sym lists_is) (subst (HasHeads (closed_by []) (replicate reader.header.writers fresh_list)) (sym waiting_is) (fresh_heads reader.header.writers)));
+    records = replicate reader.header.writers [];
+    are_waiting = subst (λ (bs : List Block). AreWaiting reader.header bs (in_order (settled_calls reader.header bs)) (replicate reader.header.writers [])) (sym none) (none_wait reader.header (in_order (settled_calls reader.header [])));
+    shown = record {
+      held = subst (λ (queues : List QueueState). AreHeld reader.messages reader.header.clock.tick queues (replicate reader.header.writers [])) (sym waiting_is) (none_held reader.messages reader.header.clock.tick reader.header.writers);
+      heads = subst (λ (bs : List Block). HasHeads (closed_by bs) lists (replicate reader.header.writers [])) (sym none)
+          (subst (λ (ls : List ListState). HasHeads (closed_by []) ls (replicate reader.header.writers [])) (sym lists_is) (fresh_heads reader.header.writers));
+    };
   },
   none,
 )

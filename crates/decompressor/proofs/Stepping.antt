@@ -27,11 +27,12 @@ use Rattle.decompressor.specs.declared.report.Report.{Report}
 use Rattle.decompressor.specs.Decompression.{all_calls, whole_text}
 use Rattle.decompressor.specs.Decompressing.{IsTextOfWhole, IsTextOfDamaged}
 use Rattle.decompressor.specs.Settling.{closed_by, open_writers, settled_calls, settled_text}
-use Rattle.decompressor.specs.Waiting.{HasHeads}
+use Rattle.decompressor.specs.Waiting.{AreShown}
 use Rattle.decompressor.specs.Decompressors.{PrinterState, AreWaiting, HasPrinted, CutsMore, HasTaken, HasLast, PrintsOn, Advances, SettlesNext, ReadsNext, PrintsWhole, IsCutBehind, Steps}
 use Rattle.nl_io.proofs.lemmas.Contents.{with_end-none, front-whole}
 use Rattle.decompressor.proofs.Counts.{few_calls}
 use Rattle.decompressor.proofs.Endings.{text_of_whole, text_of_damaged, text_of_cut}
+use Rattle.decompressor.proofs.Queued.{shown_on}
 
 -- what was read, at another reader of the same header
 abbrev pub at_reader : PrinterState → ReaderState → PrinterState
@@ -123,8 +124,11 @@ module _ {old : PrinterState} {taken text : List ℕ} (printed : HasPrinted old 
     settled_there : length (settled_calls new.header blocks) ≡ length (settled_calls header blocks)
     settled_there = ap (λ (h : Header). length (settled_calls h blocks)) same
 
-    waiting_there : AreWaiting new.header blocks (in_order (settled_calls new.header blocks)) old.waiting
-    waiting_there = subst (λ (h : Header). AreWaiting h blocks (in_order (settled_calls h blocks)) old.waiting) (sym same) printed.waiting
+    waiting_there : AreWaiting new.header blocks (in_order (settled_calls new.header blocks)) printed.records
+    waiting_there = subst (λ (h : Header). AreWaiting h blocks (in_order (settled_calls h blocks)) printed.records) (sym same) printed.are_waiting
+
+    shown_there : take (length old.reader.messages) new.messages ≡ old.reader.messages → AreShown (closed_by blocks) new old.waiting old.lists printed.records
+    shown_there kept = shown_on (closed_by blocks) old.reader new old.waiting old.lists printed.records same kept printed.shown
 
     -- ---- a block was read
 
@@ -141,8 +145,8 @@ module _ {old : PrinterState} {taken text : List ℕ} (printed : HasPrinted old 
       valid_all : Valid new.header all
       valid_all = subst (Valid new.header) next.blocks next.stands.valid
 
-      pub has_read : HasTaken (at_reader old new) blocks block
-      has_read = record {
+      pub has_read : take (length old.reader.messages) new.messages ≡ old.reader.messages → HasTaken (at_reader old new) blocks block
+      has_read kept = record {
         valid = valid_all;
         few = few_calls new.header all (taken ++ next.front) file_all valid_all next.stands.within;
         known = next.stands.messages ∙ ap messages_of next.blocks;
@@ -150,9 +154,11 @@ module _ {old : PrinterState} {taken text : List ℕ} (printed : HasPrinted old 
         closed = λ w known.
             next.stands.states.closed w known
             ∙ ap (λ (bs : List Block). list_any (closes w) bs) next.blocks;
+        body = next.body;
         lines = printed.lines ∙ sym settled_there;
+        records = printed.records;
         are_waiting = waiting_there;
-        heads = printed.heads;
+        shown = shown_there kept;
       }
 
       -- the decompressor stands behind the block
@@ -172,8 +178,9 @@ module _ {old : PrinterState} {taken text : List ℕ} (printed : HasPrinted old 
                   ∙ sym p.joined
                   ∙ ap (λ (bs : List Block). settled_text new.header bs) (sym next.blocks);
               lines = p.lines ∙ ap (λ (bs : List Block). length (settled_calls new.header bs)) (sym next.blocks);
-              waiting = subst (λ (bs : List Block). AreWaiting new.header bs (in_order (settled_calls new.header bs)) state.waiting) (sym next.blocks) p.are_waiting;
-              heads = subst (λ (bs : List Block). HasHeads (closed_by bs) state.lists state.waiting) (sym next.blocks) p.heads;
+              records = p.records;
+              are_waiting = subst (λ (bs : List Block). AreWaiting new.header bs (in_order (settled_calls new.header bs)) p.records) (sym next.blocks) p.are_waiting;
+              shown = subst (λ (bs : List Block). AreShown (closed_by bs) new state.waiting state.lists p.records) (sym next.blocks) p.shown;
             };
             blocks = next.blocks;
           })
@@ -192,22 +199,23 @@ module _ {old : PrinterState} {taken text : List ℕ} (printed : HasPrinted old 
 
     -- ---- nothing more was read
 
-    pub has_last : (others : List Message) → new.messages ≡ old.reader.messages ++ others → new.times.clocks ≡ old.reader.times.clocks → HasLast (at_reader old new) blocks
-    has_last others known clocks = record {
+    has_last : (others : List Message) → take (length old.reader.messages) new.messages ≡ old.reader.messages → new.messages ≡ old.reader.messages ++ others → new.times.clocks ≡ old.reader.times.clocks → HasLast (at_reader old new) blocks
+    has_last others kept known clocks = record {
       valid = subst (λ (h : Header). Valid h blocks) (sym same) read.valid;
       few = subst (λ (h : Header). length (all_calls h blocks) ≤ 134217728) (sym same) (few_calls header blocks taken read.file read.valid read.within);
       others = others;
       known = known ∙ ap (λ (messages : List Message). messages ++ others) read.messages;
       clocks = clocks ∙ read.times.clocks_are ∙ ap (λ (h : Header). clocks_of h blocks) (sym same);
       lines = printed.lines ∙ sym settled_there;
+      records = printed.records;
       are_waiting = waiting_there;
-      heads = printed.heads;
+      shown = shown_there kept;
     }
 
     -- what was defined stays
     pub had_last : new.times.clocks ≡ old.reader.times.clocks → take (length old.reader.messages) new.messages ≡ old.reader.messages → HasLast (at_reader old new) blocks
     had_last clocks kept =
-        has_last (drop (length old.reader.messages) new.messages)
+        has_last (drop (length old.reader.messages) new.messages) kept
         (sym (take-append-drop (length old.reader.messages) new.messages) ∙ ap (λ (messages : List Message). messages ++ drop (length old.reader.messages) new.messages) kept)
         clocks
 

@@ -1,12 +1,11 @@
 -- One record after the other is printed, as the merger takes them.
 use Rattle.std.proofs.Common.{◌≡◌, ℕ, zero, suc, ◌+◌, ◌<◌, ◌≤◌, Bool, true, false, cond, Some, None, List, [], ◌∷◌, ◌++◌, length, drop, refl, ap, sym, subst, ◌∙◌, inl, inr, arith}
-use Rattle.std.specs.Prelude.{slice_get, slice_set, position, All, sum_by}
+use Rattle.std.specs.Prelude.{slice_get, slice_set, position, All}
 use Rattle.std.specs.List.{AllByRecursion}
 use Rattle.std.proofs.lemmas.Bool.{eq-eqb, ne_eqb, cases_lt}
 use Rattle.std.proofs.lemmas.Bool.Decides.{eqb_tells}
 use Rattle.std.proofs.lemmas.List.{length-append, drop-drop, get_or-set_same, get_or-set_other, length-set, set-set}
 use Rattle.std.proofs.lemmas.List.Elements.{filter-append}
-use Rattle.std.proofs.lemmas.List.Sums.{sum_by-set}
 use Rattle.log_dictionary.specs.declared.message.Message.{Message}
 use Rattle.log_dictionary.specs.Calls.{LogCall}
 use Rattle.arg_records.specs.declared.call.Call.{Call}
@@ -46,10 +45,6 @@ module _ (messages : List Message) (tick : ℕ) where
   are_none : (calls : List LogCall) → AreCallsOf messages tick calls [] → calls ≡ []
   are_none [] are = refl
   are_none (call ∷ calls) are = absurd are
-
-  none_are : (records : List Call) → AreCallsOf messages tick [] records → records ≡ []
-  none_are [] are = refl
-  none_are (logged ∷ records) are = absurd are
 
   as_many : (calls : List LogCall) (records : List Call) → AreCallsOf messages tick calls records → length calls ≡ length records
   as_many [] [] are = refl
@@ -252,12 +247,6 @@ module _ {header : Header} {all : List Block} (valid : Valid header all) where
         wishes =
             ap wants (get_or-set_same lists writer (record (list_at lists writer) { head = None }) no_list (omega (arith, t.known, at.heads.many, at.are_waiting.count))
             ∙ ap (λ (l : ListState). record l { head = None }) (list_is writer t.known ∙ ap (list_of (closed writer)) t.there))
-
-        -- one less waits
-        pub fewer : sum_by length (slice_set waiting writer t.records) < sum_by length waiting
-        fewer =
-            let moved = sum_by-set length waiting writer t.records [] (omega (arith, t.known, at.are_waiting.count)) in
-            omega (arith, moved, ap length t.there)
 
     -- ---- no more is taken
 

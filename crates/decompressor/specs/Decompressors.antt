@@ -10,7 +10,7 @@ use Rattle.checkpoint_io.specs.declared.header.Header.{Header}
 use Rattle.checkpoint_io.specs.Blocks.{Block, messages_of, clocks_of}
 use Rattle.checkpoint_io.specs.Validity.{records_of, Valid}
 use Rattle.checkpoint_io.specs.Fronts.{IsCutAt}
-use Rattle.checkpoint_io.specs.NextBlocks.{Describes, TakesNext}
+use Rattle.checkpoint_io.specs.NextBlocks.{Describes, HasBody, TakesNext}
 use Rattle.checkpoint_io.specs.Places.{with_front, TookSuch}
 use Rattle.checkpoint_io.specs.Readers.{ReaderState, StandsFor}
 use Rattle.checkpoint_io.specs.Writers.{closed_kept}
@@ -24,13 +24,13 @@ use Rattle.decompressor.specs.declared.report.Report.{Report}
 use Rattle.decompressor.specs.Decompression.{all_calls, lines_of}
 use Rattle.decompressor.specs.Decompressing.{ReadsText}
 use Rattle.decompressor.specs.Settling.{closed_by, settled_calls, settled_text}
-use Rattle.decompressor.specs.Waiting.{records_at, HasHeads}
+use Rattle.decompressor.specs.Waiting.{QueueState, records_at, AreShown}
 use Rattle.decompressor.specs.Printing.{CutsText}
 
 pub record PrinterState : Type 0 where
   pub reader : ReaderState
   -- of each writer the records that weren't printed yet
-  pub waiting : List (List Call)
+  pub waiting : List QueueState
   -- what the merger has of the writers
   pub lists : List ListState
   -- how many lines were printed
@@ -59,9 +59,10 @@ pub record HasPrinted (printer : PrinterState) (taken text : List ℕ) : Type 0 
   pub read : StandsFor printer.reader taken
   pub text_is : text ≡ settled_text printer.reader.header read.blocks
   pub lines : printer.lines ≡ length (settled_calls printer.reader.header read.blocks)
-  pub waiting : AreWaiting printer.reader.header read.blocks
-      (in_order (settled_calls printer.reader.header read.blocks)) printer.waiting
-  pub heads : HasHeads (closed_by read.blocks) printer.lists printer.waiting
+  pub records : List (List Call)
+  pub are_waiting : AreWaiting printer.reader.header read.blocks
+      (in_order (settled_calls printer.reader.header read.blocks)) records
+  pub shown : AreShown (closed_by read.blocks) printer.reader printer.waiting printer.lists records
 
 -- Nothing was printed, and no blocks were read: this is so of bytes that were taken, behind which stands what is left.
 abbrev pub IsStarted : PrinterState → (left behind : Told) → Type 0
@@ -90,7 +91,7 @@ abbrev pub ready_text : Bool → Header → List Block → List ℕ
 ready_text ended header blocks = lines_of header blocks (ready_calls ended header blocks)
 
 -- The calls that were settled by the first blocks were printed, and the records of all blocks wait but for theirs.
-pub record HasToPrint (ended : Bool) (reader : ReaderState) (first all : List Block) (waiting : List (List Call))
+pub record HasToPrint (ended : Bool) (reader : ReaderState) (first all : List Block) (waiting : List QueueState)
     (lists : List ListState) : Type 0 where
   pub more : List Block
   pub joined : all ≡ first ++ more
@@ -101,18 +102,20 @@ pub record HasToPrint (ended : Bool) (reader : ReaderState) (first all : List Bl
   pub clocks : reader.times.clocks ≡ clocks_of reader.header all
   pub closed : (writer : ℕ) → writer < reader.header.writers
       → (ended || closed_kept reader.writers writer) ≡ no_more_come ended all writer
-  pub are_waiting : AreWaiting reader.header all (in_order (settled_calls reader.header first)) waiting
-  pub heads : HasHeads (no_more_come ended all) lists waiting
+  pub records : List (List Call)
+  pub are_waiting : AreWaiting reader.header all (in_order (settled_calls reader.header first)) records
+  pub shown : AreShown (no_more_come ended all) reader waiting lists records
 
 -- All that can be printed was, so many lines, and the other records wait.
-pub record HasMore (ended : Bool) (header : Header) (first all : List Block) (lines : ℕ) (was is : Told)
-    (waiting : List (List Call)) (lists : List ListState) : Type 0 where
+pub record HasMore (ended : Bool) (reader : ReaderState) (first all : List Block) (lines : ℕ) (was is : Told)
+    (waiting : List QueueState) (lists : List ListState) : Type 0 where
   pub text : List ℕ
   pub put : is ≡ with_end text was
-  pub joined : ready_text ended header all ≡ settled_text header first ++ text
-  pub lines_are : length (settled_calls header first) + lines ≡ length (ready_calls ended header all)
-  pub are_waiting : AreWaiting header all (in_order (ready_calls ended header all)) waiting
-  pub heads : HasHeads (no_more_come ended all) lists waiting
+  pub joined : ready_text ended reader.header all ≡ settled_text reader.header first ++ text
+  pub lines_are : length (settled_calls reader.header first) + lines ≡ length (ready_calls ended reader.header all)
+  pub records : List (List Call)
+  pub are_waiting : AreWaiting reader.header all (in_order (ready_calls ended reader.header all)) records
+  pub shown : AreShown (no_more_come ended all) reader waiting lists records
 
 -- The printing was cut off: a front went out of the lines that can be printed, behind those that were before.
 pub record CutsMore (ended : Bool) (header : Header) (first all : List Block) (was is : Told) (before after : ℕ)
@@ -121,12 +124,12 @@ pub record CutsMore (ended : Bool) (header : Header) (first all : List Block) (w
   pub joined : ready_text ended header all ≡ settled_text header first ++ rest
   pub cut : CutsText rest was is before after fault
 
-abbrev pub PrintsReady : Bool → Header → List Block → List Block → Told → Told → ℕ → ℕ → List (List Call)
+abbrev pub PrintsReady : Bool → ReaderState → List Block → List Block → Told → Told → ℕ → ℕ → List QueueState
     → List ListState → Result ℕ DecodeFault → Type 0
-PrintsReady ended header first all was is before after waiting lists (Ok lines) =
-    HasMore ended header first all lines was is waiting lists × (after ≡ before)
-PrintsReady ended header first all was is before after waiting lists (Err fault) =
-    CutsMore ended header first all was is before after fault
+PrintsReady ended reader first all was is before after waiting lists (Ok lines) =
+    HasMore ended reader first all lines was is waiting lists × (after ≡ before)
+PrintsReady ended reader first all was is before after waiting lists (Err fault) =
+    CutsMore ended reader.header first all was is before after fault
 
 -- ---- parts of a step
 
@@ -138,10 +141,12 @@ pub record HasTaken (printer : PrinterState) (first : List Block) (block : Block
   pub clocks : printer.reader.times.clocks ≡ clocks_of printer.reader.header (first ++ block ∷ [])
   pub closed : (writer : ℕ) → writer < printer.reader.header.writers
       → closed_kept printer.reader.writers writer ≡ closed_by (first ++ block ∷ []) writer
+  pub body : HasBody printer.reader.header.clock.tick printer.reader.messages block printer.reader.body
   pub lines : printer.lines ≡ length (settled_calls printer.reader.header first)
+  pub records : List (List Call)
   pub are_waiting : AreWaiting printer.reader.header first (in_order (settled_calls printer.reader.header first))
-      printer.waiting
-  pub heads : HasHeads (closed_by first) printer.lists printer.waiting
+      records
+  pub shown : AreShown (closed_by first) printer.reader printer.waiting printer.lists records
 
 -- a block that is told so was read behind some blocks
 abbrev pub HasNext : PrinterState → ReadBlock → Type 0
@@ -155,9 +160,10 @@ pub record HasLast (printer : PrinterState) (blocks : List Block) : Type 0 where
   pub known : printer.reader.messages ≡ messages_of blocks ++ others
   pub clocks : printer.reader.times.clocks ≡ clocks_of printer.reader.header blocks
   pub lines : printer.lines ≡ length (settled_calls printer.reader.header blocks)
+  pub records : List (List Call)
   pub are_waiting : AreWaiting printer.reader.header blocks (in_order (settled_calls printer.reader.header blocks))
-      printer.waiting
-  pub heads : HasHeads (closed_by blocks) printer.lists printer.waiting
+      records
+  pub shown : AreShown (closed_by blocks) printer.reader printer.waiting printer.lists records
 
 -- nothing more stands behind some blocks
 abbrev pub HasRest : PrinterState → Type 0
@@ -169,8 +175,9 @@ pub record PrintsOn (ended : Bool) (old new : PrinterState) (first all : List Bl
   pub put : is ≡ with_end text was
   pub joined : ready_text ended old.reader.header all ≡ settled_text old.reader.header first ++ text
   pub lines : new.lines ≡ length (ready_calls ended old.reader.header all)
-  pub are_waiting : AreWaiting old.reader.header all (in_order (ready_calls ended old.reader.header all)) new.waiting
-  pub heads : HasHeads (no_more_come ended all) new.lists new.waiting
+  pub records : List (List Call)
+  pub are_waiting : AreWaiting old.reader.header all (in_order (ready_calls ended old.reader.header all)) records
+  pub shown : AreShown (no_more_come ended all) old.reader new.waiting new.lists records
 
 abbrev pub PrintsTo : Bool → (old new : PrinterState) → (first all : List Block) → (was is : Told) → ℕ → ℕ
     → Result ⊤ DecodeFault → Type 0

@@ -1,7 +1,6 @@
 pub mod Decompression
 pub mod Settling
 pub mod Decompressing
-pub mod Taking
 pub mod Printing
 pub mod Waiting
 pub mod Decompressors

@@ -8,6 +8,7 @@ ghost use Rattle.checkpoint_io.specs.declared.cause.Cause.TheVariants.{Cut};
 ghost use Rattle.checkpoint_io.specs.Fronts.{Break};
 ghost use Rattle.checkpoint_io.specs.Places.{TookSuch};
 ghost use Rattle.stamp_merge.specs.Mergers.{fresh_list};
+ghost use Rattle.decompressor.specs.Waiting.{no_queue};
 ghost use Rattle.decompressor.specs.Decompressors.{IsStarted, CanStep, HasNext, HasRest, PrintsNext, PrintsRest, StepsFrom, IsLastStep};
 
 use crate::clock_place::ClockPlace;
@@ -57,7 +58,7 @@ impl Model for LogPrinter {
 // A merger of so many lists, and as many queues.
 fn without_records(alloc: Global, writers: u32) -> Result<(Merger, Vec<RecordQueue>), AllocError>
     ensures lists { IfOk result (λ parts. parts.0 ≡ replicate writers fresh_list) }
-    ensures waiting { IfOk result (λ parts. parts.1.items ≡ replicate writers []) }
+    ensures waiting { IfOk result (λ parts. parts.1.items ≡ replicate writers no_queue) }
 {
     let mut waiting = Vec::new(alloc);
     for _ in 0..writers {
@@ -123,7 +124,7 @@ impl LogPrinter {
         ensures reader { self.new.reader ≡ self.old.reader }
         ensures others { K.rest out.old out.new }
     {
-        add_block(&mut self.merger, &mut self.waiting, block)?;
+        add_block(&mut self.merger, &mut self.waiting, &self.reader, block)?;
         self.lines += print_ready(
             self.alloc,
             &self.reader,

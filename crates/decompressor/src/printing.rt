@@ -1,63 +1,73 @@
 //! Printing the lines of a log.
 
-ghost use Rattle.std.specs.Prelude.{◌≡◌, ◌⊎◌, ◌≤◌, ◌||◌, ℕ, List, [], slice_get, Some, IsErrOf, OnOk, OnErr, map};
+ghost use Rattle.std.specs.Prelude.{◌≡◌, ◌⊎◌, ◌≤◌, ◌||◌, ℕ, List, [], length, slice_get, Some, IfOk, IsErrOf, OnOk, OnErr, map};
 ghost use Rattle.nl_io.specs.Count.{Rose};
 ghost use Rattle.log_dictionary.specs.declared.message.Message.{Message};
 ghost use Rattle.log_dictionary.specs.Clocks.{first_tick};
-ghost use Rattle.arg_records.specs.Calls.{IsCall};
+ghost use Rattle.arg_records.specs.declared.call.Call.{Call};
 ghost use Rattle.checkpoint_io.specs.Blocks.{Block};
 ghost use Rattle.checkpoint_io.specs.Writers.{closed_kept};
 ghost use Rattle.direct_printf.specs.Lines.{Line, origin_text, AreFirstOrigins};
+ghost use Rattle.decompressor.specs.Waiting.{HoldsFirst};
 ghost use Rattle.decompressor.specs.Decompressors.{HasToPrint, PrintsReady};
 
 use crate::fault::DecodeFault;
 use crate::line_context::LineContext;
 use crate::queue::RecordQueue;
 use crate::showing::show_first;
-use buffer_extent::LogRecord;
+use arrayvec::ArrayVec;
+use buffer_extent::NumberRoom;
 use checkpoint_io::Reader;
 use direct_printf::{LineParts, LineWriter};
 use nl_io::{Sink, TextWriter};
 use stamp_merge::{Merger, Next};
 use std::alloc::{AllocError, Global};
 
-// Makes the line of a record, in place of what is there.
+// Makes the line of the first record of a writer, in place of what is there, and answers how many bytes of its body
+// stand behind it.
 fn make_line(
     reader: &Reader,
     context: &mut LineContext,
     writer: u32,
-    call: &LogRecord,
+    queue: &RecordQueue,
+    room: &mut NumberRoom,
     line_writer: &mut LineWriter,
     line: &mut Vec<u8>,
-) -> Result<(), AllocError>
-    requires named { IsCall reader.now.messages call.now }
-    requires not_before { first_tick reader.now.times.clocks ≤ call.now.stamp }
+) -> Result<usize, AllocError>
+    requires first { (call : Call) × (others : List Call)
+        × HoldsFirst reader.now.messages reader.now.header.clock.tick queue.now call others
+        × (first_tick reader.now.times.clocks ≤ call.stamp) }
     requires origins { context.old.origins ≡ map origin_text reader.now.messages }
-    ensures line { OnOk result ((message : Message) (ordinal : ℕ)
-        → slice_get reader.now.messages call.now.id ≡ Some message
-        → line.new.items ≡ Line reader.now.times.clocks (record {
+    ensures line { (call : Call) (others : List Call)
+        (holds : HoldsFirst reader.now.messages reader.now.header.clock.tick queue.now call others)
+        (message : Message) (ordinal : ℕ)
+        → slice_get reader.now.messages call.id ≡ Some message
+        → OnOk result (line.new.items ≡ Line reader.now.times.clocks (record {
           writer = writer;
           ordinal = ordinal;
-          stamp = call.now.stamp;
+          stamp = call.stamp;
           message = message;
-          args = call.now.args;
+          args = call.args;
         })) }
+    ensures left { (call : Call) (others : List Call)
+        (holds : HoldsFirst reader.now.messages reader.now.header.clock.tick queue.now call others)
+        → IfOk result (λ left. left ≡ length holds.goes_on.back) }
     ensures kept { context.new.origins ≡ context.old.origins }
 {
     line.clear();
-    // Each record names a message that was read.
-    let Some(message) = reader.dictionary().get(call.id) else {
-        return Ok(());
-    };
-    let clock = context.place.clock_at(reader.clocks(), call.stamp);
+    let mut args = ArrayVec::new();
+    let left = queue.unpack_first(reader.dictionary(), room, &mut args);
+    let head = queue.head();
+    let clock = context.place.clock_at(reader.clocks(), head.stamp);
     let parts = LineParts {
         writer,
-        message,
-        origin: context.origins.get(call.id),
-        stamp: call.stamp,
-        args: call.args.as_slice(),
+        message: reader.dictionary().message(head.id),
+        origin: context.origins.get(head.id),
+        stamp: head.stamp,
+        args: args.as_slice(),
     };
-    line_writer.append(&clock, &parts, line)
+    line_writer.append(&clock, &parts, line)?;
+    Ok(left)
 }
 
 // Whether no records of the writer can come: the log has ended, or the writer is closed.
@@ -83,7 +93,7 @@ pub fn print_ready<K: Sink>(
     requires origins { AreFirstOrigins context.old.origins reader.now.messages }
     requires held { text_writer.old ≡ [] }
     ensures printed { (first all : List Block) → HasToPrint ended reader.now first all waiting.old merger.old
-        → PrintsReady ended reader.now.header first all (K.put out.old) (K.put out.new)
+        → PrintsReady ended reader.now first all (K.put out.old) (K.put out.new)
         (K.faults out.old) (K.faults out.new) waiting.new merger.new result }
     ensures write_fault { IsErrOf result DecodeFault.WriteFault → Rose (K.faults out.old) (K.faults out.new) }
     ensures written { ¬ (IsErrOf result DecodeFault.WriteFault) → K.faults out.new ≡ K.faults out.old }
@@ -95,17 +105,22 @@ pub fn print_ready<K: Sink>(
 {
     context.origins.extend(reader.dictionary().as_slice())?;
     let mut line_writer = LineWriter::make();
+    let mut room = NumberRoom::new();
     let mut line = Vec::new(alloc);
     let mut lines = 0;
     while let Next::Take(writer) = merger.next() {
         let queue = &mut waiting[writer as usize];
-        // The merger has the first record of each writer.
-        let Some(record) = queue.first() else {
-            continue;
-        };
-        make_line(reader, context, writer, record, &mut line_writer, &mut line)?;
+        let left = make_line(
+            reader,
+            context,
+            writer,
+            queue,
+            &mut room,
+            &mut line_writer,
+            &mut line,
+        )?;
         text_writer.put(out, line.as_slice())?;
-        queue.remove_first();
+        queue.remove_first(reader.dictionary(), reader.header().clock.tick, left);
         show_first(merger, writer, queue, is_done(ended, reader, writer));
         lines += 1;
     }

@@ -1,66 +1,72 @@
-use Rattle.std.proofs.Common.{◌≡◌, ◌++◌, false, true, List, [], length, get_or, refl, ap, sym, subst, ◌∙◌, arith}
+use Rattle.std.proofs.Common.{◌<◌, ◌++◌, Bool, length, refl, ap, sym, subst, ◌∙◌, arith}
 use Rattle.std.specs.Prelude.{OnOk, slice_set}
-use Rattle.std.proofs.lemmas.List.{get_or_default}
-use Rattle.arg_records.specs.declared.call.Call.{Call}
-use Rattle.checkpoint_io.specs.Blocks.{Block, Extent}
-use Rattle.decompressor.specs.Waiting.{list_of, TakesRecords}
-use Rattle.decompressor.proofs.Heads.{takes_extent, takes_close, extent_may, close_may, on_both}
+use Rattle.checkpoint_io.specs.Blocks.{Block}
+use Rattle.checkpoint_io.specs.NextBlocks.{HasBody}
+use Rattle.decompressor.specs.Waiting.{list_of, records_at, IsAdded}
+use Rattle.decompressor.proofs.Queued.{held_set, held_same, on_ok}
+use Rattle.decompressor.proofs.Heads.{takes_extent, takes_close, extent_may, close_may}
 use Rattle.decompressor.proofs.showing.add_block.Goals as goal
 
 pub bounds-waiting-writer : goal.bounds-waiting-writer
 bounds-waiting-writer c =
-    let (closed, next, tells, may, heads) = c.requires in
-    (extent_may c.args.block next closed (length c.args.waiting.now) c.in-Extent.writer c.in-Extent.records c.in-Extent.is tells may).0
+    let (closed, next, records, tells, body, may, shown) = c.requires in
+    (extent_may c.args.block next closed (length c.args.waiting.now) c.in-Extent.writer c.in-Extent.is tells may).known
 
 pub bounds-waiting-writer-in-Closed : goal.bounds-waiting-writer-in-Closed
 bounds-waiting-writer-in-Closed c =
-    let (closed, next, tells, may, heads) = c.requires in
+    let (closed, next, records, tells, body, may, shown) = c.requires in
     (close_may c.args.block next closed (length c.args.waiting.now) c.in-Closed.writer c.in-Closed.is tells may).0
-
-pub close_writer-requires-clause-known : goal.close_writer-requires-clause-known
-close_writer-requires-clause-known c =
-    let (closed, next, tells, may, heads) = c.requires in
-    omega (arith, (close_may c.args.block next closed (length c.args.waiting.now) c.in-Closed.writer c.in-Closed.is tells may).0, heads.many)
 
 pub add_records-requires : goal.add_records-requires
 add_records-requires c =
-    let (closed, next, tells, may, heads) = c.requires in
+    let (closed, next, records, tells, body, may, shown) = c.requires in
     let writer = c.in-Extent.writer in
-    let known = extent_may c.args.block next closed (length c.args.waiting.now) writer c.in-Extent.records c.in-Extent.is tells may in
-    let queue = get_or_default c.args.waiting.now writer c.index-waiting-writer.result [] known.0 in
-    heads.each writer known.0 ∙ λ i. list_of (known.1 i) (sym queue i)
+    let m = extent_may c.args.block next closed (length c.args.waiting.now) writer c.in-Extent.is tells may in
+    let among : writer < length records = omega (arith, m.known, shown.held.many) in (
+      records_at records writer,
+      held_same _ _ shown.held writer among c.index-waiting-writer.result,
+      shown.heads.each writer among ∙ ap (λ (b : Bool). list_of b (records_at records writer)) m.is_open,
+    )
+
+pub close_writer-requires-clause-known : goal.close_writer-requires-clause-known
+close_writer-requires-clause-known c =
+    let (closed, next, records, tells, body, may, shown) = c.requires in
+    omega (arith, (close_may c.args.block next closed (length c.args.waiting.now) c.in-Closed.writer c.in-Closed.is tells may).0, shown.heads.many, shown.held.many)
 
 pub close_writer-requires-clause-shown : goal.close_writer-requires-clause-shown
 close_writer-requires-clause-shown c =
-    let (closed, next, tells, may, heads) = c.requires in
+    let (closed, next, records, tells, body, may, shown) = c.requires in
     let writer = c.in-Closed.writer in
     let known = close_may c.args.block next closed (length c.args.waiting.now) writer c.in-Closed.is tells may in
-    (closed writer, heads.each writer known.0 ∙ ap (list_of (closed writer)) (sym (get_or_default c.args.waiting.now writer c.index-waiting-writer-in-Closed.result [] known.0)))
+    let among : writer < length records = omega (arith, known.0, shown.held.many) in
+    (closed writer, _, _, records_at records writer, held_same _ _ shown.held writer among c.index-waiting-writer-in-Closed.result, shown.heads.each writer among)
 
 pub returns-in-Extent : goal.returns-in-Extent
-returns-in-Extent c closed next tells may heads =
+returns-in-Extent c closed next records tells body may shown =
     let writer = c.in-Extent.writer in
-    let records = c.in-Extent.records in
-    let lists = c.args.merger.now in
-    let waiting = c.args.waiting.now in
-    let queue = c.add_records.new.queue in
-    let new = c.add_records.new.merger in
-    let known = extent_may c.args.block next closed (length waiting) writer records c.in-Extent.is tells may in
-    subst (λ (block : Block). OnOk c.add_records.result (TakesRecords closed block waiting (slice_set waiting writer queue) new)) (sym known.2)
-    (on_both (queue ≡ get_or waiting writer c.index-waiting-writer.result ++ records) (new ≡ slice_set lists writer (list_of false queue)) (TakesRecords closed (Extent writer records) waiting (slice_set waiting writer queue) new) c.add_records.result
-    (λ joined list.
-    takes_extent closed lists waiting heads writer records queue (slice_set waiting writer queue) new known.0 known.1
-    (joined ∙ ap (λ (first : List Call). first ++ records) (get_or_default waiting writer c.index-waiting-writer.result [] known.0)) refl list)
-    c.add_records.ensures.queue c.add_records.ensures.list)
+    let reader = c.args.reader.now in
+    let m = extent_may c.args.block next closed (length c.args.waiting.now) writer c.in-Extent.is tells may in
+    let among : writer < length records = omega (arith, m.known, shown.held.many) in
+    let (last, is) = subst (λ (block : Block). HasBody reader.header.clock.tick reader.messages block reader.body) m.is body in
+    let all = records_at records writer ++ m.records in
+    subst (λ (block : Block). OnOk c.add_records.result (IsAdded closed block reader records (slice_set c.args.waiting.now writer c.add_records.new.queue) c.add_records.new.merger)) (sym m.is)
+    (on_ok c.add_records.result
+    (λ (holds, list). record {
+      records = slice_set records writer all;
+      takes = takes_extent closed c.args.merger.now records shown.heads writer m.records all (slice_set records writer all) c.add_records.new.merger among m.is_open refl refl list;
+      held = held_set _ _ shown.held writer c.add_records.new.queue all among holds;
+    })
+    (c.add_records.ensures (records_at records writer) m.records last (held_same _ _ shown.held writer among c.index-waiting-writer.result)
+    (shown.heads.each writer among ∙ ap (λ (b : Bool). list_of b (records_at records writer)) m.is_open) is))
 
 pub returns-in-Closed : goal.returns-in-Closed
-returns-in-Closed c closed next tells may heads =
+returns-in-Closed c closed next records tells body may shown =
     let writer = c.in-Closed.writer in
-    let lists = c.args.merger.now in
-    let waiting = c.args.waiting.now in
-    let new = c.close_writer.new.merger in
-    let known = close_may c.args.block next closed (length waiting) writer c.in-Closed.is tells may in
-    let queue = get_or_default waiting writer c.index-waiting-writer-in-Closed.result [] known.0 in
-    let shown = c.close_writer.ensures (closed writer) (heads.each writer known.0 ∙ ap (list_of (closed writer)) (sym queue)) in
-    subst (λ (block : Block). TakesRecords closed block waiting waiting new) (sym known.1)
-    (takes_close closed lists waiting heads writer new known.0 (shown ∙ ap (λ (records : List Call). slice_set lists writer (list_of true records)) queue))
+    let known = close_may c.args.block next closed (length c.args.waiting.now) writer c.in-Closed.is tells may in
+    let among : writer < length records = omega (arith, known.0, shown.held.many) in
+    let list = c.close_writer.ensures (closed writer) _ _ (records_at records writer) (held_same _ _ shown.held writer among c.index-waiting-writer-in-Closed.result) (shown.heads.each writer among) in
+    subst (λ (block : Block). IsAdded closed block c.args.reader.now records c.args.waiting.now c.close_writer.new.merger) (sym known.1) (record {
+      records = records;
+      takes = takes_close closed c.args.merger.now records shown.heads writer c.close_writer.new.merger among list;
+      held = shown.held;
+    })

@@ -1,10 +1,10 @@
-use Rattle.std.proofs.Common.{◌+◌, true, Ok, List, length, ap, sym, subst, arith}
+use Rattle.std.proofs.Common.{◌≡◌, ◌+◌, true, Ok, List, length, ap, sym, subst, arith}
 use Rattle.std.specs.Vec.{with_items}
 use Rattle.std.proofs.lemmas.List.{with_items_is}
-use Rattle.arg_records.specs.declared.call.Call.{Call}
 use Rattle.checkpoint_io.specs.Blocks.{Block}
 use Rattle.decompressor.specs.contracts.log_printer.LogPrinter.{the_view}
-use Rattle.decompressor.specs.Waiting.{HasHeads}
+use Rattle.decompressor.specs.Settling.{closed_by}
+use Rattle.decompressor.specs.Waiting.{QueueState, AreShown}
 use Rattle.decompressor.specs.Decompressors.{PrinterState, HasToPrint, HasLast, HasRest, PrintsRest}
 use Rattle.decompressor.proofs.Blocks.{few_wait, all_ready_now}
 use Rattle.decompressor.proofs.Parts.{lines_fit, prints_on, prints_cut}
@@ -12,16 +12,25 @@ use Rattle.decompressor.proofs.log_printer.LogPrinter.print_rest.Goals.{After-de
 use Rattle.decompressor.proofs.log_printer.LogPrinter.print_rest.Given.{Over}
 use Rattle.decompressor.proofs.log_printer.LogPrinter.print_rest.Goals as goal
 
+-- what waits is shown
+shown_there : {state : PrinterState} {blocks : List Block} (last : HasLast state blocks) {queues : List QueueState} → queues ≡ state.waiting → AreShown (closed_by blocks) state.reader queues state.lists last.records
+shown_there {state} {blocks} last is = subst (λ (queues : List QueueState). AreShown (closed_by blocks) state.reader queues state.lists last.records) (sym is) last.shown
+
 -- all that waits is ready to be printed
 all_ready : (g : Over) (c : After-deref_mut g) (blocks : List Block) → HasLast (the_view c.self.inside) blocks → HasToPrint true c.self.inside.reader blocks blocks c.deref_mut.result.now c.close_all.new.merger
 all_ready g c blocks last =
-    subst (λ (waiting : List (List Call)). HasToPrint true c.self.inside.reader blocks blocks waiting c.close_all.new.merger) (sym c.deref_mut.ensures.value)
-    (all_ready_now last (subst (HasHeads (λ writer. true) c.close_all.new.merger) c.deref.ensures.value c.close_all.ensures))
+    subst (λ (waiting : List QueueState). HasToPrint true c.self.inside.reader blocks blocks waiting c.close_all.new.merger) (sym c.deref_mut.ensures.value)
+    (all_ready_now last (c.close_all.ensures (closed_by blocks) c.self.inside.reader last.records (shown_there last c.deref.ensures.value)))
 
 pub close_all-requires-clause-few : goal.close_all-requires-clause-few
 close_all-requires-clause-few g c =
     let (blocks, last) = subst (λ (s : PrinterState). HasRest s) (sym c.self.view_is) c.requires.last in
     omega (arith, few_wait last, ap length c.deref.ensures.value)
+
+pub close_all-requires-clause-shown : goal.close_all-requires-clause-shown
+close_all-requires-clause-shown g c =
+    let (blocks, last) = subst (λ (s : PrinterState). HasRest s) (sym c.self.view_is) c.requires.last in
+    (closed_by blocks, c.self.inside.reader, last.records, shown_there last c.deref.ensures.value)
 
 pub print_ready-requires-clause-ready : goal.print_ready-requires-clause-ready
 print_ready-requires-clause-ready g c =

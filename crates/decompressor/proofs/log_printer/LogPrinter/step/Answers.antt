@@ -64,7 +64,7 @@ module _ (g : Over) where
         c.in-Ok-Some.field-0-is (c.in-Ok-Some.ensures.ok taken printed.read)
 
     took : HasTaken (at_reader (the_view c.self.inside) c.next_block.new.self) (blocks printed) next.block
-    took = has_read printed c.next_block.new.self c.next_block.ensures.header next
+    took = has_read printed c.next_block.new.self c.next_block.ensures.header next c.next_block.ensures.defined
 
   -- no block stands there
   module _ (c : In-Ok-None g) {taken text : List ℕ} (printed : HasPrinted (the_view c.self.inside) taken text) where
@@ -128,7 +128,7 @@ returns-in_ok-take_block-in-Ok-Some-clause-step g c =
     (λ taken text printed.
     let n = next g at.In-Ok-Some printed in
     let did = c.in_ok-take_block-in-Ok-Some.ensures.printed (blocks printed) n.block n.tells (took g at.In-Ok-Some printed) in
-    (advances printed c.next_block.new.self c.next_block.ensures.header n c.take_block.ensures.reader c.in-Ok-Some.ensures.right did.0, counted))
+    (advances printed c.next_block.new.self c.next_block.ensures.header n c.take_block.ensures.reader c.in-Ok-Some.ensures.failed.0 did.0, counted))
 
 pub print_rest-requires-clause-last : goal.print_rest-requires-clause-last
 print_rest-requires-clause-last g c =
@@ -140,20 +140,20 @@ pub print_rest-requires-in-Err-Damaged-clause-last : goal.print_rest-requires-in
 print_rest-requires-in-Err-Damaged-clause-last g c =
     let at = goal.at.print_rest-requires-in-Err-Damaged-clause-last g c in
     let (taken, text, printed) = begun g at.After-next_block in
-    (blocks printed, last g at.After-next_block printed c.in-Err-Damaged.ensures.clocks)
+    (blocks printed, last g at.After-next_block printed c.in-Err-Damaged.ensures.kept.1)
 
 pub print_rest-requires-in-Err-ReadFault-clause-last : goal.print_rest-requires-in-Err-ReadFault-clause-last
 print_rest-requires-in-Err-ReadFault-clause-last g c =
     let at = goal.at.print_rest-requires-in-Err-ReadFault-clause-last g c in
     let (taken, text, printed) = begun g at.After-next_block in
-    (blocks printed, last g at.After-next_block printed c.in-Err-ReadFault.ensures.clocks)
+    (blocks printed, last g at.After-next_block printed c.in-Err-ReadFault.ensures.kept.1)
 
 pub returns-in-Err-NoMemory-clause-step : goal.returns-in-Err-NoMemory-clause-step
 returns-in-Err-NoMemory-clause-step g c =
     let at = goal.at.returns-in-Err-NoMemory-clause-step g c in
     let counted : after g at.After-next_block ≡ before g at.After-next_block = search rules in
     says g at.After-next_block (at_reader (old g at.After-next_block) c.next_block.new.self) (g.K.Sink.put c.args.out.now) (Err NoMemory)
-    (λ taken text printed. nothing_put printed c.next_block.new.self c.next_block.ensures.header _ _ _ _ _ c.in-Err-NoMemory.ensures.offset counted)
+    (λ taken text printed. nothing_put printed c.next_block.new.self c.next_block.ensures.header _ _ _ _ _ c.in-Err-NoMemory.ensures.kept.0 counted)
 
 pub returns-in_err-print_rest-in-Ok-None-clause-step : goal.returns-in_err-print_rest-in-Ok-None-clause-step
 returns-in_err-print_rest-in-Ok-None-clause-step g c =
@@ -173,7 +173,7 @@ returns-in_err-print_rest-in-Err-Damaged-clause-step g c =
     says g at.After-next_block state (g.K.Sink.put c.print_rest-in-Err-Damaged.new.out) c.from_residual-in_err-print_rest-in-Err-Damaged.result
     (λ taken text printed.
     rest_stops printed c.next_block.new.self c.next_block.ensures.header _ _ _ _ state _ _ (Err (Damaged offset c.in-Err-Damaged.cause)) (damaged g at.In-Err-Damaged printed state offset refl) c.from_residual-in_err-print_rest-in-Err-Damaged.result
-    c.from_residual-in_err-print_rest-in-Err-Damaged.ensures.1 (c.in_err-print_rest-in-Err-Damaged.ensures.printed (blocks printed) (last g at.After-next_block printed c.in-Err-Damaged.ensures.clocks)))
+    c.from_residual-in_err-print_rest-in-Err-Damaged.ensures.1 (c.in_err-print_rest-in-Err-Damaged.ensures.printed (blocks printed) (last g at.After-next_block printed c.in-Err-Damaged.ensures.kept.1)))
 
 pub returns-in_err-print_rest-in-Err-ReadFault-clause-step : goal.returns-in_err-print_rest-in-Err-ReadFault-clause-step
 returns-in_err-print_rest-in-Err-ReadFault-clause-step g c =
@@ -182,7 +182,7 @@ returns-in_err-print_rest-in-Err-ReadFault-clause-step g c =
     says g at.After-next_block state (g.K.Sink.put c.print_rest-in-Err-ReadFault.new.out) c.from_residual-in_err-print_rest-in-Err-ReadFault.result
     (λ taken text printed.
     rest_stops printed c.next_block.new.self c.next_block.ensures.header _ _ _ _ state _ _ (Err ReadFault) (failed g at.In-Err-ReadFault printed state) c.from_residual-in_err-print_rest-in-Err-ReadFault.result
-    c.from_residual-in_err-print_rest-in-Err-ReadFault.ensures.1 (c.in_err-print_rest-in-Err-ReadFault.ensures.printed (blocks printed) (last g at.After-next_block printed c.in-Err-ReadFault.ensures.clocks)))
+    c.from_residual-in_err-print_rest-in-Err-ReadFault.ensures.1 (c.in_err-print_rest-in-Err-ReadFault.ensures.printed (blocks printed) (last g at.After-next_block printed c.in-Err-ReadFault.ensures.kept.1)))
 
 pub returns-in_err-open_writers-in-Ok-None-clause-step : goal.returns-in_err-open_writers-in-Ok-None-clause-step
 returns-in_err-open_writers-in-Ok-None-clause-step g c =
@@ -218,11 +218,11 @@ returns-in_ok-print_rest-in-Err-Damaged-clause-step g c =
     let at = goal.at.returns-in_ok-print_rest-in-Err-Damaged-clause-step g c in
     let state : PrinterState = c.print_rest-in-Err-Damaged.new.self in
     let reader_is : c.self-in-Err-Damaged.inside.reader ≡ c.next_block.new.self = ap (λ (s : PrinterState). s.reader) c.self-in-Err-Damaged.view_is ∙ c.print_rest-in-Err-Damaged.ensures.reader in
-    let offset_is : c.offset.result ≡ c.self.inside.reader.offset = c.offset.ensures ∙ ap (λ (r : ReaderState). r.offset) reader_is ∙ c.in-Err-Damaged.ensures.offset in
+    let offset_is : c.offset.result ≡ c.self.inside.reader.offset = c.offset.ensures ∙ ap (λ (r : ReaderState). r.offset) reader_is ∙ c.in-Err-Damaged.ensures.kept.0 in
     let answer : Result Report DecodeFault = Err (Damaged c.offset.result c.in-Err-Damaged.cause) in
     says g at.After-next_block state (g.K.Sink.put c.print_rest-in-Err-Damaged.new.out) (Err (Damaged c.offset.result c.in-Err-Damaged.cause))
     (λ taken text printed.
-    let did = c.in_ok-print_rest-in-Err-Damaged.ensures.printed (blocks printed) (last g at.After-next_block printed c.in-Err-Damaged.ensures.clocks) in
+    let did = c.in_ok-print_rest-in-Err-Damaged.ensures.printed (blocks printed) (last g at.After-next_block printed c.in-Err-Damaged.ensures.kept.1) in
     completes printed c.next_block.new.self c.next_block.ensures.header _ (g.S.Source.left c.next_block.new.source) _ _ state _ _ answer (damaged g at.In-Err-Damaged printed state c.offset.result offset_is) did.0)
 
 pub returns-in_ok-print_rest-in-Err-ReadFault-clause-step : goal.returns-in_ok-print_rest-in-Err-ReadFault-clause-step
@@ -231,5 +231,5 @@ returns-in_ok-print_rest-in-Err-ReadFault-clause-step g c =
     let state : PrinterState = c.print_rest-in-Err-ReadFault.new.self in
     says g at.After-next_block state (g.K.Sink.put c.print_rest-in-Err-ReadFault.new.out) (Err ReadFault)
     (λ taken text printed.
-    let did = c.in_ok-print_rest-in-Err-ReadFault.ensures.printed (blocks printed) (last g at.After-next_block printed c.in-Err-ReadFault.ensures.clocks) in
+    let did = c.in_ok-print_rest-in-Err-ReadFault.ensures.printed (blocks printed) (last g at.After-next_block printed c.in-Err-ReadFault.ensures.kept.1) in
     completes printed c.next_block.new.self c.next_block.ensures.header _ (g.S.Source.left c.next_block.new.source) _ _ state _ _ (Err ReadFault) (failed g at.In-Err-ReadFault printed state) did.0)

@@ -18,14 +18,14 @@ shown g c = c.deref_mut-2.ensures.value ∙ with_items_is c.self.inside.waiting 
 -- what the block makes ready to be printed
 ready_behind : (g : Over) (c : After-deref_mut-2 g) (first : List Block) (next : Block) → Describes c.args.block next → HasTaken (the_view c.self.inside) first next → HasToPrint false c.self.inside.reader first (first ++ next ∷ []) c.deref_mut-2.result.now c.add_block.new.merger
 ready_behind g c first next tells read =
-    let (may, heads) = may_add read c.deref_mut.ensures.value in
-    ready read c.deref_mut.ensures.value (shown g c) (c.in_ok-add_block.ensures (closed_by first) next tells may heads)
+    let (may, there) = may_add read c.deref_mut.ensures.value in
+    ready read (shown g c) (c.in_ok-add_block.ensures (closed_by first) next read.records tells read.body may there)
 
 pub add_block-requires : goal.add_block-requires
 add_block-requires g c =
     let (first, next, tells, read) = subst (λ (s : PrinterState). HasNext s c.args.block) (sym c.self.view_is) c.requires.next in
-    let (may, heads) = may_add read c.deref_mut.ensures.value in
-    (closed_by first, next, tells, may, heads)
+    let (may, there) = may_add read c.deref_mut.ensures.value in
+    (closed_by first, next, read.records, tells, read.body, may, there)
 
 pub print_ready-requires-clause-ready : goal.print_ready-requires-clause-ready
 print_ready-requires-clause-ready g c =
