@@ -1,0 +1,3 @@
+pub mod Migrating
+pub mod Migrations
+pub mod Rows
