@@ -245,6 +245,10 @@ schedule_lawful : AsksLawful forms.Schedule (called (codes "FILE") kind.File ∷
 schedule_lawful (File file ∷ []) options fit bounds = fit.0
 schedule_lawful _ options fit bounds = tt
 
+migrate_lawful : AsksLawful forms.Migrate (called (codes "OLD") kind.File ∷ called (codes "NEW") kind.OtherFile ∷ [])
+migrate_lawful (File old ∷ File new ∷ []) options fit bounds = (fit.0, fit.1.0.0, other_name old new fit.1.0.1.0)
+migrate_lawful _ options fit bounds = tt
+
 inject_lawful : AsksLawful forms.Inject (
     called (codes "DICT") kind.File ∷ called (codes "FILE") kind.File ∷ called (codes "OUT") kind.OtherFile ∷ [])
 inject_lawful (File dictionary ∷ File source ∷ File output ∷ []) options fit bounds =
@@ -276,7 +280,7 @@ all_lawful = (
             generate_lawful,
             (
               selftest_lawful,
-              (schedule_lawful, (inject_lawful, (header_lawful, tt))),
+              (schedule_lawful, (migrate_lawful, (inject_lawful, (header_lawful, tt)))),
             ),
           ),
         ),

@@ -22,7 +22,7 @@ use Rattle.cli_words.specs.Commands.{with_name, with_option, given_of, given_fro
 use Rattle.cli_words.specs.Commands.{values_given, policy_named, severity_named}
 use Rattle.cli_words.specs.Commands.{OperandValue, File, is_name, is_file, is_other, are_sources}
 use Rattle.cli_words.specs.Commands.{number_within}
-use Rattle.cli_words.specs.Commands.{Command, Preprocess, Direct, Replay, Decompress, Aggregate, Generate, Selftest, Schedule, Inject, Header}
+use Rattle.cli_words.specs.Commands.{Command, Preprocess, Direct, Replay, Decompress, Aggregate, Generate, Selftest, Schedule, Migrate, Inject, Header}
 use Rattle.cli_words.specs.Commands.{command_of}
 use Rattle.cli_words.specs.Rows.{AreGenerated, IsLawful, words_for}
 use Rattle.cli_words.specs.declared.numbers.TheConstants.{MAX_ID, MAX_SEED}
@@ -236,6 +236,7 @@ line_asks (Replay trace log options) lawful =
       differ trace log lawful.2,
     ) refl
 line_asks (Schedule file) lawful = rw lawful refl
+line_asks (Migrate old new) lawful = rw (lawful.0, lawful.1, differ old new lawful.2) refl
 line_asks (Inject dictionary source output) lawful =
     rw (lawful.0, lawful.1, lawful.2, differ dictionary output lawful.3, differ source output lawful.4) refl
 line_asks (Header dictionary output) lawful = rw (lawful.0, lawful.1, differ dictionary output lawful.2) refl

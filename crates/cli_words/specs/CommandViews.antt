@@ -4,7 +4,7 @@ use Rattle.cli_words.specs.declared.command.Command.{Command as Asked}
 use Rattle.cli_words.specs.declared.command.Command.TheVariants as asked
 use Rattle.cli_words.specs.declared.operands.OperandValue.{OperandValue as Read}
 use Rattle.cli_words.specs.declared.operands.OperandValue.TheVariants as read
-use Rattle.cli_words.specs.Commands.{Command, Preprocess, Direct, Replay, Decompress, Aggregate, Generate, Selftest, Schedule, Inject, Header}
+use Rattle.cli_words.specs.Commands.{Command, Preprocess, Direct, Replay, Decompress, Aggregate, Generate, Selftest, Schedule, Migrate, Inject, Header}
 use Rattle.cli_words.specs.Commands.{OperandValue, File, Sources, Number, Seed}
 
 -- what is asked for
@@ -17,6 +17,7 @@ command_is (asked.Aggregate log id nth) = Aggregate log.now id nth
 command_is (asked.Generate seed calls writers) = Generate seed calls writers
 command_is (asked.Selftest seed calls writers) = Selftest seed calls writers
 command_is (asked.Schedule file) = Schedule file.now
+command_is (asked.Migrate old new) = Migrate old.now new.now
 command_is (asked.Inject dictionary source output) = Inject dictionary.now source.now output.now
 command_is (asked.Header dictionary output) = Header dictionary.now output.now
 

@@ -40,6 +40,7 @@ pub data Command : Type 0 where
   Generate : (seed calls writers : ℕ) → Command
   Selftest : (seed calls writers : ℕ) → Command
   Schedule : (file : WordBytes) → Command
+  Migrate : (old new : WordBytes) → Command
   Inject : (dictionary source output : WordBytes) → Command
   Header : (dictionary output : WordBytes) → Command
 
@@ -250,6 +251,7 @@ made form.Direct (File trace ∷ []) options = Some (Direct trace)
 made form.Generate (Seed seed ∷ Number calls ∷ Number writers ∷ []) options = Some (Generate seed calls writers)
 made form.Selftest (Seed seed ∷ Number calls ∷ Number writers ∷ []) options = Some (Selftest seed calls writers)
 made form.Schedule (File file ∷ []) options = Some (Schedule file)
+made form.Migrate (File old ∷ File new ∷ []) options = Some (Migrate old new)
 made form.Inject (File dictionary ∷ File source ∷ File output ∷ []) options = Some (Inject dictionary source output)
 made form.Header (File dictionary ∷ File output ∷ []) options = Some (Header dictionary output)
 made _ _ options = None

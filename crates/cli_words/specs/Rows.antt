@@ -3,7 +3,7 @@ use Rattle.std.specs.Prelude.{◌≡◌, ◌≢◌, ◌==◌, ◌<◌, ◌≤◌
 use Rattle.std.specs.Fmt.{decimal}
 use Rattle.std.specs.List.{All, slice_split}
 use Rattle.cli_words.specs.Commands.{WordBytes, Command, Preprocess, Direct, Replay, Decompress}
-use Rattle.cli_words.specs.Commands.{Aggregate, Generate, Selftest, Schedule, Inject, Header}
+use Rattle.cli_words.specs.Commands.{Aggregate, Generate, Selftest, Schedule, Migrate, Inject, Header}
 use Rattle.cli_words.specs.Commands.{command_of, is_name}
 use Rattle.cli_words.specs.declared.operands.TheConstants.{MAX_SOURCES}
 use Rattle.cli_words.specs.declared.numbers.TheConstants.{MAX_ID, MAX_SEED}
@@ -46,6 +46,7 @@ IsLawful (Aggregate log id nth) = (is_name log ≡ true) × (id ≤ MAX_ID) × (
 IsLawful (Generate seed calls writers) = AreGenerated seed calls writers
 IsLawful (Selftest seed calls writers) = AreGenerated seed calls writers
 IsLawful (Schedule file) = is_name file ≡ true
+IsLawful (Migrate old new) = (is_name old ≡ true) × (is_name new ≡ true) × (old ≢ new)
 IsLawful (Inject dictionary source output) =
     (is_name dictionary ≡ true) × (is_name source ≡ true) × (is_name output ≡ true)
     × (dictionary ≢ output) × (source ≢ output)
@@ -71,5 +72,6 @@ words_for (Generate seed calls writers) =
 words_for (Selftest seed calls writers) =
     codes "selftest" ∷ codes "--" ∷ decimal seed ∷ decimal calls ∷ decimal writers ∷ []
 words_for (Schedule file) = codes "schedule" ∷ codes "--" ∷ file ∷ []
+words_for (Migrate old new) = codes "migrate" ∷ codes "--" ∷ old ∷ new ∷ []
 words_for (Inject dictionary source output) = codes "inject" ∷ codes "--" ∷ dictionary ∷ source ∷ output ∷ []
 words_for (Header dictionary output) = codes "header" ∷ codes "--" ∷ dictionary ∷ output ∷ []

@@ -50,6 +50,7 @@ rows =
     ∷ row form.Generate (codes "generate") generated_operands false
     ∷ row form.Selftest (codes "selftest") generated_operands false
     ∷ row form.Schedule (codes "schedule") (called (codes "FILE") File ∷ []) false
+    ∷ row form.Migrate (codes "migrate") (called (codes "OLD") File ∷ called (codes "NEW") OtherFile ∷ []) false
     ∷ row form.Inject (codes "inject")
     (called (codes "DICT") File ∷ called (codes "FILE") File ∷ called (codes "OUT") OtherFile ∷ []) false
     ∷ row form.Header (codes "header") (called (codes "DICT") File ∷ called (codes "OUT") OtherFile ∷ []) false

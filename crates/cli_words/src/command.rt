@@ -61,6 +61,11 @@ pub enum Command<'a> {
     Schedule {
         file: &'a str,
     },
+    /// To write the log of version 2 that has what a log of version 1 has.
+    Migrate {
+        old: &'a str,
+        new: &'a str,
+    },
     /// To write a source with calls by number in place of its log statements.
     Inject {
         dictionary: &'a str,
@@ -198,6 +203,17 @@ fn schedule_of<'a>(values: &[OperandValue<'_, 'a>]) -> Option<Command<'a>>
     }
 }
 
+/// The command `migrate`, if these are its operands.
+fn migrate_of<'a>(values: &[OperandValue<'_, 'a>]) -> Option<Command<'a>>
+    ensures { (options : Options) →
+        option_map command_is result ≡ made forms.Migrate (map value_is values.now) options }
+{
+    match values {
+        [OperandValue::File(old), OperandValue::File(new)] => Some(Command::Migrate { old, new }),
+        _ => None,
+    }
+}
+
 /// The command `inject`, if these are its operands.
 fn inject_of<'a>(values: &[OperandValue<'_, 'a>]) -> Option<Command<'a>>
     ensures { (options : Options) →
@@ -249,6 +265,7 @@ fn made<'a>(
         CommandForm::Generate => Ok(generate_of(values)),
         CommandForm::Selftest => Ok(selftest_of(values)),
         CommandForm::Schedule => Ok(schedule_of(values)),
+        CommandForm::Migrate => Ok(migrate_of(values)),
         CommandForm::Inject => Ok(inject_of(values)),
         CommandForm::Header => Ok(header_of(values)),
     }

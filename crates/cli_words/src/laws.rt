@@ -4,7 +4,7 @@
 ghost use Rattle.std.specs.Prelude.{◌≡◌, Some, None, List, [], ◌∷◌, ◌++◌, codes};
 ghost use Rattle.cli_words.specs.Commands.{WordBytes, Name, Awaits, word_of, given_of, options_of, command_of};
 ghost use Rattle.cli_words.specs.Commands.{Command, Preprocess, Direct, Replay, Decompress};
-ghost use Rattle.cli_words.specs.Commands.{Aggregate, Generate, Selftest, Schedule, Inject, Header};
+ghost use Rattle.cli_words.specs.Commands.{Aggregate, Generate, Selftest, Schedule, Migrate, Inject, Header};
 ghost use Rattle.cli_words.specs.declared.operands.TheConstants.{MAX_SOURCES};
 ghost use Rattle.cli_words.specs.Rows.{meaning, replays, IsLawful, words_for};
 ghost use Rattle.cli_words.specs.Usage.{usage_text};
@@ -113,6 +113,18 @@ pub fn outputs_are_other_files()
     ensures no_name { meaning (codes "inject d m ") ≡ None }
     ensures no_dictionary { meaning (codes "header  h") ≡ None }
     ensures option { meaning (codes "inject d m o --level ERROR") ≡ None }
+{}
+
+/// `migrate` has an old log and a new one, which is another file.
+pub fn new_logs_are_other_files()
+    ensures migrate { meaning (codes "migrate l n") ≡ Some (Migrate (codes "l") (codes "n")) }
+    ensures dash { meaning (codes "migrate -- -l -n") ≡ Some (Migrate (codes "-l") (codes "-n")) }
+    ensures onto_itself { meaning (codes "migrate l l") ≡ None }
+    ensures no_new { meaning (codes "migrate l") ≡ None }
+    ensures two_new { meaning (codes "migrate l n o") ≡ None }
+    ensures no_old { meaning (codes "migrate  n") ≡ None }
+    ensures no_name { meaning (codes "migrate l ") ≡ None }
+    ensures option { meaning (codes "migrate l n --level ERROR") ≡ None }
 {}
 
 /// An option is one of the command's own, spelled whole, and is given once, with its value.
@@ -243,6 +255,7 @@ pub fn the_usage_text_has_these_lines()
         ++ codes "  nanolog generate SEED CALLS WRITERS\n"
         ++ codes "  nanolog selftest SEED CALLS WRITERS\n"
         ++ codes "  nanolog schedule FILE\n"
+        ++ codes "  nanolog migrate OLD NEW\n"
         ++ codes "  nanolog inject DICT FILE OUT\n"
         ++ codes "  nanolog header DICT OUT\n" }
 {}

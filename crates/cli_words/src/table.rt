@@ -18,6 +18,7 @@ pub(crate) enum CommandForm {
     Generate,
     Selftest,
     Schedule,
+    Migrate,
     Inject,
     Header,
 }
@@ -130,6 +131,16 @@ const FILE: Operand = Operand {
     kind: OperandKind::File,
 };
 
+const OLD: Operand = Operand {
+    shown: "OLD",
+    kind: OperandKind::File,
+};
+
+const NEW: Operand = Operand {
+    shown: "NEW",
+    kind: OperandKind::OtherFile,
+};
+
 const OUT: Operand = Operand {
     shown: "OUT",
     kind: OperandKind::OtherFile,
@@ -211,6 +222,12 @@ pub(crate) const ROWS: &[CommandRow] = &[
         form: CommandForm::Schedule,
         word: "schedule",
         operands: &[FILE],
+        has_options: false,
+    },
+    CommandRow {
+        form: CommandForm::Migrate,
+        word: "migrate",
+        operands: &[OLD, NEW],
         has_options: false,
     },
     CommandRow {
