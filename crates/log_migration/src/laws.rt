@@ -4,9 +4,9 @@ ghost use Rattle.std.specs.Prelude.{◌≡◌, ℕ, ◌<◌, ◌≤◌, List, �
 ghost use Rattle.checkpoint_io.specs.declared.header.Header.{Header};
 ghost use Rattle.checkpoint_io.specs.declared.heads.TheConstants.{MAX_LOG};
 ghost use Rattle.checkpoint_io.specs.Blocks.{Block, FileOf, clocks_of};
-ghost use Rattle.log_migration.specs.declared.fault.MigrateFault.{MigrateFault as LogFault};
 ghost use Rattle.checkpoint_io.specs.Validity.{Valid};
 ghost use Rattle.checkpoint_io.specs.Rows.{row_bytes};
+ghost use Rattle.log_migration.specs.declared.fault.MigrateFault.{MigrateFault as LogFault};
 ghost use Rattle.log_migration.specs.Migrating.{version_2, IsMigrated, BeginsWithVersion, HaveMigration};
 ghost use Rattle.log_migration.specs.Rows.{migrated_bytes};
 
@@ -34,7 +34,8 @@ pub fn migrated_logs_are_right()
 /// A log of version 1, of no more than the most bytes that are read, has one answer: the log of version 2, or that this
 /// would have more. One that begins with a right header of version 2 has one answer, whatever stands behind.
 pub fn logs_have_one_answer()
-    ensures fits { (header : Header) (blocks : List Block) (bytes migrated old new : List ℕ) (answer : Result ℕ LogFault)
+    ensures fits { (header : Header) (blocks : List Block) (bytes migrated old new : List ℕ)
+        (answer : Result ℕ LogFault)
         → header.version ≡ 1
         → FileOf header blocks bytes
         → Valid header blocks
@@ -43,7 +44,8 @@ pub fn logs_have_one_answer()
         → length migrated ≤ MAX_LOG
         → HaveMigration old new answer bytes
         → (answer ≡ Ok (length blocks)) × (new ≡ old ++ migrated) }
-    ensures too_large { (header : Header) (blocks : List Block) (bytes migrated old new : List ℕ) (answer : Result ℕ LogFault)
+    ensures too_large { (header : Header) (blocks : List Block) (bytes migrated old new : List ℕ)
+        (answer : Result ℕ LogFault)
         → header.version ≡ 1
         → FileOf header blocks bytes
         → Valid header blocks
