@@ -2,3 +2,4 @@ pub mod lemmas
 mod Told
 mod Totals
 mod Texts
+mod Migrated

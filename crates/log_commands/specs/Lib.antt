@@ -1,3 +1,4 @@
 pub mod Logs
 pub mod Decompressing
 pub mod Aggregating
+pub mod Migrating

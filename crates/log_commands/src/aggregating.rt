@@ -6,17 +6,17 @@ ghost use Rattle.nl_io.specs.Count.{Rose};
 ghost use Rattle.nl_io.specs.Content.{Told};
 ghost use Rattle.nl_io.specs.Desk.{IsReading, SameButLeft};
 ghost use Rattle.aggregation.specs.Aggregating.{AnswersTotals};
-ghost use Rattle.command_base.specs.Endings.{Refused as RefusedFile, ending_of, refusal_ending};
+ghost use Rattle.command_base.specs.Endings.{ending_of};
 ghost use Rattle.command_base.specs.Effects.{CommandEffect};
 ghost use Rattle.command_base.specs.Scenes.{scene};
 ghost use Rattle.command_base.specs.Tasks.{text_alone};
 ghost use Rattle.log_commands.specs.Logs.{left_by};
 ghost use Rattle.log_commands.specs.Aggregating.{totals_text, totals_told, totals_ending, aggregate_task};
 
-use crate::damage::damaged;
+use crate::damage::{damaged, refused};
 use crate::totals_line::print_line;
 use aggregation::{AggregateFault, Totals};
-use command_base::{Refusal, ToldCause, open};
+use command_base::{Refusal, open};
 use nl_io::{FileSource, Files, Sink};
 use std::alloc::Global;
 
@@ -50,17 +50,6 @@ fn totals_of(answer: Result<Totals, AggregateFault>) -> Option<Totals>
         Ok(totals) => Some(totals),
         Err(AggregateFault::Damaged { front, .. }) => front,
         Err(_) => None,
-    }
-}
-
-/// The refusal of a log that is whole.
-fn refused<'a>(log: &'a str, number: u8, name: &'static str) -> Refusal<'a>
-    ensures { refusal_ending result ≡ RefusedFile log.now None (record { number = number; name = name.now }) }
-{
-    Refusal::Refused {
-        name: log,
-        line: None,
-        cause: ToldCause { number, name },
     }
 }
 

@@ -1,7 +1,7 @@
-//! The refusal of a damaged log.
+//! The refusals of a log.
 
-ghost use Rattle.std.specs.Prelude.{◌≡◌};
-ghost use Rattle.command_base.specs.Endings.{Damaged as DamagedFile, refusal_ending};
+ghost use Rattle.std.specs.Prelude.{◌≡◌, None};
+ghost use Rattle.command_base.specs.Endings.{Damaged as DamagedFile, Refused as RefusedFile, refusal_ending};
 ghost use Rattle.log_commands.specs.Logs.{log_cause};
 
 use checkpoint_io::Cause;
@@ -18,5 +18,16 @@ pub(crate) fn damaged(log: &str, offset: u64, cause: Cause) -> Refusal<'_>
             number: cause.number(),
             name: cause.name(),
         },
+    }
+}
+
+/// The refusal of a log that is whole.
+pub(crate) fn refused<'a>(log: &'a str, number: u8, name: &'static str) -> Refusal<'a>
+    ensures { refusal_ending result ≡ RefusedFile log.now None (record { number = number; name = name.now }) }
+{
+    Refusal::Refused {
+        name: log,
+        line: None,
+        cause: ToldCause { number, name },
     }
 }

@@ -14,15 +14,19 @@ use Rattle.aggregation.specs.declared.fault.AggregateFault.TheVariants as faults
 use Rattle.aggregation.specs.Totals.{argument_totals}
 use Rattle.aggregation.specs.Aggregating.{answer_for, HaveAnswer}
 use Rattle.aggregation.proofs.lemmas.TotalsLaws.{one_answer}
-use Rattle.command_base.specs.Endings.{IsDone}
-use Rattle.command_base.proofs.lemmas.HeldLaws.{such_is}
-use Rattle.command_base.specs.Tasks.{WhileReading, Streaming}
+use Rattle.log_migration.specs.declared.fault.MigrateFault.{MigrateFault}
+use Rattle.log_migration.specs.Migrating.{HaveMigration}
+use Rattle.log_migration.proofs.lemmas.MigrationLaws.{fitting_answer}
+use Rattle.command_base.specs.Endings.{IsDone, Done}
+use Rattle.command_base.proofs.lemmas.HeldLaws.{such_is, such_there}
+use Rattle.command_base.specs.Tasks.{Product, IsFrontMade, WhileReading, Streaming}
 use Rattle.command_base.specs.Readings.{never}
 use Rattle.command_base.specs.Soundness.{IsSound}
 use Rattle.command_base.proofs.lemmas.SoundTasks.{file_sound}
 use Rattle.log_commands.specs.Logs.{IsLog, HasNumber}
 use Rattle.log_commands.specs.Decompressing.{whole_ending, log_ending, HaveText, GivesText, BeginsText, decompress_task}
 use Rattle.log_commands.specs.Aggregating.{totals_ending, GivesTotals, aggregate_task}
+use Rattle.log_commands.specs.Migrating.{migration_ending, GivesMigrated, IsMigratable, migrate_task}
 
 -- ---- `decompress`
 
@@ -73,3 +77,21 @@ aggregate_sound log id nth = file_sound log WhileReading (GivesTotals log id nth
   streams = λ desk text begun. absurd begun;
   there = λ desk bytes left. absurd left;
 })
+
+-- ---- `migrate`
+
+-- a log that may be migrated has no other answer than the new log
+right_migration : (log made bytes : List ℕ) (answer : Result ℕ MigrateFault) → IsMigratable bytes → HaveMigration [] made answer bytes → IsDone (migration_ending log answer)
+right_migration log made bytes answer is have =
+    let old = is.is in
+    let right = fitting_answer old.header old.blocks bytes is.migrated [] made old.version old.file old.valid is.within old.spelled is.fits answer have in
+    subst (λ (a : Result ℕ MigrateFault). IsDone (migration_ending log a)) (sym right.0) refl
+
+pub migrate_sound : (log output : List ℕ) → IsSound (migrate_task log output)
+migrate_sound log output = file_sound log WhileReading (GivesMigrated log) never IsMigratable (Some output)
+    (λ desk bytes. (product : Product) × GivesMigrated log desk product Done × IsFrontMade product.made bytes) (record {
+      done = λ desk product ending holds (answer, made, told, is, have).
+          subst IsDone (sym told) (right_migration log made holds.bytes answer holds.formed (such_is desk log IsMigratable (HaveMigration [] made answer) holds have));
+      streams = λ desk text begun. absurd begun;
+      there = λ desk bytes (product, (answer, made, told, is, have), front). such_there desk log (HaveMigration [] made answer) have;
+    })
