@@ -1,5 +1,5 @@
 -- What `migrate` reads of a log, by the answer, and how it ends.
-use Rattle.std.proofs.Common.{◌≡◌, ◌≢◌, ℕ, List, [], Result, Ok, Err, refl, inl, sym, subst, ap}
+use Rattle.std.proofs.Common.{◌≡◌, ◌≢◌, ℕ, List, [], Result, Ok, Err, refl, inl, sym, subst}
 use Rattle.std.specs.Prelude.{◌⊎◌, IfSome, IfErr, IsErrOf}
 use Rattle.std.specs.Result.{IsErrAnd}
 use Rattle.nl_io.specs.Count.{Rose}
