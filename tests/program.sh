@@ -57,6 +57,7 @@ usage='usage:
   nanolog generate SEED CALLS WRITERS
   nanolog selftest SEED CALLS WRITERS
   nanolog schedule FILE
+  nanolog migrate OLD NEW
   nanolog inject DICT FILE OUT
   nanolog header DICT OUT
 '
