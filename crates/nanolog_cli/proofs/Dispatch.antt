@@ -46,6 +46,7 @@ quick_is_all (asked.Aggregate log id nth) old new ending other test answers = an
 quick_is_all (asked.Generate seed calls writers) old new ending other test answers = answers
 quick_is_all (asked.Selftest seed calls writers) old new ending other test answers = absurd (test seed calls writers refl)
 quick_is_all (asked.Schedule file) old new ending other test answers = answers
+quick_is_all (asked.Migrate log output) old new ending other test answers = answers
 quick_is_all (asked.Inject dictionary source output) old new ending other test answers = answers
 quick_is_all (asked.Header dictionary output) old new ending other test answers = answers
 

@@ -1,7 +1,7 @@
 -- What the answer of the program says.
 use Rattle.std.specs.Prelude.{◌≡◌, ◌⊎◌, ℕ, List, Option, Some, None}
 use Rattle.nl_io.specs.Desk.{Desk}
-use Rattle.cli_words.specs.Commands.{Command, Preprocess, Direct, Replay, Decompress, Aggregate, Generate, Selftest, Schedule, Inject, Header}
+use Rattle.cli_words.specs.Commands.{Command, Preprocess, Direct, Replay, Decompress, Aggregate, Generate, Selftest, Schedule, Migrate, Inject, Header}
 use Rattle.cli_words.specs.Usage.{usage_text}
 use Rattle.command_base.specs.Endings.{Ending, Usage, NoMemory}
 use Rattle.command_base.specs.Scenes.{Scene}
@@ -13,6 +13,7 @@ use Rattle.dictionary_commands.specs.Injecting.{inject_task}
 use Rattle.dictionary_commands.specs.Heading.{header_task}
 use Rattle.log_commands.specs.Decompressing.{decompress_task}
 use Rattle.log_commands.specs.Aggregating.{aggregate_task}
+use Rattle.log_commands.specs.Migrating.{migrate_task}
 use Rattle.schedule_commands.specs.Tasks.{schedule_task}
 use Rattle.session_commands.specs.Replays.{replay_task}
 use Rattle.session_commands.specs.Selftests.{selftest_task}
@@ -27,6 +28,7 @@ task_of (Aggregate log id nth) = aggregate_task log id nth
 task_of (Generate seed calls writers) = generate_task seed calls writers
 task_of (Selftest seed calls writers) = selftest_task seed calls writers
 task_of (Schedule file) = schedule_task file
+task_of (Migrate old new) = migrate_task old new
 task_of (Inject dictionary source output) = inject_task dictionary source output
 task_of (Header dictionary output) = header_task dictionary output
 

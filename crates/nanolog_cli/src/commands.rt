@@ -18,7 +18,7 @@ ghost use Rattle.nanolog_cli.specs.Outcomes.{quick_part, Answers};
 use cli_words::{Command, command_of, usage};
 use command_base::{Note, Refusal, Status, say_end};
 use dictionary_commands::{header, inject};
-use log_commands::{aggregate, decompress};
+use log_commands::{aggregate, decompress, migrate};
 use nl_io::{Files, Sink};
 use schedule_commands::schedule;
 use session_commands::{replay, selftest};
@@ -79,6 +79,7 @@ fn run_quick<'a, F: Files, O: Sink>(
             writers,
         } => without_note(generate(alloc, seed, calls, writers, out)),
         Command::Schedule { file } => without_note(schedule(alloc, files, file, out)),
+        Command::Migrate { old, new } => without_note(migrate(alloc, files, old, new, out)),
         Command::Inject {
             dictionary,
             source,
@@ -187,10 +188,11 @@ where
 /// WRITERS` prints a trace that is drawn from the seed. `selftest SEED CALLS WRITERS` makes the calls of that trace by
 /// a session in memory, decompresses its log, and prints how many calls there were; it may wait for its threads too.
 /// `schedule FILE` makes the steps of a schedule in rings of its own, and prints a line for each step and each ring.
+/// `migrate OLD NEW` writes the log of version 2 that has what a log of version 1 has, and prints how many blocks it has.
 /// `inject DICT FILE OUT` writes the source with calls by number in place of its log statements, and prints how many
 /// these are; what is refused of the source is told as by `preprocess`. `header DICT OUT` writes what a program needs to
 /// know of the messages of the dictionary, and prints how many they are. A file that is no trace, or no dictionary, is
-/// refused, and so is a log that has no such argument.
+/// refused, and so is a log that has no such argument, or of which no log of version 2 is made.
 ///
 /// The gate is called by the threads of a session on their way.
 pub fn nanolog<R, F, O, E, G>(

@@ -46,6 +46,10 @@ pub returns-in-Schedule-clause-ends : goal.returns-in-Schedule-clause-ends
 returns-in-Schedule-clause-ends g c =
     done_as quick_part _ _ _ _ _ _ c.in-Schedule.is c.without_note-in-Schedule.ensures (inr c.schedule.ensures.ends)
 
+pub returns-in-Migrate-clause-ends : goal.returns-in-Migrate-clause-ends
+returns-in-Migrate-clause-ends g c =
+    done_as quick_part _ _ _ _ _ _ c.in-Migrate.is c.without_note-in-Migrate.ensures (inr c.migrate.ensures.ends)
+
 pub returns-in-Inject-clause-ends : goal.returns-in-Inject-clause-ends
 returns-in-Inject-clause-ends g c =
     done_as quick_part _ _ _ _ _ _ c.in-Inject.is c.without_note-in-Inject.ensures (inr c.inject.ensures.ends)
