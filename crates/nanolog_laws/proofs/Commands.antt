@@ -1,11 +1,11 @@
 -- What is asked of a task is so of each command's.
-use Rattle.cli_words.specs.Commands.{Command, Preprocess, Direct, Replay, Decompress, Aggregate, Generate, Selftest, Schedule, Inject, Header}
+use Rattle.cli_words.specs.Commands.{Command, Preprocess, Direct, Replay, Decompress, Aggregate, Generate, Selftest, Schedule, Migrate, Inject, Header}
 use Rattle.command_base.specs.Soundness.{IsSound}
 use Rattle.source_commands.specs.Preprocessing.{GiveDictionary}
 use Rattle.source_commands.proofs.lemmas.SourceLaws.{source_sound}
 use Rattle.trace_commands.proofs.lemmas.Soundness.{direct_sound, generate_sound}
 use Rattle.dictionary_commands.proofs.lemmas.Soundness.{header_sound, inject_sound}
-use Rattle.log_commands.proofs.lemmas.Soundness.{decompress_sound, aggregate_sound}
+use Rattle.log_commands.proofs.lemmas.Soundness.{decompress_sound, aggregate_sound, migrate_sound}
 use Rattle.schedule_commands.proofs.lemmas.Soundness.{schedule_sound}
 use Rattle.session_commands.proofs.lemmas.Soundness.{replay_sound, selftest_sound}
 use Rattle.std.proofs.Common.{Some}
@@ -20,5 +20,6 @@ task_sound (Aggregate log id nth) = aggregate_sound log id nth
 task_sound (Generate seed calls writers) = generate_sound seed calls writers
 task_sound (Selftest seed calls writers) = selftest_sound seed calls writers
 task_sound (Schedule file) = schedule_sound file
+task_sound (Migrate old new) = migrate_sound old new
 task_sound (Inject dictionary source output) = inject_sound dictionary source output
 task_sound (Header dictionary output) = header_sound dictionary output

@@ -17,12 +17,15 @@ use Rattle.aggregation.specs.declared.fault.AggregateFault.{AggregateFault}
 use Rattle.aggregation.specs.declared.fault.AggregateFault.TheVariants as totals_faults
 use Rattle.aggregation.specs.Totals.{has_number}
 use Rattle.aggregation.specs.Aggregating.{HaveAnswer}
+use Rattle.log_migration.specs.declared.fault.MigrateFault.{MigrateFault}
+use Rattle.log_migration.specs.declared.fault.MigrateFault.TheVariants as migration_faults
+use Rattle.log_migration.specs.Migrating.{HaveMigration}
 use Rattle.schedule_text.specs.declared.cause.ScheduleCause.{ScheduleCause}
 use Rattle.schedule_text.specs.Judged.{ScheduleOutcome}
 use Rattle.schedule_text.specs.Schedules.{ComesTo}
 use Rattle.trace_text.specs.Traces.{TraceText}
 use Rattle.trace_text.specs.Dictionaries.{DictionaryText, DictionaryBreak}
-use Rattle.cli_words.specs.Commands.{Command, Preprocess, Direct, Replay, Decompress, Aggregate, Generate, Selftest, Schedule, Inject, Header}
+use Rattle.cli_words.specs.Commands.{Command, Preprocess, Direct, Replay, Decompress, Aggregate, Generate, Selftest, Schedule, Migrate, Inject, Header}
 use Rattle.command_base.specs.Endings.{Ending, IsDone, Done, StillOpen}
 use Rattle.command_base.specs.Effects.{Completes, CommandEffect}
 use Rattle.command_base.specs.HeldFiles.{HoldsSuch, Holds}
@@ -38,6 +41,7 @@ use Rattle.dictionary_commands.specs.Injecting.{GivesInjected, IsInjectable, Are
 use Rattle.log_commands.specs.Logs.{IsLog, HasNumber}
 use Rattle.log_commands.specs.Decompressing.{log_ending, HaveText, GivesText, BeginsText}
 use Rattle.log_commands.specs.Aggregating.{totals_ending, GivesTotals}
+use Rattle.log_commands.specs.Migrating.{migration_ending, GivesMigrated, IsMigratable}
 use Rattle.schedule_commands.specs.Tasks.{verdict_of, GivesSteps, IsSchedule}
 use Rattle.session_commands.specs.Replays.{ReplayGives}
 use Rattle.nanolog_cli.specs.Outcomes.{task_of}
@@ -126,6 +130,15 @@ totals_right log id nth (Err totals_faults.NoSuchMessage) done bytes have = absu
 totals_right log id nth (Err totals_faults.NoSuchArgument) done bytes have = absurd cc
 totals_right log id nth (Err fault) done bytes have = absurd have
 
+migration_right : (log made : List ℕ) (answer : Result ℕ MigrateFault) → IsDone (migration_ending log answer)
+    → (bytes : List ℕ) → HaveMigration [] made answer bytes → IsMigratable bytes
+migration_right log made (Ok count) done bytes (migrated, is, within, fits, same) =
+    record { migrated = migrated; count = count; is = is; within = within; fits = fits }
+migration_right log made (Err (migration_faults.Damaged offset cause)) done bytes have = absurd cc
+migration_right log made (Err migration_faults.NotOne) done bytes have = absurd cc
+migration_right log made (Err migration_faults.TooLarge) done bytes have = absurd cc
+migration_right log made (Err fault) done bytes have = absurd have
+
 -- ---- schedules
 
 steps_right : (file text : List ℕ) (refused : Option (ℕ × ScheduleCause)) → IsDone (verdict_of file refused)
@@ -201,6 +214,11 @@ reads_right (Schedule file) old new held product ending reads done told =
     read_form file (GivesSteps file) never old new product ending reads done in
     holds_so old held told file (λ bytes. ComesTo bytes (record { printed = product.text; refused = gives.0 }))
     IsSchedule gives.3 (steps_right file product.text gives.0 (subst IsDone gives.1 done))
+reads_right (Migrate log output) old new held product ending reads done told =
+    let gives : GivesMigrated log old product ending =
+    read_form log (GivesMigrated log) never old new product ending reads done in
+    holds_so old held told log (HaveMigration [] gives.1 gives.0) IsMigratable gives.4
+    (migration_right log gives.1 gives.0 (subst IsDone gives.2 done))
 reads_right (Inject dictionary source output) old new held product ending reads done told =
     inject_right dictionary source output old new held product ending reads done told
 reads_right (Header dictionary output) old new held product ending reads done told =

@@ -14,11 +14,12 @@ use Rattle.decompressor.specs.declared.report.Report.{Report}
 use Rattle.decompressor.specs.declared.fault.DecodeFault.{DecodeFault}
 use Rattle.decompressor.specs.declared.fault.DecodeFault.TheVariants as text_faults
 use Rattle.log_dictionary.specs.declared.message.Message.{Message}
+use Rattle.log_migration.specs.declared.fault.MigrateFault.{MigrateFault}
 use Rattle.schedule_text.specs.declared.cause.ScheduleCause.{ScheduleCause}
 use Rattle.trace_text.specs.Dictionaries.{DictionaryBreak}
 use Rattle.trace_text.specs.Recordings.{Recording}
 use Rattle.trace_session.specs.declared.drops.Dropped.{Dropped}
-use Rattle.cli_words.specs.Commands.{Command, Preprocess, Direct, Replay, Decompress, Aggregate, Generate, Selftest, Schedule, Inject, Header}
+use Rattle.cli_words.specs.Commands.{Command, Preprocess, Direct, Replay, Decompress, Aggregate, Generate, Selftest, Schedule, Migrate, Inject, Header}
 use Rattle.cli_words.specs.Usage.{usage_text}
 use Rattle.command_base.specs.Endings.{Ending, Done, StillOpen, Usage, Absent, ReadFault, Refused, RefusedSources, Damaged, WriteFault, NoMemory}
 use Rattle.command_base.specs.Effects.{IsMade, Completes, StopsPrinting, WantsMemory, CommandEffect}
@@ -38,6 +39,7 @@ use Rattle.dictionary_commands.specs.Heading.{GivesHeader}
 use Rattle.dictionary_commands.specs.Injecting.{GivesInjected}
 use Rattle.log_commands.specs.Decompressing.{whole_ending, log_ending, GivesText, BeginsText}
 use Rattle.log_commands.specs.Aggregating.{totals_told, totals_text, totals_ending, GivesTotals}
+use Rattle.log_commands.specs.Migrating.{migration_ending, migration_product, GivesMigrated}
 use Rattle.schedule_commands.specs.Tasks.{verdict_of, GivesSteps}
 use Rattle.session_commands.specs.Headline.{HeadlineCut}
 use Rattle.session_commands.specs.Replays.{ReplayGives, replay_task}
@@ -275,6 +277,16 @@ totals_come log id nth (Ok totals) is not = absurd is
 totals_come log id nth (Err (totals_faults.Damaged offset cause front)) is not = absurd (not tt)
 totals_come log id nth (Err fault) is not = refl
 
+migration_nothing : (log migrated : List ℕ) (answer : Result ℕ MigrateFault)
+    → IsRefusedEnding (migration_ending log answer) → migration_product migrated answer ≡ nothing
+migration_nothing log migrated (Ok count) is = absurd is
+migration_nothing log migrated (Err fault) is = refl
+
+migrated_nothing : (log : List ℕ) (desk : Desk) (product : Product) (ending : Ending)
+    → GivesMigrated log desk product ending → IsRefusedEnding ending → product ≡ nothing
+migrated_nothing log desk product ending (answer, migrated, told, is_made, have) is =
+    is_made ∙ migration_nothing log migrated answer (subst IsRefusedEnding told is)
+
 steps_come : (file : List ℕ) (refused : Option (ℕ × ScheduleCause)) → IsRefusedEnding (verdict_of file refused)
     → ComesWithText (Some (Schedule file)) (verdict_of file refused)
 steps_come file None is = absurd is
@@ -318,6 +330,7 @@ says_why (Aggregate log id nth) = file_says _ _ _ _ _ _ _ _ (totals_say log id n
 says_why (Generate seed calls writers) = free_says _ _ _
 says_why (Selftest seed calls writers) = free_says _ _ _
 says_why (Schedule file) = file_says _ _ _ _ _ _ _ _ (steps_say file)
+says_why (Migrate old new) = file_says _ _ _ _ _ _ _ _ (nothing_comes _ _ (migrated_nothing old))
 says_why (Inject dictionary source output) =
     pair_says _ _ _ _ _ _ _ _ (nothing_comes _ _ (dictionary_nothing dictionary))
     (λ messages. nothing_comes _ _ (injected_nothing source messages))
