@@ -102,6 +102,9 @@ expect 1 '' "$usage" generate 18446744073709551616 2 1
 expect 1 '' "$usage" selftest 1 2 0
 expect 1 '' "$usage" selftest 1 2 65
 expect 1 '' "$usage" schedule t t
+expect 1 '' "$usage" migrate l
+expect 1 '' "$usage" migrate l l
+expect 1 '' "$usage" migrate l ''
 expect 1 '' "$usage" inject d m.cc
 expect 1 '' "$usage" inject d l d
 expect 1 '' "$usage" inject d l l
@@ -163,6 +166,18 @@ expect 2 '' $'nanolog: first.log: refused: 1 NoSuchMessage\n' aggregate first.lo
 expect 7 '' $'nanolog: none: absent\n' aggregate none 0 0
 head -c 60 l >cut
 expect 3 $'count 0\n' $'nanolog: cut:56: damaged: 4 Cut\n' aggregate cut 0 0
+
+# A log of version 1 becomes one of version 2, with the same line. No other file becomes one.
+expect 0 $'migrated 3\n' '' migrate l new
+new='4e4c4f47020100 e803000000000000 0000445e8f860515 0094357700000000 01000000000100 030c0000000600 7372762e6363'
+new+=' 0400783d2564 02000004000000 10030107 040000'
+[ "$(od -An -v -tx1 new | tr -d ' \n')" = "${new// /}" ] || fail "the migrated log of t is: $(od -An -v -tx1 new)"
+expect 0 "$line" '' decompress new
+expect 2 '' $'nanolog: new: refused: 1 NotOne\n' migrate new newer
+expect 3 '' $'nanolog: cut:56: damaged: 4 Cut\n' migrate cut newer
+expect 7 '' $'nanolog: none: absent\n' migrate none newer
+[ -e newer ] && fail "a log that isn't migrated left a file"
+
 expect 0 $'accepted 3 dropped 0 filtered 6\n' '' replay examples/first.trace first.log --level WARNING
 
 # Calls of one stamp are printed by writer, whichever thread came first. A writer without calls is closed too.
