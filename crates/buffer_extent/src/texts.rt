@@ -1,6 +1,7 @@
 //! The arguments of a record, whose numbers were read: their texts at the front of bytes. They take no memory.
 
-ghost use Rattle.std.specs.Prelude.{◌≡◌, ◌≤◌, [], length, IsTrue, MatchResult, Ok, Err};
+ghost use Rattle.std.specs.Prelude.{◌≡◌, ◌≤◌, List, [], length, IsTrue, MatchResult, Ok, Err};
+ghost use Rattle.printf_grammar.specs.declared.argument.Value.{Value};
 ghost use Rattle.printf_grammar.specs.Types.{argument_value, values_of};
 ghost use Rattle.printf_grammar.specs.declared.limits.TheConstants.{MAX_ARGUMENTS, MAX_TEXT};
 ghost use Rattle.buffer_extent.specs.Reading.{may_stand, MayStand, text_at, value_at, values_at};
@@ -8,7 +9,7 @@ ghost use Rattle.buffer_extent.specs.Reading.{may_stand, MayStand, text_at, valu
 use crate::fault::BodyCause;
 use crate::numbers::Number;
 use arrayvec::ArrayVec;
-use printf_grammar::{Arg, ArgType, MAX_ARGUMENTS};
+use printf_grammar::{Arg, ArgType};
 
 /// A text of so many bytes. Each of these calls gives the bytes behind what it read.
 #[inline(always)]
@@ -54,13 +55,13 @@ pub(crate) fn take_value(
 
 /// Puts the arguments of any number of types that the numbers stand for.
 #[inline(never)]
-pub(crate) fn take_many<'a>(
+pub(crate) fn take_many<'a, const N: usize>(
     types: &[ArgType],
     numbers: &[Number],
     bytes: &'a [u8],
-    args: &mut ArrayVec<Arg<'a>, MAX_ARGUMENTS>,
+    args: &mut ArrayVec<Arg<'a>, N>,
 ) -> Result<&'a [u8], BodyCause>
-    requires few { length types.now ≤ MAX_ARGUMENTS }
+    requires few { length types.now ≤ N }
     requires fit { MayStand types.now numbers.now }
     requires none { args.old.items ≡ [] }
     ensures { MatchResult result
@@ -78,13 +79,13 @@ pub(crate) fn take_many<'a>(
 
 /// Sets `args` to the arguments of the types that the numbers stand for, and gives the bytes behind them. One or two
 /// are put at once.
-pub(crate) fn take_texts<'a>(
+pub(crate) fn take_texts<'a, const N: usize>(
     types: &[ArgType],
     numbers: &[Number],
     bytes: &'a [u8],
-    args: &mut ArrayVec<Arg<'a>, MAX_ARGUMENTS>,
+    args: &mut ArrayVec<Arg<'a>, N>,
 ) -> Result<&'a [u8], BodyCause>
-    requires few { length types.now ≤ MAX_ARGUMENTS }
+    requires few { length types.now ≤ N }
     requires fit { MayStand types.now numbers.now }
     ensures { MatchResult result
         (λ rest. values_at types.now numbers.now bytes.now ≡ Ok (values_of args.new.items, rest.now))
@@ -106,4 +107,24 @@ pub(crate) fn take_texts<'a>(
         }
         _ => take_many(types, numbers, bytes, args),
     }
+}
+
+/// Judges the arguments of the types that the numbers stand for, and gives the bytes behind them.
+pub(crate) fn skip_texts<'a>(
+    types: &[ArgType],
+    numbers: &[Number],
+    bytes: &'a [u8],
+) -> Result<&'a [u8], BodyCause>
+    requires few { length types.now ≤ MAX_ARGUMENTS }
+    requires fit { MayStand types.now numbers.now }
+    ensures { MatchResult result
+        (λ rest. (args : List Value) × (values_at types.now numbers.now bytes.now ≡ Ok (args, rest.now)))
+        (λ cause. values_at types.now numbers.now bytes.now ≡ Err cause) }
+{
+    let mut rest = bytes;
+    for (place, kind) in types.iter().enumerate() {
+        let (_arg, back) = take_value(*kind, numbers[place], rest)?;
+        rest = back;
+    }
+    Ok(rest)
 }

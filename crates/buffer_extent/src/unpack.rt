@@ -1,6 +1,6 @@
 //! Unpacking one record, which takes no memory.
 
-ghost use Rattle.std.specs.Prelude.{◌≡◌, ◌<◌, [], length, take, slice_get, MatchResult, Ok, Err};
+ghost use Rattle.std.specs.Prelude.{◌≡◌, ◌<◌, ◌≤◌, [], length, take, slice_get, MatchResult, Ok, Err};
 ghost use Rattle.printf_grammar.specs.Types.{values_of};
 ghost use Rattle.buffer_extent.specs.Reading.{types_of, head_at, arguments_at, start_at, call_of, record_at};
 
@@ -115,19 +115,21 @@ pub fn unpack_head<'a>(
 }
 
 /// Unpacks the arguments of a record of the message with this id, which stand at the front of bytes: sets `args` to
-/// them, and gives the bytes behind them. How long the frame of the call is isn't judged.
+/// them, and gives the bytes behind them. How long the frame of the call is isn't judged. The room is that of the
+/// caller, who knows the message: less of it has to be cleared.
 ///
 /// # Errors
 ///
 /// The bytes don't begin with such arguments. What `args` holds then means nothing.
-pub fn unpack_arguments<'a>(
+pub fn unpack_arguments<'a, const N: usize>(
     dictionary: &Dictionary,
     id: u32,
     bytes: &'a [u8],
     room: &mut NumberRoom,
-    args: &mut ArrayVec<Arg<'a>, MAX_ARGUMENTS>,
+    args: &mut ArrayVec<Arg<'a>, N>,
 ) -> Result<&'a [u8], BodyCause>
-    requires { id < length dictionary.now }
+    requires known { id < length dictionary.now }
+    requires few { length (types_of (slice_get dictionary.now id)) ≤ N }
     ensures { MatchResult result
         (λ rest. arguments_at (types_of (slice_get dictionary.now id)) bytes.now
         ≡ Ok (values_of args.new.items, rest.now))

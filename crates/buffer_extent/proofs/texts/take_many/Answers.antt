@@ -12,13 +12,13 @@ use Rattle.buffer_extent.proofs.Arguments.{MayStand-length, stands_there}
 use Rattle.buffer_extent.proofs.texts.take_many.Goals as goal
 
 pub bounds-numbers-place : goal.bounds-numbers-place
-bounds-numbers-place c = omega (arith, MayStand-length c.args.types.now c.args.numbers.now c.requires.fit, c.loop-place-test.true)
+bounds-numbers-place g c = omega (arith, MayStand-length c.args.types.now c.args.numbers.now c.requires.fit, c.loop-place-test.true)
 
 pub take_value-requires : goal.take_value-requires
-take_value-requires c = stands_there c.args.types.now c.args.numbers.now c.loop-place.place Int (Signed (pos 0)) c.requires.fit c.loop-place-test.true
+take_value-requires g c = stands_there c.args.types.now c.args.numbers.now c.loop-place.place Int (Signed (pos 0)) c.requires.fit c.loop-place-test.true
 
 pub loop-place-preserved : goal.loop-place-preserved
-loop-place-preserved c =
+loop-place-preserved g c =
     let many = MayStand-length c.args.types.now c.args.numbers.now c.requires.fit in
     let stands = stands_at causes.RecordCut value_at c.args.types.now c.args.numbers.now c.loop-place.place Int (Signed (pos 0)) c.loop-place-test.true (omega (arith, many, c.loop-place-test.true)) in
     let read = one_read causes.RecordCut value_at c.args.types.now c.args.numbers.now c.args.bytes.now (values_of c.loop-place.args.items) c.loop-place.place c.loop-place.rest.now _ _ (argument_value c.in_ok-arg.arg) c.in_ok-arg.back.now c.loop-place.invariant.read stands c.in_ok-arg.ensures in

@@ -6,7 +6,7 @@ use Rattle.nibble_pack.proofs.lemmas.Parsing.{IsReadSoFar}
 use Rattle.buffer_extent.proofs.texts.take_many.Given as goal
 
 abbrev pub invariant-loop-place : goal.invariant-loop-place
-invariant-loop-place l = record {
+invariant-loop-place g l = record {
   many : length l.args.items ≡ l.place;
   read : IsReadSoFar causes.RecordCut value_at l.types l.numbers l.bytes (values_of l.args.items) l.place l.rest;
 }
