@@ -5,6 +5,8 @@ ghost use Rattle.nl_io.specs.Count.{Rose};
 ghost use Rattle.log_dictionary.specs.declared.message.Message.{Message};
 ghost use Rattle.log_dictionary.specs.Clocks.{first_tick};
 ghost use Rattle.arg_records.specs.declared.call.Call.{Call};
+ghost use Rattle.printf_grammar.specs.declared.limits.TheConstants.{MAX_ARGUMENTS};
+ghost use Rattle.buffer_extent.specs.Reading.{types_of};
 ghost use Rattle.checkpoint_io.specs.Blocks.{Block};
 ghost use Rattle.checkpoint_io.specs.Writers.{closed_kept};
 ghost use Rattle.direct_printf.specs.Lines.{Line, origin_text, AreFirstOrigins};
@@ -20,8 +22,104 @@ use buffer_extent::NumberRoom;
 use checkpoint_io::Reader;
 use direct_printf::{LineParts, LineWriter};
 use nl_io::{Sink, TextWriter};
+use printf_grammar::{Arg, MAX_ARGUMENTS};
 use stamp_merge::{Merger, Next};
 use std::alloc::{AllocError, Global};
+
+// So many arguments most messages take at most.
+const FEW_ARGUMENTS: usize = 4;
+
+// Makes the line of the first record of a writer, as `make_line` does, in this room for its arguments.
+fn make_line_in<'a, const N: usize>(
+    reader: &Reader,
+    context: &mut LineContext,
+    writer: u32,
+    queue: &'a RecordQueue,
+    room: &mut NumberRoom,
+    args: &mut ArrayVec<Arg<'a>, N>,
+    line_writer: &mut LineWriter,
+    line: &mut Vec<u8>,
+) -> Result<usize, AllocError>
+    requires first { (call : Call) × (others : List Call)
+        × HoldsFirst reader.now.messages reader.now.header.clock.tick queue.now call others
+        × (first_tick reader.now.times.clocks ≤ call.stamp) }
+    requires few { length (types_of (slice_get reader.now.messages queue.now.head.id)) ≤ N }
+    requires origins { context.old.origins ≡ map origin_text reader.now.messages }
+    ensures line { (call : Call) (others : List Call)
+        (holds : HoldsFirst reader.now.messages reader.now.header.clock.tick queue.now call others)
+        (message : Message) (ordinal : ℕ)
+        → slice_get reader.now.messages call.id ≡ Some message
+        → OnOk result (line.new.items ≡ Line reader.now.times.clocks (record {
+          writer = writer;
+          ordinal = ordinal;
+          stamp = call.stamp;
+          message = message;
+          args = call.args;
+        })) }
+    ensures left { (call : Call) (others : List Call)
+        (holds : HoldsFirst reader.now.messages reader.now.header.clock.tick queue.now call others)
+        → IfOk result (λ left. left ≡ length holds.goes_on.back) }
+    ensures kept { context.new.origins ≡ context.old.origins }
+{
+    line.clear();
+    let left = queue.unpack_first(reader.dictionary(), room, args);
+    let head = queue.head();
+    let clock = context.place.clock_at(reader.clocks(), head.stamp);
+    let parts = LineParts {
+        writer,
+        message: reader.dictionary().message(head.id),
+        origin: context.origins.get(head.id),
+        stamp: head.stamp,
+        args: args.as_slice(),
+    };
+    line_writer.append(&clock, &parts, line)?;
+    Ok(left)
+}
+
+// Makes such a line of any number of arguments.
+#[inline(never)]
+fn make_long_line(
+    reader: &Reader,
+    context: &mut LineContext,
+    writer: u32,
+    queue: &RecordQueue,
+    room: &mut NumberRoom,
+    line_writer: &mut LineWriter,
+    line: &mut Vec<u8>,
+) -> Result<usize, AllocError>
+    requires first { (call : Call) × (others : List Call)
+        × HoldsFirst reader.now.messages reader.now.header.clock.tick queue.now call others
+        × (first_tick reader.now.times.clocks ≤ call.stamp) }
+    requires few { length (types_of (slice_get reader.now.messages queue.now.head.id)) ≤ MAX_ARGUMENTS }
+    requires origins { context.old.origins ≡ map origin_text reader.now.messages }
+    ensures line { (call : Call) (others : List Call)
+        (holds : HoldsFirst reader.now.messages reader.now.header.clock.tick queue.now call others)
+        (message : Message) (ordinal : ℕ)
+        → slice_get reader.now.messages call.id ≡ Some message
+        → OnOk result (line.new.items ≡ Line reader.now.times.clocks (record {
+          writer = writer;
+          ordinal = ordinal;
+          stamp = call.stamp;
+          message = message;
+          args = call.args;
+        })) }
+    ensures left { (call : Call) (others : List Call)
+        (holds : HoldsFirst reader.now.messages reader.now.header.clock.tick queue.now call others)
+        → IfOk result (λ left. left ≡ length holds.goes_on.back) }
+    ensures kept { context.new.origins ≡ context.old.origins }
+{
+    let mut args = ArrayVec::<Arg, MAX_ARGUMENTS>::new();
+    make_line_in(
+        reader,
+        context,
+        writer,
+        queue,
+        room,
+        &mut args,
+        line_writer,
+        line,
+    )
+}
 
 // Makes the line of the first record of a writer, in place of what is there, and answers how many bytes of its body
 // stand behind it.
@@ -54,20 +152,22 @@ fn make_line(
         → IfOk result (λ left. left ≡ length holds.goes_on.back) }
     ensures kept { context.new.origins ≡ context.old.origins }
 {
-    line.clear();
-    let mut args = ArrayVec::new();
-    let left = queue.unpack_first(reader.dictionary(), room, &mut args);
-    let head = queue.head();
-    let clock = context.place.clock_at(reader.clocks(), head.stamp);
-    let parts = LineParts {
+    let message = reader.dictionary().message(queue.head().id);
+    // Room is cleared where a function begins, so it is little where few arguments are taken.
+    if message.format.types().len() > FEW_ARGUMENTS {
+        return make_long_line(reader, context, writer, queue, room, line_writer, line);
+    }
+    let mut args = ArrayVec::<Arg, FEW_ARGUMENTS>::new();
+    make_line_in(
+        reader,
+        context,
         writer,
-        message: reader.dictionary().message(head.id),
-        origin: context.origins.get(head.id),
-        stamp: head.stamp,
-        args: args.as_slice(),
-    };
-    line_writer.append(&clock, &parts, line)?;
-    Ok(left)
+        queue,
+        room,
+        &mut args,
+        line_writer,
+        line,
+    )
 }
 
 // Whether no records of the writer can come: the log has ended, or the writer is closed.

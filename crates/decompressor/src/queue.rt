@@ -1,9 +1,9 @@
 //! The records of a writer that wait to be printed.
 
-ghost use Rattle.std.specs.Prelude.{◌≡◌, ◌↔◌, ◌≤◌, ◌<◌, ◌^◌, ℕ, List, [], ◌∷◌, ◌++◌, length, drop, IsTrue, OnOk, OnErr};
+ghost use Rattle.std.specs.Prelude.{◌≡◌, ◌↔◌, ◌≤◌, ◌<◌, ◌^◌, ℕ, List, [], ◌∷◌, ◌++◌, length, drop, slice_get, IsTrue, OnOk, OnErr};
 ghost use Rattle.printf_grammar.specs.Types.{values_of};
 ghost use Rattle.arg_records.specs.declared.call.Call.{Call};
-ghost use Rattle.buffer_extent.specs.Reading.{header_of};
+ghost use Rattle.buffer_extent.specs.Reading.{types_of, header_of};
 ghost use Rattle.buffer_extent.specs.Bodies.{IsBody, GoesOn};
 ghost use Rattle.decompressor.specs.Waiting.{no_queue, first_of, HoldsFirst, Holds};
 
@@ -11,7 +11,7 @@ use arrayvec::ArrayVec;
 use buffer_extent::{NumberRoom, RecordHeader, unpack_arguments, unpack_head};
 use bytes_queue::BytesQueue;
 use log_dictionary::Dictionary;
-use printf_grammar::{Arg, MAX_ARGUMENTS};
+use printf_grammar::Arg;
 use std::alloc::{AllocError, Global};
 use std::marker::Model;
 
@@ -120,13 +120,14 @@ impl RecordQueue {
     }
 
     /// Unpacks the arguments of the first record, and answers how many bytes of its body stand behind it.
-    pub fn unpack_first<'a>(
+    pub fn unpack_first<'a, const N: usize>(
         &'a self,
         dictionary: &Dictionary,
         room: &mut NumberRoom,
-        args: &mut ArrayVec<Arg<'a>, MAX_ARGUMENTS>,
+        args: &mut ArrayVec<Arg<'a>, N>,
     ) -> usize
-        requires { (base : ℕ) × (first : Call) × (others : List Call)
+        requires few { length (types_of (slice_get dictionary.now self.now.head.id)) ≤ N }
+        requires first { (base : ℕ) × (first : Call) × (others : List Call)
             × HoldsFirst dictionary.now base self.now first others }
         ensures { (base : ℕ) (first : Call) (others : List Call)
             (holds : HoldsFirst dictionary.now base self.now first others)

@@ -11,10 +11,11 @@ use Rattle.arg_records.specs.declared.call.Call.{Call}
 use Rattle.direct_printf.specs.Lines.{Line, origin_text}
 use Rattle.decompressor.specs.Waiting.{HoldsFirst}
 use Rattle.decompressor.proofs.LinesByClocks.{line_by_clock}
-use Rattle.decompressor.proofs.printing.make_line.Goals.{After-as_slice}
-use Rattle.decompressor.proofs.printing.make_line.Goals as goal
+use Rattle.decompressor.proofs.printing.make_line_in.Given.{Over}
+use Rattle.decompressor.proofs.printing.make_line_in.Goals.{After-as_slice}
+use Rattle.decompressor.proofs.printing.make_line_in.Goals as goal
 
-module _ (c : After-as_slice) {call : Call} {others : List Call} (holds : HoldsFirst c.args.reader.now.messages c.args.reader.now.header.clock.tick c.args.queue.now call others) where
+module _ (g : Over) (c : After-as_slice g) {call : Call} {others : List Call} (holds : HoldsFirst c.args.reader.now.messages c.args.reader.now.header.clock.tick c.args.queue.now call others) where
   -- what was unpacked is of the first record
   unpacked : (map argument_value c.unpack_first-left.new.args.items ≡ call.args) × (c.unpack_first-left.result ≡ length holds.goes_on.back)
   unpacked = (rw (c.dictionary.ensures) at c.unpack_first-left.ensures) _ call others holds
@@ -31,15 +32,15 @@ module _ (c : After-as_slice) {call : Call} {others : List Call} (holds : HoldsF
       (sym c.message.ensures ∙ (λ i. slice_get (c.dictionary-2.ensures i) (head_is i).id) ∙ known)
 
 pub append-requires-clause-fitting : goal.append-requires-clause-fitting
-append-requires-clause-fitting c =
-    let at = (goal.at.append-requires-clause-fitting c).After-as_slice in
+append-requires-clause-fitting g c =
+    let at = (goal.at.append-requires-clause-fitting g c).After-as_slice in
     let (call, others, holds, before) = c.requires.first in
     let right = holds.goes_on.right in
-    subst (λ (values : List Value). Fits values (Types c.message.result.now.format.pieces)) (sym (args_are at holds))
-    (subst (λ (message : Message). Fits call.args (Types message.format.pieces)) (sym (message_is at holds right.message right.known)) right.fits)
+    subst (λ (values : List Value). Fits values (Types c.message.result.now.format.pieces)) (sym (args_are g at holds))
+    (subst (λ (message : Message). Fits call.args (Types message.format.pieces)) (sym (message_is g at holds right.message right.known)) right.fits)
 
 pub append-requires-clause-origin : goal.append-requires-clause-origin
-append-requires-clause-origin c =
+append-requires-clause-origin g c =
     same_Some c.get.result.now (origin_text c.message.result.now)
     (sym c.get.ensures
     ∙ ap (λ (texts : List (List ℕ)). slice_get texts c.head-head.result.id) c.requires.origins
@@ -47,15 +48,15 @@ append-requires-clause-origin c =
     ∙ ap (option_map origin_text) (ap (λ (messages : List Message). slice_get messages c.head-head.result.id) (sym c.dictionary-2.ensures) ∙ c.message.ensures))
 
 pub returns-clause-left : goal.returns-clause-left
-returns-clause-left c call others holds = (unpacked (goal.at.returns-clause-left c).After-as_slice holds).1
+returns-clause-left g c call others holds = (unpacked g (goal.at.returns-clause-left g c).After-as_slice holds).1
 
 pub returns-clause-line : goal.returns-clause-line
-returns-clause-line c call others holds message ordinal known =
-    let at = (goal.at.returns-clause-line c).After-as_slice in
+returns-clause-line g c call others holds message ordinal known =
+    let at = (goal.at.returns-clause-line g c).After-as_slice in
     let clock = c.clock_at-clock.result in
     let counts : clock_at c.args.reader.now.times.clocks c.head-head.result.stamp ≡ Some clock = ap (λ (clocks : List Clock). clock_at clocks c.head-head.result.stamp) (sym c.clocks.ensures) ∙ c.clock_at-clock.ensures.counts in
     let made : LogCall = record { writer = c.args.writer; ordinal = ordinal; stamp = c.head-head.result.stamp; message = c.message.result.now; args = map argument_value c.as_slice.result.now } in
     c.in_ok-append.ensures.ok ordinal
     ∙ ap (λ (front : List ℕ). front ++ Line (clock ∷ []) made) c.clear.ensures.items
     ∙ line_by_clock c.args.reader.now.times.clocks clock made counts c.clock_at-clock.ensures.not_before
-    ∙ (λ i. Line c.args.reader.now.times.clocks (record { writer = c.args.writer; ordinal = ordinal; stamp = (head_is at holds i).stamp; message = message_is at holds message known i; args = args_are at holds i }))
+    ∙ (λ i. Line c.args.reader.now.times.clocks (record { writer = c.args.writer; ordinal = ordinal; stamp = (head_is g at holds i).stamp; message = message_is g at holds message known i; args = args_are g at holds i }))
