@@ -1,8 +1,8 @@
 //! The clocks that a run goes by.
 
-ghost use Rattle.std.specs.Prelude.{◌≡◌, ◌↔◌, ◌<◌, ◌≤◌, [], ◌∷◌, ◌++◌, length, slice_get, Some, Err, IsNone, IfOk, OnErr};
+ghost use Rattle.std.specs.Prelude.{◌≡◌, ◌↔◌, ◌<◌, ◌≤◌, [], ◌∷◌, ◌++◌, length, slice_get, Some, All, Err, IsNone, IfOk, OnOk, OnErr};
 ghost use Rattle.std.specs.List.Sorted.{IsPartitionPoint};
-ghost use Rattle.log_dictionary.specs.Clocks.{AreClocks, first_tick, StopsClock};
+ghost use Rattle.log_dictionary.specs.Clocks.{AreClocks, FitsClock, FollowsClocks, first_tick, StopsClock};
 ghost use Rattle.log_dictionary.specs.Times.{clock_at};
 
 use crate::clock::Clock;
@@ -34,18 +34,18 @@ pub enum ClockFault {
 }
 
 impl Model for Clocks {
-    ghost use Rattle.std.specs.Prelude.{◌≤◌, List};
+    ghost use Rattle.std.specs.Prelude.{◌≤◌, List, All};
     ghost use Rattle.std.specs.Vec.{vec_capacity};
     ghost use Rattle.log_dictionary.specs.declared.clock.Clock.{Clock};
     ghost use Rattle.log_dictionary.specs.declared.clocks.TheConstants.{MAX_CLOCKS};
-    ghost use Rattle.log_dictionary.specs.Clocks.{AreClocks};
+    ghost use Rattle.log_dictionary.specs.Clocks.{AreClocks, FitsClock};
 
     ghost Value = { List Clock };
 
     ghost view = { λ c. c.clocks.items };
 
     // The room for all clocks is there.
-    ghost invariant = { λ c. AreClocks c.clocks.items × (MAX_CLOCKS ≤ vec_capacity c.clocks) };
+    ghost invariant = { λ c. AreClocks c.clocks.items × All FitsClock c.clocks.items × (MAX_CLOCKS ≤ vec_capacity c.clocks) };
 }
 
 // The number of clocks whose ticks are at most the stamp. They stand first.
@@ -65,6 +65,17 @@ impl Clocks {
     {
         let mut clocks = Vec::with_capacity(alloc, MAX_CLOCKS)?;
         clocks.push_reserved(first);
+        Ok(Clocks { clocks })
+    }
+
+    /// A copy, with the room for all that may follow.
+    pub fn copy(&self, alloc: Global) -> Result<Clocks, AllocError>
+        ensures value { IfOk result (λ clocks. clocks ≡ self.now) }
+        ensures clocks { IfOk result (λ clocks. AreClocks clocks) }
+        ensures fit { IfOk result (λ clocks. All FitsClock clocks) }
+    {
+        let mut clocks = Vec::with_capacity(alloc, MAX_CLOCKS)?;
+        clocks.extend_from_slice(self.clocks.as_slice())?;
         Ok(Clocks { clocks })
     }
 
@@ -101,13 +112,39 @@ impl Clocks {
         clocks[counted(clocks, stamp) - 1]
     }
 
-    /// Adds a clock behind the others, in room that is there.
-    pub fn add(&mut self, clock: Clock) -> Result<(), ClockFault>
-        ensures ok { IfOk result (λ _. self.new ≡ self.old ++ clock ∷ []) }
-        ensures err { OnErr result (self.new ≡ self.old) }
-        ensures too_many { (result ≡ Err ClockFault.TooMany) ↔ StopsClock self.old clock ClockFault.TooMany }
-        ensures order { (result ≡ Err ClockFault.Order) ↔ StopsClock self.old clock ClockFault.Order }
-        ensures rate { (result ≡ Err ClockFault.Rate) ↔ StopsClock self.old clock ClockFault.Rate }
+    /// The clocks, in their order.
+    pub fn as_slice(&self) -> &[Clock]
+        ensures value { result.now ≡ self.now }
+        ensures clocks { AreClocks result.now }
+    {
+        self.clocks.as_slice()
+    }
+
+    /// How many of the clocks a stamp has reached: their ticks are at most the stamp. They stand first.
+    pub fn reached(&self, stamp: u64) -> usize
+        ensures bound { result ≤ length self.now }
+        ensures value { IsPartitionPoint (λ clock. clock.tick ≤ stamp) (λ clock. stamp < clock.tick) self.now result }
+    {
+        counted(self.clocks.as_slice(), stamp)
+    }
+
+    /// The first clock.
+    pub fn first(&self) -> Clock
+        ensures { slice_get self.now 0 ≡ Some result }
+    {
+        self.clocks.as_slice()[0]
+    }
+
+    /// Whether the clock may follow the others.
+    ///
+    /// # Errors
+    ///
+    /// Why it may not.
+    pub fn check(&self, clock: &Clock) -> Result<(), ClockFault>
+        ensures ok { OnOk result (FollowsClocks self.now clock.now) }
+        ensures too_many { (result ≡ Err ClockFault.TooMany) ↔ StopsClock self.now clock.now ClockFault.TooMany }
+        ensures order { (result ≡ Err ClockFault.Order) ↔ StopsClock self.now clock.now ClockFault.Order }
+        ensures rate { (result ≡ Err ClockFault.Rate) ↔ StopsClock self.now clock.now ClockFault.Rate }
     {
         let clocks = self.clocks.as_slice();
         if clocks.len() == MAX_CLOCKS {
@@ -119,6 +156,18 @@ impl Clocks {
         if clock.rate == 0 {
             return Err(ClockFault::Rate);
         }
+        Ok(())
+    }
+
+    /// Adds a clock behind the others, in room that is there.
+    pub fn add(&mut self, clock: Clock) -> Result<(), ClockFault>
+        ensures ok { IfOk result (λ _. self.new ≡ self.old ++ clock ∷ []) }
+        ensures err { OnErr result (self.new ≡ self.old) }
+        ensures too_many { (result ≡ Err ClockFault.TooMany) ↔ StopsClock self.old clock ClockFault.TooMany }
+        ensures order { (result ≡ Err ClockFault.Order) ↔ StopsClock self.old clock ClockFault.Order }
+        ensures rate { (result ≡ Err ClockFault.Rate) ↔ StopsClock self.old clock ClockFault.Rate }
+    {
+        self.check(&clock)?;
         self.clocks.push_reserved(clock);
         Ok(())
     }
