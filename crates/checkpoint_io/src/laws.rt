@@ -17,7 +17,7 @@ ghost use Rattle.checkpoint_io.specs.declared.cause.Cause.{Cause};
 ghost use Rattle.checkpoint_io.specs.declared.cause.Cause.TheVariants.{BadMagic, BadVersion, BadHeader, Cut, BadBlock, FragmentOrder, BadEntry, UnknownWriter, AfterClose, BadLength, Body, TooLarge, ClockOrder, ClockLate, BadRate, ClockCount};
 ghost use Rattle.checkpoint_io.specs.declared.header.Header.{Header};
 ghost use Rattle.checkpoint_io.specs.declared.heads.TheConstants.{CLOCK_LEN, MAX_FRAGMENT_MESSAGES, MAX_LOG};
-ghost use Rattle.checkpoint_io.specs.declared.version.TheConstants.{WRITTEN_VERSION, MAX_BODY, MAX_HEADER_LEN, MAX_EXTENT_HEAD_LEN, MAX_CLOSE_LEN};
+ghost use Rattle.checkpoint_io.specs.declared.version.TheConstants.{MAX_BODY, MAX_READ_BODY, MAX_WRITERS, MAX_HEADER_LEN, MAX_EXTENT_HEAD_LEN, MAX_CLOSE_LEN};
 ghost use Rattle.checkpoint_io.specs.Blocks.{Block, Fragment, Extent, NewClock, Close, IsPreface, messages_of, clocks_of, all_records, header_bytes, fragment_head_bytes, extent_head_bytes, clock_bytes, close_bytes, SpellsEntries, SpellsFragment, SpellsExtent, SpellsClock, SpellsClose, SpellsBlock, FileOf};
 ghost use Rattle.checkpoint_io.specs.Causes.{cause_number, cause_name};
 ghost use Rattle.checkpoint_io.specs.Fronts.{BeginsWithLog, Front, HasNoHeader, Break, BreaksByCutAlone, IsCutAt};
@@ -50,12 +50,11 @@ pub fn worked_log_of_two_clocks()
 
 /// What depends on the version of a log: the bytes of the number of writers and of each writer, the most
 /// writers, the most bytes of a body, and the bytes of a header, of an extent's head and of a close
-/// mark. Versions 1 and 2 are known, of which 2 alone has clocks behind that of the header, and 1 is written.
+/// mark. Versions 1 and 2 are known, of which 2 alone has clocks behind that of the header.
 pub fn versions_have_a_table()
     ensures known { (is_known 1 ≡ true) × (is_known 2 ≡ true)
         × ((version : ℕ) → is_known version ≡ true → (version ≡ 1) ⊎ (version ≡ 2)) }
     ensures clocks { (has_clocks 1 ≡ false) × (has_clocks 2 ≡ true) }
-    ensures written { WRITTEN_VERSION ≡ 1 }
     ensures numbers_of_1 { (writer_len 1 ≡ 1) × (most_writers 1 ≡ 64) × (most_body 1 ≡ 65536) }
     ensures lengths_of_1 { (header_len 1 ≡ 30) × (extent_head_len 1 ≡ 6) × (close_len 1 ≡ 2) }
     ensures numbers_of_2 { (writer_len 2 ≡ 2) × (most_writers 2 ≡ 1024) × (most_body 2 ≡ 1048576) }
@@ -64,6 +63,7 @@ pub fn versions_have_a_table()
         × (extent_head_len version ≤ MAX_EXTENT_HEAD_LEN) × (close_len version ≤ MAX_CLOSE_LEN) }
     ensures writers_fit { (version : ℕ) → most_writers version < 256 ^ writer_len version }
     ensures bodies_fit { (version : ℕ) → most_body version < 2 ^ 32 }
+    ensures greatest { (version : ℕ) → (most_writers version ≤ MAX_WRITERS) × (most_body version ≤ MAX_READ_BODY) }
 {}
 
 /// A header has a known version, a writer, no more of them than the version allows, numbers of 64 bits,
@@ -598,10 +598,10 @@ pub fn heads_have_lengths_and_tags()
     ensures close_writer { (writer : ℕ) → writer < 256 → close_bytes 1 writer ≡ 4 ∷ writer ∷ [] }
 {}
 
-/// At most 134,217,728 bytes of a log are read. A body that is written has at most 65,536 of them, and a
+/// At most 134,217,728 bytes of a log are read. A body of version 1 has at most 65,536 of them, and a
 /// fragment at most 16 messages.
 pub fn logs_have_limits()
     ensures log { MAX_LOG ≡ 134217728 }
-    ensures body { (MAX_BODY ≡ 65536) × (most_body WRITTEN_VERSION ≡ MAX_BODY) }
+    ensures body { (MAX_BODY ≡ 65536) × (most_body 1 ≡ MAX_BODY) }
     ensures fragment { MAX_FRAGMENT_MESSAGES ≡ 16 }
 {}

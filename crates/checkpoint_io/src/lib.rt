@@ -28,6 +28,7 @@ pub use heads::{
 };
 pub use reader::Reader;
 pub use version::{
-    MAX_BODY, MAX_CLOSE_LEN, MAX_EXTENT_HEAD_LEN, MAX_HEADER_LEN, WRITTEN_VERSION, close_len,
-    extent_head_len, has_clocks, header_len, is_known, most_body, most_writers, writer_len,
+    MAX_BODY, MAX_CLOSE_LEN, MAX_EXTENT_HEAD_LEN, MAX_HEADER_LEN, MAX_READ_BODY, MAX_WRITERS,
+    close_len, extent_head_len, has_clocks, header_len, is_known, most_body, most_writers,
+    writer_len,
 };

@@ -5,11 +5,11 @@ ghost use Rattle.checkpoint_io.specs.Versions as versions;
 
 use session_options::MAX_LOG_WRITERS;
 
-/// The version of the logs that are written.
-pub const WRITTEN_VERSION: u8 = 1;
-
-/// The most bytes of an extent's body in the version that is written.
+/// The most bytes of an extent's body in version 1.
 pub const MAX_BODY: u32 = 65_536;
+
+/// At least as many writers as a log has, in any version.
+pub const MAX_WRITERS: u32 = 1_024;
 
 /// At least as many bytes as an extent's body has, in any version.
 pub const MAX_READ_BODY: usize = 1_048_576;
@@ -53,7 +53,7 @@ pub fn most_writers(version: u8) -> u32
 {
     match version {
         1 => MAX_LOG_WRITERS,
-        _ => 1_024,
+        _ => MAX_WRITERS,
     }
 }
 

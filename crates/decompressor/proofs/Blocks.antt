@@ -1,15 +1,14 @@
 -- What a block that was read makes ready to be printed.
 use Rattle.std.proofs.Common.{◌≡◌, ℕ, ◌<◌, ◌≤◌, Bool, true, false, ◌||◌, List, [], ◌∷◌, ◌++◌, length, drop, refl, ap, sym, subst, ◌∙◌, arith}
-use Rattle.std.specs.Prelude.{nat_eq, if◌then◌else◌}
 use Rattle.std.proofs.lemmas.List.{append-nil, length-append, drop-append-le}
 use Rattle.std.proofs.lemmas.List.Folds.{list_any-append}
 use Rattle.arg_records.specs.declared.call.Call.{Call}
 use Rattle.checkpoint_io.specs.declared.header.Header.{Header}
 use Rattle.checkpoint_io.specs.Blocks.{Block, Fragment, Extent, NewClock, Close, messages_of}
-use Rattle.session_options.specs.declared.limits.TheConstants.{MAX_LOG_WRITERS}
 use Rattle.checkpoint_io.specs.Versions.{most_writers}
 use Rattle.checkpoint_io.specs.Validity.{block_records, records_of, closes, IsRightAfter, Valid}
 use Rattle.checkpoint_io.proofs.lemmas.ValidityLaws.{records-push, AreRightAfter-split}
+use Rattle.checkpoint_io.proofs.lemmas.VersionLaws.{few_writers}
 use Rattle.stamp_merge.specs.declared.merger.ListState.{ListState}
 use Rattle.direct_printf.specs.Lines.{in_order}
 use Rattle.decompressor.specs.Settling.{closed_by, settled_calls}
@@ -95,17 +94,10 @@ module _ {state : PrinterState} {first : List Block} {block : Block} (read : Has
 
 -- ---- nothing more comes
 
-most_few : (version : ℕ) → most_writers version ≤ 1024
-most_few version = at (nat_eq version 1)
-  where
-    at : (first : Bool) → (if first then MAX_LOG_WRITERS else 1024) ≤ 1024
-    at true = omega arith
-    at false = omega arith
-
 module _ {state : PrinterState} {blocks : List Block} (last : HasLast state blocks) where
   -- few writers have records that wait
   pub few_wait : length state.waiting ≤ 1024
-  few_wait = omega (arith, last.are_waiting.count, last.shown.held.many, last.valid.header_right.few_writers, most_few state.reader.header.version)
+  few_wait = omega (arith, last.are_waiting.count, last.shown.held.many, last.valid.header_right.few_writers, few_writers state.reader.header.version)
 
   pub all_ready_now : {new : List ListState} → HasHeads (λ writer. true) new last.records → HasToPrint true state.reader blocks blocks state.waiting new
   all_ready_now heads = record {

@@ -5,7 +5,7 @@ ghost use Rattle.std.specs.Prelude.{None};
 use crate::tables::{Told, bytes_of, check_rows, joined};
 use checkpoint_io::{
     BlockFault, FRAGMENT_HEAD_LEN, Header, MAX_CLOSE_LEN, MAX_EXTENT_HEAD_LEN, MAX_HEADER_LEN,
-    Reader, WRITTEN_VERSION, put_close, put_extent_head, put_fragment_head, put_header,
+    Reader, put_close, put_extent_head, put_fragment_head, put_header,
 };
 use log_dictionary::{Clock, Dictionary, MAX_ENTRY, Message, entry_len, put_entry};
 use nl_io::{Failed, MemSource, Source};
@@ -20,7 +20,7 @@ const LOG: &str =
 
 /// Its header, and that of the other logs.
 const HEADER: Header = Header {
-    version: WRITTEN_VERSION,
+    version: 1,
     writers: 1,
     clock: Clock {
         tick: 1000,
@@ -50,11 +50,11 @@ pub(crate) fn push_message(message: &Message, log: &mut Vec<u8>) -> Result<(), A
 /// Puts an extent of the first writer with this body of four bytes, and its close mark, behind the log.
 fn push_records(body: &[u8; 4], log: &mut Vec<u8>) -> Result<(), AllocError> {
     let mut head = [0; MAX_EXTENT_HEAD_LEN];
-    let len = put_extent_head(WRITTEN_VERSION, 0, 4, &mut head);
+    let len = put_extent_head(1, 0, 4, &mut head);
     log.extend_from_slice(&head[..len])?;
     log.extend_from_slice(body)?;
     let mut mark = [0; MAX_CLOSE_LEN];
-    let len = put_close(WRITTEN_VERSION, 0, &mut mark);
+    let len = put_close(1, 0, &mut mark);
     log.extend_from_slice(&mark[..len])
 }
 

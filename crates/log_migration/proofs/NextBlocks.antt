@@ -1,6 +1,6 @@
 -- The next block of a log, which is put into the new one.
-use Rattle.std.proofs.Common.{◌≡◌, ℕ, ◌+◌, ◌<◌, ◌≤◌, ◌^◌, Bool, true, false, eqb, lit≤, List, [], ◌∷◌, ◌++◌, length, take, drop, Result, Ok, Err, refl, ap, sym, subst, ◌∙◌, append_assoc, append-nil, arith}
-use Rattle.std.specs.Prelude.{if◌then◌else◌, OnOk}
+use Rattle.std.proofs.Common.{◌≡◌, ℕ, ◌+◌, ◌<◌, ◌≤◌, ◌^◌, true, List, [], ◌∷◌, ◌++◌, length, take, drop, Result, Ok, Err, refl, ap, sym, subst, ◌∙◌, append_assoc, append-nil, arith}
+use Rattle.std.specs.Prelude.{OnOk}
 use Rattle.std.proofs.lemmas.List.{length-append, take_at, drop_at}
 use Rattle.log_dictionary.specs.declared.clock.Clock.{Clock}
 use Rattle.log_dictionary.specs.declared.message.Message.{Message}
@@ -18,6 +18,7 @@ use Rattle.checkpoint_io.proofs.lemmas.FileLaws.{is_extent}
 use Rattle.checkpoint_io.proofs.lemmas.FrontLaws.{file_goes_on}
 use Rattle.checkpoint_io.proofs.lemmas.LimitLaws.{extent_within, close_within, extent_has_records}
 use Rattle.checkpoint_io.proofs.lemmas.ValidityLaws.{messages-push, ids_go_on, writers_known}
+use Rattle.checkpoint_io.proofs.lemmas.VersionLaws.{few_writers}
 use Rattle.log_scan.specs.Parts.{LogPart, with_block, StandsNext}
 use Rattle.log_migration.specs.declared.new_log.NewLog.{NewLog}
 use Rattle.log_migration.specs.Migrating.{version_2}
@@ -64,15 +65,8 @@ is_close writer (Close w) tells =
 
 -- ---- limits
 
-most_1024 : (version : ℕ) → most_writers version ≤ 1024
-most_1024 version = by_test (eqb version 1)
-  where
-    by_test : (one : Bool) → (if one then 64 else 1024) ≤ 1024
-    by_test true = lit≤ tt
-    by_test false = lit≤ tt
-
-pub few_writers : (header : Header) → header.writers ≤ most_writers header.version → header.writers ≤ 1024
-few_writers header few = omega (arith, few, most_1024 header.version)
+pub few_of : (header : Header) → header.writers ≤ most_writers header.version → header.writers ≤ 1024
+few_of header few = omega (arith, few, few_writers header.version)
 
 records_some : (messages : List Message) (tick : ℕ) (records : List Call) (body : List ℕ) → SpellsRecords messages tick records body → 1 ≤ length records → 1 ≤ length body
 records_some messages tick [] body spelled some = absurd (omega (arith, some))
@@ -101,7 +95,7 @@ module _ (part : LogPart) (reader : ReaderState) (told : ReadBlock) (block : Blo
   writer_known : (b : Block) (writer : ℕ) → block ≡ b → IsOf writer b → writer < 1024
   writer_known b writer is of_writer =
       let valid = valid_so b is in
-      omega (arith, writers_known part.header writer part.blocks b [] valid of_writer, few_writers part.header valid.header_right.few_writers)
+      omega (arith, writers_known part.header writer part.blocks b [] valid of_writer, few_of part.header valid.header_right.few_writers)
 
   -- a block more in the new log
   made : {T E : Type 0} (b : Block) (old new : NewLog) (spelled : List ℕ) (r : Result T E) → block ≡ b → (part.header.version ≡ 1 → SpellsBlock (messages_of part.blocks) (version_2 part.header) b spelled) → Puts r old new spelled → IsMade part old → OnOk r (IsMade (with_block part block) new)

@@ -5,11 +5,12 @@ use Rattle.std.specs.Hash.{le_bytes}
 use Rattle.std.proofs.lemmas.List.{length-append}
 use Rattle.std.specs.Int.{byte_at, bytes_low_first}
 use Rattle.nibble_pack.specs.Bytes.{length-bytes_low_first, bytes_low_first-suc}
+use Rattle.log_dictionary.specs.declared.clock.Clock.{Clock}
 use Rattle.log_dictionary.specs.declared.message.Message.{Message}
 use Rattle.log_dictionary.specs.BinaryEntries.{SpellsEntry}
 use Rattle.checkpoint_io.specs.declared.header.Header.{Header}
 use Rattle.checkpoint_io.specs.Versions.{writer_len, header_len, extent_head_len}
-use Rattle.checkpoint_io.specs.Blocks.{writer_bytes, header_bytes, extent_head_bytes, SpellsEntries}
+use Rattle.checkpoint_io.specs.Blocks.{writer_bytes, header_bytes, extent_head_bytes, clock_bytes, SpellsEntries}
 
 -- ---- numbers
 
@@ -44,6 +45,10 @@ length-header_bytes header =
 pub length-extent_head_bytes : (version writer len : ℕ) → length (extent_head_bytes version writer len) ≡ extent_head_len version
 length-extent_head_bytes version writer len =
     omega (arith, length-append (writer_bytes version writer) (le_bytes 4 len), le_length (writer_len version) writer, le_length 4 len)
+
+pub length-clock_bytes : (clock : Clock) → length (clock_bytes clock) ≡ 25
+length-clock_bytes clock =
+    omega (arith, length-append (3 ∷ le_bytes 8 clock.tick ++ le_bytes 8 clock.nanos) (le_bytes 8 clock.rate), length-append (3 ∷ le_bytes 8 clock.tick) (le_bytes 8 clock.nanos), le_length 8 clock.tick, le_length 8 clock.nanos, le_length 8 clock.rate)
 
 pub header_nested : (header : Header) (back : List ℕ) → header_bytes header ++ back ≡ codes "NLOG" ++ (header.version ∷ (writer_bytes header.version header.writers ++ (le_bytes 8 header.clock.tick ++ (le_bytes 8 header.clock.nanos ++ (le_bytes 8 header.clock.rate ++ back)))))
 header_nested header back =

@@ -11,7 +11,7 @@ use Rattle.checkpoint_io.proofs.lemmas.BreakLaws.{whole_or_break}
 use Rattle.log_migration.specs.declared.fault.MigrateFault.{MigrateFault}
 use Rattle.log_migration.specs.declared.fault.MigrateFault.TheVariants.{ReadFault, Damaged, NotOne, TooLarge, NoMemory}
 use Rattle.log_migration.specs.Migrating.{version_2, IsMigrated, BeginsWithVersion, HaveMigration}
-use Rattle.log_migration.proofs.NextBlocks.{few_writers}
+use Rattle.log_migration.proofs.NextBlocks.{few_of}
 use Rattle.log_migration.proofs.Outcomes.{not_two}
 use Rattle.log_migration.proofs.Spellings.{file_one}
 
@@ -29,7 +29,7 @@ right_header : (header : Header) → IsHeader header → IsHeader (version_2 hea
 right_header header right = record {
   version_known = refl;
   some_writer = right.some_writer;
-  few_writers = few_writers header right.few_writers;
+  few_writers = few_of header right.few_writers;
   tick_fits = right.tick_fits;
   nanos_fits = right.nanos_fits;
   rate_fits = right.rate_fits;

@@ -1,6 +1,6 @@
 use Rattle.std.proofs.Common.{◌≡◌, ◌⊎◌, ℕ, ◌||◌, Bool, true, false, nat_eq, refl, inl, inr, arith}
 use Rattle.std.proofs.lemmas.Bool.{eqb-true}
-use Rattle.checkpoint_io.proofs.lemmas.VersionLaws.{few_len, writers_fit, bodies_fit}
+use Rattle.checkpoint_io.proofs.lemmas.VersionLaws.{few_len, few_writers, short_bodies, writers_fit, bodies_fit}
 use Rattle.checkpoint_io.proofs.laws.versions_have_a_table.Goals as goal
 
 pub returns-clause-known : goal.returns-clause-known
@@ -17,6 +17,9 @@ returns-clause-within c version =
 
 pub returns-clause-writers_fit : goal.returns-clause-writers_fit
 returns-clause-writers_fit c = writers_fit
+
+pub returns-clause-greatest : goal.returns-clause-greatest
+returns-clause-greatest c version = (few_writers version, short_bodies version)
 
 pub returns-clause-bodies_fit : goal.returns-clause-bodies_fit
 returns-clause-bodies_fit c = bodies_fit
