@@ -8,7 +8,7 @@ use Rattle.printf_grammar.specs.Types.{Types, Fits}
 use Rattle.log_dictionary.specs.declared.message.Message.{Message}
 use Rattle.arg_records.specs.declared.call.Call.{Call}
 use Rattle.arg_records.specs.Calls.{last_stamp}
-use Rattle.arg_records.proofs.lemmas.CallLists.{last_stamp-push}
+use Rattle.arg_records.proofs.lemmas.CallLists.{NeverFalls-push, last_stamp-push}
 use Rattle.buffer_extent.specs.Records.{RecordBytes}
 use Rattle.buffer_extent.specs.Bodies.{SpellsRecord, SpellsRecords}
 use Rattle.roaming_consumer.specs.declared.draft.Draft.{Draft}
@@ -54,6 +54,7 @@ draft_goes_on messages tick records draft frame call id message types body new e
       count = omega (arith, was.count, length-append records (call ∷ []));
       ids = ids_are ∙ (λ i. max (was.ids i) (same_id i + 1)) ∙ sym (ids_used-push records call);
       last = sym (last_stamp-push tick records call);
+      rising = NeverFalls-push tick records call was.rising (omega (arith, was.last, is.not_before));
       within =
           omega (
             arith,

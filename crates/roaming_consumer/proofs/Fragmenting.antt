@@ -1,9 +1,9 @@
 -- Entries and fragments that are put into a buffer.
-use Rattle.std.proofs.Common.{◌≡◌, ℕ, zero, suc, ◌+◌, ◌-◌, ◌<◌, ◌≤◌, ◌^◌, min, List, [], ◌∷◌, ◌++◌, length, get_or, take, drop, refl, sym, ap, subst, ◌∙◌, append_assoc, ◌⊎◌, inl, inr, arith}
+use Rattle.std.proofs.Common.{◌≡◌, ℕ, zero, suc, ◌+◌, ◌-◌, ◌<◌, ◌≤◌, ◌^◌, min, List, [], ◌∷◌, ◌++◌, length, get_or, take, drop, refl, sym, ap, subst, ◌∙◌, append_assoc, ◌⊎◌, inl, inr, Bool, true, false, eqb, lit≤, arith}
 use Rattle.std.proofs.lemmas.List.{append-nil, take_at, take_more, take-append-drop, length-append, length-take, length-take-le, length-drop, drop-take, take-take, drop-drop, drop_all}
 use Rattle.std.specs.Hash.{le_bytes}
 use Rattle.std.specs.List.{flat_map}
-use Rattle.std.specs.Prelude.{Result, Ok, Err, IsErr}
+use Rattle.std.specs.Prelude.{Result, Ok, IsErr, if◌then◌else◌}
 use Rattle.std.proofs.lemmas.List.Elements.{All-head, All-tail, All-take, All-drop}
 use Rattle.std.proofs.lemmas.Bool.{cases_lt}
 use borrow.Rule.Slice.PartMut.{put_mid}
@@ -13,11 +13,12 @@ use Rattle.log_dictionary.specs.Messages.{AreFormed}
 use Rattle.nl_io.specs.Count.{Rose}
 use Rattle.nl_io.specs.Content.{Told, with_end, PutsFront}
 use Rattle.nl_io.proofs.lemmas.Contents.{with_end-none, with_end-both}
+use Rattle.checkpoint_io.specs.Versions.{most_body}
 use Rattle.checkpoint_io.specs.Blocks.{Fragment, fragment_head_bytes, SpellsEntries, SpellsFragment}
 use Rattle.checkpoint_io.specs.Logs.{AreFragments}
 use Rattle.roaming_consumer.specs.Growth.{FragmentsFor}
 use Rattle.roaming_consumer.specs.Sinks.{SendsFragments}
-use Rattle.roaming_consumer.proofs.lemmas.Sending.{sends_then, sends_err}
+use Rattle.roaming_consumer.proofs.lemmas.Sending.{sends_then, sends_stop}
 use Rattle.checkpoint_io.proofs.lemmas.BlockLaws.{le_length, entries_push}
 use Rattle.checkpoint_io.proofs.lemmas.LimitLaws.{entry_joined, fragment_within}
 
@@ -112,7 +113,7 @@ entries_are_there (message ∷ messages) each =
     entry_joined message messages (entry_bytes message) (flat_map entry_bytes messages) (All-head P message messages each) (entries_are_there messages (All-tail P message messages each))
 
 -- there are fragments of messages that have entries; so many messages are left at most
-fragments_are_there : (dictionary : List Message) (left next end : ℕ) → end ≤ next + left → end ≤ length dictionary → end < 2 ^ 32 → AreFormed dictionary → (bytes : List ℕ) × FragmentsFor next (drop next (take end dictionary)) bytes
+pub fragments_are_there : (dictionary : List Message) (left next end : ℕ) → end ≤ next + left → end ≤ length dictionary → end < 2 ^ 32 → AreFormed dictionary → (bytes : List ℕ) × FragmentsFor next (drop next (take end dictionary)) bytes
 fragments_are_there dictionary zero next end near known few each = ([], none_for dictionary next end (omega (arith, near)))
 fragments_are_there dictionary (suc left) next end near known few each =
     elim (cases_lt next end) [
@@ -159,14 +160,9 @@ goes_on dictionary first next end count front put put_mid put_after was left kno
 pub goes_all : {E : Type 0} (dictionary : List Message) (first next end : ℕ) (put put_after : Told) (faults faults_after : ℕ) → Goes dictionary first next end put put_after → end ≤ next → faults_after ≡ faults → SendsFragments {T = Unit {0}} {E = E} (Ok tt) dictionary first end put put_after faults faults_after
 goes_all dictionary first next end put put_after faults faults_after was done counted =
     let last : next ≡ end = let within = was.within in omega (arith, within, done) in
-    let all = was.goes end [] (omega (arith, last)) (omega arith) (none_for dictionary next end done) in
     record {
-      up_to = end;
-      within = omega arith;
-      whole = refl;
       bytes = was.bytes ++ [];
-      spelled = all;
-      goes_on = ([], subst (FragmentsFor first (drop first (take end dictionary))) (sym (append-nil (was.bytes ++ []))) all);
+      spelled = was.goes end [] (omega (arith, last)) (omega arith) (none_for dictionary next end done);
       sent = record {
         ok = was.joined ∙ ap (λ (l : List ℕ). with_end l put) (sym (append-nil was.bytes));
         counted = counted;
@@ -176,26 +172,25 @@ goes_all dictionary first next end put put_after faults faults_after was done co
       };
     }
 
--- a fragment wasn't written whole
+-- a fragment wasn't written whole, nor those behind it
 pub goes_stop : {T E : Type 0} (r : Result T E) (dictionary : List Message) (first next end count : ℕ) (front : List ℕ) (put mid put_after : Told) (faults faults_mid faults_after : ℕ) → IsErr r → Goes dictionary first next end put mid → next < end → end ≤ length dictionary → end < 2 ^ 32 → AreFormed dictionary → count ≡ min (end - next) 16 → SpellsFragment next (take count (drop next dictionary)) front → faults_mid ≡ faults → PutsFront front mid put_after → Rose faults_mid faults_after → faults_mid ≤ faults_after
     → SendsFragments r dictionary first end put put_after faults faults_after
-goes_stop (Ok x) dictionary first next end count front put mid put_after faults faults_mid faults_after failed was left known few formed is spelled counted puts rose more = absurd cc
-goes_stop (Err e) dictionary first next end count front put mid put_after faults faults_mid faults_after failed was left known few formed is spelled counted puts rose more =
+goes_stop r dictionary first next end count front put mid put_after faults faults_mid faults_after failed was left known few formed is spelled counted puts rose more =
     let counts = fragment_count next end count left is in
     let within = counts.2 in
+    let others = fragments_are_there dictionary (end - (next + count)) (next + count) end (omega arith) known few formed in
     record {
-      up_to = next + count;
-      within = within;
-      whole = tt;
-      bytes = was.bytes ++ front;
-      spelled =
-          subst (λ (l : List ℕ). FragmentsFor first (drop first (take (next + count) dictionary)) (was.bytes ++ l)) (append-nil front)
-          (was.goes (next + count) (front ++ []) (omega arith) within (fragment_then dictionary next count (next + count) front [] (omega arith) (omega (arith, within, known)) (inr refl) spelled (none_for dictionary (next + count) (next + count) (omega arith))));
-      goes_on =
-          let others = fragments_are_there dictionary (end - (next + count)) (next + count) end (omega arith) known few formed in (
-            others.0,
-            subst (FragmentsFor first (drop first (take end dictionary))) (sym (append_assoc was.bytes front others.0))
-                (was.goes end (front ++ others.0) (omega (arith, left)) (omega arith) (fragment_then dictionary next count end front others.0 within known counts.3 spelled others.1)),
-          );
-      sent = sends_then (Err e) was.bytes front put mid put_after faults faults_mid faults_after was.joined counted (sends_err (Err e) front mid put_after faults_mid faults_after refl puts rose more);
+      bytes = was.bytes ++ (front ++ others.0);
+      spelled = was.goes end (front ++ others.0) (omega (arith, left)) (omega arith) (fragment_then dictionary next count end front others.0 within known counts.3 spelled others.1);
+      sent = sends_then r was.bytes (front ++ others.0) put mid put_after faults faults_mid faults_after was.joined counted (sends_stop r front others.0 mid put_after faults_mid faults_after failed puts rose more);
     }
+
+-- ---- room
+
+-- a body has room for a record, in each version
+pub room_for_record : (version : ℕ) → 8192 ≤ most_body version
+room_for_record version = by_test (eqb version 1)
+  where
+    by_test : (one : Bool) → 8192 ≤ (if one then 65536 else 1048576)
+    by_test true = lit≤ tt
+    by_test false = lit≤ tt

@@ -1,5 +1,5 @@
 -- The bytes for which a roamer stands, from call to call.
-use Rattle.std.proofs.Common.{◌≡◌, ℕ, zero, suc, ◌<◌, ◌≤◌, Bool, true, false, List, [], ◌∷◌, ◌++◌, length, get_or, Some, refl, sym, ap, subst, ◌∙◌, append_assoc, inl, inr, arith}
+use Rattle.std.proofs.Common.{◌≡◌, ℕ, zero, suc, ◌+◌, ◌<◌, ◌≤◌, Bool, true, false, List, [], ◌∷◌, ◌++◌, length, get_or, Some, refl, sym, ap, subst, ◌∙◌, append_assoc, inl, inr, arith}
 use Rattle.std.specs.Prelude.{All, slice_get, slice_set, replicate, max, take, drop}
 use Rattle.std.proofs.lemmas.Slice.Zip.{AllZip-long}
 use Rattle.std.proofs.lemmas.Bool.{cases_lt, both_ways, false_from_ne_true}
@@ -16,26 +16,28 @@ use Rattle.arg_records.specs.declared.call.Call.{Call}
 use Rattle.buffer_extent.specs.Bodies.{SpellsRecords}
 use Rattle.checkpoint_io.specs.Blocks.{SpellsExtent, header_bytes, extent_head_bytes, close_bytes}
 use Rattle.checkpoint_io.specs.Validity.{IsHeader}
-use Rattle.checkpoint_io.specs.Logs.{ids_used, new_messages}
+use Rattle.checkpoint_io.specs.Logs.{ids_used, new_messages, greatest_stamp}
+use Rattle.checkpoint_io.proofs.lemmas.VersionLaws.{writers_fit}
 use Rattle.ring_core.specs.Plans.{Plan, plan_of, frames_of, AreFramesOf}
 use Rattle.ring_core.proofs.lemmas.Frames.{AreFramesOf-nil}
 use Rattle.roaming_consumer.specs.declared.draft.Draft.{Draft}
 use Rattle.roaming_consumer.specs.declared.roamer.Roamer.{Roamer}
-use Rattle.roaming_consumer.specs.Growth.{LogProgress, IsLogSoFar, with_calls, FragmentsFor, IsNext, progress_behind, progress_closing}
+use Rattle.roaming_consumer.specs.Growth.{LogProgress, IsLogSoFar, with_calls, due_clocks, PrefaceFor, IsNext, progress_behind, progress_closing}
 use Rattle.roaming_consumer.specs.Drafts.{IsDraft}
 use Rattle.roaming_consumer.specs.Gathering.{DraftsFrames}
-use Rattle.roaming_consumer.specs.Roamers.{ends_of, roamer_messages, roamer_clock, roamer_batch, roamer_progress, is_begun, is_faulted, plan_of_roamer, ArePlanned, IsSameRun, EndAfterTaking, ChangesOne, FramesAreTaken, BeginWithFramesOf, FramesWereTaken, IsLogOfEnds, IsCutLogOfEnds, RoamerStandsFor, roamer_header, AppendsToLog}
+use Rattle.roaming_consumer.specs.Roamers.{ends_of, roamer_messages, roamer_version, roamer_clocks, roamer_clock, roamer_room, roamer_batch, roamer_progress, is_begun, is_faulted, behind_draft, plan_of_roamer, ArePlanned, IsSameRun, EndAfterTaking, ChangesOne, FramesAreTaken, BeginWithFramesOf, FramesWereTaken, IsLogOfEnds, IsCutLogOfEnds, RoamerStandsFor, roamer_header, AppendsToLog}
+use Rattle.roaming_consumer.specs.Visits.{IsPrefaceOf}
 use Rattle.roaming_consumer.proofs.Used.{ids_known}
 use Rattle.roaming_consumer.proofs.lemmas.OnePlace.{get_set_other, get_set_same, zip_at, zip_set, zip_step, zip_weaker}
-use Rattle.roaming_consumer.proofs.Growth.{grown, closing, beginning}
+use Rattle.roaming_consumer.proofs.Growth.{grown, closing, beginning, last_is_greatest}
 
-same_log : (wrote others : List ℕ) (taken : List (List Call)) (messages names : List Message) (clock watch : Clock) (batch size : ℕ) (progress now : LogProgress) → wrote ≡ others → messages ≡ names → clock ≡ watch → batch ≡ size → progress ≡ now → IsLogSoFar wrote taken messages 1 (clock ∷ []) batch progress → IsLogSoFar others taken names 1 (watch ∷ []) size now
-same_log wrote others taken messages names clock watch batch size progress now bytes same_messages same_clock same_batch same_progress log =
-    subst (λ (w : List ℕ). IsLogSoFar w taken names 1 (watch ∷ []) size now) bytes
-    (subst (λ (m : List Message). IsLogSoFar wrote taken m 1 (watch ∷ []) size now) same_messages
-    (subst (λ (c : Clock). IsLogSoFar wrote taken messages 1 (c ∷ []) size now) same_clock
-    (subst (λ (b : ℕ). IsLogSoFar wrote taken messages 1 (clock ∷ []) b now) same_batch
-    (subst (λ (p : LogProgress). IsLogSoFar wrote taken messages 1 (clock ∷ []) batch p) same_progress log))))
+-- the log of another roamer, of the same run
+same_log : {S : Type 0} (old new : Roamer S) (wrote others : List ℕ) (taken : List (List Call)) (progress now : LogProgress) → IsSameRun old new → wrote ≡ others → progress ≡ now
+    → IsLogSoFar wrote taken (roamer_messages old) (roamer_version old) (roamer_clocks old) (roamer_batch old) progress
+    → IsLogSoFar others taken (roamer_messages new) (roamer_version new) (roamer_clocks new) (roamer_batch new) now
+same_log old new wrote others taken progress now run bytes same_progress =
+    subst (λ (x : List ℕ × List Message × ℕ × List Clock × ℕ × LogProgress). IsLogSoFar x.0 taken x.1 x.2 x.3 x.4 x.5)
+    (λ i. (bytes i, sym run.messages i, sym run.version i, sym run.clocks i, sym run.batch i, same_progress i))
 
 -- ---- what was taken from the ends
 
@@ -72,7 +74,14 @@ pub begun : {S : Type 0} (got : S → List (List ℕ)) (ended : S → Bool) (old
 begun {S} got ended old new unbegun same_ends same_run same_progress right wrote was =
     let none = was.nothing unbegun in
     let closed = λ (writer : ℕ). ap (λ (p : LogProgress). get_or p.closed writer false) same_progress ∙ was.unclosed unbegun writer in
-    let first = beginning (roamer_header old) (roamer_messages old) (roamer_batch old) (roamer_progress new).closed right closed in
+    let first = beginning (roamer_header old) (roamer_messages old) (roamer_clocks old) (roamer_batch old) (roamer_progress new).closed right old.may_have old.first closed in
+    let at_first : record { defined = 0; closed = (roamer_progress new).closed; written = 1; latest = 0 } ≡ roamer_progress new =
+    λ i. record {
+      defined = sym (ap (λ (p : LogProgress). p.defined) same_progress ∙ was.undefined unbegun) i;
+      closed = (roamer_progress new).closed;
+      written = sym (ap (λ (p : LogProgress). p.written) same_progress ∙ was.first_clock unbegun) i;
+      latest = sym (ap (λ (p : LogProgress). p.latest) same_progress ∙ was.no_stamp unbegun) i;
+    } in
     let plan : plan_of_roamer old ≡ plan_of_roamer new = λ i. plan_of (sym same_run.messages i) (sym same_run.clock i).tick in
     let taken = taken_none (plan_of_roamer old) got (ends_of old) (was.untaken unbegun) in
     record {
@@ -81,9 +90,7 @@ begun {S} got ended old new unbegun same_ends same_run same_progress right wrote
           subst (λ (p : Plan). FramesAreTaken p got (ends_of new) (replicate (length (ends_of old)) [])) plan
           (subst (λ (ends : List S). FramesAreTaken (plan_of_roamer old) got ends (replicate (length (ends_of old)) [])) (sym same_ends) taken);
       log =
-          same_log (header_bytes (roamer_header old)) (wrote ++ header_bytes (roamer_header old)) (replicate (length (ends_of old)) []) (roamer_messages old) (roamer_messages new) (roamer_clock old) (roamer_clock new) (roamer_batch old) (roamer_batch new) (record { defined = 0; closed = (roamer_progress new).closed }) (roamer_progress new)
-          (ap (λ (l : List ℕ). l ++ header_bytes (roamer_header old)) (sym none)) (sym same_run.messages) (sym same_run.clock) (sym same_run.batch)
-          (ap (λ (n : ℕ). record { defined = n; closed = (roamer_progress new).closed }) (sym (ap (λ (p : LogProgress). p.defined) same_progress ∙ was.undefined unbegun))) first;
+          same_log old new (header_bytes (roamer_header old)) (wrote ++ header_bytes (roamer_header old)) (replicate (length (ends_of old)) []) _ (roamer_progress new) same_run (ap (λ (l : List ℕ). l ++ header_bytes (roamer_header old)) (sym none)) at_first first;
       closed = λ writer end there is_closed. absurd (both_ways (get_or (roamer_progress new).closed writer false) (closed writer) is_closed);
     }
 
@@ -128,23 +135,38 @@ none_came messages tick before after draft body was none =
     let records : was.records ≡ [] = nil_from_length was.records (omega (arith, was.drafted.count, none)) in
     was.comes.joined ∙ ap (λ (calls : List Call). before ++ frames_of calls) records ∙ append-nil before
 
+-- its last stamp is the greatest one
+pub draft_last : (messages : List Message) (tick : ℕ) (records : List Call) (draft : Draft) (body : List ℕ) → IsDraft messages tick records draft body → 1 ≤ draft.records → draft.last ≡ greatest_stamp records
+draft_last messages tick records draft body drafted some =
+    let count = drafted.count in
+    drafted.last ∙ sym (last_is_greatest tick records drafted.rising (omega (arith, some, count)))
+
 -- ---- an extent
 
+-- what was put in front of an extent is the preface that its records want
+pub wanted_preface : {S : Type 0} (roamer : Roamer S) (records : List Call) (draft : Draft) (body preface : List ℕ) → IsDraft (roamer_messages roamer) (roamer_clock roamer).tick records draft body → 1 ≤ draft.records
+    → PrefaceFor (due_clocks (roamer_clocks roamer) (roamer_progress roamer).written draft.last) (roamer_progress roamer).defined (drop (roamer_progress roamer).defined (take (max (roamer_progress roamer).defined draft.ids) (roamer_messages roamer))) preface
+    → IsPrefaceOf roamer records preface
+wanted_preface roamer records draft body preface drafted some =
+    let kept = roamer_progress roamer in
+    let last = draft_last (roamer_messages roamer) (roamer_clock roamer).tick records draft body drafted some in
+    let new = wanted_new (roamer_messages roamer) kept.defined records draft.ids drafted.ids in
+    subst (λ (x : List Clock × List Message). PrefaceFor x.0 kept.defined x.1 preface) (λ i. (due_clocks (roamer_clocks roamer) kept.written (last i), new i))
+
 -- the records of a draft, behind the head of an extent
-abbrev pub spells_extent : {S : Type 0} (roamer : Roamer S) (writer : ℕ) (records : List Call) (draft : Draft) (body extent : List ℕ) → IsDraft (roamer_messages roamer) (roamer_clock roamer).tick records draft body → 1 ≤ draft.records → writer < 64 → length body ≤ 65536 → extent ≡ extent_head_bytes 1 writer (length (take draft.len body)) ++ take draft.len body → SpellsExtent (roamer_messages roamer) (roamer_header roamer) writer records extent
-spells_extent roamer writer records draft body extent drafted some known room is =
+abbrev pub spells_extent : {S : Type 0} (roamer : Roamer S) (writer : ℕ) (records : List Call) (draft : Draft) (body : List ℕ) (drafted : IsDraft (roamer_messages roamer) (roamer_clock roamer).tick records draft body) → 1 ≤ draft.records → writer < length (ends_of roamer) → length body ≤ roamer_room roamer
+    → SpellsExtent (roamer_messages roamer) (roamer_header roamer) writer records (extent_head_bytes (roamer_version roamer) writer (length (take draft.len body)) ++ take draft.len body)
+spells_extent roamer writer records draft body drafted some known room =
     let count = drafted.count in
     let within = drafted.within in
     let long = length-take-le draft.len body within in
-    let short : length (take draft.len body) ≤ 65536 = omega (arith, long, within, room) in
-    let fits : writer < 256 = omega (arith, known) in
     record {
       body = take draft.len body;
       some = body_some (roamer_messages roamer) (roamer_clock roamer).tick records (take draft.len body) (omega (arith, some, count)) drafted.spelled;
-      short = short;
-      writer_fits = fits;
+      short = omega (arith, long, within, room);
+      writer_fits = omega (arith, known, roamer.few_ends, writers_fit (roamer_version roamer));
       body_spelled = drafted.spelled;
-      joined = is;
+      joined = refl;
     }
 
 -- what a visit did before it wrote
@@ -186,17 +208,14 @@ still_ended ended loads pair plan frames all before after took over =
 abbrev pub EndedIfClosed : {S : Type 0} → (S → Bool) → List Bool → ℕ → S → Type 0
 EndedIfClosed ended closed writer end = get_or closed writer false ≡ true → ended end ≡ true
 
--- what is kept of the log behind the extent of a draft
-abbrev pub behind_draft : {S : Type 0} → Roamer S → Draft → LogProgress
-behind_draft roamer draft = record (roamer_progress roamer) { defined = max (roamer_progress roamer).defined draft.ids }
-
-pub extent_stands : {S : Type 0} (got : S → List (List ℕ)) (ended : S → Bool) (old new : Roamer S) (writer : ℕ) (before after : S) (draft : Draft) (body fragments extent : List ℕ) (moved : Moved got ended old new writer before after draft body) → 1 ≤ draft.records → draft.records ≤ roamer_batch old → (ended before ≡ true → draft.records ≡ 0) → AreDistinct (roamer_messages old) → length (roamer_messages old) ≤ 65536 → length (ends_of old) ≤ 64 → length body ≤ 65536
-    → FragmentsFor (roamer_progress old).defined (new_messages (roamer_messages old) (roamer_progress old).defined moved.gathers.records) fragments
-    → extent ≡ extent_head_bytes 1 writer (length (take draft.len body)) ++ take draft.len body
-    → (wrote : List ℕ) → RoamerStandsFor got ended old wrote → IsLogOfEnds got ended new (behind_draft old draft) (wrote ++ (fragments ++ extent))
-extent_stands {S} got ended old new writer before after draft body fragments extent moved some few going distinct few_messages few_ends room spelled extent_is wrote stood =
+pub extent_stands : {S : Type 0} (got : S → List (List ℕ)) (ended : S → Bool) (old new : Roamer S) (writer : ℕ) (before after : S) (draft : Draft) (body preface extent : List ℕ) (moved : Moved got ended old new writer before after draft body) → 1 ≤ draft.records → draft.records ≤ roamer_batch old → (ended before ≡ true → draft.records ≡ 0) → AreDistinct (roamer_messages old) → length (roamer_messages old) ≤ 65536
+    → IsPrefaceOf old moved.gathers.records preface
+    → SpellsExtent (roamer_messages old) (roamer_header old) writer moved.gathers.records extent
+    → (wrote : List ℕ) → RoamerStandsFor got ended old wrote → IsLogOfEnds got ended new (behind_draft old draft) (wrote ++ (preface ++ extent))
+extent_stands {S} got ended old new writer before after draft body preface extent moved some few going distinct few_messages standing spelled wrote stood =
     let log = stood.lawful moved.begun moved.unfaulted in
     let plan = plan_of_roamer old in
+    let kept = roamer_progress old in
     let records = moved.gathers.records in
     let drafted = moved.gathers.drafted in
     let calls = get_or log.taken writer [] in
@@ -205,27 +224,34 @@ extent_stands {S} got ended old new writer before after draft body fragments ext
     let known : writer < length log.taken = omega (arith, size, inside) in
     let are = zip_at (λ end calls. AreFramesOf plan (got end) calls) (ends_of old) log.taken writer before [] log.frames moved.was in
     let now = moved.gathers.comes.lawful calls are in
-    let open_writer : get_or (roamer_progress old).closed writer false ≡ false =
-    false_from_ne_true (get_or (roamer_progress old).closed writer false) (λ closed. omega (arith, some, going (log.closed writer before moved.was closed))) in
+    let open_writer : get_or kept.closed writer false ≡ false =
+    false_from_ne_true (get_or kept.closed writer false) (λ closed. omega (arith, some, going (log.closed writer before moved.was closed))) in
     let count = drafted.count in
-    let next : IsNext log.taken (roamer_messages old) (roamer_header old) (roamer_batch old) (roamer_progress old) writer records fragments extent = record {
+    let next : IsNext log.taken (roamer_messages old) (roamer_header old) (roamer_clocks old) (roamer_batch old) kept writer records preface extent = record {
+      first = old.first;
       known = known;
       not_closed = open_writer;
       few = omega (arith, few, count);
       right = moved.gathers.right;
       rising = now.rising;
-      fragments_spelled = spelled;
-      extent_spelled = spells_extent old writer records draft body extent drafted some (omega (arith, inside, few_ends)) room extent_is;
+      preface_spelled = standing;
+      extent_spelled = spelled;
     } in
-    let more = grown wrote log.taken (roamer_messages old) (roamer_header old) (roamer_batch old) (roamer_progress old) writer records fragments extent log.log distinct few_messages next in
-    let progress_is : progress_behind (roamer_progress old) records ≡ behind_draft old draft =
-    ap (λ (n : ℕ). record { defined = max (roamer_progress old).defined n; closed = (roamer_progress old).closed }) (sym drafted.ids) in
+    let more = grown wrote log.taken (roamer_messages old) (roamer_header old) (roamer_batch old) (roamer_clocks old) kept writer records preface extent log.log old.may_have distinct few_messages next in
+    let ids = sym drafted.ids in
+    let last = sym (draft_last (roamer_messages old) (roamer_clock old).tick records draft body drafted some) in
+    let progress_is : progress_behind kept (roamer_clocks old) records ≡ behind_draft old draft =
+    λ i. record {
+      defined = max kept.defined (ids i);
+      closed = kept.closed;
+      written = kept.written + length (due_clocks (roamer_clocks old) kept.written (last i));
+      latest = max kept.latest (last i);
+    } in
     record {
       taken = with_calls log.taken writer records;
       frames = move_ends (λ p es. FramesAreTaken p got es (with_calls log.taken writer records)) old new writer after moved.ends moved.same_run (zip_set (λ end calls. AreFramesOf plan (got end) calls) (ends_of old) log.taken writer after (calls ++ records) log.frames now);
-      log =
-          same_log (wrote ++ fragments ++ extent) (wrote ++ (fragments ++ extent)) (with_calls log.taken writer records) (roamer_messages old) (roamer_messages new) (roamer_clock old) (roamer_clock new) (roamer_batch old) (roamer_batch new) (progress_behind (roamer_progress old) records) (behind_draft old draft) (append_assoc wrote fragments extent) (sym moved.same_run.messages) (sym moved.same_run.clock) (sym moved.same_run.batch) progress_is more;
-      closed = still_said (EndedIfClosed ended (roamer_progress old).closed) (ends_of old) (ends_of new) writer before after moved.was moved.ends (λ over own. absurd (both_ways (get_or (roamer_progress old).closed writer false) open_writer own)) log.closed;
+      log = same_log old new (wrote ++ preface ++ extent) (wrote ++ (preface ++ extent)) (with_calls log.taken writer records) (progress_behind kept (roamer_clocks old) records) (behind_draft old draft) moved.same_run (append_assoc wrote preface extent) progress_is more;
+      closed = still_said (EndedIfClosed ended kept.closed) (ends_of old) (ends_of new) writer before after moved.was moved.ends (λ over own. absurd (both_ways (get_or kept.closed writer false) open_writer own)) log.closed;
     }
 
 -- ---- no record
@@ -240,26 +266,24 @@ idle_stands {S} got ended old new writer before after draft body moved none stay
     record {
       taken = log.taken;
       frames = move_ends (λ p es. FramesAreTaken p got es log.taken) old new writer after moved.ends moved.same_run (taken_still plan got (ends_of old) log.taken writer before after log.frames moved.was same);
-      log =
-          same_log wrote (wrote ++ []) log.taken (roamer_messages old) (roamer_messages new) (roamer_clock old) (roamer_clock new) (roamer_batch old) (roamer_batch new) (roamer_progress old) (roamer_progress old) (sym (append-nil wrote)) (sym moved.same_run.messages) (sym moved.same_run.clock) (sym moved.same_run.batch) refl log.log;
+      log = same_log old new wrote (wrote ++ []) log.taken (roamer_progress old) (roamer_progress old) moved.same_run (sym (append-nil wrote)) refl log.log;
       closed = still_said (EndedIfClosed ended (roamer_progress old).closed) (ends_of old) (ends_of new) writer before after moved.was moved.ends (λ over own. stays own (over own)) log.closed;
     }
 
 -- the close mark was written
-pub mark_stands : {S : Type 0} (got : S → List (List ℕ)) (ended : S → Bool) (old new : Roamer S) (writer : ℕ) (before after : S) (draft : Draft) (body : List ℕ) → Moved got ended old new writer before after draft body → draft.records ≡ 0 → get_or (roamer_progress old).closed writer false ≡ false → ended after ≡ true → length (ends_of old) ≤ length (roamer_progress old).closed
-    → (wrote : List ℕ) → RoamerStandsFor got ended old wrote → IsLogOfEnds got ended new (progress_closing (roamer_progress old) writer) (wrote ++ close_bytes 1 writer)
-mark_stands {S} got ended old new writer before after draft body moved none unclosed over room wrote stood =
+pub mark_stands : {S : Type 0} (got : S → List (List ℕ)) (ended : S → Bool) (old new : Roamer S) (writer : ℕ) (before after : S) (draft : Draft) (body : List ℕ) → Moved got ended old new writer before after draft body → draft.records ≡ 0 → get_or (roamer_progress old).closed writer false ≡ false → ended after ≡ true
+    → (wrote : List ℕ) → RoamerStandsFor got ended old wrote → IsLogOfEnds got ended new (progress_closing (roamer_progress old) writer) (wrote ++ close_bytes (roamer_version old) writer)
+mark_stands {S} got ended old new writer before after draft body moved none unclosed over wrote stood =
     let log = stood.lawful moved.begun moved.unfaulted in
     let plan = plan_of_roamer old in
     let size = taken_length plan got (ends_of old) log.taken log.frames in
     let inside = slice_get_within (ends_of old) writer before moved.was in
     let same = none_came (roamer_messages old) (roamer_clock old).tick (got before) (got after) draft body moved.gathers none in
-    let more = closing wrote log.taken (roamer_messages old) 1 (roamer_clock old ∷ []) (roamer_batch old) (roamer_progress old) writer log.log (omega (arith, size, inside)) unclosed (omega (arith, inside, room)) in
+    let more = closing wrote log.taken (roamer_messages old) (roamer_version old) (roamer_clocks old) (roamer_batch old) (roamer_progress old) writer log.log (omega (arith, size, inside)) unclosed (omega (arith, inside, old.each_closed)) in
     record {
       taken = log.taken;
       frames = move_ends (λ p es. FramesAreTaken p got es log.taken) old new writer after moved.ends moved.same_run (taken_still plan got (ends_of old) log.taken writer before after log.frames moved.was same);
-      log =
-          same_log (wrote ++ close_bytes 1 writer) (wrote ++ close_bytes 1 writer) log.taken (roamer_messages old) (roamer_messages new) (roamer_clock old) (roamer_clock new) (roamer_batch old) (roamer_batch new) (progress_closing (roamer_progress old) writer) (progress_closing (roamer_progress old) writer) refl (sym moved.same_run.messages) (sym moved.same_run.clock) (sym moved.same_run.batch) refl more;
+      log = same_log old new (wrote ++ close_bytes (roamer_version old) writer) (wrote ++ close_bytes (roamer_version old) writer) log.taken (progress_closing (roamer_progress old) writer) (progress_closing (roamer_progress old) writer) moved.same_run refl refl more;
       closed = λ w end there closed.
           elim (eqb_tells w writer) [
             | inl here ↦
@@ -275,12 +299,13 @@ mark_stands {S} got ended old new writer before after draft body moved none uncl
 -- ---- from the log to the roamer
 
 -- a front of a log
-cut_of : {S : Type 0} (got : S → List (List ℕ)) (ended : S → Bool) (roamer : Roamer S) (progress : LogProgress) (wrote rest : List ℕ) → IsLogOfEnds got ended roamer progress (wrote ++ rest) → IsCutLogOfEnds got ended roamer wrote
-cut_of got ended roamer progress wrote rest log = record {
+cut_of : {S : Type 0} (got : S → List (List ℕ)) (ended : S → Bool) (roamer : Roamer S) (progress : LogProgress) (wrote rest : List ℕ) → progress.latest ≤ (roamer_progress roamer).latest → IsLogOfEnds got ended roamer progress (wrote ++ rest) → IsCutLogOfEnds got ended roamer wrote
+cut_of got ended roamer progress wrote rest kept log = record {
   taken = log.taken;
   frames = taken_first (plan_of_roamer roamer) got (ends_of roamer) log.taken log.frames;
   rest = rest;
   log = log.log.log;
+  latest = let latest = log.log.latest in omega (arith, latest, kept);
   closed = λ writer end there closed.
       let plan = plan_of_roamer roamer in
       let inside = slice_get_within (ends_of roamer) writer end there in
@@ -296,8 +321,10 @@ stands_begun got ended roamer progress wrote now same log = record {
   untaken = λ unset. absurd (both_ways (is_begun roamer) unset now);
   undefined = λ unset. absurd (both_ways (is_begun roamer) unset now);
   unclosed = λ unset. absurd (both_ways (is_begun roamer) unset now);
+  first_clock = λ unset. absurd (both_ways (is_begun roamer) unset now);
+  no_stamp = λ unset. absurd (both_ways (is_begun roamer) unset now);
   lawful = λ yes unfaulted. subst (λ (p : LogProgress). IsLogOfEnds got ended roamer p wrote) (sym same) log;
-  cut = λ yes faulted. cut_of got ended roamer progress wrote [] (subst (IsLogOfEnds got ended roamer progress) (sym (append-nil wrote)) log);
+  cut = λ yes faulted. cut_of got ended roamer progress wrote [] (let latest = ap (λ (p : LogProgress). p.latest) same in omega (arith, latest)) (subst (IsLogOfEnds got ended roamer progress) (sym (append-nil wrote)) log);
 }
 
 pub stands_cut : {S : Type 0} (got : S → List (List ℕ)) (ended : S → Bool) (roamer : Roamer S) (wrote : List ℕ) → is_begun roamer ≡ true → is_faulted roamer ≡ true → IsCutLogOfEnds got ended roamer wrote → RoamerStandsFor got ended roamer wrote
@@ -306,6 +333,8 @@ stands_cut got ended roamer wrote now faulted cut = record {
   untaken = λ unset. absurd (both_ways (is_begun roamer) unset now);
   undefined = λ unset. absurd (both_ways (is_begun roamer) unset now);
   unclosed = λ unset. absurd (both_ways (is_begun roamer) unset now);
+  first_clock = λ unset. absurd (both_ways (is_begun roamer) unset now);
+  no_stamp = λ unset. absurd (both_ways (is_begun roamer) unset now);
   lawful = λ yes unfaulted. absurd (both_ways (is_faulted roamer) unfaulted faulted);
   cut = λ yes is. cut;
 }
@@ -317,25 +346,17 @@ pub appended : {S : Type 0} (got : S → List (List ℕ)) (ended : S → Bool) (
 appended got ended old new progress bytes p q now same puts log =
     record { bytes = bytes; put_is = puts; stands = λ wrote stood. stands_begun got ended new progress (wrote ++ bytes) now same (log wrote stood) }
 
--- A write of them failed. More may be put behind them, so that it would stand for a log.
-pub cut_short : {S : Type 0} (got : S → List (List ℕ)) (ended : S → Bool) (old new : Roamer S) (progress : LogProgress) (bytes : List ℕ) (p q : Told) → is_begun new ≡ true → is_faulted new ≡ true → PutsFront bytes p q
-    → (rest : List ℕ) × ((wrote : List ℕ) → RoamerStandsFor got ended old wrote → IsLogOfEnds got ended new progress (wrote ++ (bytes ++ rest)))
+-- A write of them failed.
+pub cut_short : {S : Type 0} (got : S → List (List ℕ)) (ended : S → Bool) (old new : Roamer S) (progress : LogProgress) (bytes : List ℕ) (p q : Told) → is_begun new ≡ true → is_faulted new ≡ true → progress.latest ≤ (roamer_progress new).latest → PutsFront bytes p q
+    → ((wrote : List ℕ) → RoamerStandsFor got ended old wrote → IsLogOfEnds got ended new progress (wrote ++ bytes))
     → AppendsToLog got ended old new p q
-cut_short got ended old new progress bytes p q now faulted (n, within, puts) log = record {
+cut_short got ended old new progress bytes p q now faulted kept (n, within, puts) log = record {
   bytes = take n bytes;
   put_is = puts;
   stands = λ wrote stood.
-      let (rest, whole) = log in
-      let parts : bytes ++ rest ≡ take n bytes ++ (drop n bytes ++ rest) = ap (λ (l : List ℕ). l ++ rest) (sym (take-append-drop n bytes)) ∙ append_assoc (take n bytes) (drop n bytes) rest in
-      let joined : wrote ++ (bytes ++ rest) ≡ wrote ++ take n bytes ++ (drop n bytes ++ rest) = ap (λ (l : List ℕ). wrote ++ l) parts ∙ sym (append_assoc wrote (take n bytes) (drop n bytes ++ rest)) in
-      stands_cut got ended new (wrote ++ take n bytes) now faulted (cut_of got ended new progress (wrote ++ take n bytes) (drop n bytes ++ rest) (subst (IsLogOfEnds got ended new progress) joined (whole wrote stood)));
+      let joined : wrote ++ bytes ≡ wrote ++ take n bytes ++ drop n bytes = ap (λ (l : List ℕ). wrote ++ l) (sym (take-append-drop n bytes)) ∙ sym (append_assoc wrote (take n bytes) (drop n bytes)) in
+      stands_cut got ended new (wrote ++ take n bytes) now faulted (cut_of got ended new progress (wrote ++ take n bytes) (drop n bytes) kept (subst (IsLogOfEnds got ended new progress) joined (log wrote stood)));
 }
-
--- of a header, or a close mark, nothing more
-pub nothing_more : {S : Type 0} (got : S → List (List ℕ)) (ended : S → Bool) (old new : Roamer S) (progress : LogProgress) (bytes : List ℕ) → ((wrote : List ℕ) → RoamerStandsFor got ended old wrote → IsLogOfEnds got ended new progress (wrote ++ bytes))
-    → (rest : List ℕ) × ((wrote : List ℕ) → RoamerStandsFor got ended old wrote → IsLogOfEnds got ended new progress (wrote ++ (bytes ++ rest)))
-nothing_more got ended old new progress bytes log =
-    ([], λ wrote stood. subst (λ (l : List ℕ). IsLogOfEnds got ended new progress (wrote ++ l)) (sym (append-nil bytes)) (log wrote stood))
 
 -- ---- plans
 

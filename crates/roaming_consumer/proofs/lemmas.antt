@@ -1,3 +1,4 @@
+pub mod FirstClock
 pub mod Marking
 pub mod OnePlace
 pub mod Sending

@@ -2,7 +2,7 @@
 use Rattle.std.specs.Prelude.{◌≡◌, ℕ, ◌≤◌, List, length, take, All}
 use Rattle.log_dictionary.specs.declared.message.Message.{Message}
 use Rattle.arg_records.specs.declared.call.Call.{Call}
-use Rattle.arg_records.specs.Calls.{IsCall, last_stamp}
+use Rattle.arg_records.specs.Calls.{IsCall, NeverFalls, last_stamp}
 use Rattle.arg_records.specs.Frames.{Frame, IsStaged}
 use Rattle.arg_records.specs.Kinds.{HoldsBytes}
 use Rattle.buffer_extent.specs.Bodies.{SpellsRecords}
@@ -23,5 +23,6 @@ pub record IsDraft (messages : List Message) (tick : ℕ) (records : List Call) 
   pub count : draft.records ≡ length records
   pub ids : draft.ids ≡ ids_used records
   pub last : draft.last ≡ last_stamp tick records
+  pub rising : NeverFalls tick records
   pub within : draft.len ≤ length body
   pub spelled : SpellsRecords messages tick records (take draft.len body)

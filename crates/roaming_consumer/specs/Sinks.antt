@@ -1,10 +1,11 @@
 -- What a call does to the sink that it is lent.
-use Rattle.std.specs.Prelude.{◌≡◌, ◌⊎◌, ℕ, ◌≤◌, List, [], ◌++◌, length, take, drop, Result, OnOk, OnErr}
+use Rattle.std.specs.Prelude.{◌≡◌, ℕ, ◌≤◌, List, ◌++◌, length, take, drop, Result, OnOk, OnErr}
 use Rattle.nl_io.specs.Count.{Rose}
 use Rattle.nl_io.specs.Content.{Told, with_end, PutsFront}
+use Rattle.log_dictionary.specs.declared.clock.Clock.{Clock}
 use Rattle.log_dictionary.specs.declared.message.Message.{Message}
 use Rattle.checkpoint_io.specs.Blocks.{extent_head_bytes}
-use Rattle.roaming_consumer.specs.Growth.{FragmentsFor}
+use Rattle.roaming_consumer.specs.Growth.{FragmentsFor, PrefaceFor}
 
 -- The sink took all of the bytes. Where the call failed it took some of them, from their front, and its count of faults
 -- rose.
@@ -16,30 +17,17 @@ pub record Sends {T E : Type 0} (outcome : Result T E) (bytes : List ℕ) (put p
   pub cause : OnErr outcome (Rose faults faults_after)
   pub count : faults ≤ faults_after
 
--- The sink took fragments of the messages from the first one up to this end. Where the call failed it took some bytes,
--- from the front, of fragments of the messages up to some end, behind which others may stand up to this one.
+-- These are fragments of the messages from the first one up to this end, and the sink took them.
 pub record SendsFragments {T E : Type 0} (outcome : Result T E) (dictionary : List Message) (first end : ℕ)
     (put put_after : Told) (faults faults_after : ℕ) : Type 0 where
-  pub up_to : ℕ
-  pub within : up_to ≤ end
-  pub whole : OnOk outcome (up_to ≡ end)
   pub bytes : List ℕ
-  pub spelled : FragmentsFor first (drop first (take up_to dictionary)) bytes
-  pub goes_on : (rest : List ℕ) × FragmentsFor first (drop first (take end dictionary)) (bytes ++ rest)
+  pub spelled : FragmentsFor first (drop first (take end dictionary)) bytes
   pub sent : Sends outcome bytes put put_after faults faults_after
 
--- The sink took the fragments of the messages up to the greatest id that is used, if they aren't defined yet, and behind
--- them the extent. Where the call failed it took some bytes, from the front, of some of the fragments, or of all of them
--- and the extent. Behind what it was to take the rest of the fragments and the extent may stand.
-pub record SendsExtent {T E : Type 0} (outcome : Result T E) (dictionary : List Message)
+-- The preface has these clocks and the messages from the first one up to this end, and the sink took it and the extent.
+pub record SendsExtent {T E : Type 0} (outcome : Result T E) (clocks : List Clock) (dictionary : List Message)
     (version first end writer : ℕ) (body : List ℕ) (put put_after : Told) (faults faults_after : ℕ) : Type 0 where
-  pub up_to : ℕ
-  pub within : up_to ≤ end
-  pub fragments : List ℕ
-  pub spelled : FragmentsFor first (drop first (take up_to dictionary)) fragments
-  pub extent : List ℕ
-  pub behind : (extent ≡ []) ⊎ ((up_to ≡ end) × (extent ≡ extent_head_bytes version writer (length body) ++ body))
-  pub whole : OnOk outcome ((up_to ≡ end) × (extent ≡ extent_head_bytes version writer (length body) ++ body))
-  pub goes_on : (rest : List ℕ) × (all : List ℕ) × FragmentsFor first (drop first (take end dictionary)) all
-      × (all ++ (extent_head_bytes version writer (length body) ++ body) ≡ (fragments ++ extent) ++ rest)
-  pub sent : Sends outcome (fragments ++ extent) put put_after faults faults_after
+  pub preface : List ℕ
+  pub spelled : PrefaceFor clocks first (drop first (take end dictionary)) preface
+  pub sent : Sends outcome (preface ++ (extent_head_bytes version writer (length body) ++ body)) put put_after faults
+      faults_after

@@ -1,22 +1,19 @@
 -- What is told of a visit.
-use Rattle.std.specs.Prelude.{◌≡◌, ◌≢◌, ◌⊎◌, ℕ, ◌-◌, ◌≤◌, Bool, true, false, List, [], ◌++◌, length, max, take, drop, Result, Ok, if◌then◌else◌}
+use Rattle.std.specs.Prelude.{◌≡◌, ◌≢◌, ◌⊎◌, ℕ, ◌-◌, ◌≤◌, Bool, true, false, List, ◌++◌, length, Result, Ok, if◌then◌else◌}
 use Rattle.std.specs.List.{AllByRecursion}
 use Rattle.nl_io.specs.Content.{Told, with_end, PutsFront}
-use Rattle.log_dictionary.specs.declared.message.Message.{Message}
 use Rattle.arg_records.specs.declared.call.Call.{Call}
 use Rattle.arg_records.specs.Calls.{IsCall}
-use Rattle.checkpoint_io.specs.declared.version.TheConstants.{MAX_BODY}
-use Rattle.checkpoint_io.specs.declared.header.Header.{Header}
 use Rattle.checkpoint_io.specs.Blocks.{SpellsExtent, close_bytes}
-use Rattle.checkpoint_io.specs.Logs.{ids_used, new_messages}
+use Rattle.checkpoint_io.specs.Logs.{new_messages, new_clocks}
 use Rattle.ring_core.specs.Plans.{Plan}
 use Rattle.roaming_consumer.specs.declared.visit.Visit.{Visit}
 use Rattle.roaming_consumer.specs.declared.visit.Visit.TheVariants.{Wrote, Idle, Ended, Discarded}
 use Rattle.roaming_consumer.specs.declared.visit.SinkFault.{SinkFault}
 use Rattle.roaming_consumer.specs.declared.roamer.Roamer.{Roamer}
-use Rattle.roaming_consumer.specs.Growth.{FragmentsFor}
+use Rattle.roaming_consumer.specs.Growth.{PrefaceFor}
 use Rattle.roaming_consumer.specs.Gathering.{FramesCame, CallsCame, FindsNothing, StopsTaking}
-use Rattle.roaming_consumer.specs.Roamers.{roamer_messages, roamer_batch, roamer_progress, roamer_header, is_faulted, is_marked, plan_of_roamer}
+use Rattle.roaming_consumer.specs.Roamers.{roamer_messages, roamer_version, roamer_clocks, roamer_room, roamer_batch, roamer_progress, roamer_header, is_faulted, is_marked, plan_of_roamer}
 
 -- what the answer says of the end: how many frames were taken, or that there was none, or that all had ended
 abbrev pub VisitTells : {S : Type 0} → (S → List (List ℕ)) → (S → Bool) → (S → ℕ) → Visit → S → S → Type 0
@@ -59,21 +56,28 @@ TakesAtMost most Idle = Unit {0}
 TakesAtMost most Ended = Unit {0}
 TakesAtMost most (Discarded n) = n ≤ most
 
--- A visit took the frames of so many calls, up to a reason to stop. The sink took fragments of the messages that they
--- want and that the log doesn't define yet, and behind them one extent of the records of all these calls.
+-- The bytes are what stands in front of an extent of these records: the clocks that they have reached and that aren't
+-- written, and the fragments of the messages that they want and that aren't defined.
+abbrev pub IsPrefaceOf : {S : Type 0} → Roamer S → List Call → List ℕ → Type 0
+IsPrefaceOf roamer records bytes =
+    PrefaceFor (new_clocks (roamer_clocks roamer) (roamer_progress roamer).written records)
+    (roamer_progress roamer).defined (new_messages (roamer_messages roamer) (roamer_progress roamer).defined records) bytes
+
+-- A visit took the frames of so many calls, up to a reason to stop. The sink took the preface of one extent of the records
+-- of all these calls, and the extent.
 pub record WritesExtent {S : Type 0} (got : S → List (List ℕ)) (ended : S → Bool) (loads : S → ℕ) (roamer : Roamer S)
     (writer taken : ℕ) (put put_after : Told) (before after : S) : Type 0 where
   pub records : List Call
   pub comes : CallsCame (plan_of_roamer roamer) (got before) (got after) records
   pub right : AllByRecursion (IsCall (roamer_messages roamer)) records
   pub count : length records ≡ taken
-  pub fragments : List ℕ
-  pub defining : FragmentsFor (roamer_progress roamer).defined
-      (new_messages (roamer_messages roamer) (roamer_progress roamer).defined records) fragments
+  pub preface : List ℕ
+  pub standing : IsPrefaceOf roamer records preface
   pub extent : List ℕ
   pub spelled : SpellsExtent (roamer_messages roamer) (roamer_header roamer) writer records extent
-  pub puts : put_after ≡ with_end (fragments ++ extent) put
-  pub stops : StopsTaking got ended loads (roamer_batch roamer) taken (MAX_BODY - length spelled.body) before after
+  pub puts : put_after ≡ with_end (preface ++ extent) put
+  pub stops : StopsTaking got ended loads (roamer_batch roamer) taken (roamer_room roamer - length spelled.body) before
+      after
 
 -- What a visit that answers so has given to the sink, and why it took no more frames: the fragments and the extent of
 -- what it took, nothing, or the close mark of a writer that has ended, where no write had failed and it wasn't written
@@ -85,22 +89,9 @@ VisitWrites got ended loads roamer writer put put_after (Wrote n) before after =
 VisitWrites got ended loads roamer writer put put_after Idle before after = put_after ≡ put
 VisitWrites got ended loads roamer writer put put_after Ended before after =
     put_after ≡ (if is_faulted roamer then put
-    else if is_marked roamer writer then put else with_end (close_bytes 1 writer) put)
+    else if is_marked roamer writer then put else with_end (close_bytes (roamer_version roamer) writer) put)
 VisitWrites got ended loads roamer writer put put_after (Discarded n) before after =
-    (put_after ≡ put) × StopsTaking got ended loads (roamer_batch roamer) n MAX_BODY before after
-
--- The bytes of an extent of these records and of the fragments that it wants, behind a log that defines so many messages;
--- or those of fragments alone, of the messages up to some end.
-pub record AreBytesFor (messages : List Message) (header : Header) (defined writer : ℕ) (records : List Call)
-    (bytes : List ℕ) : Type 0 where
-  pub up_to : ℕ
-  pub within : up_to ≤ max defined (ids_used records)
-  pub fragments : List ℕ
-  pub spelled : FragmentsFor defined (drop defined (take up_to messages)) fragments
-  pub extent : List ℕ
-  pub behind : (extent ≡ [])
-      ⊎ ((up_to ≡ max defined (ids_used records)) × SpellsExtent messages header writer records extent)
-  pub joined : bytes ≡ fragments ++ extent
+    (put_after ≡ put) × StopsTaking got ended loads (roamer_batch roamer) n (roamer_room roamer) before after
 
 -- Frames of these calls were taken, and the sink took some bytes, from the front, of what was to be written of them.
 pub record StopsInExtent {S : Type 0} (got : S → List (List ℕ)) (roamer : Roamer S) (writer : ℕ) (put put_after : Told)
@@ -110,10 +101,11 @@ pub record StopsInExtent {S : Type 0} (got : S → List (List ℕ)) (roamer : Ro
   pub right : AllByRecursion (IsCall (roamer_messages roamer)) records
   pub some : 1 ≤ length records
   pub few : length records ≤ roamer_batch roamer
-  pub bytes : List ℕ
-  pub are : AreBytesFor (roamer_messages roamer) (roamer_header roamer) (roamer_progress roamer).defined writer records
-      bytes
-  pub puts : PutsFront bytes put put_after
+  pub preface : List ℕ
+  pub standing : IsPrefaceOf roamer records preface
+  pub extent : List ℕ
+  pub spelled : SpellsExtent (roamer_messages roamer) (roamer_header roamer) writer records extent
+  pub puts : PutsFront (preface ++ extent) put put_after
 
 -- No frame was taken, all had ended, and the sink took some bytes, from the front, of the writer's close mark, which
 -- wasn't written before.
@@ -122,7 +114,7 @@ pub record StopsInMark {S : Type 0} (got : S → List (List ℕ)) (ended : S →
   pub none : got after ≡ got before
   pub over : ended after ≡ true
   pub unmarked : is_marked roamer writer ≡ false
-  pub puts : PutsFront (close_bytes 1 writer) put put_after
+  pub puts : PutsFront (close_bytes (roamer_version roamer) writer) put put_after
 
 -- how far a visit came of which a write failed
 abbrev pub VisitStops : {S : Type 0} → (S → List (List ℕ)) → (S → Bool) → Roamer S → ℕ → Told → Told → S → S → Type 0

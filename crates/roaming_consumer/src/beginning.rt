@@ -9,7 +9,7 @@ ghost use Rattle.roaming_consumer.specs.Roamers.{ends_of, is_begun, is_faulted, 
 use crate::blocks::write_header;
 use crate::roamer::Roamer;
 use crate::visit::SinkFault;
-use checkpoint_io::{Header, WRITTEN_VERSION};
+use checkpoint_io::Header;
 use nl_io::Sink;
 use ring_core::StageOut;
 
@@ -20,7 +20,7 @@ impl<'d, S> Roamer<'d, S> {
         ensures right { IsHeader (roamer_header self.now) }
     {
         Header {
-            version: WRITTEN_VERSION,
+            version: self.version,
             writers: self.ends.len() as u32,
             clock: self.clock,
         }

@@ -1,9 +1,8 @@
 //! Taking frames from the roamer's end of a ring.
 
-ghost use Rattle.std.specs.Prelude.{◌≡◌, ◌+◌, ◌-◌, ◌<◌, ◌≤◌, true, false, length};
+ghost use Rattle.std.specs.Prelude.{◌≡◌, ◌+◌, ◌-◌, ◌<◌, ◌≤◌, ℕ, true, false, length};
 ghost use Rattle.nl_io.specs.Count.{Rose};
 ghost use Rattle.buffer_extent.specs.declared.put.TheConstants.{RECORD_ROOM};
-ghost use Rattle.checkpoint_io.specs.declared.version.TheConstants.{MAX_BODY};
 ghost use Rattle.ring_core.specs.Plans.{plan_of};
 ghost use Rattle.roaming_consumer.specs.Gathering.{FramesCame, DraftsFrames, StopsTaking};
 
@@ -84,7 +83,7 @@ pub(crate) fn throw_away<S: StageOut>(
     requires some { 1 ≤ batch }
     ensures came { FramesCame (S.got end.old) (S.got end.new) result.frames }
     ensures few { result.frames ≤ batch }
-    ensures stops { StopsTaking S.got S.ended S.loads batch result.frames MAX_BODY end.old end.new }
+    ensures stops { (free : ℕ) → StopsTaking S.got S.ended S.loads batch result.frames free end.old end.new }
     ensures none { result.frames ≡ 0 → S.ended end.new ≡ result.ended }
     ensures looked { result.frames ≡ 0 → result.ended ≡ false → Rose (S.loads end.old) (S.loads end.new) }
     ensures stays_ended { S.ended end.old ≡ true → (result.frames ≡ 0) × (result.ended ≡ true) }

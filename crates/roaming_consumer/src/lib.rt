@@ -3,6 +3,7 @@
 
 mod beginning;
 mod blocks;
+mod clocks;
 mod collecting;
 mod draft;
 mod fragments;
@@ -14,5 +15,6 @@ mod roamer;
 mod visit;
 mod visiting;
 
+pub use clocks::ClockRefusal;
 pub use roamer::Roamer;
 pub use visit::{SinkFault, Visit};

@@ -1,15 +1,13 @@
 //! The roamer: what it keeps between its visits.
 
-ghost use Rattle.std.specs.Prelude.{◌≡◌, ◌<◌, ◌≤◌, ◌^◌, length, vec_len};
-ghost use Rattle.session_options.specs.declared.limits.TheConstants.{MAX_LOG_WRITERS};
-ghost use Rattle.checkpoint_io.specs.declared.version.TheConstants.{MAX_BODY};
+ghost use Rattle.std.specs.Prelude.{◌≡◌, ◌≤◌, true, length, slice_get, Some, vec_len};
+ghost use Rattle.checkpoint_io.specs.Versions.{is_known, most_writers, most_body};
 ghost use Rattle.roaming_consumer.specs.declared.fragments.TheConstants.{MAX_FRAGMENT};
+ghost use Rattle.roaming_consumer.specs.Growth.{MayHaveClocks};
 
 use crate::fragments::MAX_FRAGMENT;
 use arg_records::MAX_FRAME_WORDS;
-use checkpoint_io::MAX_BODY;
-use log_dictionary::{Clock, Dictionary};
-use session_options::MAX_LOG_WRITERS;
+use log_dictionary::{Clock, Clocks, Dictionary};
 
 /// Goes from one writer to the next, takes the frames of its calls, and writes the log of the calls.
 ///
@@ -17,28 +15,38 @@ use session_options::MAX_LOG_WRITERS;
 #[derive(Drop)]
 pub struct Roamer<'d, S> {
     pub(crate) dictionary: &'d Dictionary,
+    /// The version of the log.
+    pub(crate) version: u8,
+    /// The clocks that were told so far.
+    pub(crate) clocks: Clocks,
+    /// The first of them, which the header has.
     pub(crate) clock: Clock,
     pub(crate) batch: u32,
     /// The ends of the writers, by their numbers.
     pub(crate) ends: Vec<S>,
     /// How many messages the log defines.
     pub(crate) defined: u32,
+    /// How many clocks the log has, with that of its header.
+    pub(crate) written: usize,
+    /// The greatest stamp of a call that was to be written, and 0 where there is none.
+    pub(crate) latest: u64,
     /// Whether the close mark of a writer was written, by its number.
-    pub(crate) closed: [bool; MAX_LOG_WRITERS as usize],
+    pub(crate) closed: Vec<bool>,
     pub(crate) begun: bool,
     pub(crate) faulted: bool,
     pub(crate) frame: [u64; MAX_FRAME_WORDS],
     pub(crate) body: Vec<u8>,
     pub(crate) fragment: Vec<u8>,
     ghost some_end: { 1 ≤ length ends.items },
-    ghost few_ends: { length ends.items ≤ MAX_LOG_WRITERS },
+    ghost known_version: { is_known version ≡ true },
+    ghost few_ends: { length ends.items ≤ most_writers version },
     ghost some_batch: { 1 ≤ batch },
-    ghost rate: { 1 ≤ clock.rate },
-    ghost tick_fits: { clock.tick < 2 ^ 64 },
-    ghost nanos_fits: { clock.nanos < 2 ^ 64 },
-    ghost rate_fits: { clock.rate < 2 ^ 64 },
+    ghost may_have: { MayHaveClocks version clocks },
+    ghost first: { slice_get clocks 0 ≡ Some clock },
+    ghost few_written: { written ≤ length clocks },
     ghost known: { defined ≤ length dictionary.now },
-    ghost body_room: { vec_len body ≡ MAX_BODY },
+    ghost each_closed: { length closed.items ≡ length ends.items },
+    ghost body_room: { vec_len body ≡ most_body version },
     ghost fragment_room: { vec_len fragment ≡ MAX_FRAGMENT },
 }
 
@@ -58,10 +66,14 @@ impl<'d, S> Roamer<'d, S> {
     {
         let Roamer {
             dictionary: _,
+            version: _,
+            clocks: _,
             clock: _,
             batch: _,
             ends,
             defined: _,
+            written: _,
+            latest: _,
             closed: _,
             begun: _,
             faulted: _,

@@ -85,10 +85,11 @@ impl<'d, S: StageOut> Roamer<'d, S> {
         if ended { Visit::Ended } else { Visit::Idle }
     }
 
-    /// Takes frames of the writer's end, and writes their records as one extent, in front of which stand the fragments
-    /// of the messages that it wants and that the log doesn't define yet. It takes frames until there are as many as
-    /// in a batch, a record might have no room in the body, or the end gives none. Where it gives none at first and all
-    /// has ended, the close mark of the writer is written, once. It has no answer for want of memory.
+    /// Takes frames of the writer's end, and writes their records as one extent, in front of which stand the clocks that
+    /// they have reached and that the log doesn't have yet, and the fragments of the messages that it wants and that the
+    /// log doesn't define yet. It takes frames until there are as many as in a batch, a record might have no room in the
+    /// body, or the end gives none. Where it gives none at first and all has ended, the close mark of the writer is
+    /// written, once. It has no answer for want of memory.
     ///
     /// After a write has failed the frames are thrown away, and nothing is written.
     ///

@@ -1,11 +1,12 @@
 -- Close marks, from call to call.
-use Rattle.std.proofs.Common.{◌≡◌, ℕ, ◌<◌, Bool, true, false, List, [], ◌∷◌, length, get_or, refl, sym, ap, subst, ◌∙◌, arith}
+use Rattle.std.proofs.Common.{◌≡◌, ℕ, ◌<◌, Bool, true, false, List, length, get_or, refl, sym, ap, subst, ◌∙◌, arith}
 use Rattle.std.specs.Prelude.{slice_set, Result, Ok}
 use Rattle.std.proofs.lemmas.Bool.{both_ways}
 use Rattle.std.proofs.lemmas.List.{get_or-set_same, get_or-set_other}
 use Rattle.log_dictionary.specs.declared.clock.Clock.{Clock}
 use Rattle.log_dictionary.specs.declared.message.Message.{Message}
 use Rattle.arg_records.specs.declared.call.Call.{Call}
+use Rattle.checkpoint_io.specs.Blocks.{Block}
 use Rattle.checkpoint_io.specs.Validity.{IsClosed}
 use Rattle.checkpoint_io.specs.Logs.{LogOf}
 use Rattle.roaming_consumer.specs.declared.visit.Visit.{Visit}
@@ -50,13 +51,20 @@ closed_log got ended roamer wrote stood now unfaulted marked =
       closed = λ writer within. sym (log.log.closed writer within) ∙ marked writer (omega (arith, size, within));
     }
 
--- the log of messages, a clock and a batch, with what its close marks say of their writers
-abbrev pub MarkedLog : (ℕ → Type 0) → List ℕ → List (List Call) → List Message × Clock × ℕ → Type 0
-MarkedLog Says bytes taken (messages, clock, batch) =
-    (log : LogOf bytes taken messages 1 (clock ∷ []) batch) × ((writer : ℕ) → IsClosed writer log.blocks → Says writer)
+-- the log of messages, of a version, clocks and a batch, with what is said of its blocks
+abbrev pub SaidLog : (List Block → Type 0) → List ℕ → List (List Call) → List Message × ℕ × List Clock × ℕ → Type 0
+SaidLog Says bytes taken (messages, version, clocks, batch) = (log : LogOf bytes taken messages version clocks batch) × Says log.blocks
 
--- the log of other messages, of another clock and batch, which are the same
-pub same_marked_log : (Says : ℕ → Type 0) (bytes : List ℕ) (taken : List (List Call)) (messages names : List Message) (clock watch : Clock) (batch size : ℕ) → messages ≡ names → clock ≡ watch → batch ≡ size
-    → MarkedLog Says bytes taken (messages, clock, batch) → MarkedLog Says bytes taken (names, watch, size)
-same_marked_log Says bytes taken messages names clock watch batch size same_messages same_clock same_batch =
-    subst (MarkedLog Says bytes taken) (λ i. (same_messages i, same_clock i, same_batch i))
+-- the same with what its close marks say of their writers
+abbrev pub MarkedLog : (ℕ → Type 0) → List ℕ → List (List Call) → List Message × ℕ × List Clock × ℕ → Type 0
+MarkedLog Says bytes taken run = SaidLog (λ blocks. (writer : ℕ) → IsClosed writer blocks → Says writer) bytes taken run
+
+-- the log of other messages, of another version, other clocks and another batch, which are the same
+pub same_said_log : (Says : List Block → Type 0) (bytes : List ℕ) (taken : List (List Call)) (messages names : List Message) (version release : ℕ) (clocks watches : List Clock) (batch size : ℕ) → messages ≡ names → version ≡ release → clocks ≡ watches → batch ≡ size
+    → SaidLog Says bytes taken (messages, version, clocks, batch) → SaidLog Says bytes taken (names, release, watches, size)
+same_said_log Says bytes taken messages names version release clocks watches batch size same_messages same_version same_clocks same_batch =
+    subst (SaidLog Says bytes taken) (λ i. (same_messages i, same_version i, same_clocks i, same_batch i))
+
+pub same_marked_log : (Says : ℕ → Type 0) (bytes : List ℕ) (taken : List (List Call)) (messages names : List Message) (version release : ℕ) (clocks watches : List Clock) (batch size : ℕ) → messages ≡ names → version ≡ release → clocks ≡ watches → batch ≡ size
+    → MarkedLog Says bytes taken (messages, version, clocks, batch) → MarkedLog Says bytes taken (names, release, watches, size)
+same_marked_log Says = same_said_log (λ blocks. (writer : ℕ) → IsClosed writer blocks → Says writer)

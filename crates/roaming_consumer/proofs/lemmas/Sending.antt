@@ -1,13 +1,14 @@
 -- What a sink took in several calls, one after another.
-use Rattle.std.proofs.Common.{◌≡◌, ℕ, ◌≤◌, List, [], ◌++◌, length, take, drop, refl, sym, ap, subst, ◌∙◌, append_assoc, append-nil, inl, inr, arith}
+use Rattle.std.proofs.Common.{◌≡◌, ℕ, ◌≤◌, List, ◌++◌, length, take, drop, refl, sym, ap, subst, ◌∙◌, append_assoc, arith}
 use Rattle.std.proofs.lemmas.List.{take_at}
 use Rattle.std.specs.Prelude.{Result, Ok, Err, IsErr, is_err, OnOk, OnErr, true, false}
 use Rattle.nl_io.specs.Count.{Rose}
 use Rattle.nl_io.specs.Content.{Told, with_end, PutsFront}
 use Rattle.nl_io.proofs.lemmas.Contents.{with_end-both, front-first, front-second}
+use Rattle.log_dictionary.specs.declared.clock.Clock.{Clock}
 use Rattle.log_dictionary.specs.declared.message.Message.{Message}
 use Rattle.checkpoint_io.specs.Blocks.{extent_head_bytes}
-use Rattle.roaming_consumer.specs.Growth.{FragmentsFor}
+use Rattle.roaming_consumer.specs.Growth.{clocks_bytes, FragmentsFor}
 use Rattle.roaming_consumer.specs.Sinks.{Sends, SendsFragments, SendsExtent}
 
 -- what was put in front of a buffer
@@ -51,75 +52,44 @@ pub sends_err : {T E : Type 0} (r : Result T E) (bytes : List ℕ) (p q : Told) 
 sends_err (Ok x) bytes p q f g failed puts rose count = absurd cc
 sends_err (Err e) bytes p q f g failed puts rose count = record { ok = tt; counted = tt; err = puts; cause = rose; count = count }
 
--- ---- an extent, and its fragments in front
+-- ---- an extent, and its preface in front
 
-whole_fragments : (dictionary : List Message) (first up_to end : ℕ) (bytes : List ℕ) → up_to ≡ end → FragmentsFor first (drop first (take up_to dictionary)) bytes → FragmentsFor first (drop first (take end dictionary)) bytes
-whole_fragments dictionary first up_to end bytes whole = subst (λ (n : ℕ). FragmentsFor first (drop first (take n dictionary)) bytes) whole
-
--- the fragments failed
-pub extent_stops_early : {T E U F : Type 0} (r : Result T E) (e : F) (dictionary : List Message) (version first end writer : ℕ) (body : List ℕ) (p q : Told) (f g : ℕ) → IsErr r → SendsFragments {T = U} (Err e) dictionary first end p q f g → SendsExtent r dictionary version first end writer body p q f g
-extent_stops_early (Ok x) e dictionary version first end writer body p q f g failed sent = absurd cc
-extent_stops_early (Err u) e dictionary version first end writer body p q f g failed sent = record {
-  up_to = sent.up_to;
-  within = sent.within;
-  fragments = sent.bytes;
-  spelled = sent.spelled;
-  extent = [];
-  behind = inl refl;
-  whole = tt;
-  goes_on =
-      let (rest, all) = sent.goes_on in
-      (rest ++ (extent_head_bytes version writer (length body) ++ body), sent.bytes ++ rest, all, append_assoc sent.bytes rest _ ∙ ap (λ (l : List ℕ). l ++ (rest ++ (extent_head_bytes version writer (length body) ++ body))) (sym (append-nil sent.bytes)));
-  sent = sends_stop (Err u) sent.bytes [] p q f g refl sent.sent.err sent.sent.cause sent.sent.count;
+-- the clocks, the fragments and the extent
+pub extent_of : {T E : Type 0} (r : Result T E) (clocks : List Clock) (dictionary : List Message) (version first end writer : ℕ) (body fragments : List ℕ) (p q : Told) (f g : ℕ) → FragmentsFor first (drop first (take end dictionary)) fragments → Sends r (clocks_bytes clocks ++ (fragments ++ (extent_head_bytes version writer (length body) ++ body))) p q f g
+    → SendsExtent r clocks dictionary version first end writer body p q f g
+extent_of r clocks dictionary version first end writer body fragments p q f g defining sent = record {
+  preface = clocks_bytes clocks ++ fragments;
+  spelled = record { fragments = fragments; defining = defining; joined = refl };
+  sent = subst (λ (l : List ℕ). Sends r l p q f g) (sym (append_assoc (clocks_bytes clocks) fragments (extent_head_bytes version writer (length body) ++ body))) sent;
 }
 
--- the fragments went out
-pub extent_behind : {T E U F : Type 0} (r : Result T E) (x : U) (dictionary : List Message) (version first end writer : ℕ) (body : List ℕ) (p q s : Told) (f g h : ℕ) → SendsFragments {E = F} (Ok x) dictionary first end p q f g → Sends r (extent_head_bytes version writer (length body) ++ body) q s g h → SendsExtent r dictionary version first end writer body p s f h
-extent_behind (Ok y) x dictionary version first end writer body p q s f g h sent extent = record {
-  up_to = sent.up_to;
-  within = sent.within;
-  fragments = sent.bytes;
-  spelled = sent.spelled;
-  extent = extent_head_bytes version writer (length body) ++ body;
-  behind = inr (sent.whole, refl);
-  whole = (sent.whole, refl);
-  goes_on = ([], sent.bytes, whole_fragments dictionary first sent.up_to end sent.bytes sent.whole sent.spelled, sym (append-nil _));
-  sent = sends_then (Ok y) sent.bytes (extent_head_bytes version writer (length body) ++ body) p q s f g h sent.sent.ok sent.sent.counted extent;
-}
-extent_behind (Err e) x dictionary version first end writer body p q s f g h sent extent = record {
-  up_to = sent.up_to;
-  within = sent.within;
-  fragments = sent.bytes;
-  spelled = sent.spelled;
-  extent = extent_head_bytes version writer (length body) ++ body;
-  behind = inr (sent.whole, refl);
-  whole = tt;
-  goes_on = ([], sent.bytes, whole_fragments dictionary first sent.up_to end sent.bytes sent.whole sent.spelled, sym (append-nil _));
-  sent = sends_then (Err e) sent.bytes (extent_head_bytes version writer (length body) ++ body) p q s f g h sent.sent.ok sent.sent.counted extent;
-}
+-- the clocks failed
+pub clocks_stop : {T E U F : Type 0} (r : Result T E) (e : F) (clocks : List Clock) (dictionary : List Message) (version first end writer : ℕ) (body fragments : List ℕ) (p q : Told) (f g : ℕ) → IsErr r → FragmentsFor first (drop first (take end dictionary)) fragments → Sends {T = U} (Err e) (clocks_bytes clocks) p q f g
+    → SendsExtent r clocks dictionary version first end writer body p q f g
+clocks_stop r e clocks dictionary version first end writer body fragments p q f g failed defining sent =
+    extent_of r clocks dictionary version first end writer body fragments p q f g defining
+    (sends_stop r (clocks_bytes clocks) (fragments ++ (extent_head_bytes version writer (length body) ++ body)) p q f g failed sent.err sent.cause sent.count)
+
+-- the clocks went out, and the fragments failed
+pub fragments_stop : {T E U F : Type 0} (r : Result T E) (e : F) (clocks : List Clock) (dictionary : List Message) (version first end writer : ℕ) (body : List ℕ) (p q s : Told) (f g h : ℕ) → IsErr r → q ≡ with_end (clocks_bytes clocks) p → g ≡ f → SendsFragments {T = U} (Err e) dictionary first end q s g h
+    → SendsExtent r clocks dictionary version first end writer body p s f h
+fragments_stop r e clocks dictionary version first end writer body p q s f g h failed clocks_out same sent =
+    let extent = extent_head_bytes version writer (length body) ++ body in
+    extent_of r clocks dictionary version first end writer body sent.bytes p s f h sent.spelled
+    (sends_then r (clocks_bytes clocks) (sent.bytes ++ extent) p q s f g h clocks_out same (sends_stop r sent.bytes extent q s g h failed sent.sent.err sent.sent.cause sent.sent.count))
+
+-- the clocks and the fragments went out
+pub extent_behind : {T E U F : Type 0} (r : Result T E) (x : U) (clocks : List Clock) (dictionary : List Message) (version first end writer : ℕ) (body : List ℕ) (p q s t : Told) (f g h i : ℕ) → q ≡ with_end (clocks_bytes clocks) p → g ≡ f → SendsFragments {E = F} (Ok x) dictionary first end q s g h → Sends r (extent_head_bytes version writer (length body) ++ body) s t h i
+    → SendsExtent r clocks dictionary version first end writer body p t f i
+extent_behind r x clocks dictionary version first end writer body p q s t f g h i clocks_out same sent put =
+    let extent = extent_head_bytes version writer (length body) ++ body in
+    extent_of r clocks dictionary version first end writer body sent.bytes p t f i sent.spelled
+    (sends_then r (clocks_bytes clocks) (sent.bytes ++ extent) p q t f g i clocks_out same (sends_then r sent.bytes extent q s t g h i sent.sent.ok sent.sent.counted put))
 
 -- a call that didn't fail
 pub sent_whole : {T E : Type 0} (r : Result T E) (bytes : List ℕ) (p q : Told) (f g : ℕ) → false ≡ is_err r → Sends r bytes p q f g → q ≡ with_end bytes p
 sent_whole (Ok x) bytes p q f g passed sent = sent.ok
 sent_whole (Err e) bytes p q f g passed sent = absurd cc
-
--- an extent that went out, and its fragments in front
-pub record ExtentSent (dictionary : List Message) (version first end writer : ℕ) (body : List ℕ) (put put_after : Told) : Type 0 where
-  pub fragments : List ℕ
-  pub extent : List ℕ
-  pub spelled : FragmentsFor first (drop first (take end dictionary)) fragments
-  pub extent_is : extent ≡ extent_head_bytes version writer (length body) ++ body
-  pub put_is : put_after ≡ with_end (fragments ++ extent) put
-
-pub extent_sent : {T E : Type 0} (r : Result T E) (dictionary : List Message) (version first end writer : ℕ) (body : List ℕ) (p q : Told) (f g : ℕ) → false ≡ is_err r → SendsExtent r dictionary version first end writer body p q f g → ExtentSent dictionary version first end writer body p q
-extent_sent (Ok x) dictionary version first end writer body p q f g passed sent = record {
-  fragments = sent.fragments;
-  extent = sent.extent;
-  spelled = whole_fragments dictionary first sent.up_to end sent.fragments sent.whole.0 sent.spelled;
-  extent_is = sent.whole.1;
-  put_is = sent.sent.ok;
-}
-extent_sent (Err e) dictionary version first end writer body p q f g passed sent = absurd cc
 
 -- what holds of an answer that is Ok
 pub ok_of : {T E P : Type 0} (r : Result T E) → false ≡ is_err r → OnOk r P → P

@@ -32,4 +32,4 @@ loop-frames-preserved g c =
 pub returns-in-Nothing-clause-stops : goal.returns-in-Nothing-clause-stops
 returns-in-Nothing-clause-stops g c =
     let e = c.in-Nothing.ensures in
-    nothing_is_there c.loop-frames.end c.loop-frames.invariant.loads (e.none, e.ended, e.nothing refl)
+    λ free. nothing_is_there c.loop-frames.end c.loop-frames.invariant.loads (e.none, e.ended, e.nothing refl)

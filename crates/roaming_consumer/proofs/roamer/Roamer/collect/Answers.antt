@@ -1,10 +1,16 @@
 use Rattle.std.proofs.Common.{◌≡◌, ◌-◌, ℕ, List, length, drop, refl, sym, subst, rules, arith}
 use Rattle.std.proofs.lemmas.List.{take_at}
 use Rattle.std.proofs.lemmas.Option.{slice_get_read}
-use Rattle.checkpoint_io.specs.declared.version.TheConstants.{MAX_BODY}
+use Rattle.checkpoint_io.specs.Versions.{most_body}
 use Rattle.roaming_consumer.specs.Gathering.{DraftsFrames, StopsTaking}
 use Rattle.roaming_consumer.specs.Roamers.{roamer_messages, roamer_clock, roamer_batch}
+use Rattle.roaming_consumer.proofs.Fragmenting.{room_for_record}
 use Rattle.roaming_consumer.proofs.roamer.Roamer.collect.Goals as goal
+
+pub gather-requires-clause-room : goal.gather-requires-clause-room
+gather-requires-clause-room g c =
+    let roamer = c.args.self.now in
+    omega (arith, c.deref_mut.ensures.len, roamer.body_room, room_for_record roamer.version)
 
 pub returns-clause-gathers : goal.returns-clause-gathers
 returns-clause-gathers g c =
@@ -13,7 +19,7 @@ returns-clause-gathers g c =
     let before = c.index_mut-end.result.now in
     let after = c.gather.new.end in
     let draft = c.gather.result.draft in
-    let room : length c.gather.new.body ≡ MAX_BODY = omega (arith, c.gather.auto.body, c.deref_mut.ensures.len, roamer.body_room) in
+    let room : length c.gather.new.body ≡ most_body roamer.version = omega (arith, c.gather.auto.body, c.deref_mut.ensures.len, roamer.body_room) in
     record {
       before = before;
       after = after;

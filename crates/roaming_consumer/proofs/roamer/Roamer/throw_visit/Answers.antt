@@ -1,7 +1,6 @@
 use Rattle.std.proofs.Common.{ℕ, refl, sym, subst}
-use Rattle.checkpoint_io.specs.declared.version.TheConstants.{MAX_BODY}
 use Rattle.roaming_consumer.specs.Gathering.{StopsTaking}
-use Rattle.roaming_consumer.specs.Roamers.{roamer_batch}
+use Rattle.roaming_consumer.specs.Roamers.{roamer_room, roamer_batch}
 use Rattle.roaming_consumer.proofs.Additions.{threw}
 use Rattle.roaming_consumer.proofs.roamer.Roamer.throw_visit.Goals as goal
 
@@ -13,7 +12,7 @@ returns-then-frames-gt0-clause-writes g c = λ put.
       after = one.after;
       was = one.was;
       now = one.now;
-      step = (refl, subst (λ (n : ℕ). StopsTaking g.S.StageOut.got g.S.StageOut.ended g.S.StageOut.loads (roamer_batch c.args.self.now) n MAX_BODY one.before one.after) (sym c.from.ensures) one.step.2);
+      step = (refl, subst (λ (n : ℕ). StopsTaking g.S.StageOut.got g.S.StageOut.ended g.S.StageOut.loads (roamer_batch c.args.self.now) n (roamer_room c.args.self.now) one.before one.after) (sym c.from.ensures) one.step.2);
     }
 
 pub returns-then-frames-gt0-clause-wrote : goal.returns-then-frames-gt0-clause-wrote

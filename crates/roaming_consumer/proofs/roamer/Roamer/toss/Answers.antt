@@ -8,5 +8,5 @@ returns-clause-came g c = record {
   after = c.throw_away.new.end;
   was = slice_get_read _ _ _ _ refl c.requires.known c.index_mut-end.ensures.value;
   now = refl;
-  step = (search rules, search rules, c.throw_away.ensures.stops);
+  step = (search rules, search rules, c.throw_away.ensures.stops _);
 }
