@@ -1,16 +1,18 @@
 //! Starting a session by hand: its writers, and the roamer that takes their calls.
 
-ghost use Rattle.std.specs.Prelude.{◌≡◌, ◌⊎◌, ◌↔◌, ◌<◌, ◌≤◌, [], false, IfOk, OnOk, IsErrOf, length};
+ghost use Rattle.std.specs.Prelude.{◌≡◌, ◌⊎◌, ◌↔◌, ◌<◌, ◌≤◌, [], true, false, IfOk, OnOk, IsErrOf, length};
 ghost use Rattle.std.specs.List.{AllZip};
+ghost use Rattle.log_dictionary.specs.Clocks.{first_tick};
+ghost use Rattle.checkpoint_io.specs.Versions.{is_known, has_clocks, most_writers};
 ghost use Rattle.ring_core.specs.Plans.{plan_of};
-ghost use Rattle.session_options.specs.declared.limits.TheConstants.{MAX_SESSION_WRITERS, MAX_BATCH};
+ghost use Rattle.session_options.specs.declared.limits.TheConstants.{MAX_BATCH};
 ghost use Rattle.session_options.specs.declared.limits.TheConstants.{MIN_RING, MAX_RING};
 ghost use Rattle.log_session.specs.Writers.{IsDictionaryPlan};
-ghost use Rattle.roaming_consumer.specs.Roamers.{ends_of, roamer_messages, roamer_clock, roamer_batch, is_begun, is_faulted, ArePlanned, RoamerStandsFor};
+ghost use Rattle.roaming_consumer.specs.Roamers.{ends_of, roamer_messages, roamer_version, roamer_clocks, roamer_batch, is_begun, is_faulted, ArePlanned, RoamerStandsFor};
 ghost use Rattle.log_session.specs.Starts.{IsNewRing, AllZipMore};
 
 use crate::writer::Writer;
-use log_dictionary::{Clock, Dictionary, Message};
+use log_dictionary::{Clocks, Dictionary, Message};
 use ring_core::{Stage, StageFault};
 use roaming_consumer::Roamer;
 use session_options::{MAX_RING, MIN_RING};
@@ -79,7 +81,8 @@ fn open_rings<S: Stage>(
     Ok((ours, theirs))
 }
 
-/// The writers of a session, each with a ring of its own, and the roamer that takes their calls and writes the log.
+/// The writers of a session, each with a ring of its own, and the roamer that takes their calls and writes the log, in
+/// this version: 1 with one clock, or 2.
 ///
 /// Over a dictionary that is kept for ever, as by [`Box::leak`], the session outlives the frame that started it.
 ///
@@ -91,17 +94,20 @@ pub fn start<'d, S: Stage>(
     ring: u64,
     writers: u32,
     batch: u32,
-    clock: Clock,
+    version: u8,
+    clocks: &Clocks,
     dictionary: &'d Dictionary,
 ) -> Result<(Vec<Writer<S::In>>, Roamer<'d, S::Out>), StageFault>
-    requires writers { (1 ≤ writers) × (writers ≤ MAX_SESSION_WRITERS) }
+    requires known_version { is_known version ≡ true }
+    requires writers { (1 ≤ writers) × (writers ≤ most_writers version) }
+    requires alone { has_clocks version ≡ false → length clocks.now ≡ 1 }
     requires batch { (1 ≤ batch) × (batch ≤ MAX_BATCH) }
-    requires rate { 1 ≤ clock.rate }
     ensures bad_size { IsErrOf result StageFault.BadSize ↔ ((ring < MIN_RING) ⊎ (MAX_RING < ring)) }
 
     // Each writer has one of the roamer's ends, in order. Nothing was logged or taken, and nothing is closed.
     ensures count { IfOk result (λ session. length session.0.items ≡ writers) }
-    ensures rings { IfOk result (λ session. AllZip (IsNewRing ring (plan_of dictionary.now clock.tick)
+    ensures rings { IfOk result (λ session. AllZip (IsNewRing ring
+        (plan_of dictionary.now (first_tick clocks.now))
         S.In.pair S.In.words S.In.plan S.In.sent S.In.closed S.In.at S.In.seen
         S.Out.pair S.Out.plan S.Out.got S.Out.ended) session.0.items (ends_of session.1)) }
 
@@ -109,7 +115,8 @@ pub fn start<'d, S: Stage>(
     ensures stands { IfOk result (λ session. RoamerStandsFor S.Out.got S.Out.ended session.1 []) }
     ensures planned { IfOk result (λ session. ArePlanned S.Out.plan session.1) }
     ensures run { IfOk result (λ session. (roamer_messages session.1 ≡ dictionary.now)
-        × (roamer_clock session.1 ≡ clock)
+        × (roamer_version session.1 ≡ version)
+        × (roamer_clocks session.1 ≡ clocks.now)
         × (roamer_batch session.1 ≡ batch)) }
     ensures flags { IfOk result (λ session. (is_begun session.1 ≡ false) × (is_faulted session.1 ≡ false)) }
 {
@@ -117,10 +124,11 @@ pub fn start<'d, S: Stage>(
         return Err(StageFault::BadSize);
     }
     let messages = dictionary.as_slice();
-    let Ok((ours, theirs)) = open_rings::<S>(alloc, ring, writers, messages, clock.tick) else {
+    let first = clocks.first().tick;
+    let Ok((ours, theirs)) = open_rings::<S>(alloc, ring, writers, messages, first) else {
         return Err(StageFault::NoMemory);
     };
-    match Roamer::make(alloc, theirs, dictionary, clock, batch) {
+    match Roamer::make(alloc, theirs, dictionary, version, clocks, batch) {
         Ok(roamer) => Ok((ours, roamer)),
         Err(_) => Err(StageFault::NoMemory),
     }
