@@ -16,7 +16,7 @@ use Rattle.ring_core.specs.Plans.{Plan, plan_of, IsPlanned, frame_of, frames_of,
 use Rattle.ring_core.proofs.lemmas.Frames.{NeverFalls-take}
 use Rattle.ring_core.proofs.lemmas.OneReading.{AreFramesOf-unique}
 use Rattle.roaming_consumer.specs.declared.roamer.Roamer.{Roamer}
-use Rattle.roaming_consumer.specs.Roamers.{ends_of, roamer_messages, roamer_clock, roamer_batch, is_begun, is_faulted, plan_of_roamer, BeginWithFramesOf, FramesWereTaken, IsSameRun, RoamerStandsFor}
+use Rattle.roaming_consumer.specs.Roamers.{ends_of, roamer_messages, roamer_version, roamer_clocks, roamer_clock, roamer_batch, is_begun, is_faulted, plan_of_roamer, BeginWithFramesOf, FramesWereTaken, IsSameRun, RoamerStandsFor}
 use Rattle.roaming_consumer.proofs.lemmas.Marking.{same_marked_log}
 use Rattle.roaming_consumer.proofs.lemmas.OnePlace.{zip_at}
 use Rattle.trace_text.specs.Recordings.{Recording}
@@ -29,6 +29,7 @@ use Rattle.trace_session.specs.Rounds.{IsOverUpTo}
 use Rattle.trace_session.specs.Running.{AreReady}
 use Rattle.trace_session.specs.Sessions.{AreFirstCalls, IsCutSession}
 use Rattle.trace_session.specs.Workers.{Work}
+use Rattle.trace_session.proofs.Ready.{clock_of_one}
 use Rattle.trace_session.proofs.Leaving.{none_done}
 use Rattle.trace_session.proofs.Sessions.{all_sent, all_ended, got_all, zip_meet, ends_count}
 
@@ -64,7 +65,9 @@ module _ {S O D : Type 0} (sent : S → List (List ℕ)) (closed : S → Bool) (
       → AreReady pair plan run options works old → IsSameRun old new → is_begun new ≡ true → is_faulted new ≡ true → RoamerStandsFor got ended new bytes → IsCutSession run options bytes
   cut_session pair plan works old bytes ready same_run begun faulted stands =
       let messages : roamer_messages new ≡ run.dictionary = same_run.messages ∙ ready.messages in
-      let clock : roamer_clock new ≡ run.clock = same_run.clock ∙ ready.clock in
+      let version : roamer_version new ≡ 1 = same_run.version ∙ ready.version in
+      let clocks : roamer_clocks new ≡ run.clock ∷ [] = same_run.clocks ∙ ready.clocks in
+      let clock : roamer_clock new ≡ run.clock = clock_of_one new run.clock clocks in
       let batch : roamer_batch new ≡ options.batch = same_run.batch ∙ ready.batch in
       let plan_is : plan_of_roamer new ≡ plan_of run.dictionary run.clock.tick = λ i. plan_of (messages i) (clock i).tick in
       let cut = stands.cut begun faulted in
@@ -80,7 +83,7 @@ module _ {S O D : Type 0} (sent : S → List (List ℕ)) (closed : S → Bool) (
       (λ end there.
       let ours = subst (λ (x : Plan). AreFramesOf x (got end) (get_or cut.taken writer [])) plan_is (cut.closed writer end there marked).1 in
       AreFramesOf-unique p (got end) (get_or cut.taken writer []) (get_or taken writer []) ours (zip_at are ends taken writer end [] got_taken there)) in
-      let (log, marks) = same_marked_log (λ writer. get_or cut.taken writer [] ≡ get_or taken writer []) (bytes ++ cut.rest) cut.taken (roamer_messages new) run.dictionary (roamer_clock new) run.clock (roamer_batch new) options.batch messages clock batch (cut.log, all_there) in
+      let (log, marks) = same_marked_log (λ writer. get_or cut.taken writer [] ≡ get_or taken writer []) (bytes ++ cut.rest) cut.taken (roamer_messages new) run.dictionary (roamer_version new) 1 (roamer_clocks new) (run.clock ∷ []) (roamer_batch new) options.batch messages version clocks batch (cut.log, all_there) in
       record {
         drops = drops;
         dropped = done.lawful;
@@ -127,7 +130,7 @@ cut_header {S} {O} sent closed got ended pair plan run options works old new wro
     let before : slice_get (ends_of old) writer ≡ Some end = ap (λ (es : List O). slice_get es writer) (sym ends) ∙ there in
     let not_ended : ended end ≡ false = ap ended (sym (get_or_from_slice_get (ends_of old) writer end end before)) ∙ fresh writer end (slice_get_within (ends_of old) writer end before) in
     absurd (both_ways (ended end) not_ended (cut.closed writer end there marked).0)) in
-    let (log, marks) = same_marked_log (λ writer. get_or cut.taken writer [] ≡ get_or taken writer []) (bytes ++ cut.rest) cut.taken (roamer_messages new) run.dictionary (roamer_clock new) run.clock (roamer_batch new) options.batch messages (same_run.clock ∙ ready.clock) (same_run.batch ∙ ready.batch) (cut.log, none_closed) in
+    let (log, marks) = same_marked_log (λ writer. get_or cut.taken writer [] ≡ get_or taken writer []) (bytes ++ cut.rest) cut.taken (roamer_messages new) run.dictionary (roamer_version new) 1 (roamer_clocks new) (run.clock ∷ []) (roamer_batch new) options.batch messages (same_run.version ∙ ready.version) (same_run.clocks ∙ ready.clocks) (same_run.batch ∙ ready.batch) (cut.log, none_closed) in
     record {
       drops = [];
       dropped = done.lawful;

@@ -1,5 +1,6 @@
 pub mod Taking
 pub mod Working
+mod Ready
 pub mod Sessions
 pub mod Rounds
 pub mod Workplaces

@@ -40,7 +40,7 @@ adds_then {got = got} {ended = ended} {new = new} {put = put} first second = rec
 pub roams_none : {S : Type 0} (got : S → List (List ℕ)) (ended : S → Bool) (pair : S → List ℕ) (plan : S → Plan) (roamer : Roamer S) (put : Told) (faults : ℕ) → ArePlanned plan roamer → is_begun roamer ≡ true → Roams got ended pair plan roamer roamer put put faults faults
 roams_none got ended pair plan roamer put faults planned begun = record {
   adds = adds_none got ended roamer put;
-  same_run = record { messages = refl; clock = refl; batch = refl };
+  same_run = record { messages = refl; version = refl; clocks = refl; clock = refl; batch = refl };
   same_rings = refl;
   planned = planned;
   begun = begun;
@@ -56,6 +56,8 @@ roams_then {old = old} {faults = faults} {faults_mid = faults_mid} {faults_new =
   adds = adds_then first.adds second.adds;
   same_run = record {
     messages = second.same_run.messages ∙ first.same_run.messages;
+    version = second.same_run.version ∙ first.same_run.version;
+    clocks = second.same_run.clocks ∙ first.same_run.clocks;
     clock = second.same_run.clock ∙ first.same_run.clock;
     batch = second.same_run.batch ∙ first.same_run.batch;
   };

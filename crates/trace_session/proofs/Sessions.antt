@@ -16,7 +16,7 @@ use Rattle.session_options.specs.declared.options.Options.{Options}
 use Rattle.ring_core.specs.Plans.{Plan, plan_of, frames_of, frame_of, AreFramesOf}
 use Rattle.ring_core.proofs.lemmas.OneReading.{AreFramesOf-unique}
 use Rattle.roaming_consumer.specs.declared.roamer.Roamer.{Roamer}
-use Rattle.roaming_consumer.specs.Roamers.{ends_of, roamer_messages, roamer_clock, roamer_batch, is_faulted, plan_of_roamer, FramesAreTaken, IsSameRun, RoamerStandsFor}
+use Rattle.roaming_consumer.specs.Roamers.{ends_of, roamer_messages, roamer_version, roamer_clocks, roamer_clock, roamer_batch, is_faulted, plan_of_roamer, FramesAreTaken, IsSameRun, RoamerStandsFor}
 use Rattle.roaming_consumer.proofs.lemmas.Marking.{closed_log}
 use Rattle.trace_text.specs.Recordings.{Recording}
 use Rattle.trace_session.specs.declared.drops.Dropped.{Dropped}
@@ -24,6 +24,7 @@ use Rattle.trace_session.specs.Levels.{keeps, Kept}
 use Rattle.trace_session.specs.Drops.{taken_of, Taken, LawfulDrops, call_count}
 use Rattle.trace_session.specs.declared.outcome.Outcome.{Outcome}
 use Rattle.trace_session.specs.Finishing.{work_at, works_of, taken_front, HasSent, FinishedView, AreDone}
+use Rattle.trace_session.proofs.Ready.{clock_of_one}
 use Rattle.trace_session.proofs.NewWorkers.{works_count}
 use Rattle.trace_session.proofs.Leaving.{fewer_kept}
 use Rattle.trace_session.specs.Rounds.{Roams, IsOverUpTo}
@@ -125,9 +126,9 @@ frames_counted got (d ∷ left) (calls ∷ taken) same =
 
 -- ---- the log
 
--- the log of calls, of a dictionary, a clock and a batch, with a close mark of each writer
-abbrev LogWith : List ℕ → List (List Call) × List Message × Clock × ℕ → Type 0
-LogWith bytes (taken, messages, clock, batch) = (log : LogOf bytes taken messages 1 (clock ∷ []) batch) × ((writer : ℕ) → writer < length taken → IsClosed writer log.blocks)
+-- the log of calls, of a dictionary, a version, clocks and a batch, with a close mark of each writer
+abbrev LogWith : List ℕ → List (List Call) × List Message × ℕ × List Clock × ℕ → Type 0
+LogWith bytes (taken, messages, version, clocks, batch) = (log : LogOf bytes taken messages version clocks batch) × ((writer : ℕ) → writer < length taken → IsClosed writer log.blocks)
 
 pub whole_log : {S O D : Type 0} (sent : S → List (List ℕ)) (closed : S → Bool) (got : O → List (List ℕ)) (ended : O → Bool) (pair : O → List ℕ) (plan : O → Plan) (sent_left got_left : D → List (List ℕ)) (closed_left ended_left : D → Bool)
     (run : Recording) (options : Options) (works : List Work) (old new : Roamer O) (put put_after : Told) (faults faults_after : ℕ) (bytes : List ℕ) (writers : List (WriterView S)) (left : List D) (taken : List (List Call))
@@ -137,7 +138,9 @@ pub whole_log : {S O D : Type 0} (sent : S → List (List ℕ)) (closed : S → 
 whole_log {S} {O} {D} sent closed got ended pair plan sent_left got_left closed_left ended_left run options works old new put put_after faults faults_after bytes writers left taken ready roams over right stands joined has =
     let log = closed_log got ended new bytes stands roams.begun right (λ writer within. over.marked right writer within) in
     let messages : roamer_messages new ≡ run.dictionary = roams.same_run.messages ∙ ready.messages in
-    let clock : roamer_clock new ≡ run.clock = roams.same_run.clock ∙ ready.clock in
+    let version : roamer_version new ≡ 1 = roams.same_run.version ∙ ready.version in
+    let clocks : roamer_clocks new ≡ run.clock ∷ [] = roams.same_run.clocks ∙ ready.clocks in
+    let clock : roamer_clock new ≡ run.clock = clock_of_one new run.clock clocks in
     let batch : roamer_batch new ≡ options.batch = roams.same_run.batch ∙ ready.batch in
     let plan_is : plan_of_roamer new ≡ plan_of run.dictionary run.clock.tick = λ i. plan_of (messages i) (clock i).tick in
     let frames = subst (λ (p : Plan). FramesAreTaken p got (ends_of new) log.taken) plan_is log.frames in
@@ -146,8 +149,8 @@ whole_log {S} {O} {D} sent closed got ended pair plan sent_left got_left closed_
     let got_taken = got_all (plan_of run.dictionary run.clock.tick) sent closed got ended sent_left got_left closed_left ended_left writers (ends_of new) left taken joined has all in
     let same : log.taken ≡ taken =
     each_same taken log.taken (zip_meet is_frame is_frame (λ calls other. other ≡ calls) (ends_of new) taken log.taken got_taken frames (λ end calls other is other_is. AreFramesOf-unique (plan_of run.dictionary run.clock.tick) (got end) other calls other_is is)) in
-    let is : LogWith bytes (log.taken, roamer_messages new, roamer_clock new, roamer_batch new) = (log.log, log.closed) in
-    let whole : LogWith bytes (taken, run.dictionary, run.clock, options.batch) = subst (LogWith bytes) (λ i. (same i, messages i, clock i, batch i)) is in
+    let is : LogWith bytes (log.taken, roamer_messages new, roamer_version new, roamer_clocks new, roamer_batch new) = (log.log, log.closed) in
+    let whole : LogWith bytes (taken, run.dictionary, 1, run.clock ∷ [], options.batch) = subst (LogWith bytes) (λ i. (same i, messages i, version i, clocks i, batch i)) is in
     record { lawful = whole.0; closed = whole.1 }
 
 -- ---- workplaces
@@ -307,7 +310,8 @@ ready_begun {O} pair plan run same_run options works old new ready is ends same 
       count = ready.count;
       planned = subst (λ (x : Plan × List O). All (λ end. plan end ≡ x.0) x.1) (λ i. (sym plan_is i, sym ends i)) ready.planned;
       messages = same.messages ∙ ready.messages;
-      clock = same.clock ∙ ready.clock;
+      version = same.version ∙ ready.version;
+      clocks = same.clocks ∙ ready.clocks;
       batch = same.batch ∙ ready.batch;
       unfaulted = right;
     })

@@ -13,13 +13,17 @@ use crate::finishing::Finished;
 use crate::gate::Gate;
 use crate::worker::Worker;
 use crate::workplace::Workplace;
+use log_dictionary::Clocks;
 use log_session::{Writer, start};
 use ring_core::{Stage, StageFault, StageIn};
 use roaming_consumer::Roamer;
-use session_options::Options;
+use session_options::{MAX_RING, MIN_RING, Options};
 use std::alloc::{AllocError, Global};
 use std::sync::Arc;
 use trace_text::Trace;
+
+/// The version of the log of a trace.
+const VERSION: u8 = 1;
 
 /// Adds a worker for the next writer of the run.
 fn add_worker<S: StageIn + Drop, G: Gate>(
@@ -91,13 +95,20 @@ pub(crate) fn prepare<'d, S: Stage, G: Gate>(
     ensures stands { IfOk result (λ both. (is_begun both.1 ≡ false) × RoamerStandsFor S.Out.got S.Out.ended both.1 []) }
     ensures fresh { IfOk result (λ both. All (λ end. S.Out.ended end ≡ false) (ends_of both.1)) }
 {
+    if options.ring < MIN_RING || MAX_RING < options.ring {
+        return Err(StageFault::BadSize);
+    }
+    let Ok(clocks) = Clocks::make(alloc, trace.clock) else {
+        return Err(StageFault::NoMemory);
+    };
     let writers = trace.writers.len() as u32;
     let (writers, roamer) = start::<S>(
         alloc,
         options.ring,
         writers,
         options.batch,
-        trace.clock,
+        VERSION,
+        &clocks,
         &trace.dictionary,
     )?;
     match make_workers(alloc, trace, options, gate, writers) {

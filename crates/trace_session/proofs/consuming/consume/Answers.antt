@@ -1,4 +1,5 @@
 use Rattle.std.proofs.Common.{◌≡◌, ◌∙◌, ℕ, length, refl, sym, subst, arith}
+use Rattle.checkpoint_io.proofs.lemmas.VersionLaws.{few_writers}
 use Rattle.roaming_consumer.specs.Roamers.{ends_of}
 use Rattle.trace_session.specs.Rounds.{IsOverUpTo}
 use Rattle.trace_session.proofs.Rounds.{roams_none, roams_then, as_many}
@@ -12,7 +13,7 @@ loop-init g c = record {
 }
 
 pub overflow_cast-workplaces : goal.overflow_cast-workplaces
-overflow_cast-workplaces g c = omega (arith, c.loop.auto.workplaces, c.requires.known, c.args.roamer.now.few_ends)
+overflow_cast-workplaces g c = omega (arith, c.loop.auto.workplaces, c.requires.known, c.args.roamer.now.few_ends, few_writers c.args.roamer.now.version)
 
 pub visit_all-visits-requires-clause-known : goal.visit_all-visits-requires-clause-known
 visit_all-visits-requires-clause-known g c =
