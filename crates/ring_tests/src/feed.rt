@@ -1,17 +1,18 @@
 //! A session over one ring whose writer is fed with calls, of which each has as many words as are asked for.
 
-ghost use Rattle.std.specs.Prelude.{◌≡◌, ◌≤◌, ◌∷◌, [], false, IfOk, map};
+ghost use Rattle.std.specs.Prelude.{◌≡◌, ◌≤◌, ◌∷◌, [], false, IfOk, length, map};
+ghost use Rattle.log_dictionary.specs.Clocks.{first_tick};
 ghost use Rattle.ring_core.specs.Plans.{plan_of};
 ghost use Rattle.roaming_consumer.specs.Roamers.{ends_of, is_begun, ArePlanned};
 ghost use Rattle.ring_tests.specs.declared.feed.TheConstants.{TICK};
 
 use arg_records::{MAX_FRAME_WORDS, frame_words};
-use log_dictionary::{Clock, Dictionary};
+use log_dictionary::{Clock, Clocks, Dictionary};
 use log_session::{LogRefusal, Writer, start};
 use printf_grammar::Arg;
 use roaming_consumer::Roamer;
 use session_options::MAX_BATCH;
-use std::alloc::Global;
+use std::alloc::{AllocError, Global};
 use std::test::Fail;
 use word_ring::{WordIn, WordOut, WordRing};
 
@@ -21,14 +22,16 @@ pub(crate) const TICK: u64 = 1_000;
 /// What the texts of calls are cut from.
 const TEXT: [u8; 2_032] = [b'x'; 2_032];
 
-pub(crate) fn clock() -> Clock
-    ensures { (result.tick ≡ TICK) × (result.rate ≡ 1) }
+/// The clock of the sessions.
+pub(crate) fn one_clock(alloc: Global) -> Result<Clocks, AllocError>
+    ensures { IfOk result (λ clocks. (first_tick clocks ≡ TICK) × (length clocks ≡ 1)) }
 {
-    Clock {
+    let clock = Clock {
         tick: TICK,
         nanos: 0,
         rate: 1,
-    }
+    };
+    Clocks::make(alloc, clock)
 }
 
 /// A dictionary of three messages: one without arguments, one that takes a number, and one that takes two texts.
@@ -71,7 +74,8 @@ pub(crate) fn one_session(
         × (is_begun session.1 ≡ false)) }
 {
     let dictionary: &'static Dictionary = Box::leak(Box::new(alloc, three_messages(alloc)?)?);
-    let (mut writers, roamer) = start::<WordRing>(alloc, ring, 1, batch, clock(), dictionary)?;
+    let clocks = one_clock(alloc)?;
+    let (mut writers, roamer) = start::<WordRing>(alloc, ring, 1, batch, 1, &clocks, dictionary)?;
     let writer = writers.pop().ok_or("there is a writer")?;
     Ok((Feed { writer, dictionary }, roamer))
 }

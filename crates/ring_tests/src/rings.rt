@@ -4,7 +4,7 @@ ghost use Rattle.std.specs.Prelude.{◌≡◌, ◌≤◌, ◌∷◌, [], ℕ, Li
 ghost use Rattle.roaming_consumer.specs.Roamers.{ends_of, is_begun, ArePlanned};
 
 use crate::expecting::expect;
-use crate::feed::{Feed, TICK, clock, one_ring, one_session, three_messages};
+use crate::feed::{Feed, TICK, one_clock, one_ring, one_session, three_messages};
 use aggregation::aggregate;
 use log_session::{LogRefusal, settle, start};
 use nl_io::{MemSink, MemSource};
@@ -27,6 +27,7 @@ const MANY: u64 = 100_000;
 #[test]
 fn sizes(rt: HostRuntime) -> Result<(), Fail> {
     let dictionary = three_messages(rt.alloc())?;
+    let clocks = one_clock(rt.alloc())?;
     for (words, want) in [
         (0, Some(StageFault::BadSize)),
         (1_023, Some(StageFault::BadSize)),
@@ -37,7 +38,7 @@ fn sizes(rt: HostRuntime) -> Result<(), Fail> {
     ] {
         let made = WordRing::make(rt.alloc(), words, dictionary.as_slice(), TICK);
         expect(&rt, &(words, made.err()), &(words, want));
-        let started = start::<WordRing>(rt.alloc(), words, 2, 1, clock(), &dictionary);
+        let started = start::<WordRing>(rt.alloc(), words, 2, 1, 2, &clocks, &dictionary);
         expect(&rt, &(words, started.err()), &(words, want));
     }
     Ok(())

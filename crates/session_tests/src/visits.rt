@@ -4,7 +4,7 @@ ghost use Rattle.std.specs.Prelude.{◌≡◌, ◌≤◌, [], OnOk};
 ghost use Rattle.ring_core.specs.Plans.{plan_of};
 
 use crate::expecting::expect;
-use log_dictionary::{Clock, Dictionary};
+use log_dictionary::{Clock, Clocks, Dictionary};
 use nl_io::MemSink;
 use printf_grammar::Arg;
 use ring_core::{StoreFault, StoredOut};
@@ -15,14 +15,14 @@ use std::fmt::Write;
 use std::process::Abort;
 use std::test::Fail;
 
-const CLOCK: Clock = Clock {
+pub(crate) const CLOCK: Clock = Clock {
     tick: 1000,
     nanos: 1_514_764_800_000_000_000,
     rate: 2_000_000_000,
 };
 
 /// The message of the calls that carry a number.
-const NUMBER: &[u8] = b"message 0 NOTICE 12 \"srv.cc\" \"x=%d\"";
+pub(crate) const NUMBER: &[u8] = b"message 0 NOTICE 12 \"srv.cc\" \"x=%d\"";
 
 /// The header and the fragment in front of their log, in hexadecimal.
 const FRONT: &str = "4e 4c 4f 47 01 01 e8 03 00 00 00 00 00 00 00 00 44 5e 8f 86 05 15 \
@@ -43,7 +43,7 @@ struct Visited {
 }
 
 /// A dictionary of one message.
-fn one_message(alloc: Global, line: &[u8]) -> Result<Dictionary, Fail> {
+pub(crate) fn one_message(alloc: Global, line: &[u8]) -> Result<Dictionary, Fail> {
     let mut dictionary = Dictionary::make(alloc);
     dictionary.read_line(line)?;
     Ok(dictionary)
@@ -65,7 +65,8 @@ fn make_visits(
 {
     let mut ends = Vec::new(alloc);
     ends.push(end)?;
-    let mut roamer = Roamer::make(alloc, ends, dictionary, CLOCK, batch)?;
+    let clocks = Clocks::make(alloc, CLOCK)?;
+    let mut roamer = Roamer::make(alloc, ends, dictionary, 1, &clocks, batch)?;
     let begun = roamer.begin(&mut sink);
     let mut answers = format!(in alloc; "{begun:?}")?;
     for _visit in 0..visits {
@@ -80,7 +81,7 @@ fn make_visits(
 }
 
 /// The bytes in hexadecimal, a space behind each.
-fn hexadecimal(alloc: Global, bytes: &[u8]) -> Result<String, AllocError> {
+pub(crate) fn hexadecimal(alloc: Global, bytes: &[u8]) -> Result<String, AllocError> {
     let mut text = String::new(alloc);
     for byte in bytes {
         write!(text, "{byte:02x} ")?;

@@ -7,4 +7,4 @@ pub invariant_of-result : goal.invariant_of-result
 invariant_of-result c =
     let popped : c.in_ok-writers.writers.items ≡ c.pop.new.self.items ++ c.in_ok-writer.writer ∷ [] = let p = c.pop.ensures in let w = c.in_ok-writer.ensures in search rules in
     let ring = one_left _ _ _ _ _ popped c.in_ok-writers.ensures.count c.in_ok-writers.ensures.rings in
-    record { planned = ring.2.plan_is ∙ ap (plan_of c.leak-dictionary.result.now) c.clock.ensures.0 }
+    record { planned = ring.2.plan_is ∙ ap (plan_of c.leak-dictionary.result.now) c.in_ok-clocks.ensures.0 }
