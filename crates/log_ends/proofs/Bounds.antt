@@ -1,22 +1,27 @@
 -- A visit gives no more bytes than there is room for.
-use Rattle.std.proofs.Common.{◌≡◌, ℕ, ◌+◌, ◌≤◌, List, [], ◌∷◌, ◌++◌, length, get_or, add-one, take, drop, ap, ◌∙◌, inl, inr, arith}
+use Rattle.std.proofs.Common.{◌≡◌, ℕ, ◌+◌, ◌*◌, ◌≤◌, Bool, true, false, cond, List, [], ◌∷◌, ◌++◌, length, get_or, add-one, take, drop, filter, nat_le, refl, ap, ◌∙◌, arith}
 use Rattle.std.specs.Prelude.{sum_by, slice_get, Some}
 use Rattle.std.proofs.Math.Seq.{take-suc}
-use Rattle.std.proofs.lemmas.List.{length-append}
+use Rattle.std.proofs.lemmas.List.{length-append, length-drop}
 use Rattle.std.proofs.lemmas.List.Sums.{sum_by-cons, sum_by-append, sum_by_push, sum_by-take-le, sum_by-take-drop}
 use Rattle.std.proofs.lemmas.Option.{slice_get_within, get_or_from_slice_get}
+use Rattle.log_dictionary.specs.declared.clock.Clock.{Clock}
+use Rattle.log_dictionary.specs.declared.clocks.TheConstants.{MAX_CLOCKS}
 use Rattle.log_dictionary.specs.declared.message.Message.{Message}
 use Rattle.log_dictionary.specs.BinaryEntries.{entry_bytes}
 use Rattle.arg_records.specs.declared.call.Call.{Call}
 use Rattle.checkpoint_io.specs.declared.header.Header.{Header}
 use Rattle.checkpoint_io.specs.Versions.{extent_head_len}
-use Rattle.checkpoint_io.specs.Blocks.{Block, Fragment, Extent, NewClock, Close, SpellsEntries, SpellsBlocks, fragment_head_bytes, extent_head_bytes}
-use Rattle.checkpoint_io.specs.Logs.{AreFragments}
-use Rattle.checkpoint_io.proofs.lemmas.BlockLaws.{le_length, length-extent_head_bytes}
-use Rattle.checkpoint_io.specs.declared.heads.TheConstants.{FRAGMENT_HEAD_LEN}
+use Rattle.checkpoint_io.specs.Blocks.{Block, Fragment, Extent, NewClock, Close, SpellsEntries, SpellsBlocks, SpellsExtent, fragment_head_bytes, extent_head_bytes, clock_bytes}
+use Rattle.checkpoint_io.specs.Logs.{ids_used, AreFragments, greatest_stamp, new_clocks}
+use Rattle.checkpoint_io.proofs.lemmas.BlockLaws.{le_length, length-extent_head_bytes, length-clock_bytes}
+use Rattle.checkpoint_io.proofs.lemmas.VersionLaws.{few_len, short_bodies}
+use Rattle.checkpoint_io.specs.declared.heads.TheConstants.{FRAGMENT_HEAD_LEN, CLOCK_LEN}
+use Rattle.checkpoint_io.specs.declared.version.TheConstants.{MAX_EXTENT_HEAD_LEN, MAX_READ_BODY}
 use Rattle.roaming_consumer.specs.declared.roamer.Roamer.{Roamer}
-use Rattle.roaming_consumer.specs.Roamers.{roamer_messages, roamer_progress, roamer_header}
-use Rattle.roaming_consumer.specs.Visits.{AreBytesFor}
+use Rattle.roaming_consumer.specs.Roamers.{roamer_messages, roamer_version, roamer_clocks, roamer_progress, roamer_header}
+use Rattle.roaming_consumer.specs.Growth.{clocks_bytes}
+use Rattle.roaming_consumer.specs.Visits.{IsPrefaceOf}
 use Rattle.log_ends.specs.Rooms.{definitions_len, visit_len}
 
 sum_at : {A : Type 0} (f : A → ℕ) (xs : List A) (i : ℕ) (x : A) → slice_get xs i ≡ Some x → sum_by f (take (i + 1) xs) ≡ sum_by f (take i xs) + f x
@@ -71,17 +76,42 @@ part_fits messages n m =
     let f = λ (message : Message). FRAGMENT_HEAD_LEN + length (entry_bytes message) in
     omega (arith, sum_by-take-le f messages m, sum_by-take-drop f (take m messages) n)
 
+-- clocks have one length
+clocks_fit : (clocks : List Clock) → length (clocks_bytes clocks) ≡ CLOCK_LEN * length clocks
+clocks_fit [] = refl
+clocks_fit (clock ∷ clocks) = omega (arith, length-append (clock_bytes clock) (clocks_bytes clocks), length-clock_bytes clock, clocks_fit clocks)
+
+few_due : (test : Clock → Bool) (clocks : List Clock) → length (filter test clocks) ≤ length clocks
+few_due test [] = omega arith
+few_due test (clock ∷ clocks) = at (test clock) (few_due test clocks)
+  where
+    at : (due : Bool) → length (filter test clocks) ≤ length clocks → length (cond due (clock ∷ filter test clocks) (filter test clocks)) ≤ length (clock ∷ clocks)
+    at true few = omega (arith, few)
+    at false few = omega (arith, few)
+
 -- what a visit was to write
-pub visit_fits : {S : Type 0} (roamer : Roamer S) (writer : ℕ) (records : List Call) (bytes : List ℕ) → AreBytesFor (roamer_messages roamer) (roamer_header roamer) (roamer_progress roamer).defined writer records bytes → length bytes ≤ visit_len (roamer_messages roamer)
-visit_fits roamer writer records bytes are =
+pub visit_fits : {S : Type 0} (roamer : Roamer S) (writer : ℕ) (records : List Call) (preface extent : List ℕ) → IsPrefaceOf roamer records preface → SpellsExtent (roamer_messages roamer) (roamer_header roamer) writer records extent → length (preface ++ extent) ≤ visit_len (roamer_messages roamer)
+visit_fits roamer writer records preface extent standing spelled =
     let messages = roamer_messages roamer in
-    let defined = (roamer_progress roamer).defined in
-    let fragments = fragments_fit defined (roamer_header roamer) _ [] are.spelled.blocks are.fragments are.spelled.are (are.spelled.spelled (roamer_header roamer) []) in
-    let part = part_fits messages defined are.up_to in
-    elim are.behind [
-      | inl none ↦ omega (arith, ap length are.joined, length-append are.fragments are.extent, ap length none, fragments, part)
-      | inr extent ↦
-          let short : length extent.1.body ≤ 65536 = extent.1.short in
-          let long : length are.extent ≡ 6 + length extent.1.body = ap length extent.1.joined ∙ extent_long 1 writer extent.1.body in
-          omega (arith, ap length are.joined, length-append are.fragments are.extent, long, short, fragments, part)
-    ]
+    let progress = roamer_progress roamer in
+    let due = new_clocks (roamer_clocks roamer) progress.written records in
+    let fragments = fragments_fit progress.defined (roamer_header roamer) _ [] standing.defining.blocks standing.fragments standing.defining.are (standing.defining.spelled (roamer_header roamer) []) in
+    let part = part_fits messages progress.defined (ids_used records) in
+    let few = few_due (λ clock. nat_le clock.tick (greatest_stamp records)) (drop progress.written (roamer_clocks roamer)) in
+    let most : length due ≤ MAX_CLOCKS = omega (arith, few, length-drop progress.written (roamer_clocks roamer), roamer.may_have.are.few) in
+    let head : extent_head_len (roamer_version roamer) ≤ MAX_EXTENT_HEAD_LEN = omega (arith, few_len (roamer_version roamer)) in
+    let long = ap length spelled.joined ∙ extent_long (roamer_version roamer) writer spelled.body in
+    let short : length spelled.body ≤ MAX_READ_BODY = omega (arith, spelled.short, short_bodies (roamer_version roamer)) in
+    omega (
+      arith,
+      length-append preface extent,
+      ap length standing.joined,
+      length-append (clocks_bytes due) standing.fragments,
+      clocks_fit due,
+      most,
+      head,
+      long,
+      short,
+      fragments,
+      part,
+    )

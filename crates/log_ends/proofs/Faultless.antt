@@ -1,5 +1,5 @@
 -- No visit finds too little room.
-use Rattle.std.proofs.Common.{◌≡◌, ℕ, suc, ◌<◌, ◌≤◌, true, false, List, [], ◌++◌, length, take, Some, ap, ◌∙◌, inl, inr, length-drop, arith}
+use Rattle.std.proofs.Common.{◌≡◌, ℕ, ◌+◌, ◌<◌, ◌≤◌, true, false, List, [], ◌++◌, length, take, Some, ap, ◌∙◌, inl, inr, length-drop, arith}
 use Rattle.std.specs.Prelude.{Result, Ok, Err, OnOk, OnErr}
 use Rattle.std.specs.Result.{is_err}
 use Rattle.std.proofs.lemmas.List.{length-append, length-take}
@@ -13,12 +13,13 @@ use Rattle.checkpoint_io.proofs.lemmas.BlockLaws.{le_length, length-header_bytes
 use Rattle.roaming_consumer.specs.declared.roamer.Roamer.{Roamer}
 use Rattle.roaming_consumer.specs.declared.visit.Visit.{Visit}
 use Rattle.roaming_consumer.specs.declared.visit.SinkFault.{SinkFault}
-use Rattle.roaming_consumer.specs.Roamers.{ends_of, is_faulted, roamer_messages, ChangesOne}
+use Rattle.roaming_consumer.specs.Roamers.{ends_of, is_faulted, roamer_messages, roamer_version, ChangesOne}
 use Rattle.roaming_consumer.specs.Sinks.{Sends}
 use Rattle.roaming_consumer.specs.Visits.{VisitStops}
 use Rattle.log_ends.specs.declared.backlog.Backlog.{Backlog}
 use Rattle.log_ends.specs.Backlogs.{held_back, room_len, IsSameRoom}
-use Rattle.checkpoint_io.specs.Versions.{header_len}
+use Rattle.checkpoint_io.specs.Versions.{writer_len, header_len}
+use Rattle.checkpoint_io.proofs.lemmas.VersionLaws.{few_len}
 use Rattle.log_ends.specs.Rooms.{visit_len}
 use Rattle.log_ends.proofs.Bounds.{visit_fits}
 use Rattle.log_ends.proofs.Backs.{all_given}
@@ -51,11 +52,12 @@ visit_succeeds old new backlog backlog_after writer (Ok visit) none unrefused ro
 visit_succeeds old new backlog backlog_after writer (Err fault) none unrefused roomy same rose stops =
     elim stops.step [
       | inl extent ↦
-          let few = visit_fits old _ _ extent.bytes extent.are in
-          roomy_puts extent.bytes backlog backlog_after none unrefused same extent.puts (omega (arith, few, roomy)) rose
+          let few = visit_fits old _ _ extent.preface extent.extent extent.standing extent.spelled in
+          roomy_puts (extent.preface ++ extent.extent) backlog backlog_after none unrefused same extent.puts (omega (arith, few, roomy)) rose
       | inr mark ↦
-          let long : length (close_bytes 1 writer) ≡ 2 = ap suc (le_length 1 writer) in
-          roomy_puts (close_bytes 1 writer) backlog backlog_after none unrefused same mark.puts (omega (arith, long, roomy)) rose
+          let version = roamer_version old in
+          let long : length (close_bytes version writer) ≡ 1 + writer_len version = omega (arith, le_length (writer_len version) writer) in
+          roomy_puts (close_bytes version writer) backlog backlog_after none unrefused same mark.puts (omega (arith, long, few_len version, roomy)) rose
     ]
 
 pub stays_unfaulted : (old new : Roamer WordRoamerEnd) (outcome : Result Visit SinkFault) → OnErr outcome ⊥ → OnOk outcome (is_faulted new ≡ is_faulted old) → is_faulted old ≡ false → is_faulted new ≡ false

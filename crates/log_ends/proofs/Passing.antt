@@ -83,6 +83,8 @@ all_go_on_at (end ∷ ends) (suc writer) before after was on = (goes_on_same end
 pub run_then : (a b c : ConsumerEnd) → IsSameRun a.roamer b.roamer → IsSameRun b.roamer c.roamer → IsSameRun a.roamer c.roamer
 run_then a b c first second = record {
   messages = second.messages ∙ first.messages;
+  version = second.version ∙ first.version;
+  clocks = second.clocks ∙ first.clocks;
   clock = second.clock ∙ first.clock;
   batch = second.batch ∙ first.batch;
 }
@@ -98,7 +100,7 @@ passing_none old first none = record {
   ahead = omega arith;
   over = λ is writer from below. absurd (omega arith);
   some_open = λ is. absurd cc;
-  same_run = record { messages = refl; clock = refl; batch = refl };
+  same_run = record { messages = refl; version = refl; clocks = refl; clock = refl; batch = refl };
   same_writers = refl;
   same_next = refl;
   same_over = refl;

@@ -176,6 +176,6 @@ sought_none old some = record {
   same_next = λ none. refl;
   over = λ is. absurd cc;
   some_open = λ is none. absurd (some none);
-  same_run = record { messages = refl; clock = refl; batch = refl };
+  same_run = record { messages = refl; version = refl; clocks = refl; clock = refl; batch = refl };
   same_over = refl;
 }

@@ -55,7 +55,7 @@ answers (visits.Wrote n) old new backlog backlog_after writer before after first
     λ none.
     let put = ap length (same_Some _ _ writes.puts) in
     let joined = ap length writes.spelled.joined in
-    omega (arith, ap length none, put, length-append (held_back backlog) (writes.fragments ++ writes.extent), length-append writes.fragments writes.extent, joined)
+    omega (arith, ap length none, put, length-append (held_back backlog) (writes.preface ++ writes.extent), length-append writes.preface writes.extent, joined)
 answers visits.Idle old new backlog backlog_after writer before after first last none_yet written tells writes = (
   record { none = tells.0; looked = inr tells.2 },
   tells.1,

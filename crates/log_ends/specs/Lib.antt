@@ -4,6 +4,7 @@ pub mod Ends
 pub mod Rooms
 pub mod Texts
 pub mod Consumers
+pub mod Clocking
 pub mod Rounds
 pub mod Writers
 pub mod Sessions

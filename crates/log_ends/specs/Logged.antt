@@ -1,11 +1,11 @@
 -- What the two ends of a ring say of one another: what is logged is in the log.
-use Rattle.std.specs.Prelude.{◌≡◌, ℕ, true, List, [], ◌∷◌, ◌++◌, slice_get, Some}
+use Rattle.std.specs.Prelude.{◌≡◌, ℕ, true, List, ◌++◌, slice_get, Some}
 use Rattle.arg_records.specs.declared.call.Call.{Call}
 use Rattle.ring_core.specs.Plans.{frames_of, BeginsWith}
 use Rattle.word_ring.specs.Ends.{WordRoamerEnd}
 use Rattle.checkpoint_io.specs.Logs.{LogOf}
 use Rattle.checkpoint_io.specs.Validity.{IsClosed}
-use Rattle.roaming_consumer.specs.Roamers.{roamer_messages, roamer_clock, roamer_batch}
+use Rattle.roaming_consumer.specs.Roamers.{roamer_messages, roamer_version, roamer_clocks, roamer_batch}
 use Rattle.log_ends.specs.declared.writer.WriterEnd.{WriterEnd}
 use Rattle.log_ends.specs.declared.consumer.ConsumerEnd.{ConsumerEnd}
 use Rattle.log_ends.specs.Writers.{ring_of, logged, is_finished}
@@ -31,8 +31,8 @@ pub record TakesLogged (writer : WriterEnd) (consumer : ConsumerEnd) (number : �
 -- of them and the writer's close mark, and the writer is finished.
 pub record IsInLog (writer : WriterEnd) (consumer : ConsumerEnd) (number : ℕ) (given : List ℕ) : Type 0 where
   pub taken : List (List Call)
-  pub log : LogOf (given ++ waiting consumer) taken (roamer_messages consumer.roamer) 1
-      (roamer_clock consumer.roamer ∷ []) (roamer_batch consumer.roamer)
+  pub log : LogOf (given ++ waiting consumer) taken (roamer_messages consumer.roamer) (roamer_version consumer.roamer)
+      (roamer_clocks consumer.roamer) (roamer_batch consumer.roamer)
   pub calls : List Call
   pub there : slice_get taken number ≡ Some calls
   pub front : BeginsWith (logged writer) (frames_of calls)

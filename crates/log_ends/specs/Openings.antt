@@ -1,8 +1,9 @@
 -- What a session is when it is opened.
-use Rattle.std.specs.Prelude.{◌≡◌, ℕ, ◌≤◌, false, List, [], length, All}
+use Rattle.std.specs.Prelude.{◌≡◌, ℕ, ◌*◌, ◌≤◌, false, List, [], ◌∷◌, length, All}
 use Rattle.std.specs.List.{AllZip}
 use Rattle.log_dictionary.specs.declared.message.Message.{Message}
-use Rattle.session_options.specs.declared.limits.TheConstants.{MIN_RING, MAX_RING, MAX_SESSION_WRITERS, MAX_BATCH}
+use Rattle.session_options.specs.declared.limits.TheConstants.{MIN_RING, MAX_RING, MAX_SESSION_WORDS, MAX_BATCH}
+use Rattle.checkpoint_io.specs.declared.version.TheConstants.{MAX_WRITERS}
 use Rattle.trace_text.specs.declared.cause.TraceCause.{TraceCause}
 use Rattle.trace_text.specs.declared.reading.TraceFault.{TraceFault}
 use Rattle.trace_text.specs.declared.reading.TraceFault.TheVariants as faults
@@ -11,7 +12,7 @@ use Rattle.ring_core.specs.Plans.{Plan, plan_of}
 use Rattle.word_ring.specs.Ends.{WordWriterEnd, WordRoamerEnd, seen_by}
 use Rattle.log_session.specs.Writers.{WriterView}
 use Rattle.log_session.specs.Starts.{IsNewRing}
-use Rattle.roaming_consumer.specs.Roamers.{roamer_messages, roamer_clock, roamer_batch}
+use Rattle.roaming_consumer.specs.Roamers.{roamer_messages, roamer_clocks, roamer_batch}
 use Rattle.log_ends.specs.declared.opening.OpenFault.{OpenFault}
 use Rattle.log_ends.specs.declared.opening.OpenFault.TheVariants as opens
 use Rattle.log_ends.specs.declared.setup.Setup.{Setup}
@@ -27,7 +28,8 @@ pub record IsSetupInRange (setup : Setup) : Type 0 where
   pub least_ring : MIN_RING ≤ setup.ring
   pub most_ring : setup.ring ≤ MAX_RING
   pub some_writer : 1 ≤ setup.writers
-  pub few_writers : setup.writers ≤ MAX_SESSION_WRITERS
+  pub few_writers : setup.writers ≤ MAX_WRITERS
+  pub few_words : setup.ring * setup.writers ≤ MAX_SESSION_WORDS
   pub some_batch : 1 ≤ setup.batch
   pub few_in_batch : setup.batch ≤ MAX_BATCH
   pub rate : 1 ≤ setup.clock.rate
@@ -64,7 +66,7 @@ pub record IsOpened (messages : List Message) (setup : Setup) (session : Session
   pub lasts : is_session_ended session ≡ false
   pub known : session_messages session ≡ messages
   pub messages_are : roamer_messages consumer.roamer ≡ messages
-  pub clock_is : roamer_clock consumer.roamer ≡ setup.clock
+  pub clocks_are : roamer_clocks consumer.roamer ≡ setup.clock ∷ []
   pub batch_is : roamer_batch consumer.roamer ≡ setup.batch
   pub ungiven : HasGiven consumer []
   pub first_is_next : next_writer consumer ≡ 0

@@ -2,13 +2,17 @@
 
 ghost use Rattle.std.specs.Prelude.{◌≡◌, ◌<◌, true, false, [], length};
 ghost use Rattle.word_ring.specs.Ends.{WordRoamerEnd};
-ghost use Rattle.roaming_consumer.specs.Roamers.{ends_of, roamer_messages, is_begun, is_faulted, AreMarked, ArePlanned};
+ghost use Rattle.roaming_consumer.specs.Roamers.{ends_of, roamer_messages, roamer_version, is_begun, is_faulted, AreMarked, ArePlanned};
 ghost use Rattle.log_ends.specs.Backlogs.{held_back, room_len};
+ghost use Rattle.log_ends.specs.declared.consumer.TheConstants.{VERSION};
 ghost use Rattle.log_ends.specs.Rooms.{visit_len};
 
 use crate::backlog::Backlog;
 use roaming_consumer::Roamer;
 use word_ring::WordOut;
+
+/// The version of the log.
+pub const VERSION: u8 = 2;
 
 /// Takes the calls of all writers, and gives the bytes of their log.
 #[derive(Drop)]
@@ -23,6 +27,7 @@ pub struct ConsumerEnd {
     /// Whether all bytes of the log were given, and the log has the close mark of every writer.
     pub(crate) over: bool,
     ghost counted: { length (ends_of roamer) ≡ writers },
+    ghost version: { roamer_version roamer ≡ VERSION },
     ghost begun: { is_begun roamer ≡ true },
     ghost unfaulted: { is_faulted roamer ≡ false },
     ghost planned: { ArePlanned (λ (end : WordRoamerEnd). end.plan) roamer },

@@ -3,6 +3,7 @@
 
 mod argument;
 mod backlog;
+mod clocking;
 mod consumer;
 mod end;
 mod giving;
@@ -18,13 +19,14 @@ mod texts;
 mod writer;
 
 pub use argument::{CArgument, SIGNED, TEXT, UNSIGNED};
-pub use consumer::{ConsumerEnd, Pumped};
+pub use consumer::{ConsumerEnd, Pumped, VERSION};
 pub use end::End;
 pub use opening::{OpenFault, open};
 pub use session::{SessionEnd, WriterFault};
 pub use settling::settle;
 pub use setup::Setup;
 pub use slots::{
-    Slot, end_session, finish_writer, give_writer, log_call, open_into, pump_log, text_limit_of,
+    Slot, end_session, finish_writer, give_writer, log_call, open_into, pump_log, tell_clock,
+    text_limit_of,
 };
 pub use writer::{LogFault, WriterEnd};

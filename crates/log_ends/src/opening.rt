@@ -7,12 +7,12 @@ ghost use Rattle.log_ends.specs.Openings.{IsSetupInRange, IsTextRefusedAt, IsOpe
 ghost use Rattle.log_ends.specs.Ends.{IsWriterFor};
 
 use crate::backlog::Backlog;
-use crate::consumer::ConsumerEnd;
+use crate::consumer::{ConsumerEnd, VERSION};
 use crate::rooms::room_of;
 use crate::session::SessionEnd;
 use crate::setup::Setup;
 use crate::writer::WriterEnd;
-use log_dictionary::Dictionary;
+use log_dictionary::{Clocks, Dictionary};
 use log_session::{Writer, start};
 use std::alloc::{AllocError, Global};
 use std::collections::VecDeque;
@@ -84,12 +84,14 @@ fn session_over(
     requires { IsSetupInRange setup }
     ensures { IfOk result (λ ends. IsOpened dictionary.now setup ends.0 ends.1) }
 {
+    let clocks = Clocks::make(alloc, setup.clock)?;
     let Ok((writers, mut roamer)) = start::<WordRing>(
         alloc,
         setup.ring,
         setup.writers,
         setup.batch,
-        setup.clock,
+        VERSION,
+        &clocks,
         dictionary,
     ) else {
         return Err(AllocError);

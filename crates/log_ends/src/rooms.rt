@@ -1,18 +1,21 @@
 //! How much room the bytes of a log take that are made at once.
 
 ghost use Rattle.std.specs.Prelude.{◌≡◌, ◌+◌};
-ghost use Rattle.checkpoint_io.specs.Versions as versions;
+ghost use Rattle.checkpoint_io.specs.declared.version.TheConstants.{MAX_HEADER_LEN};
 ghost use Rattle.log_ends.specs.Rooms.{visit_len};
 
-use checkpoint_io::{FRAGMENT_HEAD_LEN, MAX_BODY, WRITTEN_VERSION, extent_head_len, header_len};
-use log_dictionary::{Dictionary, entry_len};
+use checkpoint_io::{
+    CLOCK_LEN, FRAGMENT_HEAD_LEN, MAX_EXTENT_HEAD_LEN, MAX_HEADER_LEN, MAX_READ_BODY,
+};
+use log_dictionary::{Dictionary, MAX_CLOCKS, entry_len};
 
 /// Room for a header, or for all that one visit gives, and for a byte more.
 pub(crate) fn room_of(dictionary: &Dictionary) -> usize
-    ensures { result ≡ visit_len dictionary.now + versions.header_len 1 }
+    ensures { result ≡ visit_len dictionary.now + MAX_HEADER_LEN }
 {
-    let extent = extent_head_len(WRITTEN_VERSION) + MAX_BODY as usize;
-    let mut room = extent + header_len(WRITTEN_VERSION);
+    let clocks = MAX_CLOCKS * CLOCK_LEN;
+    let extent = MAX_EXTENT_HEAD_LEN + MAX_READ_BODY;
+    let mut room = clocks + extent + MAX_HEADER_LEN;
     for id in 0..dictionary.len() {
         room += FRAGMENT_HEAD_LEN + entry_len(dictionary.message(id));
     }

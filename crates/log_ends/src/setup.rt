@@ -2,8 +2,9 @@
 
 ghost use Rattle.std.specs.Prelude.{◌↔◌, IsTrue};
 
+use checkpoint_io::MAX_WRITERS;
 use log_dictionary::Clock;
-use session_options::{MAX_BATCH, MAX_RING, MAX_SESSION_WRITERS, MIN_RING};
+use session_options::{MAX_BATCH, MAX_RING, MAX_SESSION_WORDS, MIN_RING};
 
 /// What a session is told when it is opened, beside its messages.
 #[derive(Clone, Copy, Debug, PartialEq, Eq)]
@@ -27,7 +28,8 @@ impl Setup {
         self.ring >= MIN_RING
             && self.ring <= MAX_RING
             && self.writers >= 1
-            && self.writers <= MAX_SESSION_WRITERS
+            && self.writers <= MAX_WRITERS
+            && self.ring * u64::from(self.writers) <= MAX_SESSION_WORDS
             && self.batch >= 1
             && self.batch <= MAX_BATCH
             && self.clock.rate >= 1

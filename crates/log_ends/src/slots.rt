@@ -6,6 +6,7 @@ ghost use Rattle.log_ends.specs.Writers.{LogsCall, FinishesWriter};
 ghost use Rattle.log_ends.specs.Sessions.{session_messages, EndsSession};
 ghost use Rattle.log_ends.specs.Texts.{text_limit};
 ghost use Rattle.log_ends.specs.Consumers.{Pumps, IfGave};
+ghost use Rattle.log_ends.specs.Clocking.{TakesClock};
 ghost use Rattle.log_ends.specs.Slots.{end_in, session_in, OnWriter, OnSession, OnConsumer, IsAnswered, GivesInto, OpensInto};
 
 use crate::argument::CArgument;
@@ -15,6 +16,8 @@ use crate::opening::{OpenFault, open};
 use crate::session::WriterFault;
 use crate::setup::Setup;
 use crate::writer::LogFault;
+use log_dictionary::Clock;
+use roaming_consumer::ClockRefusal;
 use std::alloc::Global;
 
 /// A place that may hold an end.
@@ -162,4 +165,18 @@ pub fn pump_log(consumer: &mut Slot, into: &mut [u8]) -> Option<Pumped>
         return None;
     };
     Some(consumer.pump(into))
+}
+
+/// Tells the consumer a further clock. There is no answer, and nothing is done, where there is none.
+pub fn tell_clock(consumer: &mut Slot, clock: Clock) -> Option<Result<(), ClockRefusal>>
+    ensures { OnConsumer (end_in consumer.old) (end_in consumer.new) (λ old new.
+        IsAnswered result (λ outcome. TakesClock old clock outcome new)) (result ≡ None) }
+{
+    let Some(end) = consumer.as_mut() else {
+        return None;
+    };
+    let End::Consumer(consumer) = &mut **end else {
+        return None;
+    };
+    Some(consumer.take_clock(clock))
 }

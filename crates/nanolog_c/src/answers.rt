@@ -13,9 +13,11 @@ ghost use Rattle.nanolog_c.specs.Codes.{
   finish_code,
   end_code,
   pump_code,
+  clock_code,
 };
 
 use log_ends::{LogFault, OpenFault, Pumped, WriterFault};
+use roaming_consumer::ClockRefusal;
 
 /// Done.
 pub(crate) const DONE: i32 = 0;
@@ -33,6 +35,8 @@ pub(crate) const FINISHED: i32 = 5;
 pub(crate) const WORN_OUT: i32 = 6;
 
 pub(crate) const NO_WRITER: i32 = 1;
+
+pub(crate) const REACHED: i32 = 1;
 
 pub(crate) const NO_MEMORY: i32 = -1;
 
@@ -153,5 +157,17 @@ pub(crate) fn pump_answer(outcome: Option<Pumped>) -> i64
         Some(Pumped::Nothing) => NOTHING,
         Some(Pumped::AtEnd) => AT_END,
         None => NO_CONSUMER,
+    }
+}
+
+/// What is answered of a clock.
+pub(crate) fn clock_answer(outcome: Option<Result<(), ClockRefusal>>) -> i32
+    ensures { result ≡ clock_code outcome }
+{
+    match outcome {
+        Some(Ok(())) => DONE,
+        Some(Err(ClockRefusal::Misfit)) => OUT_OF_RANGE,
+        Some(Err(ClockRefusal::Reached)) => REACHED,
+        None => BAD_HANDLE,
     }
 }

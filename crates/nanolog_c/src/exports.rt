@@ -9,7 +9,9 @@ ghost use Rattle.log_ends.specs.Arguments.{argument_given};
 ghost use Rattle.log_ends.specs.Writers.{LogsCall, FinishesWriter};
 ghost use Rattle.log_ends.specs.Sessions.{session_messages, EndsSession};
 ghost use Rattle.log_ends.specs.Texts.{text_limit};
+ghost use Rattle.roaming_consumer.specs.declared.clocks.ClockRefusal.{ClockRefusal};
 ghost use Rattle.log_ends.specs.Consumers.{Pumps};
+ghost use Rattle.log_ends.specs.Clocking.{TakesClock};
 ghost use Rattle.log_ends.specs.Slots.{session_in, OnWriter, OnSession, OnConsumer, GivesInto, OpensInto};
 ghost use Rattle.nanolog_c.specs.declared.answers.TheConstants.{DONE, BAD_HANDLE, NO_CONSUMER};
 ghost use Rattle.nanolog_c.specs.Codes.{
@@ -22,17 +24,18 @@ ghost use Rattle.nanolog_c.specs.Codes.{
   room_after,
   finish_code,
   pump_code,
+  clock_code,
 };
 
 use crate::answers::{
-    VERSION, end_answer, finish_answer, limit_answer, log_answer, open_answer, pump_answer,
-    writer_answer,
+    VERSION, clock_answer, end_answer, finish_answer, limit_answer, log_answer, open_answer,
+    pump_answer, writer_answer,
 };
 use crate::handle::Handle;
 use log_dictionary::Clock;
 use log_ends::{
     CArgument, Setup, end_session, finish_writer, give_writer, log_call, open_into, pump_log,
-    text_limit_of,
+    tell_clock, text_limit_of,
 };
 use std::alloc::Global;
 
@@ -176,6 +179,26 @@ pub extern "C" fn nanolog_pump(alloc: Global, consumer: &mut Handle, into: &mut 
     let outcome = pump_log(&mut end, into);
     consumer.put(alloc, end);
     pump_answer(outcome)
+}
+
+/// Tells a further clock.
+#[unsafe(no_mangle)]
+pub extern "C" fn nanolog_clock(
+    alloc: Global,
+    consumer: &mut Handle,
+    tick: u64,
+    nanos: u64,
+    rate: u64,
+) -> i32
+    ensures { OnConsumer consumer.old.value consumer.new.value (λ old new.
+        (outcome : Result (Unit {0}) ClockRefusal) × (result ≡ clock_code (Some outcome))
+        × TakesClock old (record { tick = tick; nanos = nanos; rate = rate }) outcome new)
+        (result ≡ BAD_HANDLE) }
+{
+    let mut end = consumer.take(alloc);
+    let outcome = tell_clock(&mut end, Clock { tick, nanos, rate });
+    consumer.put(alloc, end);
+    clock_answer(outcome)
 }
 
 /// Gives up a handle.

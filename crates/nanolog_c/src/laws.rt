@@ -9,6 +9,7 @@ pub fn answers_have_numbers()
     ensures log { (answers.FULL ≡ pos 1) × (answers.TOO_LONG ≡ pos 2) × (answers.MISFIT ≡ pos 3)
         × (answers.EARLY ≡ pos 4) × (answers.FINISHED ≡ pos 5) × (answers.WORN_OUT ≡ pos 6) }
     ensures writer { answers.NO_WRITER ≡ pos 1 }
+    ensures clock { answers.REACHED ≡ pos 1 }
     ensures text { answers.NO_TEXT ≡ negsuc 4 }
     ensures others { (answers.NO_MEMORY ≡ negsuc 0) × (answers.BAD_DICTIONARY ≡ negsuc 1)
         × (answers.OUT_OF_RANGE ≡ negsuc 2) × (answers.BAD_HANDLE ≡ negsuc 3) }

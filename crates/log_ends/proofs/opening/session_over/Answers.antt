@@ -1,8 +1,13 @@
-use Rattle.std.proofs.Common.{[], length, refl, sym, ap, ◌∙◌, arith}
+use Rattle.std.proofs.Common.{List, [], length, refl, sym, ap, subst, ◌∙◌, arith}
+use Rattle.std.specs.List.{AllZip}
+use Rattle.log_dictionary.specs.declared.clock.Clock.{Clock}
+use Rattle.log_dictionary.specs.Clocks.{first_tick}
+use Rattle.checkpoint_io.proofs.lemmas.VersionLaws.{few_len}
 use Rattle.ring_core.specs.Plans.{Plan, plan_of}
 use Rattle.word_ring.specs.Ends.{WordRoamerEnd}
-use Rattle.roaming_consumer.specs.Roamers.{roamer_header}
+use Rattle.roaming_consumer.specs.Roamers.{ends_of, roamer_header}
 use Rattle.log_ends.specs.Ends.{IsWriterFor}
+use Rattle.log_ends.specs.Openings.{IsNewPair}
 use Rattle.std.proofs.lemmas.Slice.Zip.{AllZip-long}
 use Rattle.arg_records.proofs.lemmas.Walks.{zip_first}
 use Rattle.log_ends.proofs.Consumers.{planned_same}
@@ -19,7 +24,7 @@ pub unreachable-requires : goal.unreachable-requires
 unreachable-requires c =
     let backlog = c.in_ok-backlog in
     no_error c.begin.result
-    (header_succeeds backlog.backlog c.begin.new.sink (roamer_header c.in-Ok.roamer) c.begin.result backlog.ensures.empty backlog.ensures.unrefused (omega (arith, backlog.ensures.room, c.room_of.ensures)) c.begin.ensures.others c.begin.ensures.sent)
+    (header_succeeds backlog.backlog c.begin.new.sink (roamer_header c.in-Ok.roamer) c.begin.result backlog.ensures.empty backlog.ensures.unrefused (omega (arith, backlog.ensures.room, c.room_of.ensures, few_len (roamer_header c.in-Ok.roamer).version)) c.begin.ensures.others c.begin.ensures.sent)
     (sym c.if-is_err.ensures.value)
 
 pub invariant_of-consumer-clause-counted : goal.invariant_of-consumer-clause-counted
@@ -36,13 +41,14 @@ returns c =
     let started = c.in-Ok.ensures in
     let left = c.in_ok-left in record {
       count = count_left left.left.items c.in-Ok.writers.items c.args.setup.writers left.ensures.writers started.count;
-      rings = rings_left c.args.setup.ring (plan_of c.args.dictionary.now c.args.setup.clock.tick) left.left.items c.in-Ok.writers.items _ _ left.ensures.writers begun.same_ends started.rings;
+      rings = rings_left c.args.setup.ring (plan_of c.args.dictionary.now c.args.setup.clock.tick) left.left.items c.in-Ok.writers.items _ _ left.ensures.writers begun.same_ends
+          (subst (λ (clocks : List Clock). AllZip (IsNewPair c.args.setup.ring (plan_of c.args.dictionary.now (first_tick clocks))) c.in-Ok.writers.items (ends_of c.in-Ok.roamer)) c.in_ok-clocks.ensures started.rings);
       named = left.ensures.messages;
       lasts = refl;
       known = refl;
       messages_are = begun.same_run.messages ∙ started.run.0;
-      clock_is = begun.same_run.clock ∙ started.run.1;
-      batch_is = begun.same_run.batch ∙ started.run.2;
+      clocks_are = begun.same_run.clocks ∙ started.run.2 ∙ c.in_ok-clocks.ensures;
+      batch_is = begun.same_run.batch ∙ started.run.3;
       ungiven = stands_after c.in-Ok.roamer c.begin.new.self c.in_ok-backlog.backlog c.begin.new.sink c.in_ok-backlog.ensures.empty begun.wrote [] started.stands;
       first_is_next = refl;
       goes_on = refl;

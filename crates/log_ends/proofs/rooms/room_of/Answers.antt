@@ -5,7 +5,7 @@ use Rattle.log_ends.proofs.rooms.room_of.Goals as goal
 
 pub loop-id-init : goal.loop-id-init
 unfolding definitions_len
-loop-id-init c = record { summed = omega (arith, c.extent_head_len.ensures, c.header_len.ensures); bounded = omega (arith, c.extent_head_len.ensures, c.header_len.ensures) }
+loop-id-init c = record { summed = omega arith; bounded = omega arith }
 
 pub loop-id-preserved : goal.loop-id-preserved
 loop-id-preserved c =

@@ -22,7 +22,7 @@ returns-then-is_empty-clause-pumps c = record {
   again = λ over. (refl, inr refl);
   turns = record { waited = λ _. (refl, refl); served = λ _. tt; none = λ _. refl };
   ends = all_go_on_same (consumer_ends c.args.self.now);
-  same_run = record { messages = refl; clock = refl; batch = refl };
+  same_run = record { messages = refl; version = refl; clocks = refl; clock = refl; batch = refl };
 }
 
 -- where it isn't empty it isn't the empty list
@@ -45,7 +45,7 @@ returns-then-self-clause-pumps c = record {
   again = λ over. (refl, inl refl);
   turns = record { waited = λ _. (refl, refl); served = λ _. tt; none = λ _. refl };
   ends = all_go_on_same (consumer_ends c.args.self.now);
-  same_run = record { messages = refl; clock = refl; batch = refl };
+  same_run = record { messages = refl; version = refl; clocks = refl; clock = refl; batch = refl };
 }
 
 pub returns-else-at_end-clause-pumps : goal.returns-else-at_end-clause-pumps
