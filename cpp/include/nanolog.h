@@ -36,7 +36,7 @@ extern "C" {
 #define NANOLOG_TOO_LONG 2
 /* nanolog_log: the dictionary has no message with this id, or the arguments aren't those that its format takes. */
 #define NANOLOG_MISFIT 3
-/* nanolog_log: the stamp is below that of this writer's last call, or below the clock's tick. */
+/* nanolog_log: the stamp is below that of this writer's last call, or below the first clock's tick. */
 #define NANOLOG_EARLY 4
 /* nanolog_log, nanolog_finish: the writer was finished before. */
 #define NANOLOG_FINISHED 5
@@ -46,11 +46,15 @@ extern "C" {
 /* nanolog_writer: all writers were given out, or the session has ended. */
 #define NANOLOG_NO_WRITER 1
 
+/* nanolog_clock: the consumer has taken a call with a stamp at or above the tick. */
+#define NANOLOG_REACHED 1
+
 /* nanolog_open, nanolog_writer: there is no memory. */
 #define NANOLOG_NO_MEMORY (-1)
 /* nanolog_open: the dictionary isn't the text of one. */
 #define NANOLOG_BAD_DICTIONARY (-2)
-/* nanolog_open: a number is out of its range. nanolog_pump: the room is 0. */
+/* nanolog_open: a number is out of its range. nanolog_pump: the room is 0. nanolog_clock: the rate is 0, the tick isn't
+ * above that of the last clock, or there are as many clocks as a log has. */
 #define NANOLOG_OUT_OF_RANGE (-3)
 /* The handle is null, or of another kind. nanolog_open, nanolog_writer: a handle stands where one is to be put. */
 #define NANOLOG_BAD_HANDLE (-4)
@@ -83,8 +87,12 @@ typedef struct nanolog_arg {
 
 #define NANOLOG_MIN_RING 1024
 #define NANOLOG_MAX_RING 1048576
-#define NANOLOG_MAX_WRITERS 64
+#define NANOLOG_MAX_WRITERS 1024
+/* Of all rings together. */
+#define NANOLOG_MAX_WORDS 67108864
 #define NANOLOG_MAX_BATCH 65536
+/* Clocks that a log has beside its first one. */
+#define NANOLOG_MAX_CLOCKS 255
 #define NANOLOG_MAX_ARGUMENTS 64
 #define NANOLOG_MAX_TEXT 4000
 
@@ -97,9 +105,10 @@ int32_t nanolog_version_1(void);
 /* Opens a session, and puts its two handles into `*session` and `*consumer`, which are null before.
  *
  * `dictionary` is the text that `nanolog preprocess` writes, of `len` bytes, which are not needed afterwards. The
- * session has `writers` writers, 1 to 64, with a ring of `ring` words each, 1,024 to 1,048,576. The consumer puts at
- * most `batch` calls, 1 to 65,536, into a block of the log. The clock by which calls are stamped stood at `tick` when
- * it was `nanos` nanoseconds since 1970, and makes `rate` ticks in a second, at least 1.
+ * session has `writers` writers, 1 to 1,024, with a ring of `ring` words each, 1,024 to 1,048,576, and 67,108,864 words
+ * in all rings at most. The consumer puts at most `batch` calls, 1 to 65,536, into a block of the log. The clock by
+ * which calls are stamped stood at `tick` when it was `nanos` nanoseconds since 1970, and makes `rate` ticks in a
+ * second, at least 1.
  *
  * NANOLOG_OK. Else no handle was made, and nothing is to be freed; the first of these that holds:
  * NANOLOG_BAD_HANDLE where `*session` or `*consumer` isn't null; NANOLOG_OUT_OF_RANGE; NANOLOG_BAD_DICTIONARY, and only
@@ -125,7 +134,8 @@ int32_t nanolog_writer(void **session, void **writer);
  * the same for as long as the session is there, also when it has ended. */
 int32_t nanolog_text_limit(void **session, uint32_t id, uint32_t nth);
 
-/* Logs a call with `count` arguments. No stamp of a writer is below its last one; the first is at least the tick.
+/* Logs a call with `count` arguments. No stamp of a writer is below its last one; the first is at least the tick
+ * of nanolog_open.
  *
  * NANOLOG_OK. Else nothing was logged, and the writer is as before; the first of these that holds: NANOLOG_BAD_HANDLE
  * where `*writer` is no writer; NANOLOG_FINISHED; NANOLOG_MISFIT; NANOLOG_EARLY; NANOLOG_WORN_OUT; NANOLOG_TOO_LONG;
@@ -144,6 +154,17 @@ int32_t nanolog_finish(void **writer);
  *
  * NANOLOG_OK; NANOLOG_BAD_HANDLE where `*session` is no session. */
 int32_t nanolog_end(void **session);
+
+/* Tells of another clock: calls whose stamps are at least `tick` are read by it. It stood at `tick` when it was `nanos`
+ * nanoseconds since 1970, which may be less than the clock before it would say, and makes `rate` ticks in a second. It
+ * takes no memory. The log has the clock in front of the first call that is read by it, and not at all where there is
+ * none.
+ *
+ * NANOLOG_OK. Else nothing changed; the first of these that holds: NANOLOG_BAD_HANDLE where `*consumer` is no consumer;
+ * NANOLOG_OUT_OF_RANGE where the rate is 0, where the tick isn't above that of the last clock, which is that of
+ * nanolog_open at first, or where 255 clocks were told before; NANOLOG_REACHED where the consumer has taken a call with
+ * a stamp that isn't below the tick. */
+int32_t nanolog_clock(void **consumer, uint64_t tick, uint64_t nanos, uint64_t rate);
 
 /* Puts the next bytes of the log into the front of `into`, which has `room` bytes, and answers how many: at least one.
  * It gives what it has, which may be less than the room: call it again until it answers 0 or less. The first bytes are
