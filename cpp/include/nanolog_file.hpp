@@ -41,9 +41,9 @@ class Blocks {
     }
 
    private:
-    // What the next field is: the tag of a block, the front of one of the three, or of an entry of a dictionary's
-    // fragment, or the length of an entry's format.
-    enum Part { kTag, kExtent, kMark, kFragment, kEntry, kFormat };
+    // What the next field is: the tag of a block, the front of an extent or of a fragment of a dictionary, or of an
+    // entry of that, or the length of an entry's format. The other blocks have one length each.
+    enum Part { kTag, kExtent, kFragment, kEntry, kFormat };
 
     void expect(Part part, std::size_t wanted, std::size_t skipped) {
         part_ = part;
@@ -68,11 +68,10 @@ class Blocks {
         switch (part_) {
             case kTag:
                 if (field_[0] == 1) return expect(kFragment, 6, 0);
-                return field_[0] == 2 ? expect(kExtent, 5, 0) : expect(kMark, 1, 0);
+                if (field_[0] == 2) return expect(kExtent, 6, 0);
+                return expect(kTag, 1, field_[0] == 3 ? kClock : kMark);
             case kExtent:
-                return expect(kTag, 1, number(1, 4));
-            case kMark:
-                return expect(kTag, 1, 0);
+                return expect(kTag, 1, number(2, 4));
             case kFragment:
                 entries_ = number(4, 2);
                 return next_entry(0);
@@ -83,7 +82,8 @@ class Blocks {
         }
     }
 
-    static constexpr std::size_t kHeader = 30;
+    // The bytes of a header, and of a clock and a close mark behind their tags.
+    static constexpr std::size_t kHeader = 31, kClock = 24, kMark = 2;
 
     Part part_ = kTag;
     std::size_t wanted_ = 1, filled_ = 0, skipped_ = kHeader, entries_ = 0;
@@ -142,6 +142,11 @@ class LogFile {
     void leave() {
         const int file = file_.exchange(-1);
         if (file >= 0) ::close(file);
+    }
+
+    // Says something of it on standard error, unless it is quiet.
+    void remark(const char *what) const {
+        if (!is_quiet_) say("nanolog: %s: %s", name_, what);
     }
 
     std::uint64_t written() const { return written_.get(); }
