@@ -27,15 +27,23 @@ struct Core {
           echo(options.echo),
           flush_at(options.flush_at),
           ring(options.ring),
-          limit(options.time_limit * kMillisecond) {
+          limit(options.time_limit * kMillisecond),
+          writers(options.writers <= NANOLOG_MAX_WRITERS ? options.writers : 0),
+          writer(new (std::nothrow) void *[writers]()) {
         std::snprintf(name, sizeof name, "%s", log_name);
+        has_room = writer != nullptr && report.writer.reserve(writers);
     }
+    ~Core() { delete[] writer; }
+    Core(const Core &) = delete;
+    Core &operator=(const Core &) = delete;
 
     char name[256];
     const bool is_quiet;
     const Severity echo, flush_at;
     const std::uint64_t ring;
     const std::uint64_t limit;  // nanoseconds that a flush or the end may take
+    const std::uint32_t writers;
+    bool has_room;  // there was memory for what it keeps of each of these
 
     Consumer consumer;
     std::atomic<Stage> stage{Stage::Made};
@@ -49,7 +57,7 @@ struct Core {
 
     // What the consumer was left alone with.
     void *session = nullptr;
-    void *writer[NANOLOG_MAX_WRITERS] = {};
+    void **const writer;
 
     std::atomic<bool> is_told{false};
     Core *next = nullptr;
@@ -61,7 +69,8 @@ inline std::atomic<Core *> cores [[gnu::visibility("default")]]{nullptr};
 // Answers null where there is no memory.
 inline Core *make_core(const char *log_name, const Options &options) {
     Core *const core = new (std::nothrow) Core(log_name, options);
-    if (core == nullptr) {
+    if (core == nullptr || !core->has_room) {
+        delete core;
         if (!options.quiet) say("nanolog: %s: there is no memory for a session", log_name);
         return nullptr;
     }
@@ -73,16 +82,21 @@ inline Core *make_core(const char *log_name, const Options &options) {
 
 // ---- reports
 
-// What became of the calls of a session that isn't over. The mutex is had.
-inline Report count(const Core &core) {
-    Report report;
+inline Report::Writer writer_of(const Slot &slot) {
+    return {slot.logged.get(), slot.dropped.get(), slot.need.get(), slot.room.get()};
+}
+
+// Counts what became of the calls of a session that isn't over, in a report that is empty. It takes no memory. The mutex
+// is had.
+inline void count(const Core &core, Report &report) {
     report.sessionless = count_all_sessionless(false);
-    if (core.stage.load() == Stage::Made) return report;
+    if (core.stage.load() == Stage::Made) return;
     report.writers = hub.opened;
+    report.writer.resize(hub.opened);
     for (std::uint32_t number = 0; number < hub.opened; number++) {
         const Slot &slot = hub.slot[number];
-        Report::Writer &writer = report.writer[number];
-        writer = {slot.logged.get(), slot.dropped.get(), slot.need.get(), slot.room.get()};
+        const Report::Writer writer = writer_of(slot);
+        report.writer.set(number, writer);
         report.logged += writer.logged;
         report.dropped += writer.dropped;
         report.stale += slot.stale.get();
@@ -98,19 +112,39 @@ inline Report count(const Core &core) {
     report.written = core.consumer.written();
     report.unwritten = core.consumer.unwritten();
     report.error = core.consumer.error();
+}
+
+// Counts what became of the calls of a session, and answers true, where it isn't over; from then on its last report
+// stays as it is. A signal handler that has interrupted its thread where that has the mutex does without it.
+inline bool count_open(const Core &core, Report &report) {
+    const auto look = [&] {
+        if (core.stage.load() == Stage::Over) return false;
+        count(core, report);
+        return true;
+    };
+    if (locks != 0) return look();
+    const Lock lock(hub.mutex);
+    return look();
+}
+
+inline Report report_of(const Core &core) {
+    Report report;
+    report.writer.reserve(core.writers);
+    if (!count_open(core, report)) report = core.report;
     return report;
 }
 
-// A signal handler that has interrupted its thread where that has the mutex does without it.
-inline Report report_of(const Core &core) {
-    if (locks != 0) return core.stage.load() == Stage::Over ? core.report : count(core);
-    const Lock lock(hub.mutex);
-    return core.stage.load() == Stage::Over ? core.report : count(core);
-}
-
-// Tells, once, all losses that weren't told at once.
+// Tells, once, all losses that weren't told at once. It takes no memory, so that a report of a session which another
+// thread is still about to end has no room for its writers.
 inline void tell(Core &core) {
-    if (!core.is_told.exchange(true) && !core.is_quiet) tell_losses(core.name, report_of(core));
+    if (core.is_told.exchange(true) || core.is_quiet) return;
+    Report open;
+    const bool is_open = count_open(core, open);
+    const Report &report = is_open ? open : core.report;
+    for (std::uint32_t number = 0; number < report.writers; number++) {
+        tell_dropped(core.name, number, is_open ? writer_of(hub.slot[number]) : report.writer[number]);
+    }
+    tell_losses(core.name, report);
 }
 
 }  // namespace detail

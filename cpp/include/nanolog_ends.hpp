@@ -160,7 +160,7 @@ inline void end_writing(Core &core, std::uint64_t until) {
         leave_handles(core);
     }
     const TimedLock lock(hub.mutex, time_after(kSecond));
-    core.report = count(core);
+    count(core, core.report);
     core.report.sessionless = count_all_sessionless(true);
     core.report.timed_out = !is_written;
     hub.core.store(nullptr);
@@ -218,6 +218,7 @@ inline void end_all() {
 // The child of a fork has its own thread alone, and no session. What the other threads were doing may stand half done
 // in its memory, so all is made anew but for the numbers of sessions.
 inline void begin_child() {
+    const Report nothing;
     hub.level.store(0);
     hub.attention.store(0);
     count_all_sessionless(true);
@@ -233,15 +234,19 @@ inline void begin_child() {
             if (core->session == nullptr) core->session = hub.session;
             leave_handles(*core);
         }
-        core->report = Report();
+        core->report = nothing;
         core->is_told.store(true);
         core->stage.store(Stage::Over);
     }
     hub.core.store(nullptr);
     hub.session = nullptr;
     hub.is_taken = false;
+    for (std::uint32_t number = 0; number < hub.opened; number++) {
+        Slot &slot = hub.slot[number];
+        slot.state.store(kClosed);
+        slot.other = nullptr;
+    }
     hub.opened = 0;
-    for (Slot &slot : hub.slot) slot.state.store(kClosed);
     mine.slot = nullptr;
     mine.is_ending = false;
 }

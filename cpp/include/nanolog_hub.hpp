@@ -34,6 +34,7 @@ constexpr std::uint64_t kStates = 4;
 struct alignas(kLine) Slot {
     std::atomic<std::uint64_t> state{kClosed};
     void *writer = nullptr;
+    void *other = nullptr;  // that of a session that takes the place of this one
     std::uint64_t last_stamp = 0;
     Count logged, dropped, need, room, misfit, sizes, cut, early, unknown, stale;
 };
@@ -183,6 +184,7 @@ struct Hub {
     Slot slot[NANOLOG_MAX_WRITERS];
 };
 inline Hub hub [[gnu::visibility("default")]];
+static_assert(sizeof(Slot) == kLine, "a writer has one line");
 static_assert(offsetof(Hub, level) == 0 && offsetof(Hub, entries) == kLine, "nothing shares the level's line");
 
 inline void count_sessionless() {

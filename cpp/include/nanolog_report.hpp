@@ -1,7 +1,10 @@
 // What a session is asked for, and what it tells. It is part of nanolog.hpp.
 #pragma once
 
+#include <cstddef>
 #include <cstdint>
+#include <new>
+#include <utility>
 
 #include "nanolog.h"
 #include "nanolog_basics.hpp"
@@ -18,9 +21,10 @@ enum class Policy : unsigned char { Wait, Drop };
 struct Options {
     // The words of each writer's ring, of 8 bytes each, 1,024 to 1,048,576.
     std::uint64_t ring = 65536;
-    // How many writers there are, 1 to 64, and so many rings. Each but the last belongs to one thread at a time; the
-    // last is shared by all threads for which no other is left.
-    std::uint32_t writers = NANOLOG_MAX_WRITERS;
+    // How many writers there are, 1 to 1,024, and so many rings, which have 67,108,864 words together at most. Each
+    // writer but the last belongs to one thread at a time; the last is shared by all threads for which no other is left.
+    static constexpr std::uint32_t kWriters = 64;
+    std::uint32_t writers = kWriters;
     // The most calls of a block of the log, 1 to 65,536.
     std::uint32_t batch = 4096;
     // Less grave calls are left out, and their arguments aren't evaluated.
@@ -35,11 +39,16 @@ struct Options {
     Severity echo = Severity::Off, flush_at = Severity::Off;
     // Whether what was logged is written where a fault, or an abort, ends the program.
     bool on_crash = true;
-    // A clock of the program's own: several threads read it at once, and it doesn't fall. How many ticks it makes in a
-    // second, and how many nanoseconds since 1970 it is when the session begins, where 0 stands for the system's time.
+    // A clock of the program's own: several threads read it at once, also one of the session's, and it doesn't fall. How
+    // many ticks it makes in a second, and how many nanoseconds since 1970 it is when the session begins, where 0 stands
+    // for real time.
     std::uint64_t (*clock)() = nullptr;
     std::uint64_t rate = 1000000000;
     std::uint64_t nanos = 0;
+    // Real time, in nanoseconds since 1970: the system's, or that of a function, which may step.
+    std::uint64_t (*real_time)() = nullptr;
+    // Whether the clock is compared with real time once a second, and times follow that where the two move apart.
+    bool keep_times = true;
 };
 
 // What became of the calls of a session, as far as it has come.
@@ -50,6 +59,66 @@ struct Report {
         std::uint64_t dropped = 0, need = 0, room = 0;
     };
 
+    // Those that threads have taken, by their numbers. Where there is no memory for them there are none, and each that
+    // is asked for is empty.
+    class Writers {
+       public:
+        Writers() = default;
+        Writers(const Writers &other) { copy(other); }
+        Writers(Writers &&other) noexcept { swap(other); }
+        ~Writers() { delete[] items_; }
+        Writers &operator=(const Writers &other) {
+            if (this != &other) copy(other);
+            return *this;
+        }
+        Writers &operator=(Writers &&other) noexcept {
+            swap(other);
+            return *this;
+        }
+
+        const Writer &operator[](std::size_t number) const { return number < size_ ? items_[number] : kNone; }
+        std::size_t size() const { return size_; }
+        const Writer *begin() const { return items_; }
+        const Writer *end() const { return items_ + size_; }
+
+        // Makes room for so many, which takes memory if there were never as many.
+        bool reserve(std::uint32_t count) {
+            if (count <= room_) return true;
+            Writer *const items = new (std::nothrow) Writer[count];
+            if (items == nullptr) return false;
+            delete[] items_;
+            items_ = items;
+            room_ = count;
+            size_ = 0;
+            return true;
+        }
+
+        // Has so many, all empty, if there is room for them.
+        void resize(std::uint32_t count) {
+            size_ = count <= room_ ? count : 0;
+            for (std::uint32_t number = 0; number < size_; number++) items_[number] = Writer();
+        }
+        void set(std::uint32_t number, const Writer &one) {
+            if (number < size_) items_[number] = one;
+        }
+
+       private:
+        static const Writer kNone;
+
+        void copy(const Writers &other) {
+            resize(reserve(other.size_) ? other.size_ : 0);
+            for (std::uint32_t number = 0; number < size_; number++) items_[number] = other.items_[number];
+        }
+        void swap(Writers &other) {
+            std::swap(items_, other.items_);
+            std::swap(size_, other.size_);
+            std::swap(room_, other.room_);
+        }
+
+        Writer *items_ = nullptr;
+        std::uint32_t size_ = 0, room_ = 0;
+    };
+
     // A file whose statements were taken out with another dictionary, and how many calls it made.
     struct Unit {
         char file[256] = "";
@@ -58,7 +127,7 @@ struct Report {
     static constexpr std::uint32_t kMostUnits = 8;
 
     std::uint32_t writers = 0;  // that threads have taken
-    Writer writer[NANOLOG_MAX_WRITERS];
+    Writers writer;
     std::uint64_t logged = 0;   // by all writers
     std::uint64_t shared = 0;   // of these by the writer that is shared
     std::uint64_t written = 0;  // bytes of the log
@@ -86,6 +155,8 @@ struct Report {
     }
 };
 
+inline const Report::Writer Report::Writers::kNone{};
+
 namespace detail {
 
 inline void tell_loss(const char *name, const char *what, std::uint64_t number) {
@@ -105,14 +176,15 @@ inline void tell_stale(const char *name, const Report &report) {
     tell_loss(name, "calls of other files refused, which have another dictionary", others);
 }
 
+inline void tell_dropped(const char *name, std::uint32_t number, const Report::Writer &writer) {
+    if (writer.dropped == 0) return;
+    say("nanolog: %s: calls of writer %u dropped: %llu, the last with need %llu room %llu", name, number,
+        static_cast<unsigned long long>(writer.dropped), static_cast<unsigned long long>(writer.need),
+        static_cast<unsigned long long>(writer.room));
+}
+
+// Tells of all others.
 inline void tell_losses(const char *name, const Report &report) {
-    for (std::uint32_t number = 0; number < report.writers; number++) {
-        const Report::Writer &writer = report.writer[number];
-        if (writer.dropped == 0) continue;
-        say("nanolog: %s: calls of writer %u dropped: %llu, the last with need %llu room %llu", name,
-                     number, static_cast<unsigned long long>(writer.dropped),
-                     static_cast<unsigned long long>(writer.need), static_cast<unsigned long long>(writer.room));
-    }
     tell_stale(name, report);
     tell_loss(name, "calls without a message in the session's dictionary", report.unknown);
     tell_loss(name, "calls refused, with a width or a precision out of range", report.sizes);

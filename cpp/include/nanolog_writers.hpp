@@ -101,21 +101,24 @@ inline void show_entries() {
 inline void begin_anew() {
     Directory &directory = *hub.directory;
     directory.take_in();
-    void *session = nullptr, *consumer = nullptr, *writer[NANOLOG_MAX_WRITERS] = {};
+    void *session = nullptr, *consumer = nullptr;
     std::uint64_t line = 0;
     bool is_open = open_session(directory.dictionary, hub.setup, &session, &consumer, &line) == NANOLOG_OK;
     for (std::uint32_t number = 0; is_open && number < hub.opened; number++) {
-        is_open = nanolog_writer(&session, &writer[number]) == NANOLOG_OK;
+        is_open = nanolog_writer(&session, &hub.slot[number].other) == NANOLOG_OK;
     }
     is_open = is_open && directory.make_entries(&session, directory.dictionary.count());
     if (is_open) {
         show_entries();
         std::swap(hub.session, session);
-        for (std::uint32_t number = 0; number < hub.opened; number++)
-            std::swap(hub.slot[number].writer, writer[number]);
+        for (std::uint32_t number = 0; number < hub.opened; number++) {
+            std::swap(hub.slot[number].writer, hub.slot[number].other);
+        }
         consumer = hub.consumer->exchange(consumer);
     }
-    for (void *const old : writer) nanolog_free(old);
+    for (std::uint32_t number = 0; number < hub.opened; number++) {
+        nanolog_free(std::exchange(hub.slot[number].other, nullptr));
+    }
     nanolog_free(session);
     nanolog_free(consumer);
 }
