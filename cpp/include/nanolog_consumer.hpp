@@ -13,14 +13,15 @@
 #include "nanolog.h"
 #include "nanolog_file.hpp"
 #include "nanolog_hub.hpp"
+#include "nanolog_times.hpp"
 #include "nanolog_waiting.hpp"
 
 namespace nanolog {
 inline namespace version_1 {
 namespace detail {
 
-// Pumps the bytes of the log into a buffer, and writes them. Once the file has failed it pumps on and throws away, so
-// that no thread waits for room for ever. Other threads talk with it by atomics and bells alone, so that nothing that
+// Pumps the bytes of the log into a buffer, and writes them, and keeps the log's times right. Once the file has failed it
+// pumps on and throws away, so that no thread waits for room for ever. Other threads talk with it by atomics and bells alone, so that nothing that
 // holds one of them up, as a fork, a crash or a signal handler may, holds up the others.
 class Consumer {
    public:
@@ -30,9 +31,11 @@ class Consumer {
 
     // Starts the thread for a consumer's handle, and answers an errno. A file below 0 couldn't be made, as the error
     // says. Where the thread can't be started, the file is closed, and the handle is still the caller's.
-    int start(void *handle, const char *name, bool quiet, int file, int error) {
+    int start(void *handle, const Times &times, const char *name, bool quiet, int file, int error) {
         file_.begin(name, quiet, file, error);
-        buffer_ = static_cast<std::uint8_t *>(std::malloc(kRoom));
+        buffer_ = static_cast<std::uint8_t *>(std::malloc(kRoom + Times::kRoom));
+        times_ = times;
+        times_.keep_in(buffer_ + kRoom);
         handle_.store(handle);
         // The thread handles no signal of the program's, and none that its own writes raise ends the program.
         sigset_t all, before;
@@ -47,7 +50,7 @@ class Consumer {
     }
 
     // Goes on with another handle, and answers the old one. Both are of sessions in which nothing was logged, so what
-    // was pumped of the one are the first bytes of the other, too.
+    // was pumped of the one are the first bytes of the other, too: no clock stands in front of the first call.
     void *exchange(void *handle) {
         Patience patience;
         void *old = nullptr;
@@ -58,6 +61,7 @@ class Consumer {
             if (answer <= 0) break;
             left -= static_cast<std::uint64_t>(answer);
         }
+        times_.tell_again(&handle);
         handle_.store(handle);
         return old;
     }
@@ -138,6 +142,7 @@ class Consumer {
     static constexpr std::uint64_t kLeastNap = kMillisecond / 5;
     static constexpr std::uint64_t kMostNap = 5 * kMillisecond;
     static constexpr std::uint64_t kMostDoze = 100 * kMillisecond;
+    static constexpr const char *kOutOfClocks = "255 clocks were told; times don't follow real time any more";
 
     static void *run(void *self) {
         pthread_setname_np(pthread_self(), "nanolog");
@@ -161,17 +166,21 @@ class Consumer {
             if (answer == 0) {
                 pumped_.set(0);
                 tell(asked);
-                rest(rings);
             }
+            // Nobody waits for it here, and nothing is taken until the next round has told what comes of it.
+            const std::uint64_t now = nanos_of(CLOCK_MONOTONIC);
+            if (times_.compare(now)) file_.remark(kOutOfClocks);
+            if (answer == 0) rest(rings, now);
         }
     }
 
-    // Pumps until the buffer is full or nothing waits, and answers what the last pump did. Who has taken the handle has
-    // it until he puts it back.
+    // Pumps until the buffer is full or nothing waits, and answers what the last pump did. Another clock is told first.
+    // Who has taken the handle has it until he puts it back.
     std::int64_t pump(std::size_t &filled) {
         Patience patience;
         void *handle = nullptr;
         while ((handle = handle_.exchange(nullptr)) == nullptr) patience.wait();
+        times_.tell(&handle);
         std::int64_t answer = 1;
         while (filled < kRoom) {
             answer = nanolog_pump(&handle, buffer_ + filled, kRoom - filled);
@@ -207,8 +216,7 @@ class Consumer {
 
     // Sleeps where it wasn't rung since then. A doze begins a round before its first sleep: who logs has to know of it
     // before the thread last looks whether something waits.
-    void rest(std::uint32_t rings) {
-        const std::uint64_t now = nanos_of(CLOCK_MONOTONIC);
+    void rest(std::uint32_t rings, std::uint64_t now) {
         if (came_ == 0) came_ = now;
         if (nap_ > kMostNap && !is_dozing_) return doze(++dozes_);
         is_napping_.store(true);
@@ -221,6 +229,7 @@ class Consumer {
     std::atomic<void *> handle_{nullptr};
     std::uint64_t given_ = 0;  // bytes that it gave
     std::uint8_t *buffer_ = nullptr;
+    Times times_;
     LogFile file_;
     pthread_t thread_{};
     std::uint64_t nap_ = kLeastNap;

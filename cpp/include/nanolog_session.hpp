@@ -122,17 +122,19 @@ class Session {
             return fail(dictionary != nullptr ? dictionary : log_name, std::strerror(error));
         }
         directory.take_in();
-        const bool has_clock = options.clock != nullptr;
-        const detail::Setup setup = {options.ring,
-                                     options.writers,
-                                     options.batch,
-                                     has_clock ? options.clock() : detail::nanos_of(CLOCK_MONOTONIC),
-                                     options.nanos != 0 ? options.nanos : detail::nanos_of(CLOCK_REALTIME),
-                                     has_clock ? options.rate : detail::kSecond};
+        const detail::Timing timing = {options.clock, options.real_time,
+                                       options.clock != nullptr ? options.rate : detail::kSecond, options.keep_times};
+        const detail::Reading reading = detail::read_first(timing);
+        const detail::Setup setup = {options.ring,    options.writers,
+                                     options.batch,   reading.ticks(),
+                                     options.nanos != 0 ? options.nanos : reading.nanos,
+                                     timing.rate};
+        detail::Times times;
+        times.begin(timing, {setup.tick, setup.nanos}, detail::Wide{setup.nanos} - reading.nanos);
         void *session = nullptr, *consumer = nullptr;
         std::uint64_t line = 0;
         const std::int32_t answer = detail::open_session(directory.dictionary, setup, &session, &consumer, &line);
-        if (answer == NANOLOG_OK && make_entries(&session) && start(log_name, consumer)) {
+        if (answer == NANOLOG_OK && make_entries(&session) && start(log_name, consumer, times)) {
             begin(session, setup, options);
             return true;
         }
@@ -159,9 +161,10 @@ class Session {
     }
 
     // Makes the file and starts the consumer.
-    bool start(const char *log_name, void *consumer) {
+    bool start(const char *log_name, void *consumer, const detail::Times &times) {
         const int file = detail::make_file(log_name);
-        const int failed = core_->consumer.start(consumer, log_name, core_->is_quiet, file, file < 0 ? errno : 0);
+        const int error = file < 0 ? errno : 0;
+        const int failed = core_->consumer.start(consumer, times, log_name, core_->is_quiet, file, error);
         return failed == 0 || fail(log_name, std::strerror(failed));
     }
 
