@@ -5,6 +5,7 @@
 #include <string>
 #include <vector>
 
+#include "blocks.hpp"
 #include "check.hpp"
 #include "nanolog.h"
 
@@ -57,10 +58,10 @@ struct Ends {
     void *consumer = nullptr;
 
     explicit Ends(std::uint64_t ring = 1024, std::uint32_t writers = 3) {
-        std::uint64_t line = 77;
-        CHECK(nanolog_open(bytes_of(kDictionary), kDictionary.size(), ring, writers, 4096, kTick, 5, 1000000000,
-                           &session, &consumer, &line) == NANOLOG_OK);
-        CHECK(session != nullptr && consumer != nullptr && line == 77);
+        open(kDictionary, ring, writers, kTick, 5, 1000000000);
+    }
+    Ends(const std::string &dictionary, std::uint64_t tick, std::uint64_t nanos, std::uint64_t rate) {
+        open(dictionary, 1024, 1, tick, nanos, rate);
     }
     ~Ends() {
         nanolog_free(session);
@@ -74,7 +75,21 @@ struct Ends {
         CHECK(nanolog_writer(&session, &writer) == NANOLOG_OK && writer != nullptr);
         return writer;
     }
+
+   private:
+    void open(const std::string &dictionary, std::uint64_t ring, std::uint32_t writers, std::uint64_t tick,
+              std::uint64_t nanos, std::uint64_t rate) {
+        std::uint64_t line = 77;
+        CHECK(nanolog_open(bytes_of(dictionary), dictionary.size(), ring, writers, 4096, tick, nanos, rate, &session,
+                           &consumer, &line) == NANOLOG_OK);
+        CHECK(session != nullptr && consumer != nullptr && line == 77);
+    }
 };
+
+void write_file(const char *name, const std::string &all) {
+    std::FILE *const file = std::fopen(name, "w");
+    CHECK(file != nullptr && std::fwrite(all.data(), 1, all.size(), file) == all.size() && std::fclose(file) == 0);
+}
 
 std::int32_t log(void *&writer, std::uint64_t stamp, std::uint32_t id, std::initializer_list<nanolog_arg> args) {
     std::uint64_t need = 88, room = 99;
@@ -112,16 +127,23 @@ void opening() {
     for (const std::uint64_t ring : {0ull, 1ull, 1023ull, 1048577ull, 1ull << 32, ~0ull}) {
         CHECK(open(kDictionary, ring, 1, 1, 1, &line) == NANOLOG_OUT_OF_RANGE);
     }
-    for (const std::uint32_t writers : {0u, 65u, 256u, ~0u}) {
+    for (const std::uint32_t writers : {0u, 1025u, 65536u, 65537u, ~0u}) {
         CHECK(open(kDictionary, 1024, writers, 1, 1, &line) == NANOLOG_OUT_OF_RANGE);
     }
+    // All rings together have 67,108,864 words at most.
+    const std::pair<std::uint64_t, std::uint32_t> too_many[] = {
+        {65537, 1024}, {1048576, 65}, {131073, 512}, {1048576, 1024}};
+    for (const auto &[ring, writers] : too_many) {
+        CHECK(open(kDictionary, ring, writers, 1, 1, &line) == NANOLOG_OUT_OF_RANGE);
+    }
+    CHECK(open(kDictionary, 65536, 1024, 1, 1, &line) == NANOLOG_OK);
     for (const std::uint32_t batch : {0u, 65537u, ~0u}) {
         CHECK(open(kDictionary, 1024, 1, batch, 1, &line) == NANOLOG_OUT_OF_RANGE);
     }
     CHECK(open(kDictionary, 1024, 1, 1, 0, &line) == NANOLOG_OUT_OF_RANGE);
     CHECK(open(kDictionary, 1024, 1, 1, 1, &line) == NANOLOG_OK);
     CHECK(open(kDictionary, 1048576, 1, 65536, ~0ull, &line) == NANOLOG_OK);
-    CHECK(open(kDictionary, 1024, 64, 1, 1, &line) == NANOLOG_OK);
+    CHECK(open(kDictionary, 1024, 1024, 1, 1, &line) == NANOLOG_OK);
     CHECK(open("nanolog-trace 1\n", 1024, 1, 1, 1, &line) == NANOLOG_OK);
     CHECK(line == 77);
 
@@ -302,7 +324,7 @@ std::string pump_all(std::size_t room) {
     CHECK(nanolog_pump(&one, bytes.data(), room) == NANOLOG_BAD_HANDLE);
     CHECK(nanolog_pump(&ends.consumer, bytes.data(), 0) == NANOLOG_OUT_OF_RANGE);
     CHECK(nanolog_pump(&ends.consumer, nullptr, 0) == NANOLOG_OUT_OF_RANGE);
-    CHECK(pump() == 0 && all.size() == 30);
+    CHECK(pump() == 0 && all.size() == kHeader);
     CHECK(log(one, kTick + 1, 0, {signed_of(-5)}) == NANOLOG_OK);
     CHECK(log(two, kTick + 2, 5, {text_of("a piece")}) == NANOLOG_OK);
     CHECK(log(one, kTick + 3, 4, {signed_of(6), signed_of(3), signed_of(7)}) == NANOLOG_OK);
@@ -320,9 +342,8 @@ std::string pump_all(std::size_t room) {
 
 void pumping() {
     const std::string all = pump_all(1 << 20);
-    for (const std::size_t room : {1, 2, 3, 7, 30, 64}) CHECK(pump_all(room) == all);
-    std::FILE *const file = std::fopen("calls.log", "w");
-    CHECK(file != nullptr && std::fwrite(all.data(), 1, all.size(), file) == all.size() && std::fclose(file) == 0);
+    write_file("calls.log", all);
+    for (const std::size_t room : {1, 2, 3, 7, 31, 64}) CHECK(pump_all(room) == all);
 
     // Handles are given up in any order, and unfinished.
     for (int order = 0; order < 6; order++) {
@@ -337,6 +358,143 @@ void pumping() {
         nanolog_free(handles[second]);
         nanolog_free(handles[3 - first - second]);
     }
+}
+
+// A log of 1,024 writers, of which each makes a call.
+void many_writers() {
+    Ends ends(1024, 1024);
+    std::vector<void *> writers;
+    std::string all;
+    const auto pump = [&] {
+        std::uint8_t bytes[4096];
+        std::int64_t answer = 0;
+        while ((answer = nanolog_pump(&ends.consumer, bytes, sizeof bytes)) > 0) {
+            all.append(reinterpret_cast<const char *>(bytes), static_cast<std::size_t>(answer));
+        }
+        return answer;
+    };
+    for (int number = 0; number < 1024; number++) {
+        writers.push_back(ends.writer());
+        CHECK(log(writers.back(), kTick + static_cast<std::uint64_t>(number), 0, {signed_of(number)}) == NANOLOG_OK);
+    }
+    void *null = nullptr;
+    CHECK(nanolog_writer(&ends.session, &null) == NANOLOG_NO_WRITER && null == nullptr && pump() == 0);
+    for (void *&writer : writers) {
+        CHECK(nanolog_finish(&writer) == NANOLOG_OK);
+        nanolog_free(writer);
+    }
+    CHECK(nanolog_end(&ends.session) == NANOLOG_OK && pump() == NANOLOG_AT_END);
+    std::vector<int> extents(1024), marks(1024);
+    for (const Block &block : blocks_of(all)) {
+        if (block.tag == kExtent) extents[number_at(all, block.at + 1, 2)]++;
+        if (block.tag == kCloseMark) marks[number_at(all, block.at + 1, 2)]++;
+    }
+    CHECK(number_at(all, 5, 2) == 1024 && extents == std::vector<int>(1024, 1) && marks == extents);
+    write_file("writers.log", all);
+}
+
+// ---- nanolog_clock
+
+std::int32_t tell(void *&consumer, std::uint64_t tick, std::uint64_t rate = 1000000000) {
+    return nanolog_clock(&consumer, tick, 7, rate);
+}
+
+// Each answer, in the order in which they go.
+void telling() {
+    Ends ends;
+    void *null = nullptr, *writer = ends.writer();
+    std::uint8_t bytes[4096];
+    const auto pump = [&] {
+        while (nanolog_pump(&ends.consumer, bytes, sizeof bytes) > 0) {
+        }
+    };
+    for (void **other : {&null, &ends.session, &writer}) {
+        CHECK(tell(*other, kTick + 1) == NANOLOG_BAD_HANDLE && tell(*other, kTick, 0) == NANOLOG_BAD_HANDLE);
+    }
+    for (const std::uint64_t tick : {std::uint64_t{0}, kTick - 1, kTick}) {
+        CHECK(tell(ends.consumer, tick) == NANOLOG_OUT_OF_RANGE);
+    }
+    CHECK(tell(ends.consumer, kTick + 1, 0) == NANOLOG_OUT_OF_RANGE);
+    // What was logged but not taken reaches nothing.
+    CHECK(log(writer, kTick + 10, 7, {}) == NANOLOG_OK && tell(ends.consumer, kTick + 3) == NANOLOG_OK);
+    pump();
+    CHECK(tell(ends.consumer, kTick + 4) == NANOLOG_REACHED && tell(ends.consumer, kTick + 10) == NANOLOG_REACHED);
+    CHECK(tell(ends.consumer, kTick + 10, 0) == NANOLOG_OUT_OF_RANGE);
+    for (const std::uint64_t tick : {std::uint64_t{0}, kTick + 2, kTick + 3}) {
+        CHECK(tell(ends.consumer, tick) == NANOLOG_OUT_OF_RANGE);
+    }
+    CHECK(tell(ends.consumer, kTick + 11) == NANOLOG_OK && tell(ends.consumer, kTick + 11) == NANOLOG_OUT_OF_RANGE);
+    // 255 clocks, and one more.
+    for (std::uint64_t number = 3; number < 255; number++) {
+        CHECK(tell(ends.consumer, kTick + 10 * number, number % 2 == 0 ? 1 : ~0ull) == NANOLOG_OK);
+    }
+    CHECK(log(writer, ~0ull - 1, 7, {}) == NANOLOG_OK);
+    pump();
+    CHECK(tell(ends.consumer, ~0ull - 1) == NANOLOG_REACHED && tell(ends.consumer, ~0ull) == NANOLOG_OK);
+    CHECK(tell(ends.consumer, ~0ull) == NANOLOG_OUT_OF_RANGE);
+    nanolog_free(writer);
+
+    Ends full;
+    for (std::uint64_t number = 1; number <= 255; number++) CHECK(tell(full.consumer, kTick + number) == NANOLOG_OK);
+    CHECK(tell(full.consumer, kTick + 256) == NANOLOG_OUT_OF_RANGE);
+    void *other = full.writer();
+    CHECK(log(other, kTick + 300, 7, {}) == NANOLOG_OK);
+    while (nanolog_pump(&full.consumer, bytes, sizeof bytes) > 0) {
+    }
+    CHECK(tell(full.consumer, kTick + 256) == NANOLOG_OUT_OF_RANGE);
+    nanolog_free(other);
+}
+
+// A log of a call that is read by the second of two clocks. What was refused leaves no trace in it.
+std::string log_of_two(bool are_refused) {
+    const std::string dictionary = "nanolog-trace 1\nmessage 0 NOTICE 12 \"srv.cc\" \"x=%d\"\n";
+    Ends ends(dictionary, 1000, 1514764800000000000, 2000000000);
+    const auto refuse = [&] {
+        if (!are_refused) return;
+        CHECK(nanolog_clock(&ends.consumer, 3000, 5, 0) == NANOLOG_OUT_OF_RANGE);
+        CHECK(nanolog_clock(&ends.consumer, 1000, 5, 1) == NANOLOG_OUT_OF_RANGE);
+    };
+    refuse();
+    CHECK(nanolog_clock(&ends.consumer, 2000, 1514764801000000000, 1000000000) == NANOLOG_OK);
+    void *writer = ends.writer();
+    CHECK(log(writer, 2003, 0, {signed_of(7)}) == NANOLOG_OK && nanolog_finish(&writer) == NANOLOG_OK);
+    CHECK(nanolog_end(&ends.session) == NANOLOG_OK);
+    nanolog_free(writer);
+    std::string all;
+    std::uint8_t byte = 0;
+    for (refuse(); nanolog_pump(&ends.consumer, &byte, 1) == 1; refuse()) all += static_cast<char>(byte);
+    CHECK(nanolog_pump(&ends.consumer, &byte, 1) == NANOLOG_AT_END);
+    if (are_refused) CHECK(nanolog_clock(&ends.consumer, 2003, 5, 1) == NANOLOG_REACHED);
+    return all;
+}
+
+void two_clocks() {
+    const std::string all = log_of_two(false);
+    CHECK(all == log_of_two(true) && all.size() == 97);
+    CHECK(number_at(all, 5, 2) == 1 && number_at(all, 7, 8) == 1000);
+    CHECK(number_at(all, 15, 8) == 1514764800000000000 && number_at(all, 23, 8) == 2000000000);
+    const std::vector<Block> blocks = blocks_of(all);
+    const Block wanted[] = {{kClock, 31, 25}, {kFragment, 56, 26}, {kExtent, 82, 12}, {kCloseMark, 94, 3}};
+    CHECK(blocks.size() == 4);
+    for (std::size_t at = 0; at < 4; at++) {
+        CHECK(blocks[at].tag == wanted[at].tag && blocks[at].at == wanted[at].at && blocks[at].len == wanted[at].len);
+    }
+    CHECK(number_at(all, 32, 8) == 2000 && number_at(all, 40, 8) == 1514764801000000000);
+    CHECK(number_at(all, 48, 8) == 1000000000);
+    write_file("clocks.log", all);
+}
+
+// A clock that no call is read by isn't in the log.
+void no_clock() {
+    Ends ends(1024, 1);
+    CHECK(tell(ends.consumer, kTick + 5) == NANOLOG_OK);
+    void *writer = ends.writer();
+    CHECK(log(writer, kTick + 4, 7, {}) == NANOLOG_OK && nanolog_finish(&writer) == NANOLOG_OK);
+    std::string all;
+    std::uint8_t byte = 0;
+    while (nanolog_pump(&ends.consumer, &byte, 1) == 1) all += static_cast<char>(byte);
+    for (const Block &block : blocks_of(all)) CHECK(block.tag != kClock);
+    nanolog_free(writer);
 }
 
 // ---- memory
@@ -395,8 +553,13 @@ void use(void *&session, void *&consumer, void *&writer, void *&idle) {
         while (answer == NANOLOG_OK) answer = log(writer, kTick, 0, {signed_of(turn)});
         CHECK(answer == NANOLOG_FULL && log(writer, kTick, 0, {}) == NANOLOG_MISFIT);
         CHECK(log(writer, 0, 7, {}) == NANOLOG_EARLY && log(session, kTick, 7, {}) == NANOLOG_BAD_HANDLE);
+        CHECK(tell(consumer, kTick) == NANOLOG_OUT_OF_RANGE);
         while (nanolog_pump(&consumer, bytes, sizeof bytes) > 0) answer = NANOLOG_OK;
     }
+    for (std::uint64_t number = 1; number <= 256; number++) {
+        CHECK(tell(consumer, kTick + number) == (number <= 255 ? NANOLOG_OK : NANOLOG_OUT_OF_RANGE));
+    }
+    CHECK(log(writer, kTick + 1000, 7, {}) == NANOLOG_OK);
     CHECK(nanolog_pump(&consumer, bytes, 0) == NANOLOG_OUT_OF_RANGE);
     CHECK(nanolog_finish(&writer) == NANOLOG_OK && nanolog_finish(&writer) == NANOLOG_FINISHED);
     CHECK(nanolog_finish(&idle) == (idle == nullptr ? NANOLOG_BAD_HANDLE : NANOLOG_OK));
@@ -431,7 +594,7 @@ long left_of(std::uint64_t ring, std::uint32_t writers, bool is_used, bool consu
 void giving_up() {
     const long dictionary = left_of(1024, 1, false, false);
     CHECK(dictionary > 0);
-    for (const std::uint32_t writers : {1u, 2u, 64u}) {
+    for (const std::uint32_t writers : {1u, 2u, 1024u}) {
         for (const bool is_used : {false, true}) {
             for (const bool consumer_first : {false, true}) {
                 CHECK(left_of(8192, writers, is_used, consumer_first) == dictionary);
@@ -458,6 +621,10 @@ int main() {
     logging();
     filling();
     pumping();
+    many_writers();
+    telling();
+    two_clocks();
+    no_clock();
     memory();
     giving_up();
     return 0;

@@ -237,6 +237,7 @@ int main() {
     nanolog::Options options;
     options.clock = next_tick;
     options.nanos = kBegin;
+    options.keep_times = false;
     nanolog::Session log("conversions.log", DICTIONARY, options);
     CHECK(log);
     all(expected);

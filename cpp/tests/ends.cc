@@ -161,6 +161,7 @@ void handler_inside() {
     nanolog::Options options = small();
     options.writers = static_cast<std::uint32_t>(std::atoi(word));
     static std::atomic<bool> is_raised{false};
+    options.keep_times = false;
     options.clock = [] {
         if (returned[0].load() == 20 && !is_raised.exchange(true)) std::raise(SIGTERM);
         return std::uint64_t{5};
@@ -303,6 +304,7 @@ void forks() {
 void forks_inside() {
     static bool is_forking = false, is_child = false;
     nanolog::Options options;
+    options.keep_times = false;
     options.clock = [] {
         if (std::exchange(is_forking, false)) {
             const pid_t child = fork();

@@ -148,6 +148,18 @@ void no_writers() {
     options.writers = 0;
     unopened(kLog, kDictionary, options);
 }
+void more_writers() {
+    nanolog::Options options;
+    options.ring = 1024;
+    options.writers = 1025;
+    unopened(kLog, kDictionary, options);
+}
+void more_words() {
+    nanolog::Options options;
+    options.ring = 1048576;
+    options.writers = 65;
+    unopened(kLog, kDictionary, options);
+}
 void no_batch() {
     nanolog::Options options;
     options.batch = 65537;
@@ -189,6 +201,7 @@ void losses() {
     options.ring = 1024;
     options.policy = nanolog::Policy::Drop;
     static std::uint64_t time = 1000;
+    options.keep_times = false;
     options.clock = [] { return time; };
     nanolog::Session log("/dev/full", kDictionary, options);
     const std::string long_text(4001, 'x'), half(2500, 'y');
@@ -216,6 +229,7 @@ void signalled(int) { NANO_LOG(NOTICE, "of a handler %d", 1); }
 void interrupted() {
     nanolog::Options options;
     static bool is_raised = false;
+    options.keep_times = false;
     options.clock = [] {
         if (is_raised) std::raise(SIGUSR1);
         is_raised = false;
@@ -448,6 +462,8 @@ int main(int count, char **words) {
         {"other_dictionary", other_dictionary},
         {"no_ring", no_ring},
         {"no_writers", no_writers},
+        {"more_writers", more_writers},
+        {"more_words", more_words},
         {"no_batch", no_batch},
         {"no_memory", no_memory},
         {"quiet", quiet},

@@ -1,8 +1,8 @@
 // Threads that log at once.
-// usage: threads THREADS CALLS wait|drop   each thread makes so many calls, beside each other
-//        threads ALONE CALLS one           so many threads, one after the other
-//        threads ALONE CALLS least         as these, with the least stack that a thread may have
-//        threads ALIVE CALLS all           so many threads that are alive until all have called
+// usage: threads THREADS CALLS wait|drop       each thread makes so many calls, beside each other
+//        threads ALONE CALLS one               so many threads, one after the other
+//        threads ALONE CALLS least             as these, with the least stack that a thread may have
+//        threads ALIVE CALLS all [WRITERS]     so many threads that are alive until all have called
 // It prints how many calls were logged and dropped, how many writers there were, and how many calls the shared one
 // made.
 #include <pthread.h>
@@ -56,11 +56,12 @@ void call_on_least_stack(Work work) {
 }  // namespace
 
 int main(int count, char **words) {
-    CHECK(count == 4);
+    CHECK(count == 4 || count == 5);
     const int threads = std::atoi(words[1]), calls = std::atoi(words[2]);
     const std::string way = words[3];
     nanolog::Options options;
     options.ring = 1024;
+    if (count == 5) options.writers = static_cast<std::uint32_t>(std::atoi(words[4]));
     options.policy = way == "drop" ? nanolog::Policy::Drop : nanolog::Policy::Wait;
     options.quiet = true;
     nanolog::Session log("threads.log", DICTIONARY, options);

@@ -6,6 +6,7 @@
 #include <cstdarg>
 #include <vector>
 
+#include "blocks.hpp"
 #include "ends.hpp"
 
 namespace {
@@ -131,32 +132,6 @@ void no_streams() {
     call_lines();
 }
 
-// Where the blocks of a log end that has no close marks.
-long end_of_blocks(const char *name) {
-    std::FILE *const file = std::fopen(name, "r");
-    CHECK(file != nullptr && std::fseek(file, 30, SEEK_SET) == 0);
-    const auto number = [file](int bytes) {
-        unsigned value = 0;
-        for (int byte = 0; byte < bytes; byte++) value |= static_cast<unsigned>(std::fgetc(file)) << 8 * byte;
-        return value;
-    };
-    const auto skip = [file](unsigned bytes) { CHECK(std::fseek(file, static_cast<long>(bytes), SEEK_CUR) == 0); };
-    long end = 30;
-    for (int tag = std::fgetc(file); tag != EOF; tag = std::fgetc(file)) {
-        CHECK(tag == 1 || tag == 2);
-        skip(tag == 1 ? 4 : 1);  // the first id, or the writer
-        if (tag == 2) skip(number(4));
-        for (unsigned entries = tag == 1 ? number(2) : 0; entries != 0; entries--) {
-            skip(5);  // severity and line
-            skip(number(2));
-            skip(number(2));
-        }
-        end = std::ftell(file);
-    }
-    std::fclose(file);
-    return end;
-}
-
 // A log grows beyond what can be read.
 void too_large() {
     nanolog::Session log(kLog, small());
@@ -168,7 +143,7 @@ void too_large() {
     CHECK(report.error == EFBIG && report.written <= 134217728 && report.written > 134217728 - 200000);
     struct stat found;
     CHECK(stat(kLog, &found) == 0 && static_cast<std::uint64_t>(found.st_size) == report.written);
-    CHECK(end_of_blocks(kLog) == found.st_size);
+    CHECK(blocks_of(bytes_of_file(kLog)).back().tag == kExtent);
 }
 
 // Makes a pipe whose reader doesn't read, and fills it.
@@ -291,6 +266,7 @@ void clock_throws() {
     static bool is_throwing = false;
     nanolog::Options options;
     options.writers = 2;
+    options.keep_times = false;
     options.clock = [] {
         if (is_throwing) throw std::runtime_error("no time");
         return std::uint64_t{5};

@@ -2,6 +2,7 @@
 
 # test_calls FLAG..
 test_calls() {
+    local number
     "$compiler" -std=c++17 "$@" -I . -I "$library" -o text_limits text_limits.cc "${archives[@]}" 2>err ||
         fail "$compiler: text_limits.cc isn't built: $(cat err)"
     passes ./text_limits
@@ -16,4 +17,12 @@ test_calls() {
 0.000000009 calls.cc:8 NOTICE[1]: of nothing
 END
     same calls.log wanted got
+    lines clocks.log 0 got
+    echo '1514764801.000000003 srv.cc:12 NOTICE[0]: x=7' >wanted
+    same clocks.log wanted got
+    lines writers.log 0 got
+    for ((number = 0; number < 1024; number++)); do
+        printf '0.%09d calls.cc:1 NOTICE[%d]: %d of int\n' $((number + 5)) $number $number
+    done >wanted
+    same writers.log wanted got
 }

@@ -19,8 +19,9 @@ test_sanitizers() {
             passes ./files $case
         done
         build threads threads.cc "${flags[@]}"
-        for case in '1 10000 wait' '4 5000 wait' '64 500 wait' '4 5000 drop' '64 500 drop' '200 3 one' '100 30 all'; do
-            # shellcheck disable=SC2086 # These are three words.
+        for case in '1 10000 wait' '4 5000 wait' '64 500 wait' '4 5000 drop' '64 500 drop' '200 3 one' '100 30 all' \
+            '1000 5 all 1024'; do
+            # shellcheck disable=SC2086 # These are several words.
             run_threads $case
         done
         rm -rf statements && cp -r -- "$tests/statements" .

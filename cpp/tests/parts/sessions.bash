@@ -27,7 +27,7 @@ test_unopened() {
     run_session a_folder $'nanolog: /: Is a directory\n'"$lost"
     run_session bad_dictionary $'nanolog: bad.dict:3: this is no line of a dictionary\n'"$lost"
     run_session torn_dictionary $'nanolog: torn.dict:3: this is no line of a dictionary\n'"$lost"
-    for name in no_ring no_writers no_batch; do
+    for name in no_ring no_writers more_writers more_words no_batch; do
         run_session $name "nanolog: sessions.log$why"$'\n'"$lost"
     done
     if [ -z "${is_sanitized-}" ]; then

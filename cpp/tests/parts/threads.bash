@@ -11,7 +11,14 @@ in_order() {
     } END { if (NR != wanted) print NR " lines, not " wanted }' got
 }
 
-# run_threads THREADS CALLS WAY runs the program, and sets `logged`, `dropped`, `writers` and `shared`.
+# owned prints how many threads of the file got have a writer that is no other's, and no other one.
+owned() {
+    sed -E 's/^[^[]*\[([0-9]+)\]: thread ([0-9]+) .*/\1 \2/' got | sort -u |
+        awk '{ threads[$1]++; writers[$2]++; pair[$1] = $2 }
+            END { for (writer in pair) count += threads[writer] == 1 && writers[pair[writer]] == 1; print count }'
+}
+
+# run_threads THREADS CALLS WAY [WRITERS] runs the program, and sets `logged`, `dropped`, `writers` and `shared`.
 run_threads() {
     local wrong
     logged='' dropped='' writers='' shared=''
@@ -43,4 +50,8 @@ test_threads() {
     # 63 threads have a writer each, and 37 share one.
     run_threads 100 30 all
     equal '100 threads at once' "$logged $writers $shared" '3000 64 1110'
+    # A thousand threads have a writer each.
+    run_threads 1000 30 all 1024
+    equal '1000 threads at once' "$logged $writers $shared" '30000 1000 0'
+    equal 'threads with a writer of their own' "$(owned)" 1000
 }

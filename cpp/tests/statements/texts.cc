@@ -189,6 +189,7 @@ int main() {
     nanolog::Options options;
     options.clock = next_tick;
     options.nanos = kBegin;
+    options.keep_times = false;
     options.quiet = true;
     nanolog::Session log("texts.log", DICTIONARY, options);
     CHECK(log);
