@@ -31,5 +31,6 @@ test_sanitizers() {
         # A child may begin threads, and `exit` in a handler is the program's own risk.
         TSAN_OPTIONS='die_after_fork=0 report_signal_unsafe=0' test_ends "${flags[@]}"
         TSAN_OPTIONS='report_signal_unsafe=0' test_writing "${flags[@]}"
+        test_times "${flags[@]}"
     done
 }
