@@ -157,8 +157,8 @@ int32_t nanolog_end(void **session);
 
 /* Tells of another clock: calls whose stamps are at least `tick` are read by it. It stood at `tick` when it was `nanos`
  * nanoseconds since 1970, which may be less than the clock before it would say, and makes `rate` ticks in a second. It
- * takes no memory. The log has the clock in front of the first call that is read by it, and not at all where there is
- * none.
+ * takes no memory. The log has the clock in front of the first call whose stamp has reached the tick, and not at all
+ * where there is none.
  *
  * NANOLOG_OK. Else nothing changed; the first of these that holds: NANOLOG_BAD_HANDLE where `*consumer` is no consumer;
  * NANOLOG_OUT_OF_RANGE where the rate is 0, where the tick isn't above that of the last clock, which is that of
