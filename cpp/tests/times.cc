@@ -78,6 +78,14 @@ void settle(nanolog::Session &log) {
     CHECK(log.flush());
 }
 
+// Lets some seconds go by, in which the session's thread doesn't sleep.
+void pass(nanolog::Session &log) {
+    for (int round = 0; round < 30; round++) {
+        CHECK(log.flush());
+        usleep(1000);
+    }
+}
+
 // Logs a call, and expects its line at this time.
 int calls = 0;
 std::FILE *expected = nullptr;
@@ -200,7 +208,7 @@ void unkept() {
     nanolog::Session log(kLog, options);
     real += kHour;
     now += 3;
-    for (int turn = 0; turn < 500; turn++) CHECK(log.flush());
+    pass(log);
     call_at(kBegin + kHour + 3);
     CHECK(clocks_of(log) == 0 && real_reads == 1 && clock_reads == 2);
 }
@@ -225,7 +233,7 @@ void many() {
     const std::uint64_t reads = real_reads;
     for (std::uint64_t turn = 1; turn <= 3; turn++) {
         real += kHour;
-        for (int round = 0; round < 300; round++) CHECK(log.flush());
+        pass(log);
         CHECK(real_reads == reads);
         now += 10;
         call_at(last + 10 * turn);
@@ -322,12 +330,37 @@ void ahead() {
     now -= 900;
     real += kHour;
     settle(log);
-    // From now on it is read again at once.
-    settle(log);
+    // From now on it is read in each round.
+    const std::uint64_t reads = real_reads;
+    pass(log);
+    CHECK(real_reads > reads + 20);
     now += 1000;
     settle(log);
     now += 1;
     call_at(real + 1);
+    CHECK(clocks_of(log) == 1);
+}
+
+// A clock that goes on between its readings, as where the thread is held up: nothing can be said of it then.
+std::atomic<bool> is_held_up{false};
+std::uint64_t read_held_up() {
+    if (is_held_up && is_elsewhere()) now += 60000;
+    return read_clock();
+}
+
+void held_up() {
+    nanolog::Options options = of_own();
+    options.clock = read_held_up;
+    nanolog::Session log(kLog, options);
+    is_held_up = true;
+    real += kHour;
+    for (const std::uint64_t reads = real_reads + 10; real_reads < reads;) CHECK(log.flush());
+    NANO_LOG(NOTICE, "held up");
+    real += kHour;
+    is_held_up = false;
+    settle(log);
+    now += 2;
+    call_at(real + 2);
     CHECK(clocks_of(log) == 1);
 }
 
@@ -353,7 +386,7 @@ void throws() {
     nanolog::Session log(kLog, options);
     is_thrown = true;
     real += kHour;
-    for (int turn = 0; turn < 500; turn++) CHECK(log.flush());
+    pass(log);
     now += 1;
     call_at(kBegin + 1);
     is_thrown = false;
@@ -443,9 +476,22 @@ int main(int count, char **words) {
         const char *name;
         void (*run)();
     } cases[] = {
-        {"steps", steps},   {"drifts", drifts}, {"soon", soon},     {"still", still}, {"unkept", unkept},
-        {"many", many},     {"rates", rates},   {"nanos", nanos},   {"stands", stands}, {"falls", falls},
-        {"ahead", ahead},   {"throws", throws}, {"logs", logs},     {"anew", anew},   {"forks", forks},
+        {"steps", steps},
+        {"drifts", drifts},
+        {"soon", soon},
+        {"still", still},
+        {"unkept", unkept},
+        {"many", many},
+        {"rates", rates},
+        {"nanos", nanos},
+        {"stands", stands},
+        {"falls", falls},
+        {"ahead", ahead},
+        {"held_up", held_up},
+        {"throws", throws},
+        {"logs", logs},
+        {"anew", anew},
+        {"forks", forks},
     };
     for (const auto &one : cases) {
         if (std::strcmp(words[1], one.name) != 0) continue;

@@ -34,7 +34,7 @@ test_times() {
     local -x ASAN_OPTIONS=detect_leaks=0 TSAN_OPTIONS=die_after_fork=0
     compiles times_plugin.so times_plugin.cc "$@" -fPIC -shared || return
     build times times.cc "$@" -rdynamic -ldl || return
-    for case in steps drifts still unkept nanos stands ahead anew forks; do run_times '' $case; done
+    for case in steps drifts still unkept nanos stands ahead held_up anew forks; do run_times '' $case; done
     for case in 1 3 1000 1000000000 2400000000 18446744073709551615; do run_times '' rates $case; done
     for case in clock real; do run_times '' throws $case; done
     run_times $'nanolog: times.log: calls whose stamps would fall: N\n' falls
