@@ -1,5 +1,5 @@
-/* Rounds over so many rings of 1,024 words, each of which loads how far the ring's writer has come, and compares it with
-   what was taken. It prints how many picoseconds a round takes for each ring.
+/* Rounds over so many rings of 1,024 words. Each loads how far a ring's writer has come, and compares it with what was
+   taken. It prints how many picoseconds a round takes for each ring.
    usage: load_idle WRITERS */
 #include <stdatomic.h>
 #include <stdio.h>

@@ -20,9 +20,9 @@ namespace nanolog {
 inline namespace version_1 {
 namespace detail {
 
-// Pumps the bytes of the log into a buffer, and writes them, and keeps the log's times right. Once the file has failed it
-// pumps on and throws away, so that no thread waits for room for ever. Other threads talk with it by atomics and bells alone, so that nothing that
-// holds one of them up, as a fork, a crash or a signal handler may, holds up the others.
+// Pumps the bytes of the log into a buffer, and writes them, and keeps the log's times right. Once the file has failed
+// it pumps on and throws away, so that no thread waits for room for ever. Other threads talk with it by atomics and bells
+// alone, so that nothing that holds one of them up, as a fork, a crash or a signal handler may, holds up the others.
 class Consumer {
    public:
     Consumer() = default;

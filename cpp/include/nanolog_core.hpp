@@ -86,8 +86,8 @@ inline Report::Writer writer_of(const Slot &slot) {
     return {slot.logged.get(), slot.dropped.get(), slot.need.get(), slot.room.get()};
 }
 
-// Counts what became of the calls of a session that isn't over, in a report that is empty. It takes no memory. The mutex
-// is had.
+// Counts what became of the calls of a session that isn't over, in a report that is empty. It takes no memory. The
+// mutex is had.
 inline void count(const Core &core, Report &report) {
     report.sessionless = count_all_sessionless(false);
     if (core.stage.load() == Stage::Made) return;

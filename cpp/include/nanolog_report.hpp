@@ -22,7 +22,7 @@ struct Options {
     // The words of each writer's ring, of 8 bytes each, 1,024 to 1,048,576.
     std::uint64_t ring = 65536;
     // How many writers there are, 1 to 1,024, and so many rings, which have 67,108,864 words together at most. Each
-    // writer but the last belongs to one thread at a time; the last is shared by all threads for which no other is left.
+    // writer but the last belongs to one thread at a time; the last is shared by all for which no other is left.
     static constexpr std::uint32_t kWriters = 64;
     std::uint32_t writers = kWriters;
     // The most calls of a block of the log, 1 to 65,536.
@@ -39,9 +39,9 @@ struct Options {
     Severity echo = Severity::Off, flush_at = Severity::Off;
     // Whether what was logged is written where a fault, or an abort, ends the program.
     bool on_crash = true;
-    // A clock of the program's own: several threads read it at once, also one of the session's, and it doesn't fall. How
-    // many ticks it makes in a second, and how many nanoseconds since 1970 it is when the session begins, where 0 stands
-    // for real time.
+    // A clock of the program's own: several threads read it at once, also one of the session's, and it doesn't fall.
+    // How many ticks it makes in a second, and how many nanoseconds since 1970 it is when the session begins, where 0
+    // stands for real time.
     std::uint64_t (*clock)() = nullptr;
     std::uint64_t rate = 1000000000;
     std::uint64_t nanos = 0;
