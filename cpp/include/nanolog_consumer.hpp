@@ -21,8 +21,9 @@ inline namespace version_1 {
 namespace detail {
 
 // Pumps the bytes of the log into a buffer, and writes them, and keeps the log's times right. Once the file has failed
-// it pumps on and throws away, so that no thread waits for room for ever. Other threads talk with it by atomics and bells
-// alone, so that nothing that holds one of them up, as a fork, a crash or a signal handler may, holds up the others.
+// it pumps on and throws away, so that no thread waits for room for ever. Other threads talk with it by atomics and
+// bells alone, so that nothing that holds one of them up, as a fork, a crash or a signal handler may, holds up the
+// others.
 class Consumer {
    public:
     Consumer() = default;
@@ -167,9 +168,10 @@ class Consumer {
                 pumped_.set(0);
                 tell(asked);
             }
-            // Nobody waits for it here, and nothing is taken until the next round has told what comes of it.
+            // Nobody waits for it here, and nothing is taken until the next round has told what comes of it. Where the
+            // thread is left alone, the program's functions may be gone.
             const std::uint64_t now = nanos_of(CLOCK_MONOTONIC);
-            if (times_.compare(now)) file_.remark(kOutOfClocks);
+            if (!is_given_up() && times_.compare(now)) file_.remark(kOutOfClocks);
             if (answer == 0) rest(rings, now);
         }
     }
