@@ -382,6 +382,37 @@ void one_writer() {
     CHECK(report.logged == 40000 && report.shared == 40000 && report.writers == 1 && report.is_clean());
 }
 
+// A report has an entry for each writer that was taken, and is copied and moved as any value is.
+void reports() {
+    nanolog::Options options;
+    options.writers = 1024;
+    options.ring = 1024;
+    nanolog::Session log(kLog, kDictionary, options);
+    CHECK(log.report().writer.size() == 0 && log.report().writer[0].logged == 0);
+    std::vector<std::thread> threads;
+    std::atomic<int> begun{0};
+    for (int thread = 0; thread < 3; thread++) {
+        threads.emplace_back([&, thread] {
+            call_some("report", thread + 1);
+            for (begun++; begun != 3;) std::this_thread::yield();
+        });
+    }
+    for (std::thread &thread : threads) thread.join();
+    nanolog::Report report = log.report(), copy = report;
+    const nanolog::Report empty, moved = std::move(report);
+    report = copy;
+    copy = empty;
+    CHECK(copy.writers == 0 && copy.writer.size() == 0 && copy.writer[2].logged == 0);
+    call_some("report", 4);
+    for (const nanolog::Report &one : {moved, report, log.close(), log.report()}) {
+        std::uint64_t logged = 0;
+        for (const nanolog::Report::Writer &writer : one.writer) logged += writer.logged;
+        CHECK(one.writers == 3 && one.writer.size() == 3 && logged == one.logged && one.writer[3].logged == 0);
+        CHECK(one.writer[0].logged + one.writer[1].logged + one.writer[2].logged == logged);
+    }
+    CHECK(moved.logged == 6 && report.logged == 6 && log.report().logged == 10);
+}
+
 // ---- flushes
 
 // What was logged before a flush is in the file, by whichever thread.
@@ -477,6 +508,7 @@ int main(int count, char **words) {
         {"statics", statics},
         {"exiting", exiting},
         {"one_writer", one_writer},
+        {"reports", reports},
         {"flush", flush},
         {"many_flushes", many_flushes},
         {"busy_flush", busy_flush},

@@ -103,6 +103,8 @@ test_lives_of_sessions() {
     lines sessions.log 0 got
     run_session one_writer ''
     logs sessions.log 40000
+    run_session reports ''
+    logs sessions.log 10
     run_session flush ''
     logs sessions.log 2000
     lines flushed.log 0 got
