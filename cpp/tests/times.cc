@@ -109,7 +109,7 @@ std::size_t clocks_of(nanolog::Session &log, const char *name = kLog) {
 
 // Real time steps to and fro, and what is less than a millisecond doesn't matter.
 void steps() {
-    nanolog::Session log(kLog, of_own());
+    nanolog::Session log(kLog, DICTIONARY, of_own());
     call_at(kBegin);
     now += 7;
     call_at(kBegin + 7);
@@ -146,7 +146,7 @@ void drifts() {
     nanolog::Options options = of_own();
     options.clock = read_fast;
     options.real_time = read_slow;
-    nanolog::Session log(kLog, options);
+    nanolog::Session log(kLog, DICTIONARY, options);
     for (std::uint64_t turn = 1; turn <= 40; turn++) {
         drifted = turn;
         settle(log);
@@ -169,7 +169,7 @@ void soon() {
     nanolog::Options options;
     options.ring = 1024;
     options.real_time = read_stepped;
-    nanolog::Session log(kLog, options);
+    nanolog::Session log(kLog, DICTIONARY, options);
     std::atomic<bool> is_over{false};
     std::thread other([&] {
         while (!is_over && std::strcmp(word, "busy") == 0) {
@@ -193,7 +193,7 @@ void soon() {
 void still() {
     nanolog::Options options;
     options.ring = 1024;
-    nanolog::Session log(kLog, options);
+    nanolog::Session log(kLog, DICTIONARY, options);
     for (int turn = 0; turn < 30; turn++) {
         NANO_LOG(NOTICE, "turn %d", turn);
         usleep(100000);
@@ -205,7 +205,7 @@ void unkept() {
     nanolog::Options options = of_own();
     options.keep_times = false;
     options.nanos = kBegin + kHour;
-    nanolog::Session log(kLog, options);
+    nanolog::Session log(kLog, DICTIONARY, options);
     real += kHour;
     now += 3;
     pass(log);
@@ -219,7 +219,7 @@ void unkept() {
 void many() {
     nanolog::Options options = of_own();
     options.quiet = std::strcmp(word, "quiet") == 0;
-    nanolog::Session log(kLog, options);
+    nanolog::Session log(kLog, DICTIONARY, options);
     for (int step = 1; step <= 255; step++) {
         step % 3 == 0 ? real -= kHour : real += kHour;
         settle(log);
@@ -251,7 +251,7 @@ std::uint64_t behind(std::uint64_t nanos, std::uint64_t ticks, std::uint64_t rat
 // Clocks of other rates. Within a tick real time may be anywhere.
 void rates() {
     const std::uint64_t rate = std::strtoull(word, nullptr, 10);
-    nanolog::Session log(kLog, of_own(rate));
+    nanolog::Session log(kLog, DICTIONARY, of_own(rate));
     call_at(kBegin);
     real += rate < 1000 ? kSecond / rate : kSecond / 2000;
     settle(log);
@@ -275,7 +275,7 @@ void rates() {
 void nanos() {
     nanolog::Options options = of_own();
     options.nanos = 5 * kSecond;
-    nanolog::Session log(kLog, options);
+    nanolog::Session log(kLog, DICTIONARY, options);
     call_at(5 * kSecond);
     real += kHour;
     settle(log);
@@ -291,7 +291,7 @@ void nanos() {
 
 // A clock that stands still while real time goes on: calls keep its time.
 void stands() {
-    nanolog::Session log(kLog, of_own());
+    nanolog::Session log(kLog, DICTIONARY, of_own());
     for (int turn = 0; turn < 100; turn++) {
         real += kSecond;
         settle(log);
@@ -305,7 +305,7 @@ void stands() {
 // A clock that falls. Who logs has the stamp of the call before, and another clock is told where it has come beyond the
 // last one.
 void falls() {
-    nanolog::Session log(kLog, of_own());
+    nanolog::Session log(kLog, DICTIONARY, of_own());
     call_at(kBegin);
     real += kHour;
     settle(log);
@@ -322,7 +322,7 @@ void falls() {
 
 // A call whose stamp lies ahead was taken: another clock is told once the program's has come beyond it.
 void ahead() {
-    nanolog::Session log(kLog, of_own());
+    nanolog::Session log(kLog, DICTIONARY, of_own());
     call_at(kBegin);
     now += 1000;
     call_at(kBegin + 1000);
@@ -351,7 +351,7 @@ std::uint64_t read_held_up() {
 void held_up() {
     nanolog::Options options = of_own();
     options.clock = read_held_up;
-    nanolog::Session log(kLog, options);
+    nanolog::Session log(kLog, DICTIONARY, options);
     is_held_up = true;
     real += kHour;
     for (const std::uint64_t reads = real_reads + 10; real_reads < reads;) CHECK(log.flush());
@@ -383,7 +383,7 @@ void throws() {
     } else {
         options.real_time = throw_real;
     }
-    nanolog::Session log(kLog, options);
+    nanolog::Session log(kLog, DICTIONARY, options);
     is_thrown = true;
     real += kHour;
     pass(log);
@@ -406,7 +406,7 @@ std::uint64_t log_real() {
 void logs() {
     nanolog::Options options = of_own();
     options.real_time = log_real;
-    nanolog::Session log(kLog, options);
+    nanolog::Session log(kLog, DICTIONARY, options);
     real += kHour;
     settle(log);
     now += 2;
@@ -421,7 +421,7 @@ void logs() {
 
 // A session that begins anew with the statements of a plugin has the clocks that were told before.
 void anew() {
-    nanolog::Session log(kLog, of_own());
+    nanolog::Session log(kLog, DICTIONARY, of_own());
     for (int turn = 0; turn < 3; turn++) {
         real += kHour;
         settle(log);
@@ -445,7 +445,7 @@ void anew() {
 
 // The child of a fork has a session of its own, and its parent goes on with the first one.
 void forks() {
-    nanolog::Session log(kLog, of_own());
+    nanolog::Session log(kLog, DICTIONARY, of_own());
     real += kHour;
     settle(log);
     now += 2;
@@ -453,7 +453,7 @@ void forks() {
     const pid_t child = fork();
     CHECK(child >= 0);
     if (child == 0) {
-        nanolog::Session own("child.log", of_own());
+        nanolog::Session own("child.log", DICTIONARY, of_own());
         real += kHour;
         settle(own);
         now += 2;
