@@ -397,7 +397,7 @@ void throws() {
 }
 
 // A function that logs itself: that is refused.
-std::atomic<bool> is_logging{true};
+std::atomic<bool> is_logging{false};
 std::uint64_t log_real() {
     if (is_logging && is_elsewhere()) NANO_LOG(NOTICE, "of a clock");
     return read_real();
@@ -407,6 +407,7 @@ void logs() {
     nanolog::Options options = of_own();
     options.real_time = log_real;
     nanolog::Session log(kLog, DICTIONARY, options);
+    is_logging = true;
     real += kHour;
     settle(log);
     now += 2;
