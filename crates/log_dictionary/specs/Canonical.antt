@@ -39,9 +39,13 @@ message_line id message = message_fields id message ++ quoted_text message.file 
 abbrev pub message_text : ℕ × Message → List ℕ
 message_text (id, message) = message_line id message ++ 10 ∷ []
 
--- the text of a dictionary: the first line of a trace, and the lines of the messages
+-- the lines of messages, whose ids count from 0
+abbrev pub messages_text : List Message → List ℕ
+messages_text messages = flat_map message_text (enumerate_from 0 messages)
+
+-- the text of a dictionary: the first line of a trace of version 1, and the lines of the messages
 abbrev pub dictionary_text : List Message → List ℕ
-dictionary_text messages = codes "nanolog-trace 1\n" ++ flat_map message_text (enumerate_from 0 messages)
+dictionary_text messages = codes "nanolog-trace 1\n" ++ messages_text messages
 
 -- a message that a line can spell: its texts are bytes, its format is formed, and its line is a u32
 pub record HasLine (message : Message) : Type 0 where

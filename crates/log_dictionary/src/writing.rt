@@ -2,7 +2,7 @@
 
 ghost use Rattle.std.specs.Prelude.{◌≡◌, ◌<◌, ◌/◌, ◌%◌, ◌++◌, ◌∷◌, [], OnOk, OnErr, take, vec_len, codes};
 ghost use Rattle.std.specs.Char.{digit_char};
-ghost use Rattle.log_dictionary.specs.Canonical.{canonical_byte, quoted_text, message_fields, message_text, dictionary_text};
+ghost use Rattle.log_dictionary.specs.Canonical.{canonical_byte, quoted_text, message_fields, message_text, messages_text, dictionary_text};
 
 use crate::dictionary::Dictionary;
 use crate::message::Message;
@@ -85,11 +85,10 @@ fn push_message(out: &mut Vec<u8>, id: usize, message: &Message) -> Result<(), A
     Ok(())
 }
 
-fn push_dictionary(out: &mut Vec<u8>, dictionary: &Dictionary) -> Result<(), AllocError>
-    ensures ok { OnOk result (out.new.items ≡ out.old.items ++ dictionary_text dictionary.now) }
+fn push_messages(out: &mut Vec<u8>, dictionary: &Dictionary) -> Result<(), AllocError>
+    ensures ok { OnOk result (out.new.items ≡ out.old.items ++ messages_text dictionary.now) }
     ensures err { OnErr result (take (vec_len out.old) out.new.items ≡ out.old.items) }
 {
-    out.extend_from_slice(b"nanolog-trace 1\n")?;
     for (id, message) in dictionary.iter().enumerate() {
         push_message(out, id, message)?;
     }
@@ -97,14 +96,28 @@ fn push_dictionary(out: &mut Vec<u8>, dictionary: &Dictionary) -> Result<(), All
 }
 
 impl Dictionary {
-    /// Appends the first line of a trace and a line for each message. After an error `out` is as
-    /// before.
+    /// Appends a line for each message. After an error `out` is as before.
+    pub fn write_messages(&self, out: &mut Vec<u8>) -> Result<(), AllocError>
+        ensures ok { OnOk result (out.new.items ≡ out.old.items ++ messages_text self.now) }
+        ensures err { OnErr result (out.new.items ≡ out.old.items) }
+    {
+        let before = out.len();
+        let written = push_messages(out, self);
+        if written.is_err() {
+            out.truncate(before);
+        }
+        written
+    }
+
+    /// Appends the first line of a trace of version 1 and a line for each message. After an error
+    /// `out` is as before.
     pub fn write_text(&self, out: &mut Vec<u8>) -> Result<(), AllocError>
         ensures ok { OnOk result (out.new.items ≡ out.old.items ++ dictionary_text self.now) }
         ensures err { OnErr result (out.new.items ≡ out.old.items) }
     {
         let before = out.len();
-        let written = push_dictionary(out, self);
+        out.extend_from_slice(b"nanolog-trace 1\n")?;
+        let written = self.write_messages(out);
         if written.is_err() {
             out.truncate(before);
         }

@@ -15,7 +15,3 @@ line_joined old fields file space format end a b c d new ea eb ec ed en = rw (en
 -- the same of its first parts
 pub line_begun : (old fields file space a b new : List ℕ) → a ≡ old ++ fields → b ≡ a ++ file → new ≡ b ++ space → new ≡ old ++ (fields ++ file ++ space)
 line_begun old fields file space a b new ea eb en = rw (en, eb, ea) (simp append_assoc)
-
--- the same of a first part, and others that are still to come
-pub begun : (old head new rest : List ℕ) → new ≡ old ++ head → new ++ rest ≡ old ++ (head ++ rest)
-begun old head new rest e = ap (λ l. l ++ rest) e ∙ append_assoc old head rest

@@ -1,12 +1,11 @@
-use Rattle.std.proofs.Common.{◌≡◌, take, vec_len, ap, length, arith, rules}
-use Rattle.log_dictionary.proofs.lemmas.Appending.{kept, begun}
-use Rattle.log_dictionary.proofs.writing.push_dictionary.Goals as goal
+use Rattle.std.proofs.Common.{◌≡◌, [], take, vec_len, refl, sym, ap, length, append-nil, arith, rules}
+use Rattle.log_dictionary.proofs.lemmas.Appending.{kept}
+use Rattle.log_dictionary.proofs.writing.push_messages.Goals as goal
 
 pub loop-id-init : goal.loop-id-init
 loop-id-init c =
     let all = c.iter-message-items.ensures in
-    let appended = c.in_ok-extend_from_slice.ensures.items in
-    ((_, appended), rw all (begun _ _ _ _ appended), omega (arith, ap length all))
+    (([], sym (append-nil _)), rw all refl, omega (arith, ap length all))
 
 pub returns-in_err-push_message-clause-err : goal.returns-in_err-push_message-clause-err
 returns-in_err-push_message-clause-err c =
