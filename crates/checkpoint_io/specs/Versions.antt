@@ -1,22 +1,11 @@
 -- What depends on the version of a log: all of it stands here.
-use Rattle.std.specs.Prelude.{ℕ, ◌+◌, Bool, ◌||◌, nat_eq, if◌then◌else◌}
-use Rattle.session_options.specs.declared.limits.TheConstants.{MAX_LOG_WRITERS}
+use Rattle.std.specs.Prelude.{ℕ, ◌+◌, nat_eq, if◌then◌else◌}
+pub use Rattle.session_options.specs.Versions.{is_known, has_clocks, most_writers}
 use Rattle.checkpoint_io.specs.declared.version.TheConstants.{MAX_BODY}
-
--- logs of this version are read
-abbrev pub is_known : ℕ → Bool
-is_known version = nat_eq version 1 || nat_eq version 2
-
--- logs of this version may have clocks behind that of the header
-abbrev pub has_clocks : ℕ → Bool
-has_clocks version = nat_eq version 2
 
 -- how many bytes the number of writers, and each writer, has
 abbrev pub writer_len : ℕ → ℕ
 writer_len version = if nat_eq version 1 then 1 else 2
-
-abbrev pub most_writers : ℕ → ℕ
-most_writers version = if nat_eq version 1 then MAX_LOG_WRITERS else 1024
 
 abbrev pub most_body : ℕ → ℕ
 most_body version = if nat_eq version 1 then MAX_BODY else 1048576

@@ -17,7 +17,7 @@ ghost use Rattle.checkpoint_io.specs.declared.cause.Cause.{Cause};
 ghost use Rattle.checkpoint_io.specs.declared.cause.Cause.TheVariants.{BadMagic, BadVersion, BadHeader, Cut, BadBlock, FragmentOrder, BadEntry, UnknownWriter, AfterClose, BadLength, Body, TooLarge, ClockOrder, ClockLate, BadRate, ClockCount};
 ghost use Rattle.checkpoint_io.specs.declared.header.Header.{Header};
 ghost use Rattle.checkpoint_io.specs.declared.heads.TheConstants.{CLOCK_LEN, MAX_FRAGMENT_MESSAGES, MAX_LOG};
-ghost use Rattle.checkpoint_io.specs.declared.version.TheConstants.{MAX_BODY, MAX_READ_BODY, MAX_WRITERS, MAX_HEADER_LEN, MAX_EXTENT_HEAD_LEN, MAX_CLOSE_LEN};
+ghost use Rattle.checkpoint_io.specs.declared.version.TheConstants.{MAX_BODY, MAX_READ_BODY, MAX_HEADER_LEN, MAX_EXTENT_HEAD_LEN, MAX_CLOSE_LEN};
 ghost use Rattle.checkpoint_io.specs.Blocks.{Block, Fragment, Extent, NewClock, Close, IsPreface, messages_of, clocks_of, all_records, header_bytes, fragment_head_bytes, extent_head_bytes, clock_bytes, close_bytes, SpellsEntries, SpellsFragment, SpellsExtent, SpellsClock, SpellsClose, SpellsBlock, FileOf};
 ghost use Rattle.checkpoint_io.specs.Causes.{cause_number, cause_name};
 ghost use Rattle.checkpoint_io.specs.Fronts.{BeginsWithLog, Front, HasNoHeader, Break, BreaksByCutAlone, IsCutAt};
@@ -26,6 +26,7 @@ ghost use Rattle.checkpoint_io.specs.Reading.{header_at, block_at};
 ghost use Rattle.checkpoint_io.specs.Rows.{row_header, row_header_bytes, row_blocks, row_bytes, row_record, full_record, late_fragments, two_clocks, call_at, clock_header, clock_blocks, clock_file, later_clock_bytes, late_clock_file};
 ghost use Rattle.arg_records.specs.Rows.{full_message};
 ghost use Rattle.log_dictionary.specs.Rows.{row_message, later_clock};
+ghost use Rattle.session_options.specs.declared.version.TheConstants.{MAX_WRITERS};
 ghost use Rattle.checkpoint_io.specs.Versions.{is_known, has_clocks, writer_len, most_writers, most_body, header_len, extent_head_len, close_len};
 ghost use Rattle.checkpoint_io.specs.Validity.{records_of, last_stamp, IsClosed, IsOf, IsRightAfter, IsHeader, Valid};
 

@@ -3,13 +3,10 @@
 ghost use Rattle.std.specs.Prelude.{◌≡◌};
 ghost use Rattle.checkpoint_io.specs.Versions as versions;
 
-use session_options::MAX_LOG_WRITERS;
+pub use session_options::{MAX_WRITERS, has_clocks, is_known, most_writers};
 
 /// The most bytes of an extent's body in version 1.
 pub const MAX_BODY: u32 = 65_536;
-
-/// At least as many writers as a log has, in any version.
-pub const MAX_WRITERS: u32 = 1_024;
 
 /// At least as many bytes as an extent's body has, in any version.
 pub const MAX_READ_BODY: usize = 1_048_576;
@@ -23,20 +20,6 @@ pub const MAX_EXTENT_HEAD_LEN: usize = 7;
 /// At least as many bytes as a close mark has, in any version.
 pub const MAX_CLOSE_LEN: usize = 3;
 
-/// Whether logs of this version are read.
-pub fn is_known(version: u8) -> bool
-    ensures { result ≡ versions.is_known version }
-{
-    version == 1 || version == 2
-}
-
-/// Whether such logs may have clocks behind that of the header.
-pub fn has_clocks(version: u8) -> bool
-    ensures { result ≡ versions.has_clocks version }
-{
-    version == 2
-}
-
 /// The bytes of the number of writers, and of each writer.
 pub fn writer_len(version: u8) -> usize
     ensures { result ≡ versions.writer_len version }
@@ -44,16 +27,6 @@ pub fn writer_len(version: u8) -> usize
     match version {
         1 => 1,
         _ => 2,
-    }
-}
-
-/// The most writers of a log.
-pub fn most_writers(version: u8) -> u32
-    ensures { result ≡ versions.most_writers version }
-{
-    match version {
-        1 => MAX_LOG_WRITERS,
-        _ => MAX_WRITERS,
     }
 }
 

@@ -3,7 +3,7 @@ use Rattle.std.specs.Prelude.{◌≡◌, ℕ, ◌*◌, ◌≤◌, false, List, [
 use Rattle.std.specs.List.{AllZip}
 use Rattle.log_dictionary.specs.declared.message.Message.{Message}
 use Rattle.session_options.specs.declared.limits.TheConstants.{MIN_RING, MAX_RING, MAX_SESSION_WORDS, MAX_BATCH}
-use Rattle.checkpoint_io.specs.declared.version.TheConstants.{MAX_WRITERS}
+use Rattle.session_options.specs.declared.version.TheConstants.{MAX_WRITERS}
 use Rattle.trace_text.specs.declared.cause.TraceCause.{TraceCause}
 use Rattle.trace_text.specs.declared.reading.TraceFault.{TraceFault}
 use Rattle.trace_text.specs.declared.reading.TraceFault.TheVariants as faults

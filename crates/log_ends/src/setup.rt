@@ -2,9 +2,8 @@
 
 ghost use Rattle.std.specs.Prelude.{◌↔◌, IsTrue};
 
-use checkpoint_io::MAX_WRITERS;
 use log_dictionary::Clock;
-use session_options::{MAX_BATCH, MAX_RING, MAX_SESSION_WORDS, MIN_RING};
+use session_options::{MAX_BATCH, MAX_RING, MAX_SESSION_WORDS, MAX_WRITERS, MIN_RING};
 
 /// What a session is told when it is opened, beside its messages.
 #[derive(Clone, Copy, Debug, PartialEq, Eq)]

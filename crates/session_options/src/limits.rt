@@ -1,11 +1,5 @@
 //! How great runs and what they are told may be.
 
-/// The most writers of a log of version 1.
-pub const MAX_LOG_WRITERS: u32 = 64;
-
-/// The most writers of a trace, and of the session that records it.
-pub const MAX_TRACE_WRITERS: u32 = 64;
-
 /// The most words of all rings of a session.
 pub const MAX_SESSION_WORDS: u64 = 67_108_864;
 

@@ -5,7 +5,7 @@ use Rattle.log_dictionary.specs.Clocks.{first_tick}
 use Rattle.ring_core.specs.Plans.{plan_of}
 use Rattle.log_session.specs.Writers.{IsDictionaryPlan}
 use Rattle.log_session.proofs.Logging.{dictionary_plan}
-use Rattle.roaming_consumer.proofs.lemmas.FirstClock.{first_tick_is}
+use Rattle.session_options.proofs.lemmas.RunClocks.{first_tick_is}
 use Rattle.roaming_consumer.proofs.lemmas.OnePlace.{zip_second}
 use Rattle.log_session.proofs.starting.start.Goals as goal
 
