@@ -1,26 +1,22 @@
 -- What a call adds to the log for which a roamer stands.
 use Rattle.std.proofs.Common.{◌≡◌, ℕ, ◌+◌, ◌-◌, ◌<◌, ◌≤◌, Bool, true, false, List, [], ◌∷◌, ◌++◌, length, get_or, Some, sym, ap, subst, ◌∙◌, append-nil, append_assoc, inl, inr, arith}
 use Rattle.std.specs.Prelude.{All, slice_get, max, take, Result, is_err}
-use Rattle.std.proofs.lemmas.Bool.{both_ways}
 use Rattle.std.proofs.lemmas.List.{length-take-le, nil_from_length, get_or_read}
-use Rattle.std.proofs.lemmas.List.Elements.{All-push}
 use Rattle.std.proofs.lemmas.Option.{slice_get_within}
 use Rattle.nl_io.specs.Content.{Told, with_end, PutsFront}
 use Rattle.nl_io.proofs.lemmas.Contents.{with_end-none}
 use Rattle.log_dictionary.specs.declared.clock.Clock.{Clock}
 use Rattle.log_dictionary.specs.declared.message.Message.{Message}
 use Rattle.log_dictionary.specs.Messages.{AreDistinct}
-use Rattle.log_dictionary.specs.Clocks.{FitsClock, FollowsClocks}
-use Rattle.log_dictionary.proofs.lemmas.ClockLists.{AreClocks-push}
 use Rattle.arg_records.specs.declared.call.Call.{Call}
-use Rattle.checkpoint_io.specs.Versions.{has_clocks, most_body}
+use Rattle.checkpoint_io.specs.Versions.{most_body}
 use Rattle.checkpoint_io.specs.Blocks.{Block, all_records, extent_head_bytes, close_bytes, SpellsExtent}
 use Rattle.checkpoint_io.specs.Validity.{IsClosed}
 use Rattle.checkpoint_io.specs.Logs.{greatest_stamp}
 use Rattle.ring_core.specs.Plans.{Plan, plan_of, AreFramesOf}
 use Rattle.roaming_consumer.specs.declared.draft.Draft.{Draft}
 use Rattle.roaming_consumer.specs.declared.roamer.Roamer.{Roamer}
-use Rattle.roaming_consumer.specs.Growth.{LogProgress, MayHaveClocks, due_clocks, progress_closing, IsLogSoFar}
+use Rattle.roaming_consumer.specs.Growth.{LogProgress, due_clocks, progress_closing, IsLogSoFar}
 use Rattle.roaming_consumer.specs.Gathering.{FramesCame, DraftsFrames, StopsTaking}
 use Rattle.roaming_consumer.specs.Roamers.{ends_of, roamer_messages, roamer_version, roamer_clocks, roamer_clock, roamer_room, roamer_batch, roamer_progress, is_marked, is_begun, is_faulted, behind_draft, plan_of_roamer, IsSameRun, KeepsLog, EndAfterTaking, ChangesOne, FramesAreTaken, BeginWithFramesOf, FramesWereTaken, HaveEnded, IsLogOfEnds, IsCutLogOfEnds, RoamerStandsFor, AppendsToLog, AddsClock, roamer_header}
 use Rattle.roaming_consumer.specs.Sinks.{SendsExtent}
@@ -314,15 +310,6 @@ clock_added got ended old new clock adds later wrote stood =
       lawful = λ now unfaulted. log_with_clock got ended old new clock wrote adds later (stood.lawful (at ∙ now) (sym adds.faulted ∙ unfaulted));
       cut = λ now faulted. cut_with_clock got ended old new clock wrote adds later (stood.cut (at ∙ now) (sym adds.faulted ∙ faulted));
     }
-
--- the clocks with one more behind them may be those of the log
-pub may_have_more : (version : ℕ) (clocks more : List Clock) (clock : Clock) → MayHaveClocks version clocks → has_clocks version ≡ true → FollowsClocks clocks clock → FitsClock clock → more ≡ clocks ++ clock ∷ [] → MayHaveClocks version more
-may_have_more version clocks more clock may has follows fits is =
-    subst (MayHaveClocks version) (sym is) (record {
-      are = AreClocks-push clocks clock may.are follows.few follows.above follows.rate;
-      fit = All-push FitsClock clocks clock may.fit fits;
-      alone = λ none. absurd (both_ways (has_clocks version) none has);
-    })
 
 -- the first clock stays
 pub first_stays : (clocks more : List Clock) (first clock : Clock) → slice_get clocks 0 ≡ Some first → more ≡ clocks ++ clock ∷ [] → slice_get more 0 ≡ Some first

@@ -27,7 +27,8 @@ use Rattle.checkpoint_io.proofs.lemmas.FrontLaws.{empty_file, file_goes_on}
 use Rattle.checkpoint_io.proofs.lemmas.LogLaws.{messages_of-AreFragments, stamps_within, stamp_least, laid_out_join}
 use Rattle.checkpoint_io.proofs.lemmas.VersionLaws.{writers_fit}
 use Rattle.checkpoint_io.proofs.lemmas.ValidityLaws.{messages-push, records-push, clocks-push, all_records-push, AreRightAfter-append, goes_on, all_both, all_parts, all_own}
-use Rattle.roaming_consumer.specs.Growth.{MayHaveClocks, LogProgress, IsLogSoFar, with_calls, clocks_bytes, IsNext, progress_behind, progress_closing}
+use Rattle.session_options.specs.Versions.{MayHaveClocks}
+use Rattle.roaming_consumer.specs.Growth.{LogProgress, IsLogSoFar, with_calls, clocks_bytes, IsNext, progress_behind, progress_closing}
 pub use Rattle.roaming_consumer.proofs.DueClocks.{last_is_greatest, greatest_append}
 use Rattle.roaming_consumer.proofs.DueClocks.{all_as, all_two, Rising, rising_back, first_below, parted, IsUnreached, Behind, behind, clocks_right, clocks_spelled, later_laid, all_of_each}
 use Rattle.roaming_consumer.proofs.Used.{distinct_front, new_behind, ids_known, calls_of_front, spelled_with_front}

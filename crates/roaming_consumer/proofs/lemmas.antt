@@ -1,4 +1,3 @@
-pub mod FirstClock
 pub mod Marking
 pub mod OnePlace
 pub mod Sending

@@ -1,23 +1,14 @@
 -- The log of a run while it grows: what is kept of it, and what is put behind it.
-use Rattle.std.specs.Prelude.{◌≡◌, ℕ, ◌+◌, ◌<◌, ◌≤◌, nat_le, Bool, true, false, List, [], ◌++◌, length, get_or, slice_get, slice_set, Some, max, drop, filter, All}
+use Rattle.std.specs.Prelude.{◌≡◌, ℕ, ◌+◌, ◌<◌, ◌≤◌, nat_le, Bool, true, false, List, [], ◌++◌, length, get_or, slice_get, slice_set, Some, max, drop, filter}
 use Rattle.std.specs.List.{AllByRecursion, flat_map, list_any}
 use Rattle.log_dictionary.specs.declared.clock.Clock.{Clock}
 use Rattle.log_dictionary.specs.declared.message.Message.{Message}
-use Rattle.log_dictionary.specs.Clocks.{AreClocks, FitsClock}
 use Rattle.arg_records.specs.declared.call.Call.{Call}
 use Rattle.arg_records.specs.Calls.{IsCall, NeverFalls}
 use Rattle.checkpoint_io.specs.declared.header.Header.{Header}
-use Rattle.checkpoint_io.specs.Versions.{has_clocks}
 use Rattle.checkpoint_io.specs.Blocks.{Block, messages_of, clocks_of, all_records, clock_bytes, SpellsBlocks, SpellsExtent}
 use Rattle.checkpoint_io.specs.Validity.{closes}
 use Rattle.checkpoint_io.specs.Logs.{ids_used, new_messages, greatest_stamp, new_clocks, AreFragments, LogOf}
-
--- A log of this version may have these clocks: they are those of a run, their numbers are below 2^64, and there is one
--- alone where the version has no others.
-pub record MayHaveClocks (version : ℕ) (clocks : List Clock) : Type 0 where
-  pub are : AreClocks clocks
-  pub fit : All FitsClock clocks
-  pub alone : has_clocks version ≡ false → length clocks ≡ 1
 
 -- what is kept of a log, so that it can grow
 pub record LogProgress : Type 0 where

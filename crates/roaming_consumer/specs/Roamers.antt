@@ -208,7 +208,7 @@ pub record AppendsToLog {S : Type 0} (got : S → List (List ℕ)) (ended : S �
 -- ---- a clock that is told
 
 -- the clock may follow those that were told: the log may have more than one, and it follows the last one
-pub record MayFollow {S : Type 0} (roamer : Roamer S) (clock : Clock) : Type 0 where
+pub record MayTakeClock {S : Type 0} (roamer : Roamer S) (clock : Clock) : Type 0 where
   pub version_has : has_clocks (roamer_version roamer) ≡ true
   pub follows : FollowsClocks (roamer_clocks roamer) clock
 

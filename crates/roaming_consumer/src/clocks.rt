@@ -4,7 +4,7 @@ ghost use Rattle.std.specs.Prelude.{◌≡◌, ◌↔◌, ◌≤◌, ℕ, List, 
 ghost use Rattle.checkpoint_io.specs.declared.heads.TheConstants.{CLOCK_LEN};
 ghost use Rattle.roaming_consumer.specs.Growth.{due_clocks, clocks_bytes};
 ghost use Rattle.roaming_consumer.specs.Sinks.{Sends};
-ghost use Rattle.roaming_consumer.specs.Roamers.{ends_of, roamer_clocks, roamer_progress, is_begun, ArePlanned, RoamerStandsFor, MayFollow, AddsClock};
+ghost use Rattle.roaming_consumer.specs.Roamers.{ends_of, roamer_clocks, roamer_progress, is_begun, ArePlanned, RoamerStandsFor, MayTakeClock, AddsClock};
 
 use crate::roamer::Roamer;
 use checkpoint_io::{CLOCK_LEN, has_clocks, put_clock};
@@ -58,9 +58,9 @@ impl<'d, S: StageOut> Roamer<'d, S> {
     pub fn add_clock(&mut self, clock: Clock) -> Result<(), ClockRefusal>
         ensures ok { OnOk result (AddsClock self.old clock self.new) }
         ensures err { OnErr result (self.new ≡ self.old) }
-        ensures misfit { (result ≡ Err ClockRefusal.Misfit) ↔ (¬ (MayFollow self.old clock)) }
+        ensures misfit { (result ≡ Err ClockRefusal.Misfit) ↔ (¬ (MayTakeClock self.old clock)) }
         ensures reached { (result ≡ Err ClockRefusal.Reached)
-            ↔ (MayFollow self.old clock × (clock.tick ≤ (roamer_progress self.old).latest)) }
+            ↔ (MayTakeClock self.old clock × (clock.tick ≤ (roamer_progress self.old).latest)) }
         ensures stands { (wrote : List ℕ) → RoamerStandsFor S.got S.ended self.old wrote
             → RoamerStandsFor S.got S.ended self.new wrote }
         ensures planned { ArePlanned S.plan self.old → ArePlanned S.plan self.new }

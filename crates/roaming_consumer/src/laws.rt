@@ -14,7 +14,8 @@ ghost use Rattle.checkpoint_io.specs.declared.header.Header.{Header};
 ghost use Rattle.checkpoint_io.specs.Blocks.{header_bytes, close_bytes};
 ghost use Rattle.checkpoint_io.specs.Validity.{IsHeader};
 ghost use Rattle.roaming_consumer.specs.Gathering.{StopsTaking};
-ghost use Rattle.roaming_consumer.specs.Growth.{LogProgress, MayHaveClocks, IsLogSoFar, with_calls, IsNext, progress_behind, progress_closing};
+ghost use Rattle.session_options.specs.Versions.{MayHaveClocks};
+ghost use Rattle.roaming_consumer.specs.Growth.{LogProgress, IsLogSoFar, with_calls, IsNext, progress_behind, progress_closing};
 ghost use Rattle.roaming_consumer.specs.declared.roamer.Roamer.{Roamer};
 ghost use Rattle.roaming_consumer.specs.Roamers.{is_begun, is_faulted, AreMarked, IsClosedLogOfEnds, RoamerStandsFor};
 

@@ -3,7 +3,7 @@
 ghost use Rattle.std.specs.Prelude.{◌≡◌, ◌≤◌, true, length, slice_get, Some, vec_len};
 ghost use Rattle.checkpoint_io.specs.Versions.{is_known, most_writers, most_body};
 ghost use Rattle.roaming_consumer.specs.declared.fragments.TheConstants.{MAX_FRAGMENT};
-ghost use Rattle.roaming_consumer.specs.Growth.{MayHaveClocks};
+ghost use Rattle.session_options.specs.Versions.{MayHaveClocks};
 
 use crate::fragments::MAX_FRAGMENT;
 use arg_records::MAX_FRAME_WORDS;

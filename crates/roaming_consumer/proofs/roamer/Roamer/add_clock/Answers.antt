@@ -1,6 +1,7 @@
 use Rattle.std.proofs.Common.{◌≡◌, ◌∷◌, [], ◌++◌, refl, rules}
+use Rattle.session_options.proofs.lemmas.RunClocks.{may_have_more}
 use Rattle.roaming_consumer.proofs.lemmas.Sending.{ok_of}
-use Rattle.roaming_consumer.proofs.Additions.{clock_added, may_have_more, first_stays}
+use Rattle.roaming_consumer.proofs.Additions.{clock_added, first_stays}
 use Rattle.roaming_consumer.proofs.roamer.Roamer.add_clock.Goals as goal
 
 pub invariant_of-self-clause-may_have : goal.invariant_of-self-clause-may_have

@@ -1,14 +1,10 @@
-use Rattle.std.proofs.Common.{◌≡◌, ℕ, zero, suc, Bool, false, List, length, get_or, refl, ap, subst, ◌∙◌, arith}
-use Rattle.std.specs.Prelude.{All, replicate, slice_get}
+use Rattle.std.proofs.Common.{◌≡◌, ℕ, Bool, false, List, length, get_or, refl, ap, subst, ◌∙◌, arith}
+use Rattle.std.specs.Prelude.{All, slice_get}
 use Rattle.log_dictionary.specs.declared.clock.Clock.{Clock}
 use Rattle.ring_core.specs.Plans.{plan_of}
-use Rattle.roaming_consumer.proofs.lemmas.FirstClock.{first_tick_is}
+use Rattle.session_options.proofs.lemmas.RunClocks.{first_tick_is}
+use Rattle.roaming_consumer.proofs.Standing.{false_everywhere}
 use Rattle.roaming_consumer.proofs.roamer.Roamer.make.Goals as goal
-
-false_everywhere : (count place : ℕ) → get_or (replicate count false) place false ≡ false
-false_everywhere zero place = refl
-false_everywhere (suc count) zero = refl
-false_everywhere (suc count) (suc place) = false_everywhere count place
 
 pub invariant_of-result-clause-may_have : goal.invariant_of-result-clause-may_have
 invariant_of-result-clause-may_have g c =
