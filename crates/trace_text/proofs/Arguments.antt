@@ -14,7 +14,7 @@ use Rattle.log_dictionary.specs.Texts.{has_nul}
 use Rattle.printf_grammar.specs.Types.{FitsType, Fits}
 use Rattle.trace_text.specs.declared.cause.TraceCause.{TraceCause}
 use Rattle.trace_text.specs.declared.cause.TraceCause.TheVariants.{ArgKind, ArgRange, NulInText, TooLong}
-use Rattle.trace_text.specs.CallReading.{◌>>=◌, Item, number, text, item_at, signed_within, unsigned_below, checked_text, argument_of, arguments_at}
+use Rattle.trace_text.specs.CallReading.{◌>>=◌, refused_if, Item, number, text, item_at, signed_within, unsigned_below, checked_text, argument_of, arguments_at}
 
 pub bind-ok : {A B : Type 0} (x : Result A TraceCause) (next : A → Result B TraceCause) (y : B) → (x >>= next) ≡ Ok y → (a : A) × (x ≡ Ok a) × (next a ≡ Ok y)
 bind-ok (Ok a) next y e = (a, refl, e)
@@ -23,6 +23,10 @@ bind-ok (Err cause) next y e = absurd cc
 pub ok_or-ok : {A : Type 0} (o : Option A) (cause : TraceCause) (a : A) → ok_or o cause ≡ Ok a → o ≡ Some a
 ok_or-ok None cause a e = absurd cc
 ok_or-ok (Some b) cause a e = cc
+
+pub refused_if-ok : (test : Bool) (cause : TraceCause) (u : Unit {0}) → refused_if test cause ≡ Ok u → test ≡ false
+refused_if-ok true cause u e = absurd cc
+refused_if-ok false cause u e = refl
 
 -- what a test lets through
 pub passes : {A : Type 0} (test : Bool) (a b : A) (cause : TraceCause) → cond test (Ok a) (Err cause) ≡ Ok b → (test ≡ true) × (a ≡ b)

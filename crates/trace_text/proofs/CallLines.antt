@@ -10,6 +10,7 @@ use Rattle.log_dictionary.specs.declared.message.Message.{Message}
 use Rattle.log_dictionary.specs.declared.dictionary.TheConstants.{MAX_MESSAGES}
 use Rattle.log_dictionary.specs.Fields.{after, split_at_first, ◌>>=◌ as ◌>>>◌}
 use Rattle.log_dictionary.specs.Fields.{first_field}
+use Rattle.log_dictionary.specs.Clocks.{first_tick}
 use Rattle.log_dictionary.proofs.lemmas.Splits.{split_takes, after_takes, found}
 use Rattle.arg_records.specs.declared.call.Call.{Call}
 use Rattle.arg_records.specs.declared.frame.TheConstants.{MAX_FRAME_WORDS}
@@ -23,7 +24,7 @@ use Rattle.trace_text.specs.Lines.{WriterCall, SpellsCall}
 use Rattle.trace_text.specs.LineFields.{begins_with, field_number, CallHead, head_at}
 use Rattle.trace_text.specs.CallReading.{refused_if, ends_field, arguments_at, last_stamp, call_at}
 use Rattle.trace_text.proofs.NumberFields.{number_read, number_taken}
-use Rattle.trace_text.proofs.HeadLines.{split_number, three_joined}
+use Rattle.trace_text.proofs.HeadLines.{split_number, three_joined, most_small}
 use Rattle.trace_text.proofs.DecimalBytes.{decimal_all}
 use Rattle.trace_text.proofs.ArgumentLines.{first_read, first_taken, arguments_end, arguments_read, arguments_taken, bind-Ok}
 use Rattle.trace_text.proofs.CallSteps.{made_of, with_args, with_message, when_risen, when_ticked, with_calls, with_head, when_few, accepted}
@@ -109,21 +110,29 @@ not_full false most n h = refl
 let_pass : (test : Bool) (cause : TraceCause) → test ≡ false → refused_if test cause ≡ Ok tt
 let_pass test cause e = rw e refl
 
+-- a line whose head is right in the run is read as far as its arguments
+pub call_begun : (run : Recording) (line : List ℕ) (head : CallHead) (calls : List Call) (message : Message) → sum_by length run.writers < MAX_CALLS → head_at line ≡ Some head → slice_get run.writers head.writer ≡ Some calls
+    → first_tick run.clocks ≤ head.stamp → last_stamp (first_tick run.clocks) calls ≤ head.stamp → slice_get run.dictionary head.id ≡ Some message → call_at run line ≡ with_message head message
+call_begun run line head calls message few formed writer ticked risen known =
+    let first = first_tick run.clocks in
+    bind-Ok (refused_if (begins_with (codes "call ") line && leb MAX_CALLS (sum_by length run.writers)) TooMany) tt (λ _. when_few run line) (let_pass _ TooMany (not_full (begins_with (codes "call ") line) MAX_CALLS (sum_by length run.writers) few))
+    ∙ bind-Ok (ok_or (head_at line) CallForm) head (with_head run) (ap (λ (o : Option CallHead). ok_or o CallForm) formed)
+    ∙ bind-Ok (ok_or (slice_get run.writers head.writer) Writer) calls (with_calls run head) (ap (λ (o : Option (List Call)). ok_or o Writer) writer)
+    ∙ bind-Ok (refused_if (ltb head.stamp first) BeforeClock) tt (λ _. when_ticked run head calls) (let_pass _ BeforeClock (le-ltb head.stamp first ticked))
+    ∙ bind-Ok (refused_if (ltb head.stamp (last_stamp first calls)) StampFalls) tt (λ _. when_risen run head) (let_pass _ StampFalls (le-ltb head.stamp (last_stamp first calls) risen))
+    ∙ bind-Ok (ok_or (slice_get run.dictionary head.id) Id) message (with_message head) (ap (λ (o : Option Message). ok_or o Id) known)
+
 pub call_read : (run : Recording) (line : List ℕ) (made : WriterCall) → IsRecording run → length run.dictionary ≤ MAX_MESSAGES → SpellsCall line made → CanFollow run made → call_at run line ≡ Ok made
 call_read run line made recorded few spells next =
     let message = next.is_call.message in
     let head : CallHead = record { writer = made.writer; stamp = made.call.stamp; id = made.call.id; fields = spells.fields } in
     let writer_there = slice_get_within run.writers made.writer next.calls next.known in
     let message_there = slice_get_within run.dictionary made.call.id message next.is_call.known in
-    let is : IsHead head = record { writer = omega (arith, writer_there, recorded.few_writers); stamp = spells.stamp_fits; id = omega (arith, message_there, few); ends = arguments_end spells.fields made.call.args spells.arguments } in
+    let is : IsHead head = record { writer = omega (arith, writer_there, recorded.few_writers, most_small run.version); stamp = spells.stamp_fits; id = omega (arith, message_there, few); ends = arguments_end spells.fields made.call.args spells.arguments } in
     let headed : head_at line ≡ Some head = ap head_at spells.spelled ∙ head_read head is in
-    let ticked : run.clock.tick ≤ made.call.stamp = omega (arith, last_stamp-least run.clock.tick next.calls (all_at (NeverFalls run.clock.tick) run.writers made.writer next.calls next.known recorded.stamps), next.risen) in
-    bind-Ok (refused_if (begins_with (codes "call ") line && leb MAX_CALLS (sum_by length run.writers)) TooMany) tt (λ _. when_few run line) (let_pass _ TooMany (not_full (begins_with (codes "call ") line) MAX_CALLS (sum_by length run.writers) next.few))
-    ∙ bind-Ok (ok_or (head_at line) CallForm) head (with_head run) (ap (λ (o : Option CallHead). ok_or o CallForm) headed)
-    ∙ bind-Ok (ok_or (slice_get run.writers head.writer) Writer) next.calls (with_calls run head) (ap (λ (o : Option (List Call)). ok_or o Writer) next.known)
-    ∙ bind-Ok (refused_if (ltb head.stamp run.clock.tick) BeforeClock) tt (λ _. when_ticked run head next.calls) (let_pass _ BeforeClock (le-ltb head.stamp run.clock.tick ticked))
-    ∙ bind-Ok (refused_if (ltb head.stamp (last_stamp run.clock.tick next.calls)) StampFalls) tt (λ _. when_risen run head) (let_pass _ StampFalls (le-ltb head.stamp (last_stamp run.clock.tick next.calls) next.risen))
-    ∙ bind-Ok (ok_or (slice_get run.dictionary head.id) Id) message (with_message head) (ap (λ (o : Option Message). ok_or o Id) next.is_call.known)
+    let first = first_tick run.clocks in
+    let ticked : first ≤ made.call.stamp = omega (arith, last_stamp-least first next.calls (all_at (NeverFalls first) run.writers made.writer next.calls next.known recorded.stamps), next.risen) in
+    call_begun run line head next.calls message next.few headed next.known ticked next.risen next.is_call.known
     ∙ bind-Ok (arguments_at (Types message.format.pieces) head.fields) made.call.args (with_args head) (arguments_read (Types message.format.pieces) spells.fields made.call.args spells.arguments next.is_call.fits)
     ∙ bind-Ok (refused_if (ltb MAX_FRAME_WORDS (FrameLen made.call.args)) TooLong) tt (λ _. Ok (made_of head made.call.args)) (let_pass _ TooLong (le-ltb MAX_FRAME_WORDS (FrameLen made.call.args) next.is_call.short))
 

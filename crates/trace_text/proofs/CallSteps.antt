@@ -1,5 +1,5 @@
 -- What a line of a call that is right says, and that the run with it is one that can be recorded.
-use Rattle.std.proofs.Common.{◌≡◌, ◌≢◌, ℕ, ◌+◌, ◌<◌, Bool, true, false, List, length, Some, Result, Ok, Err, refl, sym, subst}
+use Rattle.std.proofs.Common.{◌≡◌, ◌≢◌, ℕ, ◌+◌, ◌<◌, Bool, true, false, List, length, Some, Result, Ok, Err, sym, subst}
 use Rattle.std.specs.Prelude.{nat_le, nat_lt, sum_by, slice_get, codes, ◌&&◌}
 use Rattle.std.specs.Option.{ok_or}
 use Rattle.std.proofs.lemmas.Bool.{ltb-false, leb-false}
@@ -14,6 +14,7 @@ use Rattle.trace_text.specs.declared.cause.TraceCause.{TraceCause}
 use Rattle.trace_text.specs.declared.cause.TraceCause.TheVariants.{TooMany, CallForm, Writer, BeforeClock, StampFalls, Id, TooLong}
 use Rattle.trace_text.specs.declared.trace.TheConstants.{MAX_CALLS}
 use Rattle.trace_text.specs.Recordings.{Recording}
+use Rattle.log_dictionary.specs.Clocks.{first_tick}
 use Rattle.log_dictionary.specs.Fields.{IsFirstSplit}
 use Rattle.trace_text.specs.declared.call_line.CallFault.{CallFault}
 use Rattle.trace_text.specs.declared.call_line.CallFault.TheVariants.{Refused, NoMemory}
@@ -26,14 +27,8 @@ use Rattle.trace_text.specs.LineFields.{begins_with, CallHead, head_at}
 use Rattle.trace_text.proofs.lemmas.CallRuns.{CanFollow, sum_by-with_call_of}
 use Rattle.trace_text.proofs.Steps.{refused_here}
 use Rattle.trace_text.proofs.LineFronts.{call_begins}
-use Rattle.trace_text.proofs.Arguments.{arguments_fit, bind-ok, ok_or-ok}
+use Rattle.trace_text.proofs.Arguments.{arguments_fit, bind-ok, ok_or-ok, refused_if-ok}
 use Rattle.trace_text.specs.CallReading.{◌>>=◌, refused_if, arguments_at, last_stamp, call_at, with_call}
-
--- ---- what follows where each step is right
-
-refused_if-ok : (test : Bool) (cause : TraceCause) (u : Unit {0}) → refused_if test cause ≡ Ok u → test ≡ false
-refused_if-ok true cause u e = absurd cc
-refused_if-ok false cause u e = refl
 
 -- the steps of a call's line, from the last on
 abbrev pub made_of : CallHead → List Value → WriterCall
@@ -49,10 +44,10 @@ abbrev pub when_risen : Recording → CallHead → Result WriterCall TraceCause
 when_risen run head = ok_or (slice_get run.dictionary head.id) Id >>= with_message head
 
 abbrev pub when_ticked : Recording → CallHead → List Call → Result WriterCall TraceCause
-when_ticked run head calls = refused_if (nat_lt head.stamp (last_stamp run.clock.tick calls)) StampFalls >>= (λ _. when_risen run head)
+when_ticked run head calls = refused_if (nat_lt head.stamp (last_stamp (first_tick run.clocks) calls)) StampFalls >>= (λ _. when_risen run head)
 
 abbrev pub with_calls : Recording → CallHead → List Call → Result WriterCall TraceCause
-with_calls run head calls = refused_if (nat_lt head.stamp run.clock.tick) BeforeClock >>= (λ _. when_ticked run head calls)
+with_calls run head calls = refused_if (nat_lt head.stamp (first_tick run.clocks)) BeforeClock >>= (λ _. when_ticked run head calls)
 
 abbrev pub with_head : Recording → CallHead → Result WriterCall TraceCause
 with_head run head = ok_or (slice_get run.writers head.writer) Writer >>= with_calls run head
@@ -69,8 +64,8 @@ pub record IsAccepted (run : Recording) (line : List ℕ) (made : WriterCall) : 
   pub few : (begins_with (codes "call ") line && nat_le MAX_CALLS (sum_by length run.writers)) ≡ false
   pub formed : head_at line ≡ Some head
   pub writer_known : slice_get run.writers head.writer ≡ Some calls
-  pub ticked : nat_lt head.stamp run.clock.tick ≡ false
-  pub risen : nat_lt head.stamp (last_stamp run.clock.tick calls) ≡ false
+  pub ticked : nat_lt head.stamp (first_tick run.clocks) ≡ false
+  pub risen : nat_lt head.stamp (last_stamp (first_tick run.clocks) calls) ≡ false
   pub known : slice_get run.dictionary head.id ≡ Some message
   pub arguments : arguments_at (Types message.format.pieces) head.fields ≡ Ok args
   pub short : nat_lt MAX_FRAME_WORDS (FrameLen args) ≡ false
@@ -86,8 +81,8 @@ accepted run line made e =
     let head = formed.0 in
     let writer_known = bind-ok (ok_or (slice_get run.writers head.writer) Writer) (with_calls run head) made formed.2 in
     let calls = writer_known.0 in
-    let ticked = bind-ok (refused_if (nat_lt head.stamp run.clock.tick) BeforeClock) (λ _. when_ticked run head calls) made writer_known.2 in
-    let risen = bind-ok (refused_if (nat_lt head.stamp (last_stamp run.clock.tick calls)) StampFalls) (λ _. when_risen run head) made ticked.2 in
+    let ticked = bind-ok (refused_if (nat_lt head.stamp (first_tick run.clocks)) BeforeClock) (λ _. when_ticked run head calls) made writer_known.2 in
+    let risen = bind-ok (refused_if (nat_lt head.stamp (last_stamp (first_tick run.clocks) calls)) StampFalls) (λ _. when_risen run head) made ticked.2 in
     let known = bind-ok (ok_or (slice_get run.dictionary head.id) Id) (with_message head) made risen.2 in
     let arguments = bind-ok (arguments_at (Types known.0.format.pieces) head.fields) (with_args head) made known.2 in
     let short = bind-ok (refused_if (nat_lt MAX_FRAME_WORDS (FrameLen arguments.0)) TooLong) (λ _. Ok (made_of head arguments.0)) made arguments.2 in

@@ -8,8 +8,9 @@ use Rattle.printf_grammar.specs.declared.argument.Value.{Value}
 use Rattle.printf_grammar.specs.declared.argument.Value.TheVariants as values
 use Rattle.log_dictionary.specs.declared.dictionary.TheConstants.{MAX_MESSAGES}
 use Rattle.log_dictionary.specs.declared.message.Message.{Message}
-use Rattle.log_dictionary.specs.Canonical.{canonical_text, message_line, message_text, HasLine}
+use Rattle.log_dictionary.specs.Canonical.{canonical_text, message_line, message_text, messages_text, HasLine}
 use Rattle.log_dictionary.specs.Calls.{LogCall}
+use Rattle.log_dictionary.specs.Clocks.{first_tick}
 use Rattle.log_dictionary.proofs.lemmas.Written.{written_text, written_message}
 use Rattle.arg_records.specs.declared.call.Call.{Call}
 use Rattle.arg_records.specs.Kinds.{HoldsBytes}
@@ -21,7 +22,7 @@ use Rattle.trace_text.specs.Recordings.{Recording, calls_of}
 use Rattle.trace_text.specs.Order.{call_place}
 use Rattle.trace_text.specs.Lines.{WriterCall, first_line, last_line, clock_line, writers_line, SpellsArgumentFields, SpellsCall, SpellsMessages, SpellsCalls, text_of_lines}
 use Rattle.trace_text.specs.Traces.{TraceText, calls_by}
-use Rattle.trace_text.specs.Canonical.{argument_text, call_line, call_text, made_by, made_at, calls_in_order, Canonical, HasCallLine, HasText}
+use Rattle.trace_text.specs.Canonical.{argument_text, call_line, call_text, clock_text, made_by, made_at, calls_in_order, Canonical, HasCallLine, HasText}
 use Rattle.trace_text.proofs.lemmas.CallRuns.{all_at}
 use Rattle.trace_text.proofs.lemmas.OwnCalls.{is_of, own_in_order}
 
@@ -95,7 +96,7 @@ module _ (run : Recording) (writer : ℕ) where
     own_again has =
         let all = has.recorded.calls in
         let own = all_at (AllByRecursion (IsCall run.dictionary)) run.writers writer calls known all in
-        ap (map (λ (made : WriterCall). made.call)) (own_places (in_order (calls_of run)) ∙ ap (λ (cs : List LogCall). filter_map (made_at run) (map call_place cs)) (own_in_order run.dictionary run.writers writer run.clock.tick calls known all own (all_at (NeverFalls run.clock.tick) run.writers writer calls known has.recorded.stamps)))
+        ap (map (λ (made : WriterCall). made.call)) (own_places (in_order (calls_of run)) ∙ ap (λ (cs : List LogCall). filter_map (made_at run) (map call_place cs)) (own_in_order run.dictionary run.writers writer (first_tick run.clocks) calls known all own (all_at (NeverFalls (first_tick run.clocks)) run.writers writer calls known has.recorded.stamps)))
         ∙ own_found 0 calls (λ k. let same : 0 + k ≡ k = omega arith in ap (slice_get calls) same) own
 
 restored : (f : ℕ → List Call) (n : ℕ) (writers : List (List Call)) → ((k : ℕ) (calls : List Call) → slice_get writers k ≡ Some calls → f (n + k) ≡ calls) → writers ≡ map f (range_with_len n (length writers))
@@ -116,25 +117,30 @@ message_lines_are n (message ∷ messages) =
     append_assoc (message_line n message) (10 ∷ []) (flat_map message_text (enumerate_from (n + 1) messages))
     ∙ ap (λ (bytes : List ℕ). message_line n message ++ 10 ∷ bytes) (message_lines_are (n + 1) messages)
 
-call_lines_are : (calls : List WriterCall) → flat_map call_text calls ≡ text_of_lines (map call_line calls)
-call_lines_are [] = refl
-call_lines_are (made ∷ calls) = append_assoc (call_line made) (10 ∷ []) (flat_map call_text calls) ∙ ap (λ (bytes : List ℕ). call_line made ++ 10 ∷ bytes) (call_lines_are calls)
+ended_lines_are : {X : Type 0} (line : X → List ℕ) (xs : List X) → flat_map (λ (x : X). line x ++ 10 ∷ []) xs ≡ text_of_lines (map line xs)
+ended_lines_are line [] = refl
+ended_lines_are {X} line (x ∷ xs) = append_assoc (line x) (10 ∷ []) (flat_map (λ (x : X). line x ++ 10 ∷ []) xs) ∙ ap (λ (bytes : List ℕ). line x ++ 10 ∷ bytes) (ended_lines_are line xs)
 
 pub lines_follow : (a b : List (List ℕ)) → text_of_lines (a ++ b) ≡ text_of_lines a ++ text_of_lines b
 lines_follow [] b = refl
 lines_follow (line ∷ a) b = ap (λ (bytes : List ℕ). line ++ 10 ∷ bytes) (lines_follow a b) ∙ sym (append_assoc line (10 ∷ text_of_lines a) (text_of_lines b))
 
-regroup : (first messages time count calls last : List ℕ) → (((((first ++ messages) ++ time) ++ 10 ∷ count) ++ 10 ∷ []) ++ calls) ++ last ≡ first ++ (messages ++ (time ++ 10 ∷ (count ++ 10 ∷ (calls ++ last))))
-regroup first messages time count calls last = simp append_assoc
+regroup : (first messages times count calls last : List ℕ) → (((((first ++ messages) ++ times) ++ count) ++ 10 ∷ []) ++ calls) ++ last ≡ first ++ (messages ++ (times ++ (count ++ 10 ∷ (calls ++ last))))
+regroup first messages times count calls last = simp append_assoc
 
-whole_text : (run : Recording) → Canonical run ≡ text_of_lines (first_line ∷ lines_of 0 run.dictionary ++ (clock_line run.clock ∷ writers_line (length run.writers) ∷ map call_line (calls_in_order run) ++ last_line ∷ []))
+whole_text : (run : Recording) → Canonical run ≡ text_of_lines (first_line run.version ∷ lines_of 0 run.dictionary ++ (map clock_line run.clocks ++ (writers_line (length run.writers) ∷ map call_line (calls_in_order run) ++ last_line ∷ [])))
 whole_text run =
     let calls = calls_in_order run in
-    let behind : List (List ℕ) = clock_line run.clock ∷ writers_line (length run.writers) ∷ map call_line calls ++ last_line ∷ [] in
-    regroup (codes "nanolog-trace 1\n") (flat_map message_text (enumerate_from 0 run.dictionary)) (clock_line run.clock) (writers_line (length run.writers)) (flat_map call_text calls) (codes "end\n")
-    ∙ ap (λ (bytes : List ℕ). codes "nanolog-trace 1\n" ++ (bytes ++ (clock_line run.clock ++ 10 ∷ (writers_line (length run.writers) ++ 10 ∷ (flat_map call_text calls ++ codes "end\n"))))) (message_lines_are 0 run.dictionary)
-    ∙ ap (λ (bytes : List ℕ). codes "nanolog-trace 1\n" ++ (text_of_lines (lines_of 0 run.dictionary) ++ (clock_line run.clock ++ 10 ∷ (writers_line (length run.writers) ++ 10 ∷ bytes)))) (ap (λ (bytes : List ℕ). bytes ++ codes "end\n") (call_lines_are calls) ∙ sym (lines_follow (map call_line calls) (last_line ∷ [])))
-    ∙ ap (λ (bytes : List ℕ). codes "nanolog-trace 1\n" ++ bytes) (sym (lines_follow (lines_of 0 run.dictionary) behind))
+    let first = first_line run.version in
+    let count = writers_line (length run.writers) in
+    let call_lines : List (List ℕ) = map call_line calls ++ last_line ∷ [] in
+    let written : flat_map call_text calls ++ codes "end\n" ≡ text_of_lines call_lines = ap (λ (bytes : List ℕ). bytes ++ codes "end\n") (ended_lines_are call_line calls) ∙ sym (lines_follow (map call_line calls) (last_line ∷ [])) in
+    let timed : flat_map clock_text run.clocks ++ text_of_lines (count ∷ call_lines) ≡ text_of_lines (map clock_line run.clocks ++ count ∷ call_lines) = ap (λ (bytes : List ℕ). bytes ++ text_of_lines (count ∷ call_lines)) (ended_lines_are clock_line run.clocks) ∙ sym (lines_follow (map clock_line run.clocks) (count ∷ call_lines)) in
+    regroup first (10 ∷ messages_text run.dictionary) (flat_map clock_text run.clocks) count (flat_map call_text calls) (codes "end\n")
+    ∙ ap (λ (bytes : List ℕ). first ++ 10 ∷ (messages_text run.dictionary ++ (flat_map clock_text run.clocks ++ (count ++ 10 ∷ bytes)))) written
+    ∙ ap (λ (bytes : List ℕ). first ++ 10 ∷ (messages_text run.dictionary ++ bytes)) timed
+    ∙ ap (λ (bytes : List ℕ). first ++ 10 ∷ (bytes ++ text_of_lines (map clock_line run.clocks ++ count ∷ call_lines))) (message_lines_are 0 run.dictionary)
+    ∙ ap (λ (bytes : List ℕ). first ++ 10 ∷ bytes) (sym (lines_follow (lines_of 0 run.dictionary) (map clock_line run.clocks ++ count ∷ call_lines)))
 
 -- ---- what the lines spell
 
@@ -167,7 +173,6 @@ canonical_spells run has short =
       messages_spelled = spells_messages 0 run.dictionary (omega (arith, has.messages.few)) has.messages.lines;
       distinct = has.messages.distinct;
       few_messages = has.messages.few;
-      clock_fits = has.clock_fits;
       calls_spelled = spells_calls calls (all_made run (λ made. HasCallLine made.call) (λ made is. all_at HasCallLine is.calls is.ordinal made.call is.at_ordinal (all_at (AllByRecursion HasCallLine) run.writers made.writer is.calls is.of_writer has.calls)) _);
       known_writers = all_made run (λ made. made.writer < length run.writers) (λ made is. slice_get_within run.writers made.writer is.calls is.of_writer) _;
       by_writer = restored (calls_by calls) 0 run.writers (λ k cs at. let same : 0 + k ≡ k = omega arith in ap (calls_by calls) same ∙ own_again run k cs at has);

@@ -1,6 +1,7 @@
 -- Every text is that of a dictionary or is refused, and the text that is written of messages is theirs.
 use Rattle.std.proofs.Common.{◌≡◌, ◌≢◌, ◌⊎◌, ℕ, ◌+◌, ◌<◌, ◌≤◌, Bool, true, false, ltb, List, [], ◌∷◌, ◌++◌, length, refl, sym, ap, subst, ◌∙◌, inl, inr, append_assoc, append-nil, arith}
-use Rattle.std.specs.Prelude.{codes}
+use Rattle.std.specs.Prelude.{codes, map}
+use Rattle.std.specs.Fmt.{digits}
 use Rattle.std.specs.List.{AllByRecursion}
 use Rattle.std.proofs.lemmas.Bool.{ltb-true, ltb-false}
 use Rattle.std.proofs.lemmas.List.{length-append}
@@ -14,7 +15,7 @@ use Rattle.trace_text.specs.declared.cause.TraceCause.{TraceCause}
 use Rattle.trace_text.specs.declared.cause.TraceCause.TheVariants as causes
 use Rattle.trace_text.specs.declared.trace.TheConstants.{MAX_TRACE}
 use Rattle.trace_text.specs.Canonical.{HaveMessageLines}
-use Rattle.trace_text.specs.Dictionaries.{SpellsDictionary, DictionaryText, BreaksDictionary, IsRefusedBehind, BreaksBehind, DictionaryBreak}
+use Rattle.trace_text.specs.Dictionaries.{dictionary_line, SpellsDictionary, DictionaryText, BreaksDictionary, IsRefusedBehind, BreaksBehind, DictionaryBreak}
 use Rattle.trace_text.specs.LineFields.{begins_with}
 use Rattle.trace_text.specs.Lines.{first_line, last_line, clock_line, writers_line, text_of_lines}
 use Rattle.trace_text.specs.Reading.{IsOneLine}
@@ -64,7 +65,7 @@ behind front messages (line ∷ lines) rest spells whole unended =
       | inr refused ↦ stops front messages _ refused.0 spells (inl (line, more, record { parts = there; first = All-from_recursion (λ byte. byte ≢ 10) line whole.0 }, refused.1))
     ]
 
-pub no_messages : SpellsDictionary (first_line ++ 10 ∷ []) []
+pub no_messages : SpellsDictionary (dictionary_line ++ 10 ∷ []) []
 no_messages = record { message_lines = []; whole = refl; messages_spelled = tt; distinct = λ i j d earlier within. absurd (omega (arith, within)); few_messages = omega arith }
 
 -- what a text is: that of messages, or refused
@@ -75,10 +76,10 @@ told_behind : (bytes : List ℕ) → length bytes ≤ MAX_TRACE → Behind bytes
 told_behind bytes short (inl found) = inl (found.0, (short, found.1))
 told_behind bytes short (inr broken) = inr (broken.0, broken.1, inr (short, inr broken.2))
 
-from_first : (bytes line : List ℕ) (lines : List (List ℕ)) (rest : List ℕ) → length bytes ≤ MAX_TRACE → bytes ≡ text_of_lines (line ∷ lines) ++ rest → IsOneLine line → AllByRecursion IsOneLine lines → IsOneLine rest → (line ≡ first_line) ⊎ (line ≢ first_line) → Outcome bytes
+from_first : (bytes line : List ℕ) (lines : List (List ℕ)) (rest : List ℕ) → length bytes ≤ MAX_TRACE → bytes ≡ text_of_lines (line ∷ lines) ++ rest → IsOneLine line → AllByRecursion IsOneLine lines → IsOneLine rest → (line ≡ dictionary_line) ⊎ (line ≢ dictionary_line) → Outcome bytes
 from_first bytes line lines rest short joined one whole unended (inl same) =
-    let first : (first_line ++ 10 ∷ []) ++ (text_of_lines lines ++ rest) ≡ bytes = sym (joined ∙ append_assoc line (10 ∷ text_of_lines lines) rest ∙ ap (λ (l : List ℕ). l ++ 10 ∷ (text_of_lines lines ++ rest)) same) in
-    told_behind bytes short (subst Behind first (behind (first_line ++ 10 ∷ []) [] lines rest no_messages whole unended))
+    let first : (dictionary_line ++ 10 ∷ []) ++ (text_of_lines lines ++ rest) ≡ bytes = sym (joined ∙ append_assoc line (10 ∷ text_of_lines lines) rest ∙ ap (λ (l : List ℕ). l ++ 10 ∷ (text_of_lines lines ++ rest)) same) in
+    told_behind bytes short (subst Behind first (behind (dictionary_line ++ 10 ∷ []) [] lines rest no_messages whole unended))
 from_first bytes line lines rest short joined one whole unended (inr other) =
     inr (1, causes.Header, inr (short, inl (lacks_other bytes line (text_of_lines lines ++ rest) (joined ∙ append_assoc line (10 ∷ text_of_lines lines) rest) one other, refl, refl)))
 
@@ -91,7 +92,7 @@ told_by bytes short found = by_lines found.lines refl
         inr (1, causes.Header, inr (short, inl (lacks_unended bytes unended, refl, refl)))
     by_lines (line ∷ lines) some =
         let whole = subst (AllByRecursion IsOneLine) some found.cut.whole in
-        from_first bytes line lines found.rest short (found.cut.joined ∙ ap (λ (ls : List (List ℕ)). text_of_lines ls ++ found.rest) some) whole.0 whole.1 found.cut.unended (same_or_other line first_line)
+        from_first bytes line lines found.rest short (found.cut.joined ∙ ap (λ (ls : List (List ℕ)). text_of_lines ls ++ found.rest) some) whole.0 whole.1 found.cut.unended (same_or_other line dictionary_line)
 
 told_at : (bytes : List ℕ) (large : Bool) → ltb MAX_TRACE (length bytes) ≡ large → Outcome bytes
 told_at bytes true large = inr (0, causes.TooLarge, inl (ltb-true _ _ large, refl, refl))
@@ -120,12 +121,18 @@ read_have_lines bytes messages text = record { distinct = text.1.distinct; few =
 
 -- ---- traces
 
--- the front of a trace is the text of its dictionary
-pub trace_front : (bytes : List ℕ) (run : Recording) → TraceText bytes run → (front : List ℕ) × (rest : List ℕ) × (bytes ≡ front ++ rest) × DictionaryText front run.dictionary
-trace_front bytes run text =
-    let front = text_of_lines (first_line ∷ text.message_lines) in
-    let rest = text_of_lines (clock_line run.clock ∷ writers_line (length run.writers) ∷ text.call_lines ++ last_line ∷ []) in
-    let whole : bytes ≡ front ++ rest = text.whole ∙ lines_follow (first_line ∷ text.message_lines) (clock_line run.clock ∷ writers_line (length run.writers) ∷ text.call_lines ++ last_line ∷ []) in
+first_of_1 : first_line 1 ≡ dictionary_line
+unfolding digits
+first_of_1 = refl
+
+-- the front of a trace of version 1 is the text of its dictionary
+pub trace_front : (bytes : List ℕ) (run : Recording) → TraceText bytes run → run.version ≡ 1 → (front : List ℕ) × (rest : List ℕ) × (bytes ≡ front ++ rest) × DictionaryText front run.dictionary
+trace_front bytes run text version =
+    let behind : List (List ℕ) = map clock_line run.clocks ++ (writers_line (length run.writers) ∷ text.call_lines ++ last_line ∷ []) in
+    let front = text_of_lines (dictionary_line ∷ text.message_lines) in
+    let rest = text_of_lines behind in
+    let first : first_line run.version ≡ dictionary_line = ap first_line version ∙ first_of_1 in
+    let whole : bytes ≡ front ++ rest = text.whole ∙ ap (λ (line : List ℕ). text_of_lines (line ∷ text.message_lines ++ behind)) first ∙ lines_follow (dictionary_line ∷ text.message_lines) behind in
     let short : length front ≤ MAX_TRACE = omega (arith, text.short, ap length whole, length-append front rest) in
     (front, rest, whole, (short, record { message_lines = text.message_lines; whole = refl; messages_spelled = text.messages_spelled; distinct = text.distinct; few_messages = text.few_messages }))
 

@@ -17,15 +17,15 @@ use Rattle.trace_text.specs.declared.lines.Lines.{Lines}
 use Rattle.trace_text.specs.declared.reading.TraceFault.{TraceFault}
 use Rattle.trace_text.specs.declared.reading.TraceFault.TheVariants.{Refused}
 use Rattle.trace_text.specs.declared.trace.TheConstants.{MAX_TRACE}
-use Rattle.trace_text.specs.Dictionaries.{SpellsDictionary, DictionaryText, IsRefusedBehind, LacksFirstLine, DictionaryBreak}
+use Rattle.trace_text.specs.Dictionaries.{dictionary_line, SpellsDictionary, DictionaryText, IsRefusedBehind, LacksFirstLine, DictionaryBreak}
 use Rattle.trace_text.specs.LineFields.{begins_with}
-use Rattle.trace_text.specs.Lines.{first_line, SpellsMessages}
+use Rattle.trace_text.specs.Lines.{SpellsMessages}
 use Rattle.trace_text.specs.Progress.{message_fault}
 use Rattle.trace_text.specs.Reading.{IsOneLine}
 use Rattle.trace_text.specs.TraceReading.{IsAnswerTo}
 use Rattle.trace_text.proofs.CanonicalLaws.{lines_follow}
 use Rattle.trace_text.proofs.MessageSteps.{breaks_as}
-use Rattle.trace_text.proofs.OneLines.{first_is_line}
+use Rattle.trace_text.proofs.OneLines.{dictionary_is_line}
 use Rattle.trace_text.proofs.OneOutcome.{feed_inside, same_first}
 
 -- ---- one message more
@@ -42,7 +42,7 @@ pub spelled_more : (front line : List ℕ) (before after : List Message) → Spe
 spelled_more front line before after spells (message, new, room, is) =
     subst (SpellsDictionary (front ++ (line ++ 10 ∷ []))) (sym is) (record {
       message_lines = spells.message_lines ++ line ∷ [];
-      whole = ap (λ (f : List ℕ). f ++ (line ++ 10 ∷ [])) spells.whole ∙ sym (lines_follow (first_line ∷ spells.message_lines) (line ∷ []));
+      whole = ap (λ (f : List ℕ). f ++ (line ++ 10 ∷ [])) spells.whole ∙ sym (lines_follow (dictionary_line ∷ spells.message_lines) (line ∷ []));
       messages_spelled = let same : length before ≡ 0 + length before = omega arith in spells-push 0 spells.message_lines before line message spells.messages_spelled (subst (λ (id : ℕ). SpellsMessage line id message) same new.spelled);
       distinct = still_distinct before message spells.distinct new.new;
       few_messages = omega (arith, length-append before (message ∷ []), room);
@@ -57,10 +57,10 @@ pub record ReadTo (text : List ℕ) (messages : List Message) (lines : Lines) : 
   pub spelled : SpellsDictionary front messages
   pub numbered : lines.number ≡ 2 + length messages
 
-pub read_none : (text : List ℕ) (messages : List Message) (lines : Lines) → messages ≡ [] → text ≡ first_line ++ 10 ∷ lines.bytes.now → lines.number ≡ 2 → ReadTo text messages lines
+pub read_none : (text : List ℕ) (messages : List Message) (lines : Lines) → messages ≡ [] → text ≡ dictionary_line ++ 10 ∷ lines.bytes.now → lines.number ≡ 2 → ReadTo text messages lines
 read_none text messages lines none begun second =
     subst (λ (m : List Message). ReadTo text m lines) (sym none) (record {
-      front = first_line ++ 10 ∷ [];
+      front = dictionary_line ++ 10 ∷ [];
       parted = begun;
       spelled = record { message_lines = []; whole = refl; messages_spelled = tt; distinct = λ i j d earlier within. absurd (omega (arith, within)); few_messages = omega arith };
       numbered = second;
@@ -111,7 +111,7 @@ told_as text fault line cause is refused = subst (λ (f : TraceFault). IsAnswerT
 -- ---- the first line
 
 pub lacks_unended : (bytes : List ℕ) → IsOneLine bytes → LacksFirstLine bytes
-lacks_unended bytes unended rest is = feed_inside first_line rest (subst IsOneLine is unended)
+lacks_unended bytes unended rest is = feed_inside dictionary_line rest (subst IsOneLine is unended)
 
-pub lacks_other : (bytes line behind : List ℕ) → bytes ≡ line ++ 10 ∷ behind → IsOneLine line → line ≢ first_line → LacksFirstLine bytes
-lacks_other bytes line behind whole one other rest is = other (same_first line first_line behind rest one first_is_line (sym whole ∙ is)).0
+pub lacks_other : (bytes line behind : List ℕ) → bytes ≡ line ++ 10 ∷ behind → IsOneLine line → line ≢ dictionary_line → LacksFirstLine bytes
+lacks_other bytes line behind whole one other rest is = other (same_first line dictionary_line behind rest one dictionary_is_line (sym whole ∙ is)).0

@@ -7,8 +7,7 @@ use Rattle.log_dictionary.specs.Fields.{IsFirstSplit}
 use Rattle.log_dictionary.specs.Rows.{row_message}
 use Rattle.log_dictionary.proofs.lemmas.LineWorked.{row_spelled}
 use Rattle.trace_text.specs.declared.cause.TraceCause.TheVariants as causes
-use Rattle.trace_text.specs.Dictionaries.{SpellsDictionary, DictionaryText, DictionaryBreak}
-use Rattle.trace_text.specs.Lines.{first_line}
+use Rattle.trace_text.specs.Dictionaries.{dictionary_line, SpellsDictionary, DictionaryText, DictionaryBreak}
 use Rattle.trace_text.specs.Rows.{dictionary_row}
 use Rattle.trace_text.proofs.DictionaryLaws.{no_messages}
 use Rattle.trace_text.proofs.DictionaryReads.{lacks_unended, lacks_other}
@@ -30,7 +29,7 @@ pub empty : DictionaryBreak [] 1 causes.Header
 empty = inr (lit≤ tt, inl (lacks_unended [] tt, refl, refl))
 
 pub no_line_feed : DictionaryBreak (codes "nanolog-trace 1") 1 causes.Header
-no_line_feed = inr (lit≤ tt, inl (lacks_unended first_line (is_line first_line refl), refl, refl))
+no_line_feed = inr (lit≤ tt, inl (lacks_unended dictionary_line (is_line dictionary_line refl), refl, refl))
 
 pub other_version : DictionaryBreak (codes "nanolog-trace 2\n") 1 causes.Header
 other_version = inr (lit≤ tt, inl (lacks_other (codes "nanolog-trace 2\n") (codes "nanolog-trace 2") [] refl (is_line (codes "nanolog-trace 2") refl) (λ e. let wrong : ◌≡◌ {A = ℕ} 50 49 = ap (λ line. get_or line 14 0) e in omega arith), refl, refl))

@@ -25,8 +25,8 @@ AtEnd part n rest line cause = err_of line cause ≡ parts.at_end part n rest
 -- it is that of the next line, and the end is wanting there or isn't the last
 at_next : (part : TracePart) (n : ℕ) (rest : List ℕ) (line : ℕ) (cause : TraceCause) → AtEnd part n rest line cause → (line ≡ n) × (cause ≢ NoEnd → cause ≢ AfterEnd → ⊥)
 at_next parts.opening n rest line cause e = let same = same_break line n cause NoEnd e in (same.0, λ no_end last. no_end same.1)
-at_next (parts.messages before) n rest line cause e = let same = same_break line n cause NoEnd e in (same.0, λ no_end last. no_end same.1)
-at_next (parts.clock dictionary time) n rest line cause e = let same = same_break line n cause NoEnd e in (same.0, λ no_end last. no_end same.1)
+at_next (parts.messages version before) n rest line cause e = let same = same_break line n cause NoEnd e in (same.0, λ no_end last. no_end same.1)
+at_next (parts.clocks version dictionary times) n rest line cause e = let same = same_break line n cause NoEnd e in (same.0, λ no_end last. no_end same.1)
 at_next (parts.calls run) n rest line cause e = let same = same_break line n cause NoEnd e in (same.0, λ no_end last. no_end same.1)
 at_next (parts.ended run) n [] line cause e = absurd (no_run_breaks run line cause (sym e))
 at_next (parts.ended run) n (byte ∷ rest) line cause e = let same = same_break line n cause AfterEnd e in (same.0, λ no_end last. last same.1)
@@ -100,8 +100,8 @@ some_bytes (byte ∷ bytes) some = (byte, bytes, refl)
 -- what a part at its end says of a run
 ends_run : (part : TracePart) (n byte : ℕ) (bytes : List ℕ) (run : Recording) → ok_of run ≡ parts.at_end part n [] → let found = cut_of (byte ∷ bytes) in ReadsLines part n found.lines found.rest (err_of n AfterEnd)
 ends_run parts.opening n byte bytes run e = absurd cc
-ends_run (parts.messages before) n byte bytes run e = absurd cc
-ends_run (parts.clock dictionary time) n byte bytes run e = absurd cc
+ends_run (parts.messages version before) n byte bytes run e = absurd cc
+ends_run (parts.clocks version dictionary times) n byte bytes run e = absurd cc
 ends_run (parts.calls other) n byte bytes run e = absurd cc
 ends_run (parts.ended other) n byte bytes run e =
     let found = cut_of (byte ∷ bytes) in
@@ -121,8 +121,8 @@ reads_more part n byte (line ∷ lines) bytes run (inr (cause, breaks, is)) = ab
 -- nothing is left behind the last line
 ends_whole : (part : TracePart) (n : ℕ) (lines : List (List ℕ)) (rest : List ℕ) (run : Recording) → ReadsLines part n lines rest (ok_of run) → rest ≡ []
 ends_whole parts.opening n [] rest run reads = absurd cc
-ends_whole (parts.messages before) n [] rest run reads = absurd cc
-ends_whole (parts.clock dictionary time) n [] rest run reads = absurd cc
+ends_whole (parts.messages version before) n [] rest run reads = absurd cc
+ends_whole (parts.clocks version dictionary times) n [] rest run reads = absurd cc
 ends_whole (parts.calls other) n [] rest run reads = absurd cc
 ends_whole (parts.ended other) n [] [] run reads = refl
 ends_whole (parts.ended other) n [] (byte ∷ rest) run reads = absurd cc
@@ -144,8 +144,8 @@ refused_behind_end bytes rest run text some short =
 -- the part where a line more is right says that the end is wanting
 wants_end : (part : TracePart) (n : ℕ) (line : List ℕ) (lines : List (List ℕ)) (rest last : List ℕ) (run : Recording) → ReadsLines part n (line ∷ lines) rest (ok_of run) → err_of n NoEnd ≡ parts.at_end part n last
 wants_end parts.opening n line lines rest last run reads = refl
-wants_end (parts.messages before) n line lines rest last run reads = refl
-wants_end (parts.clock dictionary time) n line lines rest last run reads = refl
+wants_end (parts.messages version before) n line lines rest last run reads = refl
+wants_end (parts.clocks version dictionary times) n line lines rest last run reads = refl
 wants_end (parts.calls other) n line lines rest last run reads = refl
 wants_end (parts.ended other) n line lines rest last run (inl (next, follows, reads)) = absurd follows
 wants_end (parts.ended other) n line lines rest last run (inr (cause, breaks, is)) = absurd (no_run_breaks run n cause is)

@@ -1,16 +1,24 @@
--- What the lines of the clock and of the number of writers say.
-use Rattle.std.proofs.Common.{◌≡◌, ◌≢◌, ℕ, ◌<◌, ◌≤◌, ◌^◌, Bool, true, false, cond, eqb, leb, List, ◌∷◌, ◌++◌, Option, Some, None, refl, sym, ap, ◌∙◌, subst, append_assoc, inl, arith}
+-- What the lines of the version, of clocks and of the number of writers say.
+use Rattle.std.proofs.Common.{◌≡◌, ◌≢◌, ℕ, ◌<◌, ◌≤◌, ◌^◌, Bool, true, false, cond, eqb, leb, List, ◌∷◌, ◌++◌, length, ⊎_elim, lit≤, Option, Some, None, Result, Ok, refl, sym, ap, ◌∙◌, subst, append_assoc, inl, arith}
 use Rattle.std.specs.Prelude.{codes, decimal, ◌&&◌}
-use Rattle.std.proofs.lemmas.Bool.{eqb-false, ne_eqb, and_parts, leb-true, le-leb}
+use Rattle.std.specs.Option.{ok_or}
+use Rattle.std.proofs.lemmas.Bool.{eqb-false, ne_eqb, and_parts, leb-true, leb-false, le-leb, lt-leb, and_right, or_cases, eqb-true, cond_both}
 use Rattle.std.proofs.lemmas.Option.{cond_some}
 use Rattle.log_dictionary.specs.declared.clock.Clock.{Clock}
+use Rattle.log_dictionary.specs.declared.clocks.TheConstants.{MAX_CLOCKS}
+use Rattle.log_dictionary.specs.Clocks.{FitsClock, FollowsClocks, last_tick}
 use Rattle.log_dictionary.specs.Fields.{◌>>=◌, after, split_at_first}
 use Rattle.log_dictionary.proofs.lemmas.Splits.{split_again, split_takes, after_takes, found}
 use Rattle.log_dictionary.proofs.lemmas.Lines.{decimal_none}
-use Rattle.session_options.specs.declared.limits.TheConstants.{MAX_TRACE_WRITERS}
-use Rattle.trace_text.specs.Lines.{clock_line, writers_line, FitsLine}
-use Rattle.trace_text.specs.LineFields.{field_number, clock_of, clock_at, writer_count, writers_at}
+use Rattle.session_options.specs.Versions.{is_known, has_clocks, most_writers}
+use Rattle.trace_text.specs.declared.cause.TraceCause.{TraceCause}
+use Rattle.trace_text.specs.declared.cause.TraceCause.TheVariants as causes
+use Rattle.trace_text.specs.Lines.{first_line, clock_line, writers_line}
+use Rattle.trace_text.specs.LineFields.{field_number, clock_of, clock_at, version_at, writers_at}
+use Rattle.trace_text.specs.CallReading.{refused_if, ◌>>=◌ as ◌>>>◌}
+use Rattle.trace_text.specs.Reading.{is_later_clock, later_clock}
 use Rattle.trace_text.proofs.NumberFields.{number_read, number_taken}
+use Rattle.trace_text.proofs.Arguments.{bind-ok, ok_or-ok, refused_if-ok}
 
 pub split_number : (n : ℕ) (back : List ℕ) → n < 2 ^ 64 → split_at_first 32 (decimal n ++ 32 ∷ back) ≡ Some (decimal n, back)
 split_number n back small = split_again 32 (decimal n) back (decimal_none 32 n (inl (omega arith)) small)
@@ -19,7 +27,73 @@ split_number n back small = split_again 32 (decimal n) back (decimal_none 32 n (
 pub three_joined : (word line fields first rest second last a b c : List ℕ) → line ≡ word ++ fields → fields ≡ first ++ 32 ∷ rest → first ≡ a → rest ≡ second ++ 32 ∷ last → second ≡ b → last ≡ c → line ≡ word ++ (a ++ 32 ∷ (b ++ 32 ∷ c))
 three_joined word line fields first rest second last a b c whole parted first_is parted_again second_is last_is = cc
 
--- ---- the clock
+-- ---- a word, and a number that passes a test
+
+module _ (test : ℕ → Bool) where
+  abbrev passing : ℕ → Option ℕ
+  passing n = cond (test n) (Some n) None
+
+  numbered_read : (n : ℕ) → n < 2 ^ 64 → test n ≡ true → (field_number (decimal n) >>= passing) ≡ Some n
+  numbered_read n small passes = rw (number_read n small, passes) refl
+
+  numbered_taken : (word line : List ℕ) (n : ℕ) → (after word line >>= field_number >>= passing) ≡ Some n → (line ≡ word ++ decimal n) × (test n ≡ true)
+  numbered_taken word line n e =
+      let number = found (after word line >>= field_number) passing n e in
+      let field = found (after word line) field_number number.x number.first in
+      let last = cond_some (test number.x) number.x n number.second in
+      let spelled : line ≡ word ++ decimal number.x = after_takes word line field.x field.first ∙ ap (λ back. word ++ back) (number_taken field.x number.x field.second).0 in
+      subst (λ m. (line ≡ word ++ decimal m) × (test m ≡ true)) last.1 (spelled, last.0)
+
+-- ---- the version
+
+known_small : (version : ℕ) → is_known version ≡ true → version ≤ 2
+known_small version known = ⊎_elim
+    (λ first. omega (arith, eqb-true version 1 first))
+    (λ second. omega (arith, eqb-true version 2 second))
+    (or_cases (eqb version 1) (eqb version 2) known)
+
+-- the first line of a version is read as that version
+pub version_read : (version : ℕ) → is_known version ≡ true → version_at (first_line version) ≡ Some version
+version_read version known = numbered_read is_known version (omega (arith, known_small version known)) known
+
+-- what a first line says
+pub record SaysVersion (line : List ℕ) (version : ℕ) : Type 0 where
+  pub spelled : line ≡ first_line version
+  pub known : is_known version ≡ true
+
+-- the first line of which a version is read is that version's
+pub version_taken : (line : List ℕ) (version : ℕ) → version_at line ≡ Some version → SaysVersion line version
+version_taken line version e =
+    let says = numbered_taken is_known (codes "nanolog-trace ") line version e in
+    record { spelled = says.0; known = says.1 }
+
+-- ---- the number of writers
+
+pub most_small : (version : ℕ) → most_writers version ≤ 1024
+most_small version = cond_both (eqb version 1) 64 1024 (λ (n : ℕ). n ≤ 1024) (λ _. lit≤ tt) (λ _. lit≤ tt)
+
+abbrev within : ℕ → ℕ → Bool
+within version count = leb 1 count && leb count (most_writers version)
+
+-- the line of a number of writers is read as that number
+pub writers_read : (version count : ℕ) → 1 ≤ count → count ≤ most_writers version → writers_at version (writers_line count) ≡ Some count
+writers_read version count some few =
+    numbered_read (within version) count (omega (arith, few, most_small version)) (rw (le-leb 1 count some, le-leb count (most_writers version) few) refl)
+
+-- what a line of a number of writers says
+pub record SaysWriters (version : ℕ) (line : List ℕ) (count : ℕ) : Type 0 where
+  pub spelled : line ≡ writers_line count
+  pub some : 1 ≤ count
+  pub few : count ≤ most_writers version
+
+-- the line of which a number of writers is read is that number's
+pub writers_taken : (version : ℕ) (line : List ℕ) (count : ℕ) → writers_at version line ≡ Some count → SaysWriters version line count
+writers_taken version line count e =
+    let says = numbered_taken (within version) (codes "writers ") line count e in
+    let both = and_parts (leb 1 count) (leb count (most_writers version)) says.1 in
+    record { spelled = says.0; some = leb-true 1 count both.0; few = leb-true count (most_writers version) both.1 }
+
+-- ---- a clock
 
 abbrev nested : Clock → List ℕ
 nested clock = codes "clock " ++ (decimal clock.tick ++ 32 ∷ (decimal clock.nanos ++ 32 ∷ decimal clock.rate))
@@ -28,7 +102,7 @@ clock_line-nested : (clock : Clock) → clock_line clock ≡ nested clock
 clock_line-nested clock = simp append_assoc
 
 -- the line of a clock is read as that clock
-pub clock_read : (clock : Clock) → FitsLine clock → 1 ≤ clock.rate → clock_at (clock_line clock) ≡ Some clock
+pub clock_read : (clock : Clock) → FitsClock clock → 1 ≤ clock.rate → clock_at (clock_line clock) ≡ Some clock
 clock_read clock fits ticks =
     let some : eqb clock.rate 0 ≡ false = ne_eqb clock.rate 0 (λ e. omega (arith, e, ticks)) in
     let tick = split_number clock.tick (decimal clock.nanos ++ 32 ∷ decimal clock.rate) fits.tick in
@@ -38,7 +112,7 @@ clock_read clock fits ticks =
 -- what a line of a clock says
 pub record SaysClock (line : List ℕ) (clock : Clock) : Type 0 where
   pub spelled : line ≡ clock_line clock
-  pub fits : FitsLine clock
+  pub fits : FitsClock clock
   pub ticks : 1 ≤ clock.rate
 
 -- the steps by which a line of a clock is read, from the last to the first
@@ -83,28 +157,46 @@ clock_taken line clock e =
     let ticks : 1 ≤ rate.x = omega arith in
     subst (SaysClock line) last.1 (record { spelled = spelled; fits = record { tick = tick_is.1; nanos = nanos_is.1; rate = rate_is.1 }; ticks = ticks })
 
--- ---- the number of writers
+-- ---- a clock behind others
 
-within : (count : ℕ) → 1 ≤ count → count ≤ MAX_TRACE_WRITERS → cond (leb 1 count && leb count MAX_TRACE_WRITERS) (Some count) None ≡ Some count
-within count some few = rw (le-leb 1 count some, le-leb count MAX_TRACE_WRITERS few) refl
+-- the line of a clock that may follow is read as that clock
+pub later_read : (times : List Clock) (clock : Clock) → length times < MAX_CLOCKS → last_tick times < clock.tick → FitsClock clock → 1 ≤ clock.rate → later_clock times (clock_line clock) ≡ Ok clock
+later_read times clock room above fits ticks =
+    rw (lt-leb MAX_CLOCKS (length times) room, clock_read clock fits ticks, lt-leb clock.tick (last_tick times) above) refl
 
--- the line of a number of writers is read as that number
-pub writers_read : (count : ℕ) → 1 ≤ count → count ≤ MAX_TRACE_WRITERS → writers_at (writers_line count) ≡ Some count
-writers_read count some few = rw (number_read count (omega (arith, few))) (within count some few)
+-- what a line of a clock says behind others
+pub record SaysLaterClock (times : List Clock) (line : List ℕ) (clock : Clock) : Type 0 where
+  pub spelled : line ≡ clock_line clock
+  pub fits : FitsClock clock
+  pub follows : FollowsClocks times clock
 
--- what a line of a number of writers says
-pub record SaysWriters (line : List ℕ) (count : ℕ) : Type 0 where
-  pub spelled : line ≡ writers_line count
-  pub some : 1 ≤ count
-  pub few : count ≤ MAX_TRACE_WRITERS
+-- the steps by which such a line is read, from the last to the first
+abbrev when_risen : List Clock → Clock → Result Clock TraceCause
+when_risen times time = refused_if (leb time.tick (last_tick times)) causes.ClockOrder >>> (λ _. Ok time)
 
--- the line of which a number of writers is read is that number's
-pub writers_taken : (line : List ℕ) (count : ℕ) → writers_at line ≡ Some count → SaysWriters line count
-writers_taken line count e =
-    let number = found (after (codes "writers ") line >>= field_number) writer_count count e in
-    let field = found (after (codes "writers ") line) field_number number.x number.first in
-    let last = cond_some (leb 1 number.x && leb number.x MAX_TRACE_WRITERS) number.x count number.second in
-    let both = and_parts (leb 1 number.x) (leb number.x MAX_TRACE_WRITERS) last.0 in
-    let is = number_taken field.x number.x field.second in
-    let spelled : line ≡ writers_line number.x = after_takes (codes "writers ") line field.x field.first ∙ ap (λ back. codes "writers " ++ back) is.0 in
-    subst (SaysWriters line) last.1 (record { spelled = spelled; some = leb-true 1 number.x both.0; few = leb-true number.x MAX_TRACE_WRITERS both.1 })
+abbrev when_few : List Clock → List ℕ → Result Clock TraceCause
+when_few times line = ok_or (clock_at line) causes.Clock >>> when_risen times
+
+-- the line of which such a clock is read is that clock's
+pub later_taken : (times : List Clock) (line : List ℕ) (clock : Clock) → later_clock times line ≡ Ok clock → SaysLaterClock times line clock
+later_taken times line clock e =
+    let few = bind-ok (refused_if (leb MAX_CLOCKS (length times)) causes.TooManyClocks) (λ _. when_few times line) clock e in
+    let told = bind-ok (ok_or (clock_at line) causes.Clock) (when_risen times) clock few.2 in
+    let risen = bind-ok (refused_if (leb told.0.tick (last_tick times)) causes.ClockOrder) (λ _. Ok told.0) clock told.2 in
+    let says = clock_taken line told.0 (ok_or-ok _ _ _ told.1) in
+    let same : told.0 ≡ clock = cc in
+    subst (SaysLaterClock times line) same (record {
+      spelled = says.spelled;
+      fits = says.fits;
+      follows = record { few = leb-false _ _ (refused_if-ok _ _ _ few.1); above = leb-false _ _ (refused_if-ok _ _ _ risen.1); rate = says.ticks };
+    })
+
+-- ---- which of these lines this is
+
+-- behind a clock's line that of a clock is read as one more, in a version that has more
+pub is_later : (clock : Clock) → is_later_clock 2 (clock_line clock) ≡ true
+is_later clock = refl
+
+-- that of the writers is read as none
+pub not_later : (version count : ℕ) → is_later_clock version (writers_line count) ≡ false
+not_later version count = and_right (has_clocks version) false refl

@@ -1,11 +1,12 @@
 -- What lines begin with, which lines are equal, and where fields end.
-use Rattle.std.proofs.Common.{◌≡◌, ◌≢◌, eqb, ℕ, Bool, true, false, cond, List, [], ◌∷◌, length, take, Option, None, Some, refl, sym, ap, ◌∙◌}
+use Rattle.std.proofs.Common.{◌≡◌, ◌≢◌, eqb, ℕ, Bool, true, false, cond, List, [], ◌∷◌, ◌++◌, length, take, drop, Option, None, Some, refl, sym, ap, ◌∙◌}
 use Rattle.std.specs.Prelude.{not, ◌&&◌, codes}
 use Rattle.std.specs.Option.{is_some}
 use Rattle.std.specs.List.{starts_with}
 use Rattle.std.specs.Cmp.Lexicographic.{pointwise, bytes_decides}
 use Rattle.std.proofs.lemmas.Bool.Decides.{Decides-eqb, same_from_decides}
-use Rattle.std.proofs.lemmas.Bool.{false≢true, not-true, not-false}
+use Rattle.std.proofs.lemmas.Bool.{false≢true, not-true}
+use Rattle.std.proofs.lemmas.List.{take-append-drop}
 use Rattle.log_dictionary.specs.Fields.{after}
 use Rattle.log_dictionary.proofs.lemmas.Splits.{found}
 use Rattle.trace_text.specs.LineFields.{begins_with, CallHead, head_of, head_at}
@@ -37,12 +38,14 @@ same_line line other e = (bytes_decides line other).0 e
 pub other_line : (line other : List ℕ) → pointwise eqb line other ≡ false → line ≢ other
 other_line line other e is = false≢true (sym e ∙ (bytes_decides line other).1 is)
 
+-- a line that begins with a word is the word, and what stands behind it
+pub joined_again : (word line fields : List ℕ) → pointwise eqb (take (length word) line) word ≡ true → fields ≡ drop (length word) line → line ≡ word ++ fields
+joined_again word line fields front back =
+    sym (take-append-drop (length word) line) ∙ ap (λ (bytes : List ℕ). bytes ++ drop (length word) line) (same_line _ word front) ∙ ap (λ (bytes : List ℕ). word ++ bytes) (sym back)
+
 -- what a test that the line is another one says
 pub line_differs : (line other : List ℕ) (test : Bool) → test ≡ not (pointwise eqb line other) → test ≡ true → line ≢ other
 line_differs line other test is e = other_line line other (not-true _ (sym is ∙ e))
-
-pub line_equals : (line other : List ℕ) (test : Bool) → test ≡ not (pointwise eqb line other) → test ≡ false → line ≡ other
-line_equals line other test is e = same_line line other (not-false _ (sym is ∙ e))
 
 -- what a line of a message begins with
 abbrev pub message_word : List ℕ

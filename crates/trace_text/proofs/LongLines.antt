@@ -11,7 +11,10 @@ use Rattle.printf_grammar.specs.declared.argument.Value.TheVariants.{Text}
 use Rattle.printf_grammar.specs.declared.arg_type.ArgType.TheVariants as types
 use Rattle.printf_grammar.specs.declared.limits.TheConstants.{MAX_TEXT}
 use Rattle.printf_grammar.proofs.lemmas.Worked.{all_copies}
+use Rattle.log_dictionary.specs.declared.clock.Clock.{Clock}
+use Rattle.log_dictionary.specs.declared.clocks.TheConstants.{MAX_CLOCKS}
 use Rattle.log_dictionary.specs.declared.message.Message.{Message}
+use Rattle.log_dictionary.specs.Clocks.{FitsClock, last_tick}
 use Rattle.log_dictionary.specs.Texts.{IsPlain, SpellsText, has_nul}
 use Rattle.log_dictionary.specs.Additions.{SpellsNew}
 use Rattle.log_dictionary.proofs.lemmas.TextLaws.{opens_read}
@@ -20,10 +23,10 @@ use Rattle.arg_records.specs.Frames.{FrameLen}
 use Rattle.arg_records.specs.Rows.{row_call, full_message}
 use Rattle.arg_records.proofs.lemmas.Fitted.{copies_are_text}
 use Rattle.trace_text.specs.declared.cause.TraceCause.{TraceCause}
-use Rattle.trace_text.specs.declared.cause.TraceCause.TheVariants.{TooMany, CallForm, ArgKind, TooLong}
+use Rattle.trace_text.specs.declared.cause.TraceCause.TheVariants.{TooMany, TooManyClocks, CallForm, ArgKind, TooLong}
 use Rattle.trace_text.specs.declared.trace.TheConstants.{MAX_CALLS}
 use Rattle.trace_text.specs.Recordings.{Recording}
-use Rattle.trace_text.specs.Lines.{last_line, SpellsArgumentFields, SpellsCall}
+use Rattle.trace_text.specs.Lines.{last_line, clock_line, SpellsArgumentFields, SpellsCall}
 use Rattle.trace_text.specs.LineFields.{CallHead, head_at}
 use Rattle.trace_text.specs.CallReading.{◌>>=◌, Item, last_stamp, item_behind, item_at, checked_text, arguments_at, call_at}
 use Rattle.trace_text.specs.CallReading.Item.{text}
@@ -36,6 +39,7 @@ use Rattle.trace_text.proofs.ArgumentLines.{arguments_read}
 use Rattle.trace_text.proofs.CallLines.{head_read, call_read}
 use Rattle.trace_text.proofs.Arguments.{with_value, with_item}
 use Rattle.trace_text.proofs.CallSteps.{with_args, with_head}
+use Rattle.trace_text.proofs.HeadLines.{later_read, is_later}
 use Rattle.trace_text.proofs.NextMessages.{message_begins}
 
 -- ---- long texts
@@ -127,5 +131,11 @@ no_last_line fields e = let wrong : ◌≡◌ {A = ℕ} 99 101 = ap (λ (line : 
 pub one_call_more : (run : Recording) (fields : List ℕ) → 4194304 ≤ sum_by length run.writers → Breaks (parts.calls run) (codes "call " ++ fields) TooMany
 one_call_more run fields full = (no_last_line fields, rw (le-leb MAX_CALLS (sum_by length run.writers) full) refl)
 
-pub last_message : (before : List Message) (line : List ℕ) (message : Message) → length before < 65536 → SpellsNew before line (length before) message → Follows (parts.messages before) line (parts.messages (before ++ message ∷ []))
-last_message before line message room new = inl (message_begins line (length before) message new.spelled, room, (message, new, refl))
+pub last_message : (before : List Message) (line : List ℕ) (message : Message) → length before < 65536 → SpellsNew before line (length before) message → (version : ℕ) → Follows (parts.messages version before) line (parts.messages version (before ++ message ∷ []))
+last_message before line message room new version = inl (message_begins line (length before) message new.spelled, room, (message, new, refl))
+
+pub last_clock : (messages : List Message) (times : List Clock) (clock : Clock) → length times < 256 → last_tick times < clock.tick → 1 ≤ clock.rate → FitsClock clock → Follows (parts.clocks 2 messages times) (clock_line clock) (parts.clocks 2 messages (times ++ clock ∷ []))
+last_clock messages times clock room above ticks fits = inl (is_later clock, (clock, later_read times clock room above fits ticks, refl))
+
+pub one_clock_more : (messages : List Message) (times : List Clock) (fields : List ℕ) → 256 ≤ length times → Breaks (parts.clocks 2 messages times) (codes "clock " ++ fields) TooManyClocks
+one_clock_more messages times fields full = inl (refl, rw (le-leb MAX_CLOCKS (length times) full) refl)

@@ -17,8 +17,8 @@ use Rattle.trace_text.proofs.Steps.{refused_here}
 
 -- ---- what the reader of a message line says
 
-pub follows_read : (before after : List Message) (line : List ℕ) → begins_with message_word line ≡ true → ReadsLine before line after (Ok tt) → FollowsMessages before line (messages after)
-follows_read before after line begun read = (begun, read.2, (read.0, read.1, ap messages read.3))
+pub follows_read : (version : ℕ) (before after : List Message) (line : List ℕ) → begins_with message_word line ≡ true → ReadsLine before line after (Ok tt) → FollowsMessages version before line (messages version after)
+follows_read version before after line begun read = (begun, read.2, (read.0, read.1, ap (messages version) read.3))
 
 none_with_next : (before : List Message) (line : List ℕ) → SpellsNoneNew before line → (message : Message) → ¬ (SpellsNew before line (length before) message)
 none_with_next before line none message new = new.new (none (length before) message new.spelled)
@@ -40,12 +40,12 @@ breaks_as before after line faults.Order begun read = (begun, inr (read.0, none_
 breaks_as before after line faults.NoMemory begun read = tt
 
 -- so is the text then
-pub breaks_read : (before after : List Message) (lines : Lines) (line behind : List ℕ) (fault : LineFault) → IsFirstSplit 10 lines.bytes.now line behind → begins_with message_word line ≡ true → ReadsLine before line after (Err fault)
-    → IsRefusal (progress (messages before) lines) (message_fault lines.number fault)
-breaks_read before after lines line behind faults.TooMany split begun read =
-    refused_here (progress (messages before) lines) line behind causes.TooMany split (inl (breaks_as before after line faults.TooMany begun read))
-breaks_read before after lines line behind faults.BadEntry split begun read =
-    refused_here (progress (messages before) lines) line behind causes.Message split (inl (breaks_as before after line faults.BadEntry begun read))
-breaks_read before after lines line behind faults.Order split begun read =
-    refused_here (progress (messages before) lines) line behind causes.Message split (inl (breaks_as before after line faults.Order begun read))
-breaks_read before after lines line behind faults.NoMemory split begun read = tt
+pub breaks_read : (version : ℕ) (before after : List Message) (lines : Lines) (line behind : List ℕ) (fault : LineFault) → IsFirstSplit 10 lines.bytes.now line behind → begins_with message_word line ≡ true → ReadsLine before line after (Err fault)
+    → IsRefusal (progress (messages version before) lines) (message_fault lines.number fault)
+breaks_read version before after lines line behind faults.TooMany split begun read =
+    refused_here (progress (messages version before) lines) line behind causes.TooMany split (inl (breaks_as before after line faults.TooMany begun read))
+breaks_read version before after lines line behind faults.BadEntry split begun read =
+    refused_here (progress (messages version before) lines) line behind causes.Message split (inl (breaks_as before after line faults.BadEntry begun read))
+breaks_read version before after lines line behind faults.Order split begun read =
+    refused_here (progress (messages version before) lines) line behind causes.Message split (inl (breaks_as before after line faults.Order begun read))
+breaks_read version before after lines line behind faults.NoMemory split begun read = tt

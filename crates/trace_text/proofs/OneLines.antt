@@ -13,6 +13,7 @@ use Rattle.log_dictionary.specs.Severities.{severity_name}
 use Rattle.log_dictionary.specs.Texts.{IsPlain, SpellsByte, itself, quotation_mark, backslash, line_feed, tab, hexadecimal, SpellsText}
 use Rattle.log_dictionary.specs.Messages.{SpellsMessage}
 use Rattle.log_dictionary.proofs.lemmas.Lines.{none_by_test, severity_none, natural_none}
+use Rattle.trace_text.specs.Dictionaries.{dictionary_line}
 use Rattle.trace_text.specs.Lines.{first_line, last_line, clock_line, writers_line, SpellsArgument, SpellsArgumentFields, WriterCall, SpellsCall}
 use Rattle.trace_text.specs.Reading.{IsOneLine}
 use Rattle.trace_text.proofs.DecimalBytes.{decimal_all}
@@ -59,8 +60,11 @@ text_is_line spelled (b ∷ bytes) (unit, rest, is, byte, others) = subst IsOneL
 
 -- ---- lines
 
-pub first_is_line : IsOneLine first_line
-first_is_line = none_by_test 10 first_line refl
+pub first_is_line : (version : ℕ) → IsOneLine (first_line version)
+first_is_line version = joined (codes "nanolog-trace ") (decimal version) (none_by_test 10 (codes "nanolog-trace ") refl) (number_is_line version)
+
+pub dictionary_is_line : IsOneLine dictionary_line
+dictionary_is_line = none_by_test 10 dictionary_line refl
 
 pub last_is_line : IsOneLine last_line
 last_is_line = none_by_test 10 last_line refl

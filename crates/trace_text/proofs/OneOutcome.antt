@@ -1,8 +1,9 @@
 -- What the bytes from a line on give is one outcome.
-use Rattle.std.proofs.Common.{◌≡◌, ℕ, ◌+◌, List, [], ◌∷◌, ◌++◌, length, Result, Err, refl, sym, ap, ◌∙◌, subst, inl, inr, append_assoc, replicate, arith}
+use Rattle.std.proofs.Common.{◌≡◌, ℕ, ◌+◌, List, [], ◌∷◌, ◌++◌, length, Result, Err, refl, sym, ap, ◌∙◌, subst, inl, inr, append_assoc, arith}
+use Rattle.log_dictionary.specs.declared.clock.Clock.{Clock}
 use Rattle.log_dictionary.specs.declared.message.Message.{Message}
 use Rattle.trace_text.specs.declared.cause.TraceCause.{TraceCause}
-use Rattle.trace_text.specs.Recordings.{Recording}
+use Rattle.trace_text.specs.Recordings.{Recording, start_of}
 use Rattle.trace_text.specs.Lines.{WriterCall, text_of_lines}
 use Rattle.trace_text.specs.CallReading.{with_call}
 use Rattle.trace_text.specs.Reading as parts
@@ -38,22 +39,29 @@ one_cut bytes (line ∷ a) (other ∷ b) x y first second =
 
 -- ---- one next part, or one cause
 
-one_next_message : (before : List Message) (line : List ℕ) (next other : TracePart) → FollowsMessages before line next → FollowsMessages before line other → next ≡ other
-one_next_message before line next other first second =
+one_next_message : (version : ℕ) (before : List Message) (line : List ℕ) (next other : TracePart) → FollowsMessages version before line next → FollowsMessages version before line other → next ≡ other
+one_next_message version before line next other first second =
     let same = (one_message line (length before) (length before) first.2.0 second.2.0 first.2.1.spelled second.2.1.spelled).1 in
-    first.2.2 ∙ ap (λ (m : Message). parts.messages (before ++ m ∷ [])) same ∙ sym second.2.2
+    first.2.2 ∙ ap (λ (m : Message). parts.messages version (before ++ m ∷ [])) same ∙ sym second.2.2
 
 one_next : (part : TracePart) (line : List ℕ) (next other : TracePart) → Follows part line next → Follows part line other → next ≡ other
-one_next parts.opening line next other first second = first.1 ∙ sym second.1
-one_next (parts.messages before) line next other (inl first) (inl second) = one_next_message before line next other first second
-one_next (parts.messages before) line next other (inl first) (inr second) = absurd cc
-one_next (parts.messages before) line next other (inr first) (inl second) = absurd cc
-one_next (parts.messages before) line next other (inr first) (inr second) =
-    let same : first.1.0 ≡ second.1.0 = cc in
-    first.1.2 ∙ ap (parts.clock before) same ∙ sym second.1.2
-one_next (parts.clock dictionary time) line next other first second =
+one_next parts.opening line next other first second =
     let same : first.0 ≡ second.0 = cc in
-    first.2 ∙ ap (λ (count : ℕ). parts.calls (record { dictionary = dictionary; clock = time; writers = replicate count [] })) same ∙ sym second.2
+    first.2 ∙ ap (λ (version : ℕ). parts.messages version []) same ∙ sym second.2
+one_next (parts.messages version before) line next other (inl first) (inl second) = one_next_message version before line next other first second
+one_next (parts.messages version before) line next other (inl first) (inr second) = absurd cc
+one_next (parts.messages version before) line next other (inr first) (inl second) = absurd cc
+one_next (parts.messages version before) line next other (inr first) (inr second) =
+    let same : first.1.0 ≡ second.1.0 = cc in
+    first.1.2 ∙ ap (λ (time : Clock). parts.clocks version before (time ∷ [])) same ∙ sym second.1.2
+one_next (parts.clocks version dictionary times) line next other (inl first) (inl second) =
+    let same : first.1.0 ≡ second.1.0 = cc in
+    first.1.2 ∙ ap (λ (time : Clock). parts.clocks version dictionary (times ++ time ∷ [])) same ∙ sym second.1.2
+one_next (parts.clocks version dictionary times) line next other (inl first) (inr second) = absurd cc
+one_next (parts.clocks version dictionary times) line next other (inr first) (inl second) = absurd cc
+one_next (parts.clocks version dictionary times) line next other (inr first) (inr second) =
+    let same : first.1.0 ≡ second.1.0 = cc in
+    first.1.2 ∙ ap (λ (count : ℕ). parts.calls (start_of version dictionary times count)) same ∙ sym second.1.2
 one_next (parts.calls run) line next other (inl first) (inl second) = first.1 ∙ sym second.1
 one_next (parts.calls run) line next other (inl first) (inr second) = absurd (second.0 first.0)
 one_next (parts.calls run) line next other (inr first) (inl second) = absurd (first.0 second.0)
@@ -64,29 +72,35 @@ one_next (parts.ended run) line next other first second = absurd first
 
 pub one_cause : (part : TracePart) (line : List ℕ) (cause other : TraceCause) → Breaks part line cause → Breaks part line other → cause ≡ other
 one_cause parts.opening line cause other first second = first.1 ∙ sym second.1
-one_cause (parts.messages before) line cause other (inl (_, inl first)) (inl (_, inl second)) = first.1 ∙ sym second.1
-one_cause (parts.messages before) line cause other (inl (_, inl first)) (inl (_, inr second)) = absurd (omega (arith, first.0, second.0))
-one_cause (parts.messages before) line cause other (inl (_, inr first)) (inl (_, inl second)) = absurd (omega (arith, first.0, second.0))
-one_cause (parts.messages before) line cause other (inl (_, inr first)) (inl (_, inr second)) = first.2 ∙ sym second.2
-one_cause (parts.messages before) line cause other (inl first) (inr second) = absurd cc
-one_cause (parts.messages before) line cause other (inr first) (inl second) = absurd cc
-one_cause (parts.messages before) line cause other (inr first) (inr second) = first.2 ∙ sym second.2
-one_cause (parts.clock dictionary time) line cause other first second = first.1 ∙ sym second.1
+one_cause (parts.messages version before) line cause other (inl (_, inl first)) (inl (_, inl second)) = first.1 ∙ sym second.1
+one_cause (parts.messages version before) line cause other (inl (_, inl first)) (inl (_, inr second)) = absurd (omega (arith, first.0, second.0))
+one_cause (parts.messages version before) line cause other (inl (_, inr first)) (inl (_, inl second)) = absurd (omega (arith, first.0, second.0))
+one_cause (parts.messages version before) line cause other (inl (_, inr first)) (inl (_, inr second)) = first.2 ∙ sym second.2
+one_cause (parts.messages version before) line cause other (inl first) (inr second) = absurd cc
+one_cause (parts.messages version before) line cause other (inr first) (inl second) = absurd cc
+one_cause (parts.messages version before) line cause other (inr first) (inr second) = first.2 ∙ sym second.2
+one_cause (parts.clocks version dictionary times) line cause other (inl first) (inl second) = let same = sym first.1 ∙ second.1 in cc
+one_cause (parts.clocks version dictionary times) line cause other (inl first) (inr second) = absurd cc
+one_cause (parts.clocks version dictionary times) line cause other (inr first) (inl second) = absurd cc
+one_cause (parts.clocks version dictionary times) line cause other (inr first) (inr second) = first.2 ∙ sym second.2
 one_cause (parts.calls run) line cause other first second = let same = sym first.1 ∙ second.1 in cc
 one_cause (parts.ended run) line cause other first second = first ∙ sym second
 
 -- no line is right and refused
-not_both_messages : (before : List Message) (line : List ℕ) (next : TracePart) (cause : TraceCause) → FollowsMessages before line next → ¬ (BreaksMessages before line cause)
-not_both_messages before line next cause follows (_, inl full) = omega (arith, follows.1, full.0)
-not_both_messages before line next cause follows (_, inr none) = none.1 follows.2.0 follows.2.1
+not_both_messages : (version : ℕ) (before : List Message) (line : List ℕ) (next : TracePart) (cause : TraceCause) → FollowsMessages version before line next → ¬ (BreaksMessages before line cause)
+not_both_messages version before line next cause follows (_, inl full) = omega (arith, follows.1, full.0)
+not_both_messages version before line next cause follows (_, inr none) = none.1 follows.2.0 follows.2.1
 
 not_both : (part : TracePart) (line : List ℕ) (next : TracePart) (cause : TraceCause) → Follows part line next → ¬ (Breaks part line cause)
-not_both parts.opening line next cause follows breaks = breaks.0 follows.0
-not_both (parts.messages before) line next cause (inl follows) (inl breaks) = not_both_messages before line next cause follows breaks
-not_both (parts.messages before) line next cause (inl follows) (inr breaks) = absurd cc
-not_both (parts.messages before) line next cause (inr follows) (inl breaks) = absurd cc
-not_both (parts.messages before) line next cause (inr follows) (inr breaks) = absurd cc
-not_both (parts.clock dictionary time) line next cause follows breaks = absurd cc
+not_both parts.opening line next cause follows breaks = absurd cc
+not_both (parts.messages version before) line next cause (inl follows) (inl breaks) = not_both_messages version before line next cause follows breaks
+not_both (parts.messages version before) line next cause (inl follows) (inr breaks) = absurd cc
+not_both (parts.messages version before) line next cause (inr follows) (inl breaks) = absurd cc
+not_both (parts.messages version before) line next cause (inr follows) (inr breaks) = absurd cc
+not_both (parts.clocks version dictionary times) line next cause (inl follows) (inl breaks) = absurd cc
+not_both (parts.clocks version dictionary times) line next cause (inl follows) (inr breaks) = absurd cc
+not_both (parts.clocks version dictionary times) line next cause (inr follows) (inl breaks) = absurd cc
+not_both (parts.clocks version dictionary times) line next cause (inr follows) (inr breaks) = absurd cc
 not_both (parts.calls run) line next cause (inl follows) breaks = breaks.0 follows.0
 not_both (parts.calls run) line next cause (inr follows) breaks = absurd cc
 not_both (parts.ended run) line next cause follows breaks = follows

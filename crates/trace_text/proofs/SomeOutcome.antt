@@ -1,6 +1,6 @@
 -- The bytes from a line on give an outcome.
 use Rattle.std.proofs.Common.{◌≡◌, ◌≢◌, ◌⊎◌, ℕ, ◌+◌, Bool, true, false, List, [], ◌∷◌, ◌++◌, length, Option, Some, None, Result, Ok, Err, refl, subst, inl, inr, eqb, ltb}
-use Rattle.std.specs.Prelude.{codes, replicate}
+use Rattle.std.specs.Prelude.{codes}
 use Rattle.std.specs.Cmp.Lexicographic.{pointwise}
 use Rattle.std.proofs.lemmas.Bool.{ltb-true, ltb-false, eqb-true, eqb-false}
 use Rattle.log_dictionary.specs.declared.clock.Clock.{Clock}
@@ -10,12 +10,12 @@ use Rattle.log_dictionary.specs.Messages.{SpellsMessage, HasMessage}
 use Rattle.log_dictionary.specs.Additions.{SpellsNew}
 use Rattle.trace_text.specs.declared.cause.TraceCause.{TraceCause}
 use Rattle.trace_text.specs.declared.cause.TraceCause.TheVariants as causes
-use Rattle.trace_text.specs.Recordings.{Recording}
-use Rattle.trace_text.specs.Lines.{WriterCall, first_line, last_line}
-use Rattle.trace_text.specs.LineFields.{begins_with, clock_at, writers_at}
+use Rattle.trace_text.specs.Recordings.{Recording, start_of}
+use Rattle.trace_text.specs.Lines.{WriterCall, last_line}
+use Rattle.trace_text.specs.LineFields.{begins_with, version_at, clock_at, writers_at}
 use Rattle.trace_text.specs.CallReading.{call_at, with_call}
 use Rattle.trace_text.specs.Reading as parts
-use Rattle.trace_text.specs.Reading.{TracePart, Broken, Follows, Breaks, at_end, ReadsLines, Gives}
+use Rattle.trace_text.specs.Reading.{TracePart, Broken, is_later_clock, later_clock, Follows, Breaks, at_end, ReadsLines, Gives}
 use Rattle.trace_text.proofs.Cuts.{cut_of}
 use Rattle.trace_text.proofs.LineFronts.{same_line, other_line}
 use Rattle.log_dictionary.proofs.lemmas.LineMessages.{one_message}
@@ -33,9 +33,9 @@ same_or_other line other = told (pointwise eqb line other) refl
     told true e = inl (same_line line other e)
     told false e = inr (other_line line other e)
 
-judge_first : (line : List ℕ) → (line ≡ first_line) ⊎ (line ≢ first_line) → Judged parts.opening line
-judge_first line (inl same) = inl (parts.messages [], (same, refl))
-judge_first line (inr other) = inr (causes.Header, (other, refl))
+judge_first : (line : List ℕ) (o : Option ℕ) → version_at line ≡ o → Judged parts.opening line
+judge_first line (Some version) is = inl (parts.messages version [], (version, is, refl))
+judge_first line None is = inr (causes.Header, (is, refl))
 
 -- a message that is new, with the next id, or none
 pub some_new : (before : List Message) (line : List ℕ) → ((message : Message) × SpellsNew before line (length before) message) ⊎ ((message : Message) → ¬ (SpellsNew before line (length before) message))
@@ -52,27 +52,36 @@ some_new before line = elim (message_or_not line) [
     with_id id message spells true next = told message (subst (λ (n : ℕ). SpellsMessage line n message) (eqb-true _ _ next) spells) (there_or_not before message)
     with_id id message spells false other = inr (λ found new. eqb-false _ _ other (one_message line id (length before) message found spells new.spelled).0)
 
-judge_message : (before : List Message) (line : List ℕ) → begins_with (codes "message ") line ≡ true → Judged (parts.messages before) line
-judge_message before line begun = told (ltb (length before) MAX_MESSAGES) refl
+judge_message : (version : ℕ) (before : List Message) (line : List ℕ) → begins_with (codes "message ") line ≡ true → Judged (parts.messages version before) line
+judge_message version before line begun = told (ltb (length before) MAX_MESSAGES) refl
   where
-    told : (b : Bool) → ltb (length before) MAX_MESSAGES ≡ b → Judged (parts.messages before) line
+    told : (b : Bool) → ltb (length before) MAX_MESSAGES ≡ b → Judged (parts.messages version before) line
     told false full = inr (causes.TooMany, inl (begun, inl (ltb-false _ _ full, refl)))
     told true room = elim (some_new before line) [
-      | inl found ↦ inl (parts.messages (before ++ found.0 ∷ []), inl (begun, ltb-true _ _ room, (found.0, found.1, refl)))
+      | inl found ↦ inl (parts.messages version (before ++ found.0 ∷ []), inl (begun, ltb-true _ _ room, (found.0, found.1, refl)))
       | inr none ↦ inr (causes.Message, inl (begun, inr (ltb-true _ _ room, none, refl)))
     ]
 
-judge_clock : (before : List Message) (line : List ℕ) (o : Option Clock) → begins_with (codes "message ") line ≡ false → clock_at line ≡ o → Judged (parts.messages before) line
-judge_clock before line (Some time) other is = inl (parts.clock before time, inr (other, (time, is, refl)))
-judge_clock before line None other is = inr (causes.Clock, inr (other, is, refl))
+judge_clock : (version : ℕ) (before : List Message) (line : List ℕ) (o : Option Clock) → begins_with (codes "message ") line ≡ false → clock_at line ≡ o → Judged (parts.messages version before) line
+judge_clock version before line (Some time) other is = inl (parts.clocks version before (time ∷ []), inr (other, (time, is, refl)))
+judge_clock version before line None other is = inr (causes.Clock, inr (other, is, refl))
 
-judge_front : (before : List Message) (line : List ℕ) (b : Bool) → begins_with (codes "message ") line ≡ b → Judged (parts.messages before) line
-judge_front before line true begun = judge_message before line begun
-judge_front before line false other = judge_clock before line (clock_at line) other refl
+judge_front : (version : ℕ) (before : List Message) (line : List ℕ) (b : Bool) → begins_with (codes "message ") line ≡ b → Judged (parts.messages version before) line
+judge_front version before line true begun = judge_message version before line begun
+judge_front version before line false other = judge_clock version before line (clock_at line) other refl
 
-judge_writers : (dictionary : List Message) (time : Clock) (line : List ℕ) (o : Option ℕ) → writers_at line ≡ o → Judged (parts.clock dictionary time) line
-judge_writers dictionary time line (Some count) is = inl (parts.calls (record { dictionary = dictionary; clock = time; writers = replicate count [] }), (count, is, refl))
-judge_writers dictionary time line None is = inr (causes.Writers, (is, refl))
+module _ (version : ℕ) (dictionary : List Message) (times : List Clock) (line : List ℕ) where
+  judge_later : (r : Result Clock TraceCause) → is_later_clock version line ≡ true → later_clock times line ≡ r → Judged (parts.clocks version dictionary times) line
+  judge_later (Ok time) later is = inl (parts.clocks version dictionary (times ++ time ∷ []), inl (later, (time, is, refl)))
+  judge_later (Err cause) later is = inr (cause, inl (later, is))
+
+  judge_writers : (o : Option ℕ) → is_later_clock version line ≡ false → writers_at version line ≡ o → Judged (parts.clocks version dictionary times) line
+  judge_writers (Some count) none is = inl (parts.calls (start_of version dictionary times count), inr (none, (count, is, refl)))
+  judge_writers None none is = inr (causes.Writers, inr (none, is, refl))
+
+  judge_behind_clock : (b : Bool) → is_later_clock version line ≡ b → Judged (parts.clocks version dictionary times) line
+  judge_behind_clock true later = judge_later (later_clock times line) later refl
+  judge_behind_clock false none = judge_writers (writers_at version line) none refl
 
 judge_call : (run : Recording) (line : List ℕ) (r : Result WriterCall TraceCause) → line ≢ last_line → call_at run line ≡ r → Judged (parts.calls run) line
 judge_call run line (Ok made) other is = inl (parts.calls (with_call run made), inr (other, (made, is, refl)))
@@ -83,9 +92,9 @@ judge_calls run line (inl same) = inl (parts.ended run, inl (same, refl))
 judge_calls run line (inr other) = judge_call run line (call_at run line) other refl
 
 judge : (part : TracePart) (line : List ℕ) → Judged part line
-judge parts.opening line = judge_first line (same_or_other line first_line)
-judge (parts.messages before) line = judge_front before line (begins_with (codes "message ") line) refl
-judge (parts.clock dictionary time) line = judge_writers dictionary time line (writers_at line) refl
+judge parts.opening line = judge_first line (version_at line) refl
+judge (parts.messages version before) line = judge_front version before line (begins_with (codes "message ") line) refl
+judge (parts.clocks version dictionary times) line = judge_behind_clock version dictionary times line (is_later_clock version line) refl
 judge (parts.calls run) line = judge_calls run line (same_or_other line last_line)
 judge (parts.ended run) line = inr (causes.AfterEnd, refl)
 

@@ -19,14 +19,14 @@ use Rattle.log_dictionary.specs.declared.clock.Clock.{Clock}
 use Rattle.log_dictionary.proofs.lemmas.Distinct.{still_distinct}
 use Rattle.printf_grammar.proofs.lemmas.Worked.{all_copies}
 use Rattle.std.proofs.lemmas.List.{length-append}
-use Rattle.session_options.specs.declared.limits.TheConstants.{MAX_TRACE_WRITERS}
+use Rattle.session_options.specs.Versions.{is_known, most_writers, MayHaveClocks}
 use Rattle.trace_text.specs.CallReading.{call_at, with_call}
 use Rattle.trace_text.proofs.lemmas.CallRuns.{all-push, all_after, all_at, recorded_after}
 use Rattle.trace_text.proofs.CallLines.{call_spelled}
 use Rattle.trace_text.proofs.CallSteps.{can_follow}
-use Rattle.trace_text.proofs.lemmas.RunSteps.{start_of, start_recorded}
-use Rattle.trace_text.specs.Recordings.{Recording}
-use Rattle.trace_text.specs.Lines.{WriterCall, FitsLine, SpellsArgumentFields, SpellsCall, SpellsMessages, SpellsCalls}
+use Rattle.trace_text.proofs.lemmas.RunSteps.{start_recorded}
+use Rattle.trace_text.specs.Recordings.{Recording, start_of}
+use Rattle.trace_text.specs.Lines.{WriterCall, SpellsArgumentFields, SpellsCall, SpellsMessages, SpellsCalls}
 use Rattle.trace_text.specs.Traces.{TraceText, calls_by}
 use Rattle.trace_text.specs.Canonical.{HasCallLine, HaveMessageLines, HasText}
 
@@ -91,7 +91,6 @@ pub read_has_text : (bytes : List ℕ) (run : Recording) → TraceText bytes run
 read_has_text bytes run text = record {
   recorded = text.recorded;
   messages = record { distinct = text.distinct; few = text.few_messages; lines = spelled_messages 0 text.message_lines run.dictionary text.messages_spelled };
-  clock_fits = text.clock_fits;
   calls = subst (AllByRecursion (AllByRecursion HasCallLine)) (sym text.by_writer) (of_all_writers text.calls _ (spelled_calls text.call_lines text.calls text.calls_spelled));
 }
 
@@ -110,9 +109,9 @@ lines_after before after line u have (message, new, room, is) =
     })
 
 -- a run without calls
-pub start_has_text : (dictionary : List Message) (clock : Clock) (count : ℕ) → HaveMessageLines dictionary → FitsLine clock → 1 ≤ clock.rate → 1 ≤ count → count ≤ MAX_TRACE_WRITERS → HasText (start_of dictionary clock count)
-start_has_text dictionary clock count have fits rate some few =
-    record { recorded = start_recorded dictionary clock count rate some few; messages = have; clock_fits = fits; calls = all_copies (AllByRecursion HasCallLine) [] count tt }
+pub start_has_text : (version : ℕ) (dictionary : List Message) (clocks : List Clock) (count : ℕ) → is_known version ≡ true → HaveMessageLines dictionary → MayHaveClocks version clocks → 1 ≤ count → count ≤ most_writers version → HasText (start_of version dictionary clocks count)
+start_has_text version dictionary clocks count known have may some few =
+    record { recorded = start_recorded version dictionary clocks count known may some few; messages = have; calls = all_copies (AllByRecursion HasCallLine) [] count tt }
 
 -- the run with the call that a line brings
 pub text_after : (run : Recording) (line : List ℕ) (made : WriterCall) → HasText run → call_at run line ≡ Ok made → HasText (with_call run made)
@@ -122,6 +121,5 @@ text_after run line made has read =
     record {
       recorded = recorded_after run made has.recorded next;
       messages = has.messages;
-      clock_fits = has.clock_fits;
       calls = all_after (AllByRecursion HasCallLine) run.writers made.writer made.call next.calls next.known (all-push HasCallLine next.calls made.call own (spelled_call line made (call_spelled run line made read))) has.calls;
     }

@@ -1,5 +1,5 @@
 -- One line read, and what it says of all that follows.
-use Rattle.std.proofs.Common.{◌≡◌, ◌≢◌, ℕ, ◌+◌, List, [], ◌∷◌, All, eqb, length, false, Result, Ok, Err, refl, ap, sym, subst, inl, inr}
+use Rattle.std.proofs.Common.{◌≡◌, ◌≢◌, ℕ, ◌+◌, List, [], ◌∷◌, All, eqb, length, false, Result, Ok, Err, refl, ap, sym, ◌∙◌, subst, inl, inr}
 use Rattle.log_dictionary.specs.Fields.{IsFirstSplit}
 use Rattle.trace_text.specs.declared.cause.TraceCause.{TraceCause}
 use Rattle.trace_text.specs.declared.cause.TraceCause.TheVariants.{AfterEnd}
@@ -64,6 +64,10 @@ refused_on a b ReadFault led refusal = absurd refusal
 pub finished_on : (a b : TraceProgress) (r : Result Recording TraceFault) → Leads a b → ReadsToEnd b r → ReadsToEnd a r
 finished_on a b (Ok run) led finished = led _ finished
 finished_on a b (Err fault) led finished = refused_on a b fault led finished
+
+-- a reader that returns the fault of another one
+pub fault_on : (a b : TraceProgress) (r : Result Recording TraceFault) (fault returned : TraceFault) → Leads a b → IsRefusal b fault → r ≡ Err returned → returned ≡ fault → ReadsToEnd a r
+fault_on a b r fault returned led refusal is same = subst (ReadsToEnd a) (sym (is ∙ ap Err same)) (refused_on a b fault led refusal)
 
 -- the fault with the number of the next line
 pub refused_as : (from : TraceProgress) (fault : TraceFault) (cause : TraceCause) → fault ≡ Refused from.number cause → GivesFrom from (Err (record { line = from.number; cause = cause })) → IsRefusal from fault

@@ -5,3 +5,4 @@ pub mod OwnCalls
 pub mod RecordingLaws
 pub mod RunSteps
 pub mod ToldApart
+pub mod ClockLines

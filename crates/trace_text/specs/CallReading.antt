@@ -7,6 +7,7 @@ use Rattle.printf_grammar.specs.declared.argument.Value.{Value}
 use Rattle.printf_grammar.specs.declared.argument.Value.TheVariants as values
 use Rattle.printf_grammar.specs.declared.limits.TheConstants.{MAX_TEXT}
 use Rattle.printf_grammar.specs.Types.{Types}
+use Rattle.log_dictionary.specs.Clocks.{first_tick}
 use Rattle.log_dictionary.specs.Fields.{first_field}
 pub use Rattle.log_dictionary.specs.Fields.{ends_field}
 use Rattle.log_dictionary.specs.Numbers.{integer_of}
@@ -98,8 +99,8 @@ call_at run line = do
   few ← refused_if (begins_with (codes "call ") line && nat_le MAX_CALLS (sum_by length run.writers)) TooMany
   head ← ok_or (head_at line) CallForm
   calls ← ok_or (slice_get run.writers head.writer) Writer
-  ticked ← refused_if (nat_lt head.stamp run.clock.tick) BeforeClock
-  risen ← refused_if (nat_lt head.stamp (last_stamp run.clock.tick calls)) StampFalls
+  ticked ← refused_if (nat_lt head.stamp (first_tick run.clocks)) BeforeClock
+  risen ← refused_if (nat_lt head.stamp (last_stamp (first_tick run.clocks) calls)) StampFalls
   message ← ok_or (slice_get run.dictionary head.id) Id
   args ← arguments_at (Types message.format.pieces) head.fields
   short ← refused_if (nat_lt MAX_FRAME_WORDS (FrameLen args)) TooLong

@@ -6,14 +6,15 @@ use Rattle.std.specs.List.{AllByRecursion, flat_map, filter_map}
 use Rattle.printf_grammar.specs.declared.argument.Value.{Value}
 use Rattle.printf_grammar.specs.declared.argument.Value.TheVariants as values
 use Rattle.log_dictionary.specs.declared.dictionary.TheConstants.{MAX_MESSAGES}
-use Rattle.log_dictionary.specs.Canonical.{quoted_text, dictionary_text, HasLine}
+use Rattle.log_dictionary.specs.Canonical.{quoted_text, messages_text, HasLine}
 use Rattle.log_dictionary.specs.Messages.{AreDistinct}
+use Rattle.log_dictionary.specs.declared.clock.Clock.{Clock}
 use Rattle.log_dictionary.specs.declared.message.Message.{Message}
 use Rattle.arg_records.specs.declared.call.Call.{Call}
 use Rattle.arg_records.specs.Kinds.{HoldsBytes}
 use Rattle.trace_text.specs.declared.order.CallPlace.{CallPlace}
 use Rattle.trace_text.specs.Recordings.{Recording, IsRecording}
-use Rattle.trace_text.specs.Lines.{WriterCall, FitsLine, clock_line, writers_line}
+use Rattle.trace_text.specs.Lines.{WriterCall, first_line, clock_line, writers_line}
 use Rattle.trace_text.specs.Order.{places_in_order}
 
 -- ---- the calls
@@ -53,10 +54,15 @@ calls_in_order run = filter_map (made_at run) (places_in_order run)
 
 -- ---- the text
 
--- the text up to the calls: the messages, the clock, and the number of writers
+-- the line of a clock, with its line feed
+abbrev pub clock_text : Clock → List ℕ
+clock_text clock = clock_line clock ++ 10 ∷ []
+
+-- the text up to the calls: the version, the messages, the clocks, and the number of writers
 abbrev pub front_text : Recording → List ℕ
 front_text run =
-    dictionary_text run.dictionary ++ clock_line run.clock ++ 10 ∷ writers_line (length run.writers) ++ 10 ∷ []
+    first_line run.version ++ 10 ∷ messages_text run.dictionary ++ flat_map clock_text run.clocks
+    ++ writers_line (length run.writers) ++ 10 ∷ []
 
 -- the canonical text of a run
 abbrev pub Canonical : Recording → List ℕ
@@ -75,9 +81,8 @@ pub record HaveMessageLines (messages : List Message) : Type 0 where
   pub few : length messages ≤ MAX_MESSAGES
   pub lines : AllByRecursion HasLine messages
 
--- a run that a text can spell: its messages, its clock and its calls have lines
+-- a run that a text can spell: its messages and its calls have lines
 pub record HasText (run : Recording) : Type 0 where
   pub recorded : IsRecording run
   pub messages : HaveMessageLines run.dictionary
-  pub clock_fits : FitsLine run.clock
   pub calls : AllByRecursion (AllByRecursion HasCallLine) run.writers

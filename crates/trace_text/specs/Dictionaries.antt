@@ -1,4 +1,5 @@
--- The text of a dictionary, which is the front of a trace: which texts spell which messages, and where one is refused.
+-- The text of a dictionary, which is the front of a trace of version 1: which texts spell which messages, and where one
+-- is refused.
 use Rattle.std.specs.Prelude.{◌≡◌, ◌≢◌, ◌⊎◌, ℕ, ◌+◌, ◌<◌, ◌≤◌, false, List, ◌∷◌, ◌++◌, length, codes}
 use Rattle.log_dictionary.specs.declared.message.Message.{Message}
 use Rattle.log_dictionary.specs.declared.dictionary.TheConstants.{MAX_MESSAGES}
@@ -7,14 +8,18 @@ use Rattle.log_dictionary.specs.Messages.{AreDistinct}
 use Rattle.trace_text.specs.declared.cause.TraceCause.{TraceCause}
 use Rattle.trace_text.specs.declared.cause.TraceCause.TheVariants as causes
 use Rattle.trace_text.specs.declared.trace.TheConstants.{MAX_TRACE}
-use Rattle.trace_text.specs.Lines.{first_line, SpellsMessages, text_of_lines}
+use Rattle.trace_text.specs.Lines.{SpellsMessages, text_of_lines}
 use Rattle.trace_text.specs.LineFields.{begins_with}
 use Rattle.trace_text.specs.Reading.{BreaksMessages, IsOneLine}
 
--- the bytes are the first line of a trace and a line for each message, with the ids from 0
+-- the first line of the text of a dictionary, which is that of a trace of version 1
+abbrev pub dictionary_line : List ℕ
+dictionary_line = codes "nanolog-trace 1"
+
+-- the bytes are that line and a line for each message, with the ids from 0
 pub record SpellsDictionary (bytes : List ℕ) (messages : List Message) : Type 0 where
   pub message_lines : List (List ℕ)
-  pub whole : bytes ≡ text_of_lines (first_line ∷ message_lines)
+  pub whole : bytes ≡ text_of_lines (dictionary_line ∷ message_lines)
   pub messages_spelled : SpellsMessages 0 message_lines messages
   pub distinct : AreDistinct messages
   pub few_messages : length messages ≤ MAX_MESSAGES
@@ -36,9 +41,9 @@ IsRefusedBehind before rest cause =
     ((line : List ℕ) × (behind : List ℕ) × IsFirstSplit 10 rest line behind × BreaksDictionary before line cause)
     ⊎ ((1 ≤ length rest) × IsOneLine rest × (cause ≡ causes.Message))
 
--- the bytes don't begin with the first line of a trace and its line feed
+-- the bytes don't begin with that line and its line feed
 abbrev pub LacksFirstLine : List ℕ → Type 0
-LacksFirstLine bytes = (rest : List ℕ) → bytes ≢ first_line ++ 10 ∷ rest
+LacksFirstLine bytes = (rest : List ℕ) → bytes ≢ dictionary_line ++ 10 ∷ rest
 
 -- a front of the bytes is right, and the line behind it is refused
 pub record BreaksBehind (bytes : List ℕ) (line : ℕ) (cause : TraceCause) : Type 0 where

@@ -5,7 +5,7 @@ use Rattle.log_dictionary.specs.declared.clock.Clock.{Clock}
 use Rattle.log_dictionary.specs.Fields.{first_field}
 use Rattle.log_dictionary.specs.Numbers.{natural_of, if_small}
 use Rattle.log_dictionary.specs.Fields.{◌>>=◌, after, split_at_first}
-use Rattle.session_options.specs.declared.limits.TheConstants.{MAX_TRACE_WRITERS}
+use Rattle.session_options.specs.Versions.{is_known, most_writers}
 
 -- the line begins with these bytes
 abbrev pub begins_with : List ℕ → List ℕ → Bool
@@ -36,13 +36,22 @@ clock_of fields = do
 abbrev pub clock_at : List ℕ → Option Clock
 clock_at line = after (codes "clock ") line >>= clock_of
 
--- a number from 1 to 64
-abbrev pub writer_count : ℕ → Option ℕ
-writer_count writers = if nat_le 1 writers && nat_le writers MAX_TRACE_WRITERS then Some writers else None
+-- a version that is known
+abbrev pub known_version : ℕ → Option ℕ
+known_version version = if is_known version then Some version else None
+
+-- the version that the first line says
+abbrev pub version_at : List ℕ → Option ℕ
+version_at line = after (codes "nanolog-trace ") line >>= field_number >>= known_version
+
+-- a number of writers that a run of the version may have
+abbrev pub writer_count : ℕ → ℕ → Option ℕ
+writer_count version writers =
+    if nat_le 1 writers && nat_le writers (most_writers version) then Some writers else None
 
 -- the number of writers of their line
-abbrev pub writers_at : List ℕ → Option ℕ
-writers_at line = after (codes "writers ") line >>= field_number >>= writer_count
+abbrev pub writers_at : ℕ → List ℕ → Option ℕ
+writers_at version line = after (codes "writers ") line >>= field_number >>= writer_count version
 
 -- what a line of a call says before its arguments, and the bytes behind its id: none, or a space and more
 pub record CallHead : Type 0 where

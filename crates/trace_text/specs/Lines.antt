@@ -9,22 +9,16 @@ use Rattle.log_dictionary.specs.Texts.{SpellsText}
 use Rattle.log_dictionary.specs.Messages.{SpellsMessage}
 use Rattle.arg_records.specs.declared.call.Call.{Call}
 
--- the first line, and the last
-abbrev pub first_line : List ℕ
-first_line = codes "nanolog-trace 1"
+-- the first line, which says the version, and the last
+abbrev pub first_line : ℕ → List ℕ
+first_line version = codes "nanolog-trace " ++ decimal version
 
 abbrev pub last_line : List ℕ
 last_line = codes "end"
 
--- the line of the clock: its tick, the nanoseconds since 1970 at that tick, and its rate
+-- the line of a clock: its tick, the nanoseconds since 1970 at that tick, and its rate
 abbrev pub clock_line : Clock → List ℕ
 clock_line clock = codes "clock " ++ decimal clock.tick ++ 32 ∷ decimal clock.nanos ++ 32 ∷ decimal clock.rate
-
--- the numbers of a clock that has a line
-pub record FitsLine (clock : Clock) : Type 0 where
-  pub tick : clock.tick < 2 ^ 64
-  pub nanos : clock.nanos < 2 ^ 64
-  pub rate : clock.rate < 2 ^ 64
 
 -- the line of the number of writers
 abbrev pub writers_line : ℕ → List ℕ

@@ -1,25 +1,29 @@
 -- Reading the text of a trace line by line: where it gives a run, and where a line is refused.
-use Rattle.std.specs.Prelude.{◌≡◌, ◌≢◌, ◌⊎◌, ℕ, ◌+◌, ◌<◌, ◌≤◌, true, false, List, [], ◌∷◌, ◌++◌, length, replicate, codes, None, Some, Result, Ok, Err}
+use Rattle.std.specs.Prelude.{◌≡◌, ◌≢◌, ◌⊎◌, ℕ, ◌+◌, ◌<◌, ◌≤◌, nat_le, Bool, ◌&&◌, true, false, List, [], ◌∷◌, ◌++◌, length, codes, None, Some, Result, Ok, Err}
 use Rattle.std.specs.List.{AllByRecursion}
+use Rattle.std.specs.Option.{ok_or}
 use Rattle.log_dictionary.specs.declared.clock.Clock.{Clock}
+use Rattle.log_dictionary.specs.declared.clocks.TheConstants.{MAX_CLOCKS}
 use Rattle.log_dictionary.specs.declared.message.Message.{Message}
+use Rattle.log_dictionary.specs.Clocks.{last_tick}
 use Rattle.log_dictionary.specs.declared.dictionary.TheConstants.{MAX_MESSAGES}
 use Rattle.log_dictionary.specs.Additions.{SpellsNew}
+use Rattle.session_options.specs.Versions.{has_clocks}
 use Rattle.trace_text.specs.declared.cause.TraceCause.{TraceCause}
 use Rattle.trace_text.specs.declared.cause.TraceCause.TheVariants as causes
 use Rattle.trace_text.specs.declared.trace.TheConstants.{MAX_TRACE}
-use Rattle.trace_text.specs.Recordings.{Recording}
-use Rattle.trace_text.specs.Lines.{WriterCall, first_line, last_line, text_of_lines}
-use Rattle.trace_text.specs.LineFields.{begins_with, clock_at, writers_at}
-use Rattle.trace_text.specs.CallReading.{call_at, with_call}
+use Rattle.trace_text.specs.Recordings.{Recording, start_of}
+use Rattle.trace_text.specs.Lines.{WriterCall, last_line, text_of_lines}
+use Rattle.trace_text.specs.LineFields.{begins_with, version_at, clock_at, writers_at}
+use Rattle.trace_text.specs.CallReading.{◌>>=◌, refused_if, call_at, with_call}
 
 -- how far the lines of a text have come
 pub data TracePart : Type 0 where
   opening : TracePart
-  -- behind the first line
-  messages : List Message → TracePart
-  -- behind the clock's line
-  clock : List Message → Clock → TracePart
+  -- behind the first line, which says the version
+  messages : ℕ → List Message → TracePart
+  -- behind a clock's line
+  clocks : ℕ → List Message → List Clock → TracePart
   -- behind the writers' line: the run so far
   calls : Recording → TracePart
   -- behind the last line
@@ -33,11 +37,12 @@ pub record Broken : Type 0 where
 -- ---- one line
 
 -- the line spells a new message with the next id
-abbrev pub FollowsMessages : List Message → List ℕ → TracePart → Type 0
-FollowsMessages before line next =
+abbrev pub FollowsMessages : ℕ → List Message → List ℕ → TracePart → Type 0
+FollowsMessages version before line next =
     (begins_with (codes "message ") line ≡ true)
     × (length before < MAX_MESSAGES)
-    × ((message : Message) × SpellsNew before line (length before) message × (next ≡ messages (before ++ message ∷ [])))
+    × ((message : Message) × SpellsNew before line (length before) message
+    × (next ≡ messages version (before ++ message ∷ [])))
 
 -- a line of a message is one too many, or spells no new message with the next id
 abbrev pub BreaksMessages : List Message → List ℕ → TraceCause → Type 0
@@ -48,16 +53,31 @@ BreaksMessages before line cause =
     × ((message : Message) → ¬ (SpellsNew before line (length before) message))
     × (cause ≡ causes.Message)))
 
+-- behind a clock's line this is to be the line of a clock more
+abbrev pub is_later_clock : ℕ → List ℕ → Bool
+is_later_clock version line = has_clocks version && begins_with (codes "clock ") line
+
+-- the clock of the line, which follows these, or the first cause why it is refused
+abbrev pub later_clock : List Clock → List ℕ → Result Clock TraceCause
+later_clock times line = do
+  few ← refused_if (nat_le MAX_CLOCKS (length times)) causes.TooManyClocks
+  time ← ok_or (clock_at line) causes.Clock
+  risen ← refused_if (nat_le time.tick (last_tick times)) causes.ClockOrder
+  Ok time
+
 -- the line is right in this part, and the next line stands in that part
 abbrev pub Follows : TracePart → List ℕ → TracePart → Type 0
-Follows opening line next = (line ≡ first_line) × (next ≡ messages [])
-Follows (messages before) line next =
-    FollowsMessages before line next
+Follows opening line next = (version : ℕ) × (version_at line ≡ Some version) × (next ≡ messages version [])
+Follows (messages version before) line next =
+    FollowsMessages version before line next
     ⊎ ((begins_with (codes "message ") line ≡ false)
-    × ((time : Clock) × (clock_at line ≡ Some time) × (next ≡ clock before time)))
-Follows (clock dictionary time) line next =
-    (count : ℕ) × (writers_at line ≡ Some count)
-    × (next ≡ calls (record { dictionary = dictionary; clock = time; writers = replicate count [] }))
+    × ((time : Clock) × (clock_at line ≡ Some time) × (next ≡ clocks version before (time ∷ []))))
+Follows (clocks version dictionary times) line next =
+    ((is_later_clock version line ≡ true)
+    × ((time : Clock) × (later_clock times line ≡ Ok time) × (next ≡ clocks version dictionary (times ++ time ∷ []))))
+    ⊎ ((is_later_clock version line ≡ false)
+    × ((count : ℕ) × (writers_at version line ≡ Some count)
+    × (next ≡ calls (start_of version dictionary times count))))
 Follows (calls run) line next =
     ((line ≡ last_line) × (next ≡ ended run))
     ⊎ ((line ≢ last_line) × ((made : WriterCall) × (call_at run line ≡ Ok made) × (next ≡ calls (with_call run made))))
@@ -65,11 +85,13 @@ Follows (ended run) line next = ⊥
 
 -- the line is refused in this part, and this is the first cause that holds
 abbrev pub Breaks : TracePart → List ℕ → TraceCause → Type 0
-Breaks opening line cause = (line ≢ first_line) × (cause ≡ causes.Header)
-Breaks (messages before) line cause =
+Breaks opening line cause = (version_at line ≡ None) × (cause ≡ causes.Header)
+Breaks (messages version before) line cause =
     BreaksMessages before line cause
     ⊎ ((begins_with (codes "message ") line ≡ false) × (clock_at line ≡ None) × (cause ≡ causes.Clock))
-Breaks (clock dictionary time) line cause = (writers_at line ≡ None) × (cause ≡ causes.Writers)
+Breaks (clocks version dictionary times) line cause =
+    ((is_later_clock version line ≡ true) × (later_clock times line ≡ Err cause))
+    ⊎ ((is_later_clock version line ≡ false) × (writers_at version line ≡ None) × (cause ≡ causes.Writers))
 Breaks (calls run) line cause = (line ≢ last_line) × (call_at run line ≡ Err cause)
 Breaks (ended run) line cause = cause ≡ causes.AfterEnd
 

@@ -1,21 +1,26 @@
 -- Worked examples: runs of three writers, and calls with texts.
-use Rattle.std.specs.Prelude.{◌≡◌, ℕ, List, [], ◌∷◌, ◌++◌, codes, replicate, Err}
+use Rattle.std.specs.Prelude.{◌≡◌, ℕ, List, [], ◌∷◌, ◌++◌, codes, replicate, Err, pos}
 use Rattle.printf_grammar.specs.declared.piece.Piece.TheVariants.{Field}
 use Rattle.printf_grammar.specs.declared.piece.Conversion.TheVariants.{S}
-use Rattle.printf_grammar.specs.declared.argument.Value.TheVariants.{Unsigned, Text}
+use Rattle.printf_grammar.specs.declared.argument.Value.TheVariants.{Signed, Unsigned, Text}
 use Rattle.printf_grammar.specs.Narrow.{plain_d}
 use Rattle.arg_records.specs.Rows.{row_call, full_message, mixed_calls, texts_message}
+use Rattle.log_dictionary.specs.declared.clock.Clock.{Clock}
 use Rattle.log_dictionary.specs.Rows.{row_message}
 use Rattle.trace_text.specs.Recordings.{Recording}
 use Rattle.trace_text.specs.declared.cause.TraceCause.{TraceCause}
 use Rattle.trace_text.specs.Lines.{WriterCall}
 use Rattle.trace_text.specs.CallReading.{call_at}
 
+abbrev pub row_clock : Clock
+row_clock = record { tick = 1000; nanos = 1514764800000000000; rate = 2000000000 }
+
 -- the second writer's two calls stand around the first writer's one, and the third made none
 abbrev pub three_writers_run : Recording
 three_writers_run = record {
+  version = 1;
   dictionary = row_message ∷ [];
-  clock = record { tick = 1000; nanos = 1514764800000000000; rate = 2000000000 };
+  clocks = row_clock ∷ [];
   writers = (row_call 1 ∷ []) ∷ (row_call 2 ∷ row_call 3 ∷ []) ∷ [] ∷ [];
 }
 
@@ -106,3 +111,25 @@ one_text_run = record three_writers_run {
 -- a call of it with a letter, another one and a line feed
 abbrev pub one_text_call : WriterCall
 one_text_call = record { writer = 0; call = record { stamp = 1003; id = 0; args = Text (97 ∷ 65 ∷ 10 ∷ []) ∷ [] } }
+
+-- ---- a run of two clocks
+
+-- one writer's call behind the second clock's tick
+abbrev pub two_clocks_run : Recording
+two_clocks_run = record {
+  version = 2;
+  dictionary = row_message ∷ [];
+  clocks =
+      row_clock ∷ record { tick = 2000; nanos = 1514764801000000000; rate = 1000000000 } ∷ [];
+  writers = (record { stamp = 2003; id = 0; args = Signed (pos 7) ∷ [] } ∷ []) ∷ [];
+}
+
+abbrev pub two_clocks_text : List ℕ
+two_clocks_text =
+    codes "nanolog-trace 2\n"
+    ++ codes "message 0 NOTICE 12 \"srv.cc\" \"x=%d\"\n"
+    ++ codes "clock 1000 1514764800000000000 2000000000\n"
+    ++ codes "clock 2000 1514764801000000000 1000000000\n"
+    ++ codes "writers 1\n"
+    ++ codes "call 0 2003 0 7\n"
+    ++ codes "end\n"

@@ -106,10 +106,11 @@ fn begin_call<'a>(run: &'a Trace, calls: usize, line: &'a [u8]) -> Result<BegunC
     let Some(made) = run.writers.get(head.writer as usize) else {
         return Err(TraceCause::Writer);
     };
-    if head.stamp < run.clock.tick {
+    let first = run.clocks.first().tick;
+    if head.stamp < first {
         return Err(TraceCause::BeforeClock);
     }
-    if head.stamp < last_stamp(run.clock.tick, made) {
+    if head.stamp < last_stamp(first, made) {
         return Err(TraceCause::StampFalls);
     }
     let Some(message) = message_at(&run.dictionary, head.id) else {

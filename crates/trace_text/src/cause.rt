@@ -11,21 +11,26 @@ pub enum TraceCause {
     TooLarge,
     /// The text ends before the end of an `end` line.
     NoEnd,
-    /// The first line isn't `nanolog-trace 1`.
+    /// The first line is neither `nanolog-trace 1` nor `nanolog-trace 2`.
     Header,
     /// It would be one message or one call too many.
     TooMany,
     /// A message line is of another form, its id isn't the next one, or its message is there already.
     Message,
-    /// The first line after the messages isn't the clock's.
+    /// In version 2, a line begins with `clock ` behind 256 lines of clocks.
+    TooManyClocks,
+    /// The first line after the messages isn't a clock's, or a later line of version 2 that begins with `clock ` isn't
+    /// one.
     Clock,
-    /// The line after the clock's isn't that of 1 to 64 writers.
+    /// In version 2, the tick of a clock isn't above that of the clock before.
+    ClockOrder,
+    /// The line after the clocks' isn't that of 1 to 64 writers, or 1,024 in version 2.
     Writers,
     /// A later line is neither `end` nor `call` with a writer, a stamp and an id.
     CallForm,
     /// There is no such writer.
     Writer,
-    /// The stamp is below the clock's tick.
+    /// The stamp is below the first clock's tick.
     BeforeClock,
     /// The stamp is below that of the writer's call before.
     StampFalls,
@@ -56,7 +61,9 @@ impl TraceCause {
             TraceCause::Header => 1,
             TraceCause::TooMany => 15,
             TraceCause::Message => 2,
+            TraceCause::TooManyClocks => 20,
             TraceCause::Clock => 3,
+            TraceCause::ClockOrder => 21,
             TraceCause::Writers => 4,
             TraceCause::CallForm => 17,
             TraceCause::Writer => 5,
@@ -82,7 +89,9 @@ impl TraceCause {
             TraceCause::Header => "Header",
             TraceCause::TooMany => "TooMany",
             TraceCause::Message => "Message",
+            TraceCause::TooManyClocks => "TooManyClocks",
             TraceCause::Clock => "Clock",
+            TraceCause::ClockOrder => "ClockOrder",
             TraceCause::Writers => "Writers",
             TraceCause::CallForm => "CallForm",
             TraceCause::Writer => "Writer",

@@ -1,20 +1,22 @@
-//! Reading the text of a dictionary, which is the front of a trace.
+//! Reading the text of a dictionary, which is the front of a trace of version 1.
 
 ghost use Rattle.std.specs.Prelude.{◌≡◌, ◌≤◌, ◌+◌, ◌∷◌, ◌++◌, length, IfSome, IfNone, IsErrOf};
-ghost use Rattle.trace_text.specs.Dictionaries.{DictionaryText, DictionaryBreak, LacksFirstLine};
-ghost use Rattle.trace_text.specs.Lines.{first_line};
+ghost use Rattle.trace_text.specs.Dictionaries.{dictionary_line, DictionaryText, DictionaryBreak, LacksFirstLine};
 ghost use Rattle.trace_text.specs.TraceReading.{IsAnswerTo, IsOnlyAnswerTo};
 
 use crate::cause::TraceCause;
 use crate::lines::Lines;
-use crate::reading::{FIRST_LINE, TOO_LARGE, TraceFault, message_fault};
+use crate::reading::{TOO_LARGE, TraceFault, message_fault};
 use crate::trace::MAX_TRACE;
 use log_dictionary::Dictionary;
 use std::alloc::Global;
 
-// The lines behind the first one, if that is the first line of a trace.
+/// The first line of the text of a dictionary.
+const FIRST_LINE: &[u8] = b"nanolog-trace 1";
+
+// The lines behind the first one, if that is as it should be.
 fn behind_first_line(lines: Lines<'_>) -> Option<Lines<'_>>
-    ensures some { IfSome result (λ rest. lines.entry.bytes.now ≡ first_line ++ 10 ∷ rest.bytes.now) }
+    ensures some { IfSome result (λ rest. lines.entry.bytes.now ≡ dictionary_line ++ 10 ∷ rest.bytes.now) }
     ensures next { IfSome result (λ rest. rest.number ≡ lines.entry.number + 1) }
     ensures none { IfNone result (LacksFirstLine lines.entry.bytes.now) }
 {
@@ -51,7 +53,7 @@ fn dictionary_of(alloc: Global, text: &[u8]) -> Result<Dictionary, TraceFault>
     Ok(dictionary)
 }
 
-/// The dictionary whose text it is: the first line of a trace and lines of messages, and nothing else.
+/// The dictionary whose text it is: the first line of a trace of version 1 and lines of messages, and nothing else.
 pub fn read_dictionary(alloc: Global, text: &[u8]) -> Result<Dictionary, TraceFault>
     // The text is that of the messages, or is refused so.
     ensures answer { IsAnswerTo (DictionaryText text.now) (DictionaryBreak text.now) result }

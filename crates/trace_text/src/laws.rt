@@ -1,7 +1,7 @@
 //! Laws and worked examples of the definitions. The functions do nothing: what they ensure is
 //! proved of the definitions.
 
-ghost use Rattle.std.specs.Prelude.{◌≡◌, ◌≢◌, ◌⊎◌, Result, ℕ, ◌+◌, ◌/◌, ◌<◌, ◌≤◌, List, [], ◌∷◌, ◌++◌, length, replicate, map, sum_by, Contains, Some, Ok, codes, negsuc};
+ghost use Rattle.std.specs.Prelude.{◌≡◌, ◌≢◌, ◌⊎◌, Result, ℕ, ◌+◌, ◌/◌, ◌<◌, ◌≤◌, List, [], ◌∷◌, ◌++◌, length, replicate, map, sum_by, All, Contains, Some, Ok, codes, negsuc};
 ghost use Rattle.std.specs.List.{AllByRecursion};
 ghost use Rattle.log_dictionary.specs.Messages.{AreDistinct};
 ghost use Rattle.arg_records.specs.Rows.{row_call};
@@ -10,6 +10,8 @@ ghost use Rattle.trace_text.specs.Recordings.{Recording, IsRecording, calls_of};
 ghost use Rattle.trace_text.specs.Order.{call_in, places_in_order};
 ghost use Rattle.arg_records.specs.Calls.{IsCall, NeverFalls};
 ghost use Rattle.log_dictionary.specs.Additions.{SpellsNew};
+ghost use Rattle.log_dictionary.specs.Clocks.{AreClocks, FitsClock, first_tick, last_tick};
+ghost use Rattle.log_dictionary.specs.declared.clock.Clock.{Clock as ClockValue};
 ghost use Rattle.log_dictionary.specs.declared.message.Message.{Message as MessageValue};
 ghost use Rattle.trace_text.specs.Reading as parts;
 ghost use Rattle.trace_text.specs.Reading.{TracePart, Broken, IsOneLine, Follows, Breaks, Gives, opening, TraceBreak};
@@ -18,11 +20,11 @@ ghost use Rattle.log_dictionary.specs.Canonical.{dictionary_text};
 ghost use Rattle.log_dictionary.specs.Rows.{row_message};
 ghost use Rattle.trace_text.specs.Canonical.{call_line, Canonical, HasText, HaveMessageLines};
 ghost use Rattle.trace_text.specs.Dictionaries.{SpellsDictionary, DictionaryText, DictionaryBreak};
-ghost use Rattle.trace_text.specs.Lines.{SpellsCall, text_of_lines};
-ghost use Rattle.trace_text.specs.Rows.{three_writers_run, three_writers_text, two_messages, text_call, text_call_line, begun_run, refused, texts_line, texts_made, many_calls, three_writers_canonical, one_text_run, one_text_call, dictionary_row};
+ghost use Rattle.trace_text.specs.Lines.{SpellsCall, clock_line, text_of_lines};
+ghost use Rattle.trace_text.specs.Rows.{three_writers_run, three_writers_text, two_messages, text_call, text_call_line, begun_run, refused, texts_line, texts_made, many_calls, three_writers_canonical, one_text_run, one_text_call, dictionary_row, row_clock, two_clocks_run, two_clocks_text};
 ghost use Rattle.trace_text.specs.CallReading.{call_at};
 ghost use Rattle.trace_text.specs.declared.cause.TraceCause.{TraceCause};
-ghost use Rattle.trace_text.specs.declared.cause.TraceCause.TheVariants.{TooLarge, NoEnd, Header, Message, Clock, Writers, CallForm, Writer, BeforeClock, StampFalls, Id, ArgCount, ArgKind, ArgRange, NulInText, TooLong, AfterEnd, TooMany};
+ghost use Rattle.trace_text.specs.declared.cause.TraceCause.TheVariants.{TooLarge, NoEnd, Header, Message, Clock, TooManyClocks, ClockOrder, Writers, CallForm, Writer, BeforeClock, StampFalls, Id, ArgCount, ArgKind, ArgRange, NulInText, TooLong, AfterEnd, TooMany};
 ghost use Rattle.trace_text.specs.Causes.{cause_number, cause_name};
 ghost use Rattle.printf_grammar.specs.declared.argument.Value.TheVariants.{Signed, Text};
 ghost use Rattle.trace_text.specs.declared.trace.TheConstants.{MAX_CALLS, MAX_TRACE};
@@ -44,27 +46,39 @@ pub fn writers_are_mixed()
     ensures { TraceText three_writers_text three_writers_run }
 {}
 
+/// A run of version 2 with two clocks, as it is read and written.
+pub fn runs_have_later_clocks()
+    ensures read { TraceText two_clocks_text two_clocks_run }
+    ensures written { Canonical two_clocks_run ≡ two_clocks_text }
+{}
+
 /// A call with each escape in a text, and the greatest number.
 pub fn texts_have_escapes()
     ensures { SpellsCall text_call_line text_call }
 {}
 
-/// A run has 1 to 64 writers, at most 4,194,304 calls, and a clock that ticks. Each call is one of
-/// its messages, and no writer's stamps fall, nor is one before the clock's tick.
+/// A run of version 1 has 1 to 64 writers and one clock, one of version 2 has 1 to 1,024 writers and 1 to 256 clocks, and
+/// there are no others. It has at most 4,194,304 calls. Each call is one of its messages, and no writer's stamps fall,
+/// nor is one before the first clock's tick.
 pub fn recordings_are_within_limits()
     ensures worked { IsRecording two_messages }
-    ensures slowest_clock { IsRecording (record two_messages { clock = record two_messages.clock { rate = 1 } }) }
+    ensures two_clocks { IsRecording two_clocks_run }
+    ensures slowest_clock { IsRecording (record two_messages { clocks = record row_clock { rate = 1 } ∷ [] }) }
     ensures writers { (n : ℕ) → 1 ≤ n → n ≤ 64 → IsRecording (record two_messages { writers = replicate n [] }) }
+    ensures writers_of_2 { (n : ℕ) → 1 ≤ n → n ≤ 1024
+        → IsRecording (record two_messages { version = 2; writers = replicate n [] }) }
     ensures calls { (n : ℕ) → n ≤ 4194304
         → IsRecording (record two_messages { writers = replicate n (row_call 1) ∷ [] }) }
-    ensures no_writer { (run : Recording) → run.writers ≡ [] → ¬ (IsRecording run) }
-    ensures too_many_writers { (run : Recording) → 64 < length run.writers → ¬ (IsRecording run) }
-    ensures too_many_calls { (run : Recording) → 4194304 < sum_by length run.writers → ¬ (IsRecording run) }
-    ensures no_ticks { (run : Recording) → run.clock.rate ≡ 0 → ¬ (IsRecording run) }
+    ensures limits { (run : Recording) → IsRecording run → (1 ≤ length run.writers) × (length run.writers ≤ 1024)
+        × (1 ≤ length run.clocks) × (length run.clocks ≤ 256) × (sum_by length run.writers ≤ 4194304) }
+    ensures limits_of_1 { (run : Recording) → IsRecording run → run.version ≡ 1
+        → (length run.writers ≤ 64) × (length run.clocks ≡ 1) }
+    ensures versions { (run : Recording) → IsRecording run → (run.version ≡ 1) ⊎ (run.version ≡ 2) }
+    ensures clocks_are_right { (run : Recording) → IsRecording run → AreClocks run.clocks × All FitsClock run.clocks }
     ensures calls_are_right { (run : Recording) → IsRecording run
         → AllByRecursion (AllByRecursion (IsCall run.dictionary)) run.writers }
     ensures stamps_rise { (run : Recording) → IsRecording run
-        → AllByRecursion (NeverFalls run.clock.tick) run.writers }
+        → AllByRecursion (NeverFalls (first_tick run.clocks)) run.writers }
 {}
 
 /// A text of a run has at most 67,108,864 bytes and 65,536 messages, of which no two are equal, and
@@ -113,19 +127,24 @@ pub fn texts_are_refused()
     ensures empty { TraceBreak [] 1 NoEnd }
     ensures no_line_feed { TraceBreak (codes "nanolog-trace 1") 1 NoEnd }
     ensures no_last_line { TraceBreak (codes "nanolog-trace 1\nclock 1 2 3\nwriters 2\nend") 4 NoEnd }
-    ensures other_version { TraceBreak (codes "nanolog-trace 2\nclock") 1 Header }
+    ensures other_version { TraceBreak (codes "nanolog-trace 3\nclock") 1 Header }
+    ensures leading_zero { TraceBreak (codes "nanolog-trace 02\nclock") 1 Header }
     ensures other_id { TraceBreak (codes "nanolog-trace 1\nmessage 1 DEBUG 1 \"a\" \"b\"\n") 2 Message }
     ensures no_rate { TraceBreak (codes "nanolog-trace 1\nclock 1 2 0\nend\n") 2 Clock }
     ensures no_clock { TraceBreak (codes "nanolog-trace 1\nwriters 2\nend\n") 2 Clock }
     ensures no_writer { TraceBreak (codes "nanolog-trace 1\nclock 1 2 3\nwriters 0\nend\n") 3 Writers }
     ensures many_writers { TraceBreak (codes "nanolog-trace 1\nclock 1 2 3\nwriters 65\nend\n") 3 Writers }
+    ensures many_writers_of_2 { TraceBreak (codes "nanolog-trace 2\nclock 1 2 3\nwriters 1025\nend\n") 3 Writers }
+    ensures second_clock_of_1 { TraceBreak (codes "nanolog-trace 1\nclock 1 2 3\nclock 2 2 3\n") 3 Writers }
+    ensures second_without_rate { TraceBreak (codes "nanolog-trace 2\nclock 1 2 3\nclock 1 2 0\n") 3 Clock }
+    ensures same_tick { TraceBreak (codes "nanolog-trace 2\nclock 1 2 3\nclock 1 2 3\n") 3 ClockOrder }
     ensures call_of_none { TraceBreak (codes "nanolog-trace 1\nclock 1 2 3\nwriters 2\ncall 2 1 0\nend\n") 4 Writer }
     ensures line_behind { TraceBreak (codes "nanolog-trace 1\nclock 1 2 3\nwriters 2\nend\nend\n") 5 AfterEnd }
     ensures byte_behind { TraceBreak (codes "nanolog-trace 1\nclock 1 2 3\nwriters 2\nend\n ") 5 AfterEnd }
 {}
 
-/// A run takes 4,194,304 calls, and a dictionary 65,536 messages. A line that would bring one more is refused as that,
-/// whatever stands behind its first word.
+/// A run takes 4,194,304 calls, 65,536 messages, and in version 2 256 clocks. A line that would bring one more is refused
+/// as that, whatever stands behind its first word.
 pub fn full_runs_take_no_more()
     ensures last_call { (n : ℕ) → n < 4194304
         → call_at (many_calls n) (codes "call 0 1003 0 2") ≡ Ok (record { writer = 0; call = row_call 2 }) }
@@ -133,9 +152,14 @@ pub fn full_runs_take_no_more()
         → Breaks (parts.calls run) (codes "call " ++ fields) TooMany }
     ensures last_message { (before : List MessageValue) (line : List ℕ) (message : MessageValue) → length before < 65536
         → SpellsNew before line (length before) message
-        → Follows (parts.messages before) line (parts.messages (before ++ message ∷ [])) }
-    ensures one_message_more { (before : List MessageValue) (fields : List ℕ) → 65536 ≤ length before
-        → Breaks (parts.messages before) (codes "message " ++ fields) TooMany }
+        → (version : ℕ) → Follows (parts.messages version before) line (parts.messages version (before ++ message ∷ [])) }
+    ensures one_message_more { (version : ℕ) (before : List MessageValue) (fields : List ℕ) → 65536 ≤ length before
+        → Breaks (parts.messages version before) (codes "message " ++ fields) TooMany }
+    ensures last_clock { (messages : List MessageValue) (times : List ClockValue) (clock : ClockValue)
+        → length times < 256 → last_tick times < clock.tick → 1 ≤ clock.rate → FitsClock clock
+        → Follows (parts.clocks 2 messages times) (clock_line clock) (parts.clocks 2 messages (times ++ clock ∷ [])) }
+    ensures one_clock_more { (messages : List MessageValue) (times : List ClockValue) (fields : List ℕ)
+        → 256 ≤ length times → Breaks (parts.clocks 2 messages times) (codes "clock " ++ fields) TooManyClocks }
 {}
 
 /// A text has at most 4,000 bytes. The frame of a call has 2 words, one more for each of its texts, and one for eight
@@ -174,6 +198,7 @@ pub fn texts_end_with_their_last_line()
 pub fn causes_have_numbers_and_names()
     ensures { (cause : TraceCause) → Contains {X = TraceCause × ℕ × List ℕ}
         ((Header, 1, codes "Header") ∷ (Message, 2, codes "Message") ∷ (Clock, 3, codes "Clock")
+        ∷ (TooManyClocks, 20, codes "TooManyClocks") ∷ (ClockOrder, 21, codes "ClockOrder")
         ∷ (Writers, 4, codes "Writers") ∷ (Writer, 5, codes "Writer") ∷ (StampFalls, 6, codes "StampFalls")
         ∷ (BeforeClock, 7, codes "BeforeClock") ∷ (Id, 8, codes "Id") ∷ (ArgCount, 9, codes "ArgCount")
         ∷ (ArgKind, 10, codes "ArgKind") ∷ (ArgRange, 11, codes "ArgRange") ∷ (NulInText, 12, codes "NulInText")
@@ -267,9 +292,9 @@ pub fn dictionaries_are_written()
         → HaveMessageLines messages }
 {}
 
-/// A trace begins with the text of its dictionary.
+/// A trace of version 1 begins with the text of its dictionary.
 pub fn traces_begin_with_dictionaries()
-    ensures { (bytes : List ℕ) (run : Recording) → TraceText bytes run
+    ensures { (bytes : List ℕ) (run : Recording) → TraceText bytes run → run.version ≡ 1
         → (front : List ℕ) × (rest : List ℕ) × (bytes ≡ front ++ rest) × DictionaryText front run.dictionary }
 {}
 

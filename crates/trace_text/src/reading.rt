@@ -1,26 +1,28 @@
 //! Reading the text of a trace.
 
-ghost use Rattle.std.specs.Prelude.{◌≡◌, ℕ, ◌≤◌, [], Err, length, sum_by, IfOk, IfSome, OnOk, IsErrOf};
+ghost use Rattle.std.specs.Prelude.{◌≡◌, ℕ, ◌≤◌, List, [], ◌∷◌, ◌++◌, true, Ok, Err, length, sum_by, IfOk, IfErr, IfSome, OnOk, IsErrOf};
 ghost use Rattle.nl_io.specs.Count.{Rose};
 ghost use Rattle.nl_io.specs.Content.{IsAtEnd};
+ghost use Rattle.log_dictionary.specs.declared.clock.Clock.{Clock as ClockValue};
+ghost use Rattle.log_dictionary.specs.declared.message.Message.{Message};
+ghost use Rattle.log_dictionary.specs.Clocks.{FitsClock, FollowsClocks};
+ghost use Rattle.session_options.specs.Versions.{is_known, most_writers, MayHaveClocks};
+ghost use Rattle.trace_text.specs.Recordings.{start_of};
 ghost use Rattle.trace_text.specs.Reading as parts;
 ghost use Rattle.trace_text.specs.Progress.{progress, Comes, ReadsToEnd, message_fault, call_fault};
 ghost use Rattle.trace_text.specs.TraceReading.{IsAnswer, IsOnlyAnswer};
-ghost use Rattle.trace_text.specs.Lines.{FitsLine};
 ghost use Rattle.trace_text.specs.Canonical.{HaveMessageLines};
 
 use crate::call_line::{CallFault, read_call};
 use crate::cause::TraceCause;
-use crate::head_lines::{read_clock, read_writers};
+use crate::head_lines::{read_clock, read_version, read_writers};
 use crate::lines::Lines;
 use crate::trace::{MAX_TRACE, Trace};
 use crate::writer_calls::WriterCalls;
-use log_dictionary::{Clock, Dictionary, LineFault};
+use log_dictionary::{Clock, Clocks, Dictionary, LineFault, MAX_CLOCKS};
 use nl_io::{ReadAllFault, Source, read_to_limit};
-use std::alloc::Global;
-
-/// The first line of a trace.
-pub(crate) const FIRST_LINE: &[u8] = b"nanolog-trace 1";
+use session_options::has_clocks;
+use std::alloc::{AllocError, Global};
 
 /// The last line of a trace.
 const LAST_LINE: &[u8] = b"end";
@@ -41,17 +43,19 @@ pub(crate) const TOO_LARGE: TraceFault = TraceFault::Refused {
     cause: TraceCause::TooLarge,
 };
 
-// The lines behind the first one, which is that of a trace.
-fn read_header(lines: Lines<'_>) -> Result<Lines<'_>, TraceFault>
-    ensures { Comes (progress parts.opening lines.entry) (progress (parts.messages [])) result }
+// The version, and the lines behind the first one.
+fn read_header(lines: Lines<'_>) -> Result<(u8, Lines<'_>), TraceFault>
+    ensures front { Comes (progress parts.opening lines.entry)
+        (λ front. progress (parts.messages front.0 []) front.1) result }
+    ensures known { IfOk result (λ front. is_known front.0 ≡ true) }
 {
     let Some((line, rest)) = lines.split_first() else {
         return Err(lines.refused(TraceCause::NoEnd));
     };
-    if line != FIRST_LINE {
+    let Some(version) = read_version(line) else {
         return Err(lines.refused(TraceCause::Header));
-    }
-    Ok(rest)
+    };
+    Ok((version, rest))
 }
 
 // Why a message line is refused.
@@ -65,15 +69,15 @@ pub(crate) fn message_fault(lines: Lines<'_>, fault: LineFault) -> TraceFault
     }
 }
 
-// The messages and the clock, and the lines behind the clock's.
+// The messages and the first clock, and the lines behind it.
 fn read_front(
     alloc: Global,
     mut lines: Lines<'_>,
 ) -> Result<(Dictionary, Clock, Lines<'_>), TraceFault>
-    ensures front { Comes (progress (parts.messages []) lines.entry)
-        (λ front. progress (parts.clock front.0 front.1) front.2) result }
+    ensures front { (version : ℕ) → Comes (progress (parts.messages version []) lines.entry)
+        (λ front. progress (parts.clocks version front.0 (front.1 ∷ [])) front.2) result }
     ensures messages { IfOk result (λ front. HaveMessageLines front.0) }
-    ensures fits { IfOk result (λ front. FitsLine front.1) }
+    ensures fits { IfOk result (λ front. FitsClock front.1) }
     ensures rate { IfOk result (λ front. 1 ≤ front.1.rate) }
 {
     let mut dictionary = Dictionary::make(alloc);
@@ -92,35 +96,79 @@ fn read_front(
     Err(lines.refused(TraceCause::NoEnd))
 }
 
-// The run before any call, and the lines behind that of the writers.
-fn read_run(
-    alloc: Global,
-    dictionary: Dictionary,
-    clock: Clock,
-    lines: Lines<'_>,
-) -> Result<(Trace, Lines<'_>), TraceFault>
-    requires messages { HaveMessageLines dictionary }
-    requires fits { FitsLine clock }
-    requires rate { 1 ≤ clock.rate }
-    ensures run { Comes (progress (parts.clock dictionary clock) lines.entry)
-        (λ start. progress (parts.calls start.0) start.1) result }
-    ensures no_calls { IfOk result (λ start. sum_by length start.0.writers ≡ 0) }
+// Whether the line is to be that of a clock more.
+fn is_later_clock(version: u8, line: &[u8]) -> bool
+    ensures { result ≡ parts.is_later_clock version line.now }
 {
-    let Some((line, rest)) = lines.split_first() else {
-        return Err(lines.refused(TraceCause::NoEnd));
+    has_clocks(version) && line.starts_with(b"clock ")
+}
+
+// Adds the clock of the line to those before it.
+fn add_clock(clocks: &mut Clocks, line: &[u8]) -> Result<(), TraceCause>
+    ensures ok { OnOk result ((time : ClockValue) × (parts.later_clock clocks.old line.now ≡ Ok time)
+        × FollowsClocks clocks.old time × FitsClock time × (clocks.new ≡ clocks.old ++ time ∷ [])) }
+    ensures err { IfErr result (λ cause. parts.later_clock clocks.old line.now ≡ Err cause) }
+{
+    if clocks.len() == MAX_CLOCKS {
+        return Err(TraceCause::TooManyClocks);
+    }
+    let Some(clock) = read_clock(line) else {
+        return Err(TraceCause::Clock);
     };
-    let Some(count) = read_writers(line) else {
-        return Err(lines.refused(TraceCause::Writers));
-    };
-    let Ok(writers) = WriterCalls::without_calls(alloc, count) else {
-        return Err(TraceFault::NoMemory);
-    };
-    let run = Trace {
+    match clocks.add(clock) {
+        Ok(()) => Ok(()),
+        Err(_) => Err(TraceCause::ClockOrder),
+    }
+}
+
+// The clocks, of which the first was read, and the number of writers, and the lines behind theirs.
+fn read_clocks(
+    version: u8,
+    mut clocks: Clocks,
+    mut lines: Lines<'_>,
+) -> Result<(Clocks, u32, Lines<'_>), TraceFault>
+    requires { MayHaveClocks version clocks }
+    ensures front { (messages : List Message) → Comes (progress (parts.clocks version messages clocks) lines.entry)
+        (λ front. progress (parts.calls (start_of version messages front.0 front.1)) front.2) result }
+    ensures may_have { IfOk result (λ front. MayHaveClocks version front.0) }
+    ensures writers { IfOk result (λ front. (1 ≤ front.1) × (front.1 ≤ most_writers version)) }
+{
+    while let Some((line, rest)) = lines.split_first() {
+        if !is_later_clock(version, line) {
+            let Some(writers) = read_writers(version, line) else {
+                return Err(lines.refused(TraceCause::Writers));
+            };
+            return Ok((clocks, writers, rest));
+        }
+        if let Err(cause) = add_clock(&mut clocks, line) {
+            return Err(lines.refused(cause));
+        }
+        lines = rest;
+    }
+    Err(lines.refused(TraceCause::NoEnd))
+}
+
+// A run with its version, its messages, its clocks and so many writers, before any call.
+fn begin_run(
+    alloc: Global,
+    version: u8,
+    dictionary: Dictionary,
+    clocks: Clocks,
+    writers: u32,
+) -> Result<Trace, AllocError>
+    requires known { is_known version ≡ true }
+    requires messages { HaveMessageLines dictionary }
+    requires may_have { MayHaveClocks version clocks }
+    requires writers { (1 ≤ writers) × (writers ≤ most_writers version) }
+    ensures { IfOk result (λ run. run ≡ start_of version dictionary clocks writers) }
+{
+    let writers = WriterCalls::without_calls(alloc, writers)?;
+    Ok(Trace {
+        version,
         dictionary,
-        clock,
+        clocks,
         writers,
-    };
-    Ok((run, rest))
+    })
 }
 
 // The run, where nothing follows its last line.
@@ -174,9 +222,15 @@ fn run_of(alloc: Global, text: &[u8]) -> Result<Trace, TraceFault>
     ensures answer { IsAnswer text.now result }
     ensures read { ¬ (IsErrOf result TraceFault.ReadFault) }
 {
-    let lines = read_header(Lines::of(text))?;
-    let (dictionary, clock, lines) = read_front(alloc, lines)?;
-    let (run, lines) = read_run(alloc, dictionary, clock, lines)?;
+    let (version, lines) = read_header(Lines::of(text))?;
+    let (dictionary, first, lines) = read_front(alloc, lines)?;
+    let Ok(clocks) = Clocks::make(alloc, first) else {
+        return Err(TraceFault::NoMemory);
+    };
+    let (clocks, writers, lines) = read_clocks(version, clocks, lines)?;
+    let Ok(run) = begin_run(alloc, version, dictionary, clocks, writers) else {
+        return Err(TraceFault::NoMemory);
+    };
     read_calls(alloc, run, lines)
 }
 

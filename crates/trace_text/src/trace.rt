@@ -5,7 +5,7 @@ ghost use Rattle.trace_text.specs.CallReading.{with_call};
 
 use crate::writer_calls::WriterCalls;
 use arg_records::Call;
-use log_dictionary::{Clock, Dictionary};
+use log_dictionary::{Clocks, Dictionary};
 use std::alloc::AllocError;
 use std::marker::Model;
 
@@ -15,12 +15,13 @@ pub const MAX_CALLS: usize = 4_194_304;
 /// The most bytes of the text of a trace.
 pub const MAX_TRACE: usize = 67_108_864;
 
-/// A recorded run of a program that logs: its messages, its clock, and the calls of each writer. Each run that is one
-/// can be written as a text.
+/// A recorded run of a program that logs: the version of its log, its messages, its clocks, and the calls of each
+/// writer. Each run that is one can be written as a text.
 #[derive(Debug, Drop)]
 pub struct Trace {
+    pub version: u8,
     pub dictionary: Dictionary,
-    pub clock: Clock,
+    pub clocks: Clocks,
     pub writers: WriterCalls,
 }
 
@@ -30,10 +31,10 @@ impl Model for Trace {
 
     ghost Value = { Recording };
 
-    ghost view = { λ t. record { dictionary = t.dictionary; clock = t.clock; writers = t.writers } };
+    ghost view = { λ t. record { version = t.version; dictionary = t.dictionary; clocks = t.clocks; writers = t.writers } };
 
     ghost invariant = { λ t. HasText
-        (record { dictionary = t.dictionary; clock = t.clock; writers = t.writers }) };
+        (record { version = t.version; dictionary = t.dictionary; clocks = t.clocks; writers = t.writers }) };
 }
 
 impl Trace {

@@ -3,8 +3,8 @@
 ghost use Rattle.std.specs.Prelude.{◌≡◌, ◌≤◌, ◌++◌, ◌∷◌, [], length, OnOk};
 ghost use Rattle.std.specs.Option.{option_map};
 ghost use Rattle.std.specs.List.{flat_map, filter_map};
-ghost use Rattle.trace_text.specs.Lines.{clock_line};
-ghost use Rattle.trace_text.specs.Canonical.{argument_text, call_front, call_text, made_by, made_at, front_text, Canonical, HasText};
+ghost use Rattle.trace_text.specs.Lines.{first_line, writers_line};
+ghost use Rattle.trace_text.specs.Canonical.{argument_text, call_front, call_text, clock_text, made_by, made_at, front_text, Canonical, HasText};
 ghost use Rattle.trace_text.specs.Traces.{TraceText};
 ghost use Rattle.trace_text.specs.declared.trace.TheConstants.{MAX_TRACE};
 ghost use Rattle.trace_text.specs.Writing.{KeepsWriting, Writes};
@@ -92,7 +92,7 @@ fn push_call(text: &mut Vec<u8>, writer: u32, call: &Call) -> Result<(), AllocEr
 }
 
 fn push_clock(text: &mut Vec<u8>, clock: &Clock) -> Result<(), AllocError>
-    ensures { OnOk result (text.new.items ≡ text.old.items ++ clock_line clock.now ++ 10 ∷ []) }
+    ensures { OnOk result (text.new.items ≡ text.old.items ++ clock_text clock.now) }
 {
     let mut buffer = Buffer::new();
     text.extend_from_slice(b"clock ")?;
@@ -105,18 +105,44 @@ fn push_clock(text: &mut Vec<u8>, clock: &Clock) -> Result<(), AllocError>
     Ok(())
 }
 
+fn push_clocks(text: &mut Vec<u8>, clocks: &[Clock]) -> Result<(), AllocError>
+    ensures { OnOk result (text.new.items ≡ text.old.items ++ flat_map clock_text clocks.now) }
+{
+    for clock in clocks {
+        push_clock(text, clock)?;
+    }
+    Ok(())
+}
+
+fn push_version(text: &mut Vec<u8>, version: u8) -> Result<(), AllocError>
+    ensures { OnOk result (text.new.items ≡ text.old.items ++ first_line version ++ 10 ∷ []) }
+{
+    let mut buffer = Buffer::new();
+    text.extend_from_slice(b"nanolog-trace ")?;
+    text.extend_from_slice(buffer.format(version).as_bytes())?;
+    text.push(b'\n')?;
+    Ok(())
+}
+
+fn push_writers(text: &mut Vec<u8>, count: usize) -> Result<(), AllocError>
+    ensures { OnOk result (text.new.items ≡ text.old.items ++ writers_line count ++ 10 ∷ []) }
+{
+    let mut buffer = Buffer::new();
+    text.extend_from_slice(b"writers ")?;
+    text.extend_from_slice(buffer.format(count).as_bytes())?;
+    text.push(b'\n')?;
+    Ok(())
+}
+
 // The text up to the calls.
 fn push_front(text: &mut Vec<u8>, trace: &Trace) -> Result<(), AllocError>
     ensures written { OnOk result (text.new.items ≡ text.old.items ++ front_text trace.now) }
     ensures has_text { HasText trace.now }
 {
-    let mut buffer = Buffer::new();
-    trace.dictionary.write_text(text)?;
-    push_clock(text, &trace.clock)?;
-    text.extend_from_slice(b"writers ")?;
-    text.extend_from_slice(buffer.format(trace.writers.len()).as_bytes())?;
-    text.push(b'\n')?;
-    Ok(())
+    push_version(text, trace.version)?;
+    trace.dictionary.write_messages(text)?;
+    push_clocks(text, trace.clocks.as_slice())?;
+    push_writers(text, trace.writers.len())
 }
 
 // The call of a run that stands at a place, if one stands there.

@@ -8,6 +8,7 @@ use Rattle.std.proofs.lemmas.List.Elements.{All-get_or, All-push, All-from_recur
 use Rattle.std.proofs.lemmas.List.Sums.{sum_by-cons}
 use Rattle.std.proofs.lemmas.Option.{slice_get_within, get_or_from_slice_get}
 use Rattle.log_dictionary.specs.declared.message.Message.{Message}
+use Rattle.log_dictionary.specs.Clocks.{first_tick}
 use Rattle.arg_records.specs.declared.call.Call.{Call}
 use Rattle.arg_records.specs.Calls.{IsCall, NeverFalls}
 use Rattle.arg_records.proofs.lemmas.CallLists.{NeverFalls-push}
@@ -31,7 +32,7 @@ pub record CanFollow (run : Recording) (made : WriterCall) : Type 0 where
   pub few : sum_by length run.writers < MAX_CALLS
   pub calls : List Call
   pub known : slice_get run.writers made.writer ≡ Some calls
-  pub risen : last_stamp run.clock.tick calls ≤ made.call.stamp
+  pub risen : last_stamp (first_tick run.clocks) calls ≤ made.call.stamp
   pub is_call : IsCall run.dictionary made.call
 
 -- ---- one more call
@@ -100,12 +101,13 @@ recorded_after run made recorded next =
     let call = made.call in
     let long = length-with_call_of run.writers writer call in
     record {
+      known = recorded.known;
+      clocks = recorded.clocks;
       some_writer = omega (arith, long, recorded.some_writer);
       few_writers = omega (arith, long, recorded.few_writers);
       few_calls = omega (arith, sum_by-with_call_of run.writers writer call next.calls next.known, next.few);
-      rate = recorded.rate;
       calls = all_after (AllByRecursion (IsCall run.dictionary)) run.writers writer call next.calls next.known (all-push (IsCall run.dictionary) next.calls call (all_at (AllByRecursion (IsCall run.dictionary)) run.writers writer next.calls next.known recorded.calls) next.is_call) recorded.calls;
-      stamps = all_after (NeverFalls run.clock.tick) run.writers writer call next.calls next.known (NeverFalls-push run.clock.tick next.calls call (all_at (NeverFalls run.clock.tick) run.writers writer next.calls next.known recorded.stamps) next.risen) recorded.stamps;
+      stamps = all_after (NeverFalls (first_tick run.clocks)) run.writers writer call next.calls next.known (NeverFalls-push (first_tick run.clocks) next.calls call (all_at (NeverFalls (first_tick run.clocks)) run.writers writer next.calls next.known recorded.stamps) next.risen) recorded.stamps;
     }
 
 -- and its last call could follow
@@ -116,9 +118,9 @@ recorded_before run made calls known recorded =
     let long = length-with_call_of run.writers writer call in
     let count = sum_by-with_call_of run.writers writer call calls known in
     let are = all_before (AllByRecursion (IsCall run.dictionary)) run.writers writer call calls known (λ list all. (calls-before run.dictionary list call all).0) recorded.calls in
-    let rise = all_before (NeverFalls run.clock.tick) run.writers writer call calls known (λ list never. (stamps-before run.clock.tick list call never).0) recorded.stamps in (
-      record { some_writer = omega (arith, long, recorded.some_writer); few_writers = omega (arith, long, recorded.few_writers); few_calls = omega (arith, count, recorded.few_calls); rate = recorded.rate; calls = are.0; stamps = rise.0 },
-      record { few = omega (arith, count, recorded.few_calls); calls = calls; known = known; risen = (stamps-before run.clock.tick calls call rise.1).1; is_call = (calls-before run.dictionary calls call are.1).1 },
+    let rise = all_before (NeverFalls (first_tick run.clocks)) run.writers writer call calls known (λ list never. (stamps-before (first_tick run.clocks) list call never).0) recorded.stamps in (
+      record { known = recorded.known; clocks = recorded.clocks; some_writer = omega (arith, long, recorded.some_writer); few_writers = omega (arith, long, recorded.few_writers); few_calls = omega (arith, count, recorded.few_calls); calls = are.0; stamps = rise.0 },
+      record { few = omega (arith, count, recorded.few_calls); calls = calls; known = known; risen = (stamps-before (first_tick run.clocks) calls call rise.1).1; is_call = (calls-before run.dictionary calls call are.1).1 },
     )
 
 -- ---- the calls of each writer

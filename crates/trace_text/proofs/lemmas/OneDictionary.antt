@@ -6,12 +6,12 @@ use Rattle.log_dictionary.specs.Fields.{IsFirstSplit}
 use Rattle.log_dictionary.specs.Messages.{SpellsMessage}
 use Rattle.log_dictionary.proofs.lemmas.LineMessages.{one_message}
 use Rattle.trace_text.specs.declared.cause.TraceCause.{TraceCause}
-use Rattle.trace_text.specs.Dictionaries.{SpellsDictionary, DictionaryText, BreaksDictionary, IsRefusedBehind, BreaksBehind, DictionaryBreak}
-use Rattle.trace_text.specs.Lines.{first_line, text_of_lines}
+use Rattle.trace_text.specs.Dictionaries.{dictionary_line, SpellsDictionary, DictionaryText, BreaksDictionary, IsRefusedBehind, BreaksBehind, DictionaryBreak}
+use Rattle.trace_text.specs.Lines.{text_of_lines}
 use Rattle.trace_text.specs.Reading as parts
 use Rattle.trace_text.specs.Reading.{IsOneLine}
 use Rattle.trace_text.proofs.NextMessages.{message_begins, IsNext, NextMessages, next_messages}
-use Rattle.trace_text.proofs.OneLines.{first_is_line, message_is_line}
+use Rattle.trace_text.proofs.OneLines.{dictionary_is_line, message_is_line}
 use Rattle.trace_text.proofs.OneOutcome.{feed_inside, same_first, one_cause}
 use Rattle.trace_text.proofs.OnlyAnswers.{AreApart}
 
@@ -65,19 +65,19 @@ one_walk before a (line ∷ b) m [] x y first second end other same = absurd sec
 -- the first line, lines of messages that follow one after the other, and what stands behind them
 record Parsed (bytes : List ℕ) (messages : List Message) (rest : List ℕ) : Type 0 where
   lines : List (List ℕ)
-  whole : bytes ≡ first_line ++ 10 ∷ (text_of_lines lines ++ rest)
+  whole : bytes ≡ dictionary_line ++ 10 ∷ (text_of_lines lines ++ rest)
   next : NextMessages [] lines messages
   end : EndsHere messages rest
 
 one_parse : (bytes : List ℕ) (m n : List Message) (x y : List ℕ) → Parsed bytes m x → Parsed bytes n y → (m ≡ n) × (x ≡ y)
 one_parse bytes m n x y first second =
-    let parted = same_first first_line first_line (text_of_lines first.lines ++ x) (text_of_lines second.lines ++ y) first_is_line first_is_line (sym first.whole ∙ second.whole) in
+    let parted = same_first dictionary_line dictionary_line (text_of_lines first.lines ++ x) (text_of_lines second.lines ++ y) dictionary_is_line dictionary_is_line (sym first.whole ∙ second.whole) in
     one_walk [] first.lines second.lines m n x y first.next second.next first.end second.end parted.1
 
 parsed : (bytes front rest : List ℕ) (messages : List Message) → bytes ≡ front ++ rest → SpellsDictionary front messages → EndsHere messages rest → Parsed bytes messages rest
 parsed bytes front rest messages parted spells end = record {
   lines = spells.message_lines;
-  whole = parted ∙ ap (λ (b : List ℕ). b ++ rest) spells.whole ∙ append_assoc first_line (10 ∷ text_of_lines spells.message_lines) rest;
+  whole = parted ∙ ap (λ (b : List ℕ). b ++ rest) spells.whole ∙ append_assoc dictionary_line (10 ∷ text_of_lines spells.message_lines) rest;
   next = next_messages [] spells.message_lines messages spells.messages_spelled spells.distinct spells.few_messages;
   end = end;
 }
@@ -91,7 +91,7 @@ parsed_break bytes line cause broken = parsed bytes broken.front broken.rest bro
 -- ---- one cause
 
 one_break : (before : List Message) (line : List ℕ) (a b : TraceCause) → BreaksDictionary before line a → BreaksDictionary before line b → a ≡ b
-one_break before line a b (inl first) (inl second) = one_cause (parts.messages before) line a b (inl first) (inl second)
+one_break before line a b (inl first) (inl second) = one_cause (parts.messages 1 before) line a b (inl first) (inl second)
 one_break before line a b (inl first) (inr second) = absurd cc
 one_break before line a b (inr first) (inl second) = absurd cc
 one_break before line a b (inr first) (inr second) = first.1 ∙ sym second.1
@@ -113,7 +113,7 @@ nothing_refused before cause (inr (some, unended, is)) = omega (arith, some)
 
 -- ---- one of a text
 
-has_first_line : (bytes rest : List ℕ) (messages : List Message) → Parsed bytes messages rest → (behind : List ℕ) × (bytes ≡ first_line ++ 10 ∷ behind)
+has_first_line : (bytes rest : List ℕ) (messages : List Message) → Parsed bytes messages rest → (behind : List ℕ) × (bytes ≡ dictionary_line ++ 10 ∷ behind)
 has_first_line bytes rest messages parse = (text_of_lines parse.lines ++ rest, parse.whole)
 
 one_value : (bytes : List ℕ) (a b : List Message) → DictionaryText bytes a → DictionaryText bytes b → a ≡ b

@@ -1,34 +1,51 @@
 -- A run before any call, and a call that is added to it.
-use Rattle.std.proofs.Common.{◌≡◌, ℕ, zero, suc, ◌<◌, ◌≤◌, List, [], ◌∷◌, ◌++◌, length, get_or, set, replicate, Result, Ok, Err, OnOk, OnErr, ap, sym, ◌∙◌, subst, arith}
+use Rattle.std.proofs.Common.{◌≡◌, ℕ, zero, suc, ◌<◌, ◌≤◌, List, [], ◌∷◌, ◌++◌, true, lit≤, length, get_or, set, replicate, Result, Ok, Err, OnOk, OnErr, ap, sym, ◌∙◌, subst, refl, arith}
 use Rattle.std.specs.List.{AllByRecursion}
+use Rattle.std.specs.Prelude.{sum_by}
 use Rattle.std.proofs.lemmas.List.{length-replicate}
+use Rattle.std.proofs.lemmas.List.Elements.{All-nil, All-cons}
+use Rattle.std.proofs.lemmas.List.Sums.{sum_by-cons}
 use Rattle.log_dictionary.specs.declared.clock.Clock.{Clock}
 use Rattle.log_dictionary.specs.declared.message.Message.{Message}
+use Rattle.log_dictionary.specs.Clocks.{first_tick, FitsClock}
 use Rattle.arg_records.specs.declared.call.Call.{Call}
 use Rattle.arg_records.specs.Calls.{IsCall, NeverFalls}
-use Rattle.trace_text.specs.Recordings.{Recording, IsRecording}
+use Rattle.trace_text.specs.Recordings.{Recording, start_of, IsRecording}
 use Rattle.trace_text.specs.Lines.{WriterCall}
 use Rattle.trace_text.specs.Canonical.{HasText}
 use Rattle.trace_text.specs.CallReading.{with_call_of, with_call}
 use Rattle.printf_grammar.proofs.lemmas.Worked.{all_copies}
-use Rattle.session_options.specs.declared.limits.TheConstants.{MAX_TRACE_WRITERS}
-use Rattle.trace_text.proofs.lemmas.RecordingLaws.{sum_of_none}
+use Rattle.session_options.specs.Versions.{is_known, most_writers, MayHaveClocks}
 
--- a run of so many writers without calls
-abbrev pub start_of : List Message → Clock → ℕ → Recording
-start_of dictionary clock count = record { dictionary = dictionary; clock = clock; writers = replicate count [] }
+pub sum_of_none : (n : ℕ) → let none : List Call = [] in sum_by length (replicate n none) ≡ 0
+sum_of_none zero = refl
+sum_of_none (suc n) = let none : List Call = [] in omega (arith, sum_by-cons length none (replicate n none), sum_of_none n)
 
-pub start_recorded : (dictionary : List Message) (clock : Clock) (count : ℕ) → 1 ≤ clock.rate → 1 ≤ count → count ≤ MAX_TRACE_WRITERS → IsRecording (start_of dictionary clock count)
-start_recorded dictionary clock count rate some few =
+-- a clock alone may be that of a run
+pub one_clock : (version : ℕ) (clock : Clock) → 1 ≤ clock.rate → FitsClock clock → MayHaveClocks version (clock ∷ [])
+one_clock version clock rate fits = record {
+  are = record {
+    some = lit≤ tt;
+    few = lit≤ tt;
+    rising = λ i j d earlier within. absurd (omega (arith, earlier, within));
+    rates = All-cons (λ (c : Clock). 1 ≤ c.rate) clock [] rate (All-nil (λ (c : Clock). 1 ≤ c.rate));
+  };
+  fit = All-cons FitsClock clock [] fits (All-nil FitsClock);
+  alone = λ none. refl;
+}
+
+pub start_recorded : (version : ℕ) (dictionary : List Message) (clocks : List Clock) (count : ℕ) → is_known version ≡ true → MayHaveClocks version clocks → 1 ≤ count → count ≤ most_writers version → IsRecording (start_of version dictionary clocks count)
+start_recorded version dictionary clocks count known may some few =
     let none : List Call = [] in
     let long : length (replicate count none) ≡ count = length-replicate count none in
     record {
+      known = known;
+      clocks = may;
       some_writer = omega (arith, long, some);
-      few_writers = omega (arith, long, few);
+      few_writers = subst (λ (n : ℕ). n ≤ most_writers version) (sym long) few;
       few_calls = omega (arith, sum_of_none count);
-      rate = rate;
       calls = all_copies (AllByRecursion (IsCall dictionary)) none count tt;
-      stamps = all_copies (NeverFalls clock.tick) none count tt;
+      stamps = all_copies (NeverFalls (first_tick clocks)) none count tt;
     }
 
 -- ---- a call at the end of a writer's

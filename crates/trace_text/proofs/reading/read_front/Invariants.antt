@@ -1,4 +1,4 @@
-use Rattle.std.proofs.Common.{[], length}
+use Rattle.std.proofs.Common.{ℕ, [], length}
 use Rattle.trace_text.specs.Reading.{messages}
 use Rattle.trace_text.specs.Progress.{progress, Leads}
 use Rattle.trace_text.specs.Canonical.{HaveMessageLines}
@@ -6,7 +6,7 @@ use Rattle.trace_text.proofs.reading.read_front.Given as goal
 
 abbrev pub invariant-loop-line : goal.invariant-loop-line
 invariant-loop-line l = record {
-  led : Leads (progress (messages []) l.fn.lines) (progress (messages l.dictionary) l.lines);
+  led : (version : ℕ) → Leads (progress (messages version []) l.fn.lines) (progress (messages version l.dictionary) l.lines);
   lines : HaveMessageLines l.dictionary;
 }
 
