@@ -14,14 +14,13 @@ use Rattle.arg_records.specs.declared.call.Call.{Call}
 use Rattle.arg_records.specs.Calls.{IsCall}
 use Rattle.arg_records.proofs.lemmas.CallLists.{last_stamp-push}
 use Rattle.trace_generator.specs.declared.generator.Generator.{Generator}
-use Rattle.trace_text.specs.Recordings.{Recording, IsRecording}
+use Rattle.trace_text.specs.Recordings.{Recording, start_of, IsRecording}
 use Rattle.trace_text.specs.Lines.{WriterCall}
 use Rattle.trace_text.specs.Traces.{calls_by}
 use Rattle.trace_text.specs.CallReading.{last_stamp, with_call_of, with_call}
 use Rattle.trace_generator.specs.Generated.{next_state, state_after, draw, generated_messages, generated_clock, drawn_arguments, drawn_call, after_call, generator_at, generated_call, generated_calls, Generated}
 use Rattle.trace_text.proofs.lemmas.CallRuns.{writers_with, with_calls, CanFollow, recorded_after, writers_are, length-with_call_of, sum_by-with_call_of, all_after, all_at}
-use Rattle.trace_text.proofs.lemmas.RecordingLaws.{sum_of_none}
-use Rattle.trace_text.proofs.lemmas.RunSteps.{start_of, start_recorded}
+use Rattle.trace_text.proofs.lemmas.RunSteps.{sum_of_none, one_clock, start_recorded}
 
 -- ---- draws
 
@@ -53,8 +52,9 @@ same_generators seed other same (suc k) = ap after_call (same_generators seed ot
 
 pub same_traces : (seed other calls writers : ℕ) → seed % 2147483648 ≡ other % 2147483648 → Generated seed calls writers ≡ Generated other calls writers
 same_traces seed other calls writers same = λ i. record {
+  version = 1;
   dictionary = generated_messages;
-  clock = generated_clock;
+  clocks = generated_clock ∷ [];
   writers = map (calls_by (map (λ k. record { writer = k % writers; call = drawn_call (same_generators seed other same k i) }) (range_with_len 0 calls))) (range_with_len 0 writers);
 }
 
@@ -105,19 +105,19 @@ calls-push seed k writers =
     let next : suc k ≡ k + 1 = omega arith in
     ap (λ (n : ℕ). generated_calls seed n writers) next ∙ map-range_with_len_more (generated_call seed writers) 0 k k (omega arith)
 
-generated_is : (seed k writers : ℕ) → Generated seed k writers ≡ with_calls (start_of generated_messages generated_clock writers) (generated_calls seed k writers)
-generated_is seed k writers = ap (λ (lists : List (List Call)). record { dictionary = generated_messages; clock = generated_clock; writers = lists }) (sym (writers_are writers (generated_calls seed k writers)))
+generated_is : (seed k writers : ℕ) → Generated seed k writers ≡ with_calls (start_of 1 generated_messages (generated_clock ∷ []) writers) (generated_calls seed k writers)
+generated_is seed k writers = ap (λ (lists : List (List Call)). record { version = 1; dictionary = generated_messages; clocks = generated_clock ∷ []; writers = lists }) (sym (writers_are writers (generated_calls seed k writers)))
 
 -- before the first call
-pub generated_none : (seed writers : ℕ) → Generated seed 0 writers ≡ start_of generated_messages generated_clock writers
+pub generated_none : (seed writers : ℕ) → Generated seed 0 writers ≡ start_of 1 generated_messages (generated_clock ∷ []) writers
 generated_none seed writers = generated_is seed 0 writers
 
 -- behind the next
 pub generated_next : (seed k writers : ℕ) → Generated seed (suc k) writers ≡ with_call (Generated seed k writers) (generated_call seed writers k)
 generated_next seed k writers =
     generated_is seed (suc k) writers
-    ∙ ap (with_calls (start_of generated_messages generated_clock writers)) (calls-push seed k writers)
-    ∙ ap (λ (lists : List (List Call)). record { dictionary = generated_messages; clock = generated_clock; writers = lists }) (writers_with-push (replicate writers []) (generated_calls seed k writers) (generated_call seed writers k))
+    ∙ ap (with_calls (start_of 1 generated_messages (generated_clock ∷ []) writers)) (calls-push seed k writers)
+    ∙ ap (λ (lists : List (List Call)). record { version = 1; dictionary = generated_messages; clocks = generated_clock ∷ []; writers = lists }) (writers_with-push (replicate writers []) (generated_calls seed k writers) (generated_call seed writers k))
     ∙ ap (λ (run : Recording). with_call run (generated_call seed writers k)) (sym (generated_is seed k writers))
 
 -- ---- runs that can be recorded
@@ -155,7 +155,7 @@ module _ (seed writers : ℕ) (some : 1 ≤ writers) (few : writers ≤ 64) wher
       let none = generated_none seed writers in
       let no_call : List Call = [] in
       record {
-        recorded = subst IsRecording (sym none) (start_recorded generated_messages generated_clock writers (lit≤ tt) some few);
+        recorded = subst IsRecording (sym none) (start_recorded 1 generated_messages (generated_clock ∷ []) writers refl (one_clock 1 generated_clock (lit≤ tt) (record { tick = lit< tt; nanos = lit< tt; rate = lit< tt })) some few);
         writers_are = ap (λ (run : Recording). length run.writers) none ∙ length-replicate writers no_call;
         count = ap (λ (run : Recording). sum_by length run.writers) none ∙ sum_of_none writers;
         ends = subst (λ (run : Recording). EndBy 1000 run.writers) (sym none) (none_end writers 1000 (lit≤ tt));

@@ -89,6 +89,5 @@ module _ (seed writers : ℕ) (some : 1 ≤ writers) (few : writers ≤ 64) wher
   has_text k within = record {
     recorded = generated_recorded seed writers some few k within;
     messages = record { distinct = distinct; few = lit≤ tt; lines = messages_have_lines };
-    clock_fits = record { tick = lit< tt; nanos = lit< tt; rate = lit< tt };
     calls = calls_have_lines k within;
   }

@@ -147,7 +147,8 @@ generated_calls seed calls writers = map (generated_call seed writers) (range_wi
 -- the trace of a seed, with so many calls and writers
 abbrev pub Generated : ℕ → ℕ → ℕ → Recording
 Generated seed calls writers = record {
+  version = 1;
   dictionary = generated_messages;
-  clock = generated_clock;
+  clocks = generated_clock ∷ [];
   writers = map (calls_by (generated_calls seed calls writers)) (range_with_len 0 writers);
 }

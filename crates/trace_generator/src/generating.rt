@@ -8,10 +8,13 @@ ghost use Rattle.session_options.specs.declared.limits.TheConstants.{MAX_GENERAT
 ghost use Rattle.trace_generator.specs.Generated.{generated_message, generated_messages, Generated};
 
 use crate::generator::{FIRST_TICK, Generator};
-use log_dictionary::{Clock, Dictionary, Message, Severity};
+use log_dictionary::{Clock, Clocks, Dictionary, Message, Severity};
 use printf_grammar::{Bytes, ParseFault, parse};
 use std::alloc::{AllocError, Global};
 use trace_text::{Trace, WriterCalls};
+
+/// The version of the traces that are generated.
+const VERSION: u8 = 1;
 
 const CLOCK: Clock = Clock {
     tick: FIRST_TICK,
@@ -102,8 +105,9 @@ pub fn generate(alloc: Global, seed: u64, calls: u32, writers: u32) -> Result<Tr
     ensures { IfOk result (λ trace. trace ≡ Generated seed calls writers) }
 {
     let mut trace = Trace {
+        version: VERSION,
         dictionary: messages(alloc)?,
-        clock: CLOCK,
+        clocks: Clocks::make(alloc, CLOCK)?,
         writers: WriterCalls::without_calls(alloc, writers)?,
     };
     let mut generator = Generator::of_seed(seed);

@@ -1,19 +1,19 @@
-use Rattle.std.proofs.Common.{◌≡◌, ℕ, suc, ◌+◌, ◌%◌, lit≤, List, [], length, replicate, ap, sym, ◌∙◌, subst, arith}
+use Rattle.std.proofs.Common.{◌≡◌, ℕ, suc, ◌+◌, ◌%◌, lit≤, List, [], ◌∷◌, length, replicate, ap, sym, ◌∙◌, subst, arith}
+use Rattle.log_dictionary.specs.declared.clock.Clock.{Clock}
 use Rattle.log_dictionary.specs.declared.message.Message.{Message}
 use Rattle.arg_records.specs.declared.call.Call.{Call}
 use Rattle.trace_generator.specs.declared.generator.Generator.{Generator}
-use Rattle.trace_text.specs.Recordings.{Recording}
+use Rattle.trace_text.specs.Recordings.{Recording, start_of}
 use Rattle.trace_text.specs.Canonical.{HasText}
 use Rattle.trace_text.specs.CallReading.{with_call}
 use Rattle.trace_generator.specs.Generated.{generated_messages, generated_clock, drawn_call, after_call, generator_at, Generated}
-use Rattle.trace_text.proofs.lemmas.RunSteps.{start_of}
 use Rattle.trace_generator.proofs.GeneratedCalls.{generator_below, stamp_within, generated_none, generated_next, generated_writer}
 use Rattle.trace_generator.proofs.GeneratedTexts.{has_text}
 use Rattle.trace_generator.proofs.generating.generate.Goals as goal
 
-start_is : (messages : List Message) (writers : List (List Call)) (count : ℕ) → messages ≡ generated_messages → writers ≡ replicate count []
-    → record { dictionary = messages; clock = generated_clock; writers = writers } ≡ start_of generated_messages generated_clock count
-start_is messages writers count same none = λ i. record { dictionary = same i; clock = generated_clock; writers = none i }
+start_is : (messages : List Message) (clocks : List Clock) (writers : List (List Call)) (count : ℕ) → messages ≡ generated_messages → clocks ≡ generated_clock ∷ [] → writers ≡ replicate count []
+    → record { version = 1; dictionary = messages; clocks = clocks; writers = writers } ≡ start_of 1 generated_messages (generated_clock ∷ []) count
+start_is messages clocks writers count same ticks none = λ i. record { version = 1; dictionary = same i; clocks = ticks i; writers = none i }
 
 one_more : (k : ℕ) → suc k ≡ k + 1
 one_more k = omega arith
@@ -29,12 +29,12 @@ next_is seed k writers run generator call begun there drawn =
 
 pub invariant_of-trace : goal.invariant_of-trace
 invariant_of-trace c =
-    subst HasText (sym (start_is _ _ c.args.writers c.in_ok-messages.ensures c.in_ok-without_calls.ensures ∙ sym (generated_none c.args.seed c.args.writers)))
+    subst HasText (sym (start_is _ _ _ c.args.writers c.in_ok-messages.ensures c.in_ok-make.ensures c.in_ok-without_calls.ensures ∙ sym (generated_none c.args.seed c.args.writers)))
     (has_text c.args.seed c.args.writers c.requires.some_writer c.requires.few_writers 0 (lit≤ tt))
 
 pub loop-k-init : goal.loop-k-init
 loop-k-init c = record {
-  trace = start_is _ _ c.args.writers c.in_ok-messages.ensures c.in_ok-without_calls.ensures ∙ sym (generated_none c.args.seed c.args.writers);
+  trace = start_is _ _ _ c.args.writers c.in_ok-messages.ensures c.in_ok-make.ensures c.in_ok-without_calls.ensures ∙ sym (generated_none c.args.seed c.args.writers);
   generator = c.of_seed-generator.ensures;
 }
 
