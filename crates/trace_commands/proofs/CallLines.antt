@@ -1,13 +1,16 @@
 -- The lines of calls, of one writer and of a run.
-use Rattle.std.proofs.Common.{◌≡◌, ℕ, zero, suc, ◌+◌, ◌<◌, ◌≤◌, List, [], ◌∷◌, ◌++◌, length, map, take, drop, get_or, take-append-drop, Option, Some, None, refl, sym, ap, subst, ◌∙◌, arith}
+use Rattle.std.proofs.Common.{◌≡◌, ℕ, zero, suc, ◌+◌, ◌<◌, ◌≤◌, List, [], ◌∷◌, ◌++◌, length, map, take, drop, get_or, take-append-drop, Option, Some, None, refl, sym, ap, subst, ◌∙◌, arith, option_map}
 use Rattle.std.specs.Prelude.{slice_get, option_and_then}
 use Rattle.std.specs.List.{flat_map, AllByRecursion}
 use Rattle.std.proofs.lemmas.Grind.{flat_map-append}
 use Rattle.std.proofs.lemmas.List.{append-nil, length-map, take_all}
 use Rattle.std.proofs.lemmas.List.Concat.{flat_map-cons}
 use Rattle.std.proofs.lemmas.Option.{slice_get_within, same_Some}
+use Rattle.log_dictionary.specs.Clocks.{first_tick}
 use Rattle.log_dictionary.specs.declared.clock.Clock.{Clock}
+use Rattle.log_dictionary.specs.declared.message.Message.{Message}
 use Rattle.log_dictionary.specs.Calls.{LogCall}
+use Rattle.log_dictionary.specs.Times.{clock_at}
 use Rattle.direct_printf.specs.Lines.{Line, in_order, Direct}
 use Rattle.arg_records.specs.declared.call.Call.{Call}
 use Rattle.arg_records.specs.Calls.{IsCall, NeverFalls, log_call}
@@ -16,6 +19,7 @@ use Rattle.trace_text.specs.Recordings.{Recording, IsRecording, calls_of}
 use Rattle.trace_text.specs.Order.{call_place, places_in_order}
 use Rattle.trace_text.proofs.lemmas.CallPlaces.{IsAtPlace, all_at_places}
 use Rattle.trace_text.proofs.lemmas.CallRuns.{all_at}
+use Rattle.trace_text.proofs.lemmas.ClockLines.{line_by_clock}
 use Rattle.trace_commands.specs.Texts.{direct_text, HasCall}
 
 -- ---- lines
@@ -70,25 +74,25 @@ call_at_place run places i d are within =
 
 -- the lines of the first calls of a run
 abbrev pub first_lines : Recording → ℕ → List ℕ
-first_lines run i = flat_map (Line (run.clock ∷ [])) (take i (in_order (calls_of run)))
+first_lines run i = flat_map (Line run.clocks) (take i (in_order (calls_of run)))
 
 -- and those of the others
 abbrev pub other_lines : Recording → ℕ → List ℕ
-other_lines run i = flat_map (Line (run.clock ∷ [])) (drop i (in_order (calls_of run)))
+other_lines run i = flat_map (Line run.clocks) (drop i (in_order (calls_of run)))
 
 -- the lines up to one call, and that call's
-pub line_more : (run : Recording) (i : ℕ) (place : CallPlace) (at : CallAt run (in_order (calls_of run)) i place) → first_lines run (i + 1) ≡ first_lines run i ++ Line (run.clock ∷ []) at.call
-line_more run i place at = ap (flat_map (Line (run.clock ∷ []))) at.more ∙ one_line (run.clock ∷ []) (take i (in_order (calls_of run))) at.call
+pub line_more : (run : Recording) (i : ℕ) (place : CallPlace) (at : CallAt run (in_order (calls_of run)) i place) → first_lines run (i + 1) ≡ first_lines run i ++ Line run.clocks at.call
+line_more run i place at = ap (flat_map (Line run.clocks)) at.more ∙ one_line run.clocks (take i (in_order (calls_of run))) at.call
 
 -- the lines of the first calls are followed by those of the others
 pub lines_cut : (run : Recording) (i : ℕ) → direct_text run ≡ first_lines run i ++ other_lines run i
 unfolding Direct
 lines_cut run i =
-    ap (flat_map (Line (run.clock ∷ []))) (sym (take-append-drop i (in_order (calls_of run))))
-    ∙ flat_map-append (Line (run.clock ∷ [])) (take i (in_order (calls_of run))) (drop i (in_order (calls_of run)))
+    ap (flat_map (Line run.clocks)) (sym (take-append-drop i (in_order (calls_of run))))
+    ∙ flat_map-append (Line run.clocks) (take i (in_order (calls_of run))) (drop i (in_order (calls_of run)))
 
 -- the lines of the first calls, and that of the next, are followed by those of the others
-pub lines_cut_behind : (run : Recording) (i : ℕ) (place : CallPlace) (at : CallAt run (in_order (calls_of run)) i place) → direct_text run ≡ first_lines run i ++ Line (run.clock ∷ []) at.call ++ other_lines run (i + 1)
+pub lines_cut_behind : (run : Recording) (i : ℕ) (place : CallPlace) (at : CallAt run (in_order (calls_of run)) i place) → direct_text run ≡ first_lines run i ++ Line run.clocks at.call ++ other_lines run (i + 1)
 lines_cut_behind run i place at =
     lines_cut run (i + 1)
     ∙ ap (λ (text : List ℕ). text ++ other_lines run (i + 1)) (line_more run i place at)
@@ -97,7 +101,7 @@ lines_cut_behind run i place at =
 pub all_lines : (run : Recording) (places : List CallPlace) (i : ℕ) → places ≡ places_in_order run → length places ≤ i → first_lines run i ≡ direct_text run
 unfolding Direct
 all_lines run places i are past =
-    ap (flat_map (Line (run.clock ∷ []))) (take_all i (in_order (calls_of run)) (omega (arith, past, ap length are, length-map (in_order (calls_of run)) call_place)))
+    ap (flat_map (Line run.clocks)) (take_all i (in_order (calls_of run)) (omega (arith, past, ap length are, length-map (in_order (calls_of run)) call_place)))
 
 -- ---- the call at a place
 
@@ -124,13 +128,13 @@ call_there_at seen run place calls same at by =
 -- what is found at the place of a run's call
 pub record Found (run : Recording) (place : CallPlace) (call : Call) : Type 0 where
   pub named : IsCall run.dictionary call
-  pub later : run.clock.tick ≤ call.stamp
+  pub later : (first_tick run.clocks) ≤ call.stamp
   pub is : (made : LogCall) → HasCall run made → place ≡ call_place made → log_call run.dictionary made.writer (made.ordinal, call) ≡ Some made
 
 found_in : (run : Recording) (place : CallPlace) (calls : List Call) (call : Call) → IsRecording run → slice_get run.writers place.writer ≡ Some calls → slice_get calls place.ordinal ≡ Some call → Found run place call
 found_in run place calls call recorded by at = record {
   named = all_at (IsCall run.dictionary) calls place.ordinal call at (all_at (AllByRecursion (IsCall run.dictionary)) run.writers place.writer calls by recorded.calls);
-  later = later_at run.clock.tick calls place.ordinal call (all_at (NeverFalls run.clock.tick) run.writers place.writer calls by recorded.stamps) at;
+  later = later_at (first_tick run.clocks) calls place.ordinal call (all_at (NeverFalls (first_tick run.clocks)) run.writers place.writer calls by recorded.stamps) at;
   is = λ made has is.
       let same_calls : has.calls ≡ calls = same_Some has.calls calls (sym has.of_writer ∙ ap (λ (p : CallPlace). slice_get run.writers p.writer) (sym is) ∙ by) in
       let same : has.call ≡ call = same_Some has.call call (sym has.at_ordinal ∙ ap (λ (cs : List Call). slice_get cs made.ordinal) same_calls ∙ ap (λ (p : CallPlace). slice_get calls p.ordinal) (sym is) ∙ at) in
@@ -143,8 +147,21 @@ found_at seen run place calls call same recorded by at = subst (λ (r : Recordin
 -- the line that was appended is that of the call at the place
 pub called : (seen run : Recording) (place : CallPlace) (call : Call) (old new : List ℕ) → seen ≡ run
     → ((made : LogCall) → HasCall run made → place ≡ call_place made → log_call run.dictionary made.writer (made.ordinal, call) ≡ Some made)
-    → ((ordinal : ℕ) (made : LogCall) → log_call seen.dictionary place.writer (ordinal, call) ≡ Some made → new ≡ old ++ Line (seen.clock ∷ []) made)
-    → (made : LogCall) → HasCall run made → place ≡ call_place made → new ≡ old ++ Line (run.clock ∷ []) made
+    → ((ordinal : ℕ) (made : LogCall) → log_call seen.dictionary place.writer (ordinal, call) ≡ Some made → new ≡ old ++ Line seen.clocks made)
+    → (made : LogCall) → HasCall run made → place ≡ call_place made → new ≡ old ++ Line run.clocks made
 called seen run place call old new same found appended made has is =
-    let of_run = subst (λ (r : Recording). (ordinal : ℕ) (line : LogCall) → log_call r.dictionary place.writer (ordinal, call) ≡ Some line → new ≡ old ++ Line (r.clock ∷ []) line) same appended in
+    let of_run = subst (λ (r : Recording). (ordinal : ℕ) (line : LogCall) → log_call r.dictionary place.writer (ordinal, call) ≡ Some line → new ≡ old ++ Line r.clocks line) same appended in
     of_run made.ordinal made (ap (λ (p : CallPlace). log_call run.dictionary p.writer (made.ordinal, call)) is ∙ found made has is)
+
+-- ---- the clock of a call
+
+stamp_is : (f : Message → LogCall) (stamp : ℕ) (made : LogCall) (found : Option Message) → ((message : Message) → (f message).stamp ≡ stamp) → option_map f found ≡ Some made → made.stamp ≡ stamp
+stamp_is f stamp made None same e = absurd cc
+stamp_is f stamp made (Some message) same e = ap (λ (call : LogCall). call.stamp) (sym (same_Some (f message) made e)) ∙ same message
+
+-- the line of a call by the clock that counts is that by all clocks
+pub made_line : (clocks : List Clock) (clock : Clock) (messages : List Message) (writer ordinal : ℕ) (call : Call) (made : LogCall) → clock_at clocks call.stamp ≡ Some clock → clock.tick ≤ call.stamp
+    → log_call messages writer (ordinal, call) ≡ Some made → Line (clock ∷ []) made ≡ Line clocks made
+made_line clocks clock messages writer ordinal call made counts since is =
+    let stamp = stamp_is (λ message. record { writer = writer; ordinal = ordinal; stamp = call.stamp; message = message; args = call.args }) call.stamp made (slice_get messages call.id) (λ message. refl) is in
+    line_by_clock clocks clock made (ap (clock_at clocks) stamp ∙ counts) (subst (λ (n : ℕ). clock.tick ≤ n) (sym stamp) since)

@@ -1,5 +1,5 @@
 -- The lines of a run, and where its calls stand.
-use Rattle.std.specs.Prelude.{◌≡◌, ℕ, List, [], ◌∷◌, Some, slice_get}
+use Rattle.std.specs.Prelude.{◌≡◌, ℕ, List, Some, slice_get}
 use Rattle.log_dictionary.specs.Calls.{LogCall}
 use Rattle.arg_records.specs.declared.call.Call.{Call}
 use Rattle.arg_records.specs.Calls.{log_call}
@@ -8,7 +8,7 @@ use Rattle.trace_text.specs.Recordings.{Recording, calls_of}
 
 -- the lines of all calls of a run
 abbrev pub direct_text : Recording → List ℕ
-direct_text run = Direct (run.clock ∷ []) (calls_of run)
+direct_text run = Direct run.clocks (calls_of run)
 
 -- the run has this call, which stands among those of its writer where its ordinal says
 pub record HasCall (run : Recording) (made : LogCall) : Type 0 where

@@ -2,6 +2,7 @@
 
 ghost use Rattle.std.specs.Prelude.{◌≡◌, ◌≤◌, [], ◌∷◌, ◌++◌, ℕ, Some, OnOk, map};
 ghost use Rattle.log_dictionary.specs.Calls.{LogCall};
+ghost use Rattle.log_dictionary.specs.Clocks.{first_tick};
 ghost use Rattle.direct_printf.specs.Lines.{Line, origin_text};
 ghost use Rattle.arg_records.specs.Calls.{IsCall, log_call};
 ghost use Rattle.trace_text.specs.Order.{call_place, places_in_order as ordered_places};
@@ -11,7 +12,7 @@ ghost use Rattle.trace_commands.specs.Texts.{direct_text, HasCall};
 
 use command_base::Refusal;
 use direct_printf::{Origins, line};
-use log_dictionary::{Clock, Dictionary};
+use log_dictionary::{Clocks, Dictionary};
 use nl_io::{Sink, TextWriter};
 use std::alloc::{AllocError, Global};
 use trace_text::{Call, CallPlace, Trace, places_in_order};
@@ -20,22 +21,21 @@ use trace_text::{Call, CallPlace, Trace, places_in_order};
 fn append_line(
     dictionary: &Dictionary,
     origins: &Origins,
-    clock: &Clock,
+    clocks: &Clocks,
     writer: u32,
     call: &Call,
     text: &mut Vec<u8>,
 ) -> Result<(), AllocError>
-    requires rate { 1 ≤ clock.now.rate }
     requires named { IsCall dictionary.now call.now }
-    requires later { clock.now.tick ≤ call.now.stamp }
+    requires later { first_tick clocks.now ≤ call.now.stamp }
     requires origins { origins.now ≡ map origin_text dictionary.now }
     ensures { OnOk result ((ordinal : ℕ) (made : LogCall)
         → log_call dictionary.now writer (ordinal, call.now) ≡ Some made →
-        text.new.items ≡ text.old.items ++ Line (clock.now ∷ []) made) }
+        text.new.items ≡ text.old.items ++ Line clocks.now made) }
 {
     let message = dictionary.message(call.id);
     line(
-        clock,
+        &clocks.at(call.stamp),
         writer,
         message,
         origins.get(call.id),
@@ -49,7 +49,7 @@ fn append_line(
 fn call_at<'a>(run: &'a Trace, place: CallPlace) -> &'a Call
     requires { (call : LogCall) × HasCall run.now call × (place ≡ call_place call) }
     ensures named { IsCall run.now.dictionary result.now }
-    ensures later { run.now.clock.tick ≤ result.now.stamp }
+    ensures later { (first_tick run.now.clocks) ≤ result.now.stamp }
     ensures made { (call : LogCall) → HasCall run.now call → place ≡ call_place call →
         log_call run.now.dictionary call.writer (call.ordinal, result.now) ≡ Some call }
 {
@@ -67,13 +67,13 @@ fn append_call(
     requires there { (call : LogCall) × HasCall run.now call × (place ≡ call_place call) }
     requires origins { origins.now ≡ map origin_text run.now.dictionary }
     ensures { OnOk result ((call : LogCall) → HasCall run.now call → place ≡ call_place call →
-        text.new.items ≡ text.old.items ++ Line (run.now.clock ∷ []) call) }
+        text.new.items ≡ text.old.items ++ Line run.now.clocks call) }
 {
     let call = call_at(run, place);
     append_line(
         &run.dictionary,
         origins,
-        &run.clock,
+        &run.clocks,
         place.writer,
         call,
         text,

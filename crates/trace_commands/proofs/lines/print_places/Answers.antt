@@ -1,4 +1,4 @@
-use Rattle.std.proofs.Common.{[], ◌∷◌, ◌++◌, List, ℕ, refl, sym, ap, subst, ◌∙◌}
+use Rattle.std.proofs.Common.{[], ◌++◌, List, ℕ, refl, sym, ap, subst, ◌∙◌}
 use Rattle.std.proofs.lemmas.List.{append-nil}
 use Rattle.direct_printf.specs.Lines.{Line}
 use Rattle.nl_io.specs.TextWriters.{Carries, IsCutOff}
@@ -33,8 +33,8 @@ pub returns-in-Err-clause-printed : goal.returns-in-Err-clause-printed
 returns-in-Err-clause-printed g c =
     let was = c.loop-place.invariant in
     let at = call_at_place c.args.run.now c.args.places.now c.loop-place.place-index (record { stamp = 0; writer = 0; ordinal = 0 }) c.requires.places c.loop-place-test.true in
-    let line = c.deref.ensures.value ∙ c.in_ok-append_call.ensures at.call at.there at.place_is ∙ ap (λ (text : List ℕ). text ++ Line (c.args.run.now.clock ∷ []) at.call) c.clear.ensures.items in
-    let cut = cut_more _ _ (Line (c.args.run.now.clock ∷ []) at.call) _ _ _ _ _ _ _ _ (lines_cut_behind c.args.run.now c.loop-place.place-index _ at) was.carries was.counted
+    let line = c.deref.ensures.value ∙ c.in_ok-append_call.ensures at.call at.there at.place_is ∙ ap (λ (text : List ℕ). text ++ Line c.args.run.now.clocks at.call) c.clear.ensures.items in
+    let cut = cut_more _ _ (Line c.args.run.now.clocks at.call) _ _ _ _ _ _ _ _ (lines_cut_behind c.args.run.now c.loop-place.place-index _ at) was.carries was.counted
     (subst (λ (text : List ℕ). IsCutOff (c.loop-place.writer ++ text) (g.O.Sink.put c.loop-place.out) (g.O.Sink.put c.put.new.sink) (g.O.Sink.faults c.loop-place.out) (g.O.Sink.faults c.put.new.sink)) line c.in-Err.ensures.cut_off) in
     (refl, cut.some, cut.put, cut.rose)
 
@@ -42,9 +42,9 @@ pub loop-place-preserved : goal.loop-place-preserved
 loop-place-preserved g c =
     let was = c.loop-place.invariant in
     let at = call_at_place c.args.run.now c.args.places.now c.loop-place.place-index (record { stamp = 0; writer = 0; ordinal = 0 }) c.requires.places c.loop-place-test.true in
-    let line = c.deref.ensures.value ∙ c.in_ok-append_call.ensures at.call at.there at.place_is ∙ ap (λ (text : List ℕ). text ++ Line (c.args.run.now.clock ∷ []) at.call) c.clear.ensures.items in
+    let line = c.deref.ensures.value ∙ c.in_ok-append_call.ensures at.call at.there at.place_is ∙ ap (λ (text : List ℕ). text ++ Line c.args.run.now.clocks at.call) c.clear.ensures.items in
     record {
-      carries = carries_more _ _ (Line (c.args.run.now.clock ∷ []) at.call) _ _ _ _ _ (line_more c.args.run.now c.loop-place.place-index _ at) was.carries
+      carries = carries_more _ _ (Line c.args.run.now.clocks at.call) _ _ _ _ _ (line_more c.args.run.now c.loop-place.place-index _ at) was.carries
           (subst (λ (text : List ℕ). Carries (c.loop-place.writer ++ text) (g.O.Sink.put c.loop-place.out) (g.O.Sink.put c.put.new.sink) c.put.new.self) line c.in-Ok.ensures.ok);
       counted = c.in-Ok.ensures.counted ∙ was.counted;
       others = g.met.O.Sink.rest_then _ _ _ was.others c.put.ensures.others;
