@@ -5,7 +5,6 @@ use Rattle.std.proofs.lemmas.List.Folds.{list_any-append}
 use Rattle.arg_records.specs.declared.call.Call.{Call}
 use Rattle.checkpoint_io.specs.declared.header.Header.{Header}
 use Rattle.checkpoint_io.specs.Blocks.{Block, Fragment, Extent, NewClock, Close, messages_of}
-use Rattle.checkpoint_io.specs.Versions.{most_writers}
 use Rattle.checkpoint_io.specs.Validity.{block_records, records_of, closes, IsRightAfter, Valid}
 use Rattle.checkpoint_io.proofs.lemmas.ValidityLaws.{records-push, AreRightAfter-split}
 use Rattle.checkpoint_io.proofs.lemmas.VersionLaws.{few_writers}

@@ -10,7 +10,7 @@ use Rattle.log_dictionary.specs.Times.{clock_at}
 use Rattle.arg_records.specs.declared.call.Call.{Call}
 use Rattle.direct_printf.specs.Lines.{Line, origin_text}
 use Rattle.decompressor.specs.Waiting.{HoldsFirst}
-use Rattle.decompressor.proofs.LinesByClocks.{line_by_clock}
+use Rattle.trace_text.proofs.lemmas.ClockLines.{line_by_clock}
 use Rattle.decompressor.proofs.printing.make_line_in.Given.{Over}
 use Rattle.decompressor.proofs.printing.make_line_in.Goals.{After-as_slice}
 use Rattle.decompressor.proofs.printing.make_line_in.Goals as goal
