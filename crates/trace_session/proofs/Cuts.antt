@@ -9,6 +9,7 @@ use Rattle.std.proofs.lemmas.List.FromFn.{length-enumerate_from}
 use Rattle.std.proofs.lemmas.Option.{get_or_from_slice_get, slice_get_cases, slice_get_within}
 use Rattle.std.proofs.lemmas.Slice.Zip.{AllZip-long}
 use Rattle.std.proofs.Math.Seq.{take-append_seam}
+use Rattle.log_dictionary.specs.Clocks.{first_tick}
 use Rattle.arg_records.specs.declared.call.Call.{Call}
 use Rattle.checkpoint_io.specs.Validity.{IsClosed}
 use Rattle.session_options.specs.declared.options.Options.{Options}
@@ -29,7 +30,7 @@ use Rattle.trace_session.specs.Rounds.{IsOverUpTo}
 use Rattle.trace_session.specs.Running.{AreReady}
 use Rattle.trace_session.specs.Sessions.{AreFirstCalls, IsCutSession}
 use Rattle.trace_session.specs.Workers.{Work}
-use Rattle.trace_session.proofs.Ready.{clock_of_one}
+use Rattle.trace_session.proofs.Ready.{tick_of}
 use Rattle.trace_session.proofs.Leaving.{none_done}
 use Rattle.trace_session.proofs.Sessions.{all_sent, all_ended, got_all, zip_meet, ends_count}
 
@@ -65,16 +66,16 @@ module _ {S O D : Type 0} (sent : S → List (List ℕ)) (closed : S → Bool) (
       → AreReady pair plan run options works old → IsSameRun old new → is_begun new ≡ true → is_faulted new ≡ true → RoamerStandsFor got ended new bytes → IsCutSession run options bytes
   cut_session pair plan works old bytes ready same_run begun faulted stands =
       let messages : roamer_messages new ≡ run.dictionary = same_run.messages ∙ ready.messages in
-      let version : roamer_version new ≡ 1 = same_run.version ∙ ready.version in
-      let clocks : roamer_clocks new ≡ run.clock ∷ [] = same_run.clocks ∙ ready.clocks in
-      let clock : roamer_clock new ≡ run.clock = clock_of_one new run.clock clocks in
+      let version : roamer_version new ≡ run.version = same_run.version ∙ ready.version in
+      let clocks : roamer_clocks new ≡ run.clocks = same_run.clocks ∙ ready.clocks in
+      let tick : (roamer_clock new).tick ≡ first_tick run.clocks = tick_of new run.clocks clocks in
       let batch : roamer_batch new ≡ options.batch = same_run.batch ∙ ready.batch in
-      let plan_is : plan_of_roamer new ≡ plan_of run.dictionary run.clock.tick = λ i. plan_of (messages i) (clock i).tick in
+      let plan_is : plan_of_roamer new ≡ plan_of run.dictionary (first_tick run.clocks) = λ i. plan_of (messages i) (tick i) in
       let cut = stands.cut begun faulted in
       let frames = subst (λ (p : Plan). FramesWereTaken p got (ends_of new) cut.taken) plan_is cut.frames in
       let ends = ends_of new in
       let taken = Taken run options.level drops in
-      let p = plan_of run.dictionary run.clock.tick in
+      let p = plan_of run.dictionary (first_tick run.clocks) in
       let begins = λ (end : O) (calls : List Call). BeginWithFramesOf p (got end) calls in
       let are = λ (end : O) (calls : List Call). AreFramesOf p (got end) calls in
       let got_taken = got_all p sent closed got ended sent_left got_left closed_left ended_left writers ends left taken joined (all_sent sent closed run options drops writers done all) (all_ended ended new over) in
@@ -83,7 +84,7 @@ module _ {S O D : Type 0} (sent : S → List (List ℕ)) (closed : S → Bool) (
       (λ end there.
       let ours = subst (λ (x : Plan). AreFramesOf x (got end) (get_or cut.taken writer [])) plan_is (cut.closed writer end there marked).1 in
       AreFramesOf-unique p (got end) (get_or cut.taken writer []) (get_or taken writer []) ours (zip_at are ends taken writer end [] got_taken there)) in
-      let (log, marks) = same_marked_log (λ writer. get_or cut.taken writer [] ≡ get_or taken writer []) (bytes ++ cut.rest) cut.taken (roamer_messages new) run.dictionary (roamer_version new) 1 (roamer_clocks new) (run.clock ∷ []) (roamer_batch new) options.batch messages version clocks batch (cut.log, all_there) in
+      let (log, marks) = same_marked_log (λ writer. get_or cut.taken writer [] ≡ get_or taken writer []) (bytes ++ cut.rest) cut.taken (roamer_messages new) run.dictionary (roamer_version new) run.version (roamer_clocks new) run.clocks (roamer_batch new) options.batch messages version clocks batch (cut.log, all_there) in
       record {
         drops = drops;
         dropped = done.lawful;
@@ -130,7 +131,7 @@ cut_header {S} {O} sent closed got ended pair plan run options works old new wro
     let before : slice_get (ends_of old) writer ≡ Some end = ap (λ (es : List O). slice_get es writer) (sym ends) ∙ there in
     let not_ended : ended end ≡ false = ap ended (sym (get_or_from_slice_get (ends_of old) writer end end before)) ∙ fresh writer end (slice_get_within (ends_of old) writer end before) in
     absurd (both_ways (ended end) not_ended (cut.closed writer end there marked).0)) in
-    let (log, marks) = same_marked_log (λ writer. get_or cut.taken writer [] ≡ get_or taken writer []) (bytes ++ cut.rest) cut.taken (roamer_messages new) run.dictionary (roamer_version new) 1 (roamer_clocks new) (run.clock ∷ []) (roamer_batch new) options.batch messages (same_run.version ∙ ready.version) (same_run.clocks ∙ ready.clocks) (same_run.batch ∙ ready.batch) (cut.log, none_closed) in
+    let (log, marks) = same_marked_log (λ writer. get_or cut.taken writer [] ≡ get_or taken writer []) (bytes ++ cut.rest) cut.taken (roamer_messages new) run.dictionary (roamer_version new) run.version (roamer_clocks new) run.clocks (roamer_batch new) options.batch messages (same_run.version ∙ ready.version) (same_run.clocks ∙ ready.clocks) (same_run.batch ∙ ready.batch) (cut.log, none_closed) in
     record {
       drops = [];
       dropped = done.lawful;

@@ -6,6 +6,7 @@ use Rattle.std.proofs.lemmas.List.{append-nil, length-append, length-map, length
 use Rattle.std.proofs.lemmas.List.Elements.{All-append, All-weaker}
 use Rattle.std.proofs.lemmas.List.Sums.{sum_by-append, sum_by-cons, sum_by-take-le, sum_by_push, length-filter, count_by-le-length}
 use Rattle.std.proofs.lemmas.Slice.Zip.{all_zipped_more}
+use Rattle.log_dictionary.specs.Clocks.{first_tick}
 use Rattle.log_dictionary.specs.declared.severity.Severity.{Severity}
 use Rattle.session_options.specs.declared.options.Options.{Options}
 use Rattle.session_options.specs.declared.options.Policy.{Policy}
@@ -108,7 +109,7 @@ done_more {S} plan words sent at seen closed done writer progress were worked ri
     let all : accepted_before task progress ≡ calls = worked_all worked (p.all shut) in
     let whole : kept_before task progress ≡ filter (keeps run.dictionary level) (calls_at run n) =
     ap (λ (l : List Call). filter (keeps run.dictionary level) l) (take_all progress.next (task_calls task) (omega (arith, p.all shut))) in
-    let run_plan = plan_of run.dictionary run.clock.tick in
+    let run_plan = plan_of run.dictionary (first_tick run.clocks) in
     let frames : AreFramesOf run_plan (sent writer.end) calls =
     subst (AreFramesOf run_plan (sent writer.end)) all (subst (λ (x : Plan). AreFramesOf x (sent writer.end) (accepted_before task progress)) worked.plan_is worked.frames) in
     let lawful : LawfulDrops run level done.options.ring more = subst (λ (size : ℕ). LawfulDrops run level size more) ring p.lawful in

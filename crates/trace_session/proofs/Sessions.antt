@@ -5,6 +5,7 @@ use Rattle.std.specs.List.{AllZip, each_same, enumerate_from}
 use Rattle.std.proofs.lemmas.List.{append-nil, map-append, length-map, take_all, take_at}
 use Rattle.std.proofs.lemmas.List.Sums.{sum_by-cons}
 use Rattle.std.proofs.lemmas.Option.{slice_get_within}
+use Rattle.log_dictionary.specs.Clocks.{first_tick}
 use Rattle.log_dictionary.specs.declared.clock.Clock.{Clock}
 use Rattle.log_dictionary.specs.declared.message.Message.{Message}
 use Rattle.log_dictionary.specs.declared.severity.Severity.{Severity}
@@ -24,7 +25,7 @@ use Rattle.trace_session.specs.Levels.{keeps, Kept}
 use Rattle.trace_session.specs.Drops.{taken_of, Taken, LawfulDrops, call_count}
 use Rattle.trace_session.specs.declared.outcome.Outcome.{Outcome}
 use Rattle.trace_session.specs.Finishing.{work_at, works_of, taken_front, HasSent, FinishedView, AreDone}
-use Rattle.trace_session.proofs.Ready.{clock_of_one}
+use Rattle.trace_session.proofs.Ready.{tick_of}
 use Rattle.trace_session.proofs.NewWorkers.{works_count}
 use Rattle.trace_session.proofs.Leaving.{fewer_kept}
 use Rattle.trace_session.specs.Rounds.{Roams, IsOverUpTo}
@@ -133,24 +134,24 @@ LogWith bytes (taken, messages, version, clocks, batch) = (log : LogOf bytes tak
 pub whole_log : {S O D : Type 0} (sent : S → List (List ℕ)) (closed : S → Bool) (got : O → List (List ℕ)) (ended : O → Bool) (pair : O → List ℕ) (plan : O → Plan) (sent_left got_left : D → List (List ℕ)) (closed_left ended_left : D → Bool)
     (run : Recording) (options : Options) (works : List Work) (old new : Roamer O) (put put_after : Told) (faults faults_after : ℕ) (bytes : List ℕ) (writers : List (WriterView S)) (left : List D) (taken : List (List Call))
     → AreReady pair plan run options works old → Roams got ended pair plan old new put put_after faults faults_after → IsOverUpTo ended (length (ends_of new)) new → is_faulted new ≡ false → RoamerStandsFor got ended new bytes
-    → AllZip3 (IsRejoined sent closed got ended sent_left got_left closed_left ended_left) writers (ends_of new) left → AllZip (HasSent (plan_of run.dictionary run.clock.tick) sent closed) writers taken
+    → AllZip3 (IsRejoined sent closed got ended sent_left got_left closed_left ended_left) writers (ends_of new) left → AllZip (HasSent (plan_of run.dictionary (first_tick run.clocks)) sent closed) writers taken
     → IsWholeLog run options.batch taken bytes
 whole_log {S} {O} {D} sent closed got ended pair plan sent_left got_left closed_left ended_left run options works old new put put_after faults faults_after bytes writers left taken ready roams over right stands joined has =
     let log = closed_log got ended new bytes stands roams.begun right (λ writer within. over.marked right writer within) in
     let messages : roamer_messages new ≡ run.dictionary = roams.same_run.messages ∙ ready.messages in
-    let version : roamer_version new ≡ 1 = roams.same_run.version ∙ ready.version in
-    let clocks : roamer_clocks new ≡ run.clock ∷ [] = roams.same_run.clocks ∙ ready.clocks in
-    let clock : roamer_clock new ≡ run.clock = clock_of_one new run.clock clocks in
+    let version : roamer_version new ≡ run.version = roams.same_run.version ∙ ready.version in
+    let clocks : roamer_clocks new ≡ run.clocks = roams.same_run.clocks ∙ ready.clocks in
+    let tick : (roamer_clock new).tick ≡ first_tick run.clocks = tick_of new run.clocks clocks in
     let batch : roamer_batch new ≡ options.batch = roams.same_run.batch ∙ ready.batch in
-    let plan_is : plan_of_roamer new ≡ plan_of run.dictionary run.clock.tick = λ i. plan_of (messages i) (clock i).tick in
+    let plan_is : plan_of_roamer new ≡ plan_of run.dictionary (first_tick run.clocks) = λ i. plan_of (messages i) (tick i) in
     let frames = subst (λ (p : Plan). FramesAreTaken p got (ends_of new) log.taken) plan_is log.frames in
     let all : AllEnded ended (ends_of new) = λ writer end is. over.ends writer end (slice_get_within (ends_of new) writer end is) is in
-    let is_frame = λ (end : O) (calls : List Call). AreFramesOf (plan_of run.dictionary run.clock.tick) (got end) calls in
-    let got_taken = got_all (plan_of run.dictionary run.clock.tick) sent closed got ended sent_left got_left closed_left ended_left writers (ends_of new) left taken joined has all in
+    let is_frame = λ (end : O) (calls : List Call). AreFramesOf (plan_of run.dictionary (first_tick run.clocks)) (got end) calls in
+    let got_taken = got_all (plan_of run.dictionary (first_tick run.clocks)) sent closed got ended sent_left got_left closed_left ended_left writers (ends_of new) left taken joined has all in
     let same : log.taken ≡ taken =
-    each_same taken log.taken (zip_meet is_frame is_frame (λ calls other. other ≡ calls) (ends_of new) taken log.taken got_taken frames (λ end calls other is other_is. AreFramesOf-unique (plan_of run.dictionary run.clock.tick) (got end) other calls other_is is)) in
+    each_same taken log.taken (zip_meet is_frame is_frame (λ calls other. other ≡ calls) (ends_of new) taken log.taken got_taken frames (λ end calls other is other_is. AreFramesOf-unique (plan_of run.dictionary (first_tick run.clocks)) (got end) other calls other_is is)) in
     let is : LogWith bytes (log.taken, roamer_messages new, roamer_version new, roamer_clocks new, roamer_batch new) = (log.log, log.closed) in
-    let whole : LogWith bytes (taken, run.dictionary, 1, run.clock ∷ [], options.batch) = subst (LogWith bytes) (λ i. (same i, messages i, version i, clocks i, batch i)) is in
+    let whole : LogWith bytes (taken, run.dictionary, run.version, run.clocks, options.batch) = subst (LogWith bytes) (λ i. (same i, messages i, version i, clocks i, batch i)) is in
     record { lawful = whole.0; closed = whole.1 }
 
 -- ---- workplaces
@@ -231,8 +232,8 @@ all_done {S} sent closed begun kept run options drops writers free same drops_ar
 
 module _ {S : Type 0} (sent : S → List (List ℕ)) (closed : S → Bool) (run : Recording) (options : Options) (drops : List Dropped) (writers : List (WriterView S))
     (done : AreDone sent closed (record { run = run; options = options; drops = drops; writers = writers })) (all : length writers ≡ length run.writers) where
-  pub all_sent : AllZip (HasSent (plan_of run.dictionary run.clock.tick) sent closed) writers (Taken run options.level drops)
-  all_sent = subst (AllZip (HasSent (plan_of run.dictionary run.clock.tick) sent closed) writers) (front_of_all run options.level drops (length writers) all) done.sent_are
+  pub all_sent : AllZip (HasSent (plan_of run.dictionary (first_tick run.clocks)) sent closed) writers (Taken run options.level drops)
+  all_sent = subst (AllZip (HasSent (plan_of run.dictionary (first_tick run.clocks)) sent closed) writers) (front_of_all run options.level drops (length writers) all) done.sent_are
 
   pub all_counted : call_count (Taken run options.level drops) + length drops ≡ call_count (Kept run options.level)
   all_counted =
@@ -244,7 +245,7 @@ module _ {S : Type 0} (sent : S → List (List ℕ)) (closed : S → Bool) (run 
   taken_within = omega (arith, all_counted, kept_within run options.level)
 
   pub few_accepted : sum_by (λ (w : WriterView S). w.accepted) writers ≤ call_count run.writers
-  few_accepted = omega (arith, accepted_counted (plan_of run.dictionary run.clock.tick) sent closed writers (Taken run options.level drops) all_sent, taken_within)
+  few_accepted = omega (arith, accepted_counted (plan_of run.dictionary (first_tick run.clocks)) sent closed writers (Taken run options.level drops) all_sent, taken_within)
 
 pub all_ended : {O : Type 0} (ended : O → Bool) (roamer : Roamer O) → IsOverUpTo ended (length (ends_of roamer)) roamer → AllEnded ended (ends_of roamer)
 all_ended ended roamer over = λ writer end is. over.ends writer end (slice_get_within (ends_of roamer) writer end is) is
@@ -258,7 +259,7 @@ module _ {S O D : Type 0} (sent : S → List (List ℕ)) (closed : S → Bool) (
   pub taken_counted : sum_by (λ (d : D). length (got_left d)) left ≡ call_count (Taken run options.level drops)
   taken_counted =
       frames_counted got_left left (Taken run options.level drops)
-      (got_frames (plan_of run.dictionary run.clock.tick) sent closed got ended sent_left got_left closed_left ended_left writers (ends_of new) left (Taken run options.level drops)
+      (got_frames (plan_of run.dictionary (first_tick run.clocks)) sent closed got ended sent_left got_left closed_left ended_left writers (ends_of new) left (Taken run options.level drops)
       joined (all_sent sent closed run options drops writers done all) (all_ended ended new over))
 
   -- with the drops these are no more than the calls of the run
@@ -270,7 +271,7 @@ module _ {S O D : Type 0} (sent : S → List (List ℕ)) (closed : S → Bool) (
       → outcome.drops ≡ drops → outcome.settled.items ≡ left → outcome.accepted ≡ sum_by (λ (d : D). length (got_left d)) left → outcome.filtered ≡ call_count run.writers - outcome.accepted - length drops
       → IsSession sent_left got_left run options outcome bytes
   session_is pair plan works old put put_after faults faults_after bytes outcome ready roams right stands drops_are settled accepted filtered =
-      let plan_is = plan_of run.dictionary run.clock.tick in
+      let plan_is = plan_of run.dictionary (first_tick run.clocks) in
       let has = all_sent sent closed run options drops writers done all in
       let counted = all_counted sent closed run options drops writers done all in
       let count : outcome.accepted ≡ call_count (Taken run options.level drops) = accepted ∙ taken_counted in

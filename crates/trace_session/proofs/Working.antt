@@ -8,6 +8,7 @@ use Rattle.std.proofs.lemmas.List.Sums.{get_or-le-sum_by, length-filter, count_b
 use Rattle.std.proofs.lemmas.Option.{same_Some, slice_get_within, slice_get-get_or, get_or_from_slice_get}
 use Rattle.nl_io.specs.Count.{counted}
 use Rattle.printf_grammar.specs.declared.argument.Value.{Value}
+use Rattle.log_dictionary.specs.Clocks.{first_tick}
 use Rattle.log_dictionary.specs.declared.severity.Severity.{Severity}
 use Rattle.log_dictionary.specs.declared.message.Message.{Message}
 use Rattle.session_options.specs.declared.options.Policy.TheVariants as policies
@@ -51,8 +52,8 @@ next_found task run calls next found same known is =
 all_called : (run : Recording) (writer : ℕ) → IsRecording run → writer < length run.writers → AllByRecursion (IsCall run.dictionary) (calls_at run writer)
 all_called run writer recorded known = all_at (AllByRecursion (IsCall run.dictionary)) run.writers writer (calls_at run writer) (calls_known run writer known) recorded.calls
 
-all_rising : (run : Recording) (writer : ℕ) → IsRecording run → writer < length run.writers → NeverFalls run.clock.tick (calls_at run writer)
-all_rising run writer recorded known = all_at (NeverFalls run.clock.tick) run.writers writer (calls_at run writer) (calls_known run writer known) recorded.stamps
+all_rising : (run : Recording) (writer : ℕ) → IsRecording run → writer < length run.writers → NeverFalls (first_tick run.clocks) (calls_at run writer)
+all_rising run writer recorded known = all_at (NeverFalls (first_tick run.clocks)) run.writers writer (calls_at run writer) (calls_known run writer known) recorded.stamps
 
 -- the last of the calls before a place isn't later than the call there
 last_before : (least : ℕ) (calls : List Call) (place : ℕ) (call : Call) → NeverFalls least calls → slice_get calls place ≡ Some call → last_stamp least (take place calls) ≤ call.stamp
@@ -123,8 +124,8 @@ module _ (task : WriterTask) (progress : WorkerProgress) (call : Call) (next_is 
       ∙ accepted_same drop here
 
   -- the stamp of the last
-  last_more : last_stamp task.run.clock.tick (take (progress.next + 1) (task_calls task)) ≡ call.stamp
-  last_more = ap (last_stamp task.run.clock.tick) before_more ∙ last_stamp-push task.run.clock.tick (calls_before task progress) call
+  last_more : last_stamp (first_tick task.run.clocks) (take (progress.next + 1) (task_calls task)) ≡ call.stamp
+  last_more = ap (last_stamp (first_tick task.run.clocks)) before_more ∙ last_stamp-push (first_tick task.run.clocks) (calls_before task progress) call
 
 -- the drops before a call are before the next one too
 before_next : (drops : List Dropped) (next : ℕ) → All (λ drop. drop.ordinal < next) drops → All (λ drop. drop.ordinal < next + 1) drops
@@ -150,7 +151,7 @@ worked_call {task} {progress} h call is =
 -- isn't earlier than the last one that was accepted
 pub worked_last : {task : WriterTask} {progress : WorkerProgress} {writer : WriterState} → HasWorked task progress writer → (call : Call) → slice_get (task_calls task) progress.next ≡ Some call → writer.last ≤ call.stamp
 worked_last {task} {progress} h call is =
-    omega (arith, h.last_is, last_before task.run.clock.tick (task_calls task) progress.next call (all_rising task.run task.number h.recorded h.progress_is.known) is)
+    omega (arith, h.last_is, last_before (first_tick task.run.clocks) (task_calls task) progress.next call (all_rising task.run task.number h.recorded h.progress_is.known) is)
 
 -- there are few calls
 pub worked_next : {task : WriterTask} {progress : WorkerProgress} {writer : WriterState} → HasWorked task progress writer → (call : Call) → slice_get (task_calls task) progress.next ≡ Some call → progress.next + 1 ≤ MAX_CALLS

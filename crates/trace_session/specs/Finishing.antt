@@ -1,6 +1,7 @@
 -- What the first writers of a run leave, when their workers are done.
 use Rattle.std.specs.Prelude.{◌≡◌, ℕ, ◌+◌, ◌<◌, ◌≤◌, Bool, true, List, [], All, length, map, take}
 use Rattle.std.specs.List.{AllZip, enumerate_from}
+use Rattle.log_dictionary.specs.Clocks.{first_tick}
 use Rattle.log_dictionary.specs.declared.severity.Severity.{Severity}
 use Rattle.session_options.specs.declared.options.Options.{Options}
 use Rattle.session_options.specs.declared.options.Policy.TheVariants as policies
@@ -52,7 +53,7 @@ pub record AreDone {S : Type 0} (sent : S → List (List ℕ)) (closed : S → B
   pub lawful : LawfulDrops done.run done.options.level done.options.ring done.drops
   pub before : All (λ drop. drop.writer < length done.writers) done.drops
   pub waits : done.options.policy ≡ policies.Wait → done.drops ≡ []
-  pub sent_are : AllZip (HasSent (plan_of done.run.dictionary done.run.clock.tick) sent closed) done.writers
+  pub sent_are : AllZip (HasSent (plan_of done.run.dictionary (first_tick done.run.clocks)) sent closed) done.writers
       (taken_front done.run done.options.level done.drops (length done.writers))
   pub kept : call_count (taken_front done.run done.options.level done.drops (length done.writers))
       + length done.drops ≡ call_count (take (length done.writers) (Kept done.run done.options.level))

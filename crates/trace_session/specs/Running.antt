@@ -1,5 +1,5 @@
 -- A session that is ready to begin.
-use Rattle.std.specs.Prelude.{◌≡◌, ℕ, Bool, false, List, [], ◌∷◌, length, map}
+use Rattle.std.specs.Prelude.{◌≡◌, ℕ, Bool, false, List, length, map}
 use Rattle.session_options.specs.declared.options.Options.{Options}
 use Rattle.ring_core.specs.Plans.{Plan}
 use Rattle.roaming_consumer.specs.declared.roamer.Roamer.{Roamer}
@@ -25,7 +25,7 @@ pub record AreReady {O : Type 0} (pair : O → List ℕ) (plan : O → Plan) (ru
   pub count : length works ≡ length run.writers
   pub planned : ArePlanned plan roamer
   pub messages : roamer_messages roamer ≡ run.dictionary
-  pub version : roamer_version roamer ≡ 1
-  pub clocks : roamer_clocks roamer ≡ run.clock ∷ []
+  pub version : roamer_version roamer ≡ run.version
+  pub clocks : roamer_clocks roamer ≡ run.clocks
   pub batch : roamer_batch roamer ≡ options.batch
   pub unfaulted : is_faulted roamer ≡ false

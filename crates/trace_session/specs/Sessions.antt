@@ -1,5 +1,5 @@
 -- What a session came to.
-use Rattle.std.specs.Prelude.{◌≡◌, ℕ, ◌+◌, ◌<◌, List, [], ◌∷◌, ◌++◌, length, map, get_or}
+use Rattle.std.specs.Prelude.{◌≡◌, ℕ, ◌+◌, ◌<◌, List, [], ◌++◌, length, map, get_or}
 use Rattle.std.specs.List.{AllZip}
 use Rattle.session_options.specs.declared.options.Options.{Options}
 use Rattle.session_options.specs.declared.options.Policy.TheVariants as policies
@@ -21,7 +21,7 @@ pub record AreCounted (run : Recording) (options : Options) (drops : List Droppe
 
 -- the bytes are the log of these calls, with a close mark of each writer
 pub record IsWholeLog (run : Recording) (batch : ℕ) (taken : List (List Call)) (bytes : List ℕ) : Type 0 where
-  pub lawful : LogOf bytes taken run.dictionary 1 (run.clock ∷ []) batch
+  pub lawful : LogOf bytes taken run.dictionary run.version run.clocks batch
   pub closed : (writer : ℕ) → writer < length taken → IsClosed writer lawful.blocks
 
 -- of each ring what was accepted and what was taken are the frames of its writer's calls
@@ -53,6 +53,6 @@ pub record IsCutSession (run : Recording) (options : Options) (bytes : List ℕ)
   pub taken : List (List Call)
   pub first : AreFirstCalls taken (Taken run options.level drops)
   pub rest : List ℕ
-  pub log : LogOf (bytes ++ rest) taken run.dictionary 1 (run.clock ∷ []) options.batch
+  pub log : LogOf (bytes ++ rest) taken run.dictionary run.version run.clocks options.batch
   pub closed : (writer : ℕ) → IsClosed writer log.blocks
       → get_or taken writer [] ≡ get_or (Taken run options.level drops) writer []

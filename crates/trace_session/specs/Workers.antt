@@ -1,5 +1,6 @@
 -- Workers: how far one has come with the calls of its writer.
 use Rattle.std.specs.Prelude.{◌≡◌, ℕ, ◌+◌, ◌<◌, ◌≤◌, Bool, true, false, List, [], length, take, filter, slice_get, Some, All}
+use Rattle.log_dictionary.specs.Clocks.{first_tick}
 use Rattle.log_dictionary.specs.declared.severity.Severity.{Severity}
 use Rattle.session_options.specs.declared.limits.TheConstants.{MIN_RING, MAX_RING}
 use Rattle.session_options.specs.declared.options.Policy.{Policy}
@@ -100,13 +101,13 @@ pub record HasWorked (task : WriterTask) (progress : WorkerProgress) (writer : W
   pub recorded : IsRecording task.run
   pub ring : (MIN_RING ≤ writer.words) × (writer.words ≤ MAX_RING)
   pub progress_is : IsProgress task writer.words progress
-  pub plan_is : writer.plan ≡ plan_of task.run.dictionary task.run.clock.tick
+  pub plan_is : writer.plan ≡ plan_of task.run.dictionary (first_tick task.run.clocks)
   pub frames : AreFramesOf writer.plan writer.sent (accepted_before task progress)
   pub placed : writer.at ≡ Position (accepted_before task progress) writer.words
   pub released : All (λ drop. released_at task.run task.level writer.words progress.drops drop ≤ writer.seen)
       progress.drops
   pub closed_is : writer.closed ≡ progress.closed
-  pub last_is : writer.last ≤ last_stamp task.run.clock.tick (calls_before task progress)
+  pub last_is : writer.last ≤ last_stamp (first_tick task.run.clocks) (calls_before task progress)
   pub counted : writer.accepted ≡ length writer.sent
   pub tried : HasTriedOnce task progress writer.asked
 

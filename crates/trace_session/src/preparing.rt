@@ -2,7 +2,9 @@
 
 ghost use Rattle.std.specs.Prelude.{◌≡◌, ◌⊎◌, ◌↔◌, ◌<◌, ◌≤◌, ◌++◌, ◌∷◌, [], false, All, length, map, IfOk, OnOk, IsErrOf};
 ghost use Rattle.std.specs.Arc.{arc_value};
-ghost use Rattle.session_options.specs.declared.limits.TheConstants.{MAX_TRACE_WRITERS, MIN_RING, MAX_RING, MAX_BATCH};
+ghost use Rattle.log_dictionary.specs.Clocks.{first_tick};
+ghost use Rattle.session_options.specs.declared.limits.TheConstants.{MIN_RING, MAX_RING, MAX_BATCH};
+ghost use Rattle.session_options.specs.declared.version.TheConstants.{MAX_WRITERS};
 ghost use Rattle.ring_core.specs.Plans.{plan_of};
 ghost use Rattle.roaming_consumer.specs.Roamers.{ends_of, is_begun, RoamerStandsFor};
 ghost use Rattle.trace_session.specs.Workers.{work_of};
@@ -13,7 +15,6 @@ use crate::finishing::Finished;
 use crate::gate::Gate;
 use crate::worker::Worker;
 use crate::workplace::Workplace;
-use log_dictionary::Clocks;
 use log_session::{Writer, start};
 use ring_core::{Stage, StageFault, StageIn};
 use roaming_consumer::Roamer;
@@ -21,9 +22,6 @@ use session_options::{MAX_RING, MIN_RING, Options};
 use std::alloc::{AllocError, Global};
 use std::sync::Arc;
 use trace_text::Trace;
-
-/// The version of the log of a trace.
-const VERSION: u8 = 1;
 
 /// Adds a worker for the next writer of the run.
 fn add_worker<S: StageIn + Drop, G: Gate>(
@@ -34,11 +32,11 @@ fn add_worker<S: StageIn + Drop, G: Gate>(
     writer: Writer<S>,
     into: &mut Vec<Worker<S, G>>,
 ) -> Result<(), AllocError>
-    requires few { length (arc_value trace.now).writers ≤ MAX_TRACE_WRITERS }
+    requires few { length (arc_value trace.now).writers ≤ MAX_WRITERS }
     requires known { length into.old.items < length (arc_value trace.now).writers }
     requires ring { (MIN_RING ≤ options.now.ring) × (options.now.ring ≤ MAX_RING) }
     requires new { IsNewWriter options.now.ring
-        (plan_of (arc_value trace.now).dictionary (arc_value trace.now).clock.tick)
+        (plan_of (arc_value trace.now).dictionary (first_tick (arc_value trace.now).clocks))
         S.words S.plan S.sent S.closed S.at S.seen writer }
     ensures { OnOk result (map (work_of S.pair S.words) into.new.items ≡ map (work_of S.pair S.words) into.old.items
         ++ work_at (arc_value trace.now) options.now (length into.old.items, S.pair writer.end) ∷ []) }
@@ -64,11 +62,11 @@ fn make_workers<S: StageIn + Drop, G: Gate>(
     gate: &Arc<G, Global>,
     writers: Vec<Writer<S>>,
 ) -> Result<Vec<Worker<S, G>>, AllocError>
-    requires few { length (arc_value trace.now).writers ≤ MAX_TRACE_WRITERS }
+    requires few { length (arc_value trace.now).writers ≤ MAX_WRITERS }
     requires count { length writers.items ≡ length (arc_value trace.now).writers }
     requires ring { (MIN_RING ≤ options.now.ring) × (options.now.ring ≤ MAX_RING) }
     requires new { All (IsNewWriter options.now.ring
-        (plan_of (arc_value trace.now).dictionary (arc_value trace.now).clock.tick)
+        (plan_of (arc_value trace.now).dictionary (first_tick (arc_value trace.now).clocks))
         S.words S.plan S.sent S.closed S.at S.seen) writers.items }
     ensures { IfOk result (λ workers. map (work_of S.pair S.words) workers.items ≡ works_of (arc_value trace.now)
         options.now (map (λ writer. S.pair writer.end) writers.items)) }
@@ -98,17 +96,14 @@ pub(crate) fn prepare<'d, S: Stage, G: Gate>(
     if options.ring < MIN_RING || MAX_RING < options.ring {
         return Err(StageFault::BadSize);
     }
-    let Ok(clocks) = Clocks::make(alloc, trace.clock) else {
-        return Err(StageFault::NoMemory);
-    };
     let writers = trace.writers.len() as u32;
     let (writers, roamer) = start::<S>(
         alloc,
         options.ring,
         writers,
         options.batch,
-        VERSION,
-        &clocks,
+        trace.version,
+        &trace.clocks,
         &trace.dictionary,
     )?;
     match make_workers(alloc, trace, options, gate, writers) {

@@ -1,6 +1,7 @@
 //! Workers.
 
 ghost use Rattle.std.specs.Prelude.{◌≡◌, ◌+◌, ◌-◌, ◌<◌, ◌≤◌, ◌↔◌, [], true, false, length, Some, IsTrue, IfOk, vec_len};
+ghost use Rattle.log_dictionary.specs.Clocks.{first_tick};
 ghost use Rattle.ring_core.specs.Plans.{plan_of};
 ghost use Rattle.std.specs.Arc.{arc_value};
 ghost use Rattle.std.specs.Vec.{vec_capacity};
@@ -92,7 +93,7 @@ impl<S: StageIn + Drop, G: Gate> Worker<S, G> {
     ) -> Result<Worker<S, G>, AllocError>
         requires known { number < length (arc_value trace).writers }
         requires ring { (MIN_RING ≤ options.now.ring) × (options.now.ring ≤ MAX_RING) }
-        requires new { IsNewWriter options.now.ring (plan_of (arc_value trace).dictionary (arc_value trace).clock.tick)
+        requires new { IsNewWriter options.now.ring (plan_of (arc_value trace).dictionary (first_tick (arc_value trace).clocks))
             S.words S.plan S.sent S.closed S.at S.seen writer }
         ensures task { IfOk result (λ worker. worker.task ≡ record {
           run = arc_value trace;

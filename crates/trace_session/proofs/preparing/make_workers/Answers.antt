@@ -1,6 +1,7 @@
 use Rattle.std.proofs.Common.{List, [], ◌∷◌, ◌++◌, map, length, sym, ap, subst, ◌∙◌, arith}
 use Rattle.std.specs.Prelude.{All}
 use Rattle.std.specs.Arc.{arc_value}
+use Rattle.log_dictionary.specs.Clocks.{first_tick}
 use Rattle.ring_core.specs.Plans.{plan_of}
 use Rattle.log_session.specs.Writers.{WriterView}
 use Rattle.trace_session.specs.Workers.{work_of}
@@ -13,7 +14,7 @@ use Rattle.trace_session.proofs.preparing.make_workers.Goals as goal
 pub loop-writer-init : goal.loop-writer-init
 loop-writer-init g c =
     let run = arc_value c.args.trace.now in
-    let is_new = IsNewWriter c.args.options.now.ring (plan_of run.dictionary run.clock.tick) g.S.StageIn.words g.S.StageIn.plan g.S.StageIn.sent g.S.StageIn.closed g.S.StageIn.at g.S.StageIn.seen in
+    let is_new = IsNewWriter c.args.options.now.ring (plan_of run.dictionary (first_tick run.clocks)) g.S.StageIn.words g.S.StageIn.plan g.S.StageIn.sent g.S.StageIn.closed g.S.StageIn.at g.S.StageIn.seen in
     let into = c.into_iter-writer-iterator.ensures.into_iter_gives in (
       [],
       into.0,
@@ -40,7 +41,7 @@ pub add_worker-requires-clause-new : goal.add_worker-requires-clause-new
 add_worker-requires-clause-new g c κs within =
     let (seen, joined, are, new, long) = c.loop-writer.invariant in
     let run = arc_value c.args.trace.now in
-    let is_new = IsNewWriter c.args.options.now.ring (plan_of run.dictionary run.clock.tick) g.S.StageIn.words g.S.StageIn.plan g.S.StageIn.sent g.S.StageIn.closed g.S.StageIn.at g.S.StageIn.seen in
+    let is_new = IsNewWriter c.args.options.now.ring (plan_of run.dictionary (first_tick run.clocks)) g.S.StageIn.words g.S.StageIn.plan g.S.StageIn.sent g.S.StageIn.closed g.S.StageIn.at g.S.StageIn.seen in
     (all_next is_new _ _ c.in-Some.writer c.in-Some.ensures.steps.0 new).0
 
 pub loop-writer-preserved : goal.loop-writer-preserved
@@ -48,7 +49,7 @@ loop-writer-preserved g c =
     let (seen, joined, are, new, long) = c.loop-writer.invariant in
     let run = arc_value c.args.trace.now in
     let pair = λ (writer : WriterView g.row.S.Denot). g.S.StageIn.pair writer.end in
-    let is_new = IsNewWriter c.args.options.now.ring (plan_of run.dictionary run.clock.tick) g.S.StageIn.words g.S.StageIn.plan g.S.StageIn.sent g.S.StageIn.closed g.S.StageIn.at g.S.StageIn.seen in
+    let is_new = IsNewWriter c.args.options.now.ring (plan_of run.dictionary (first_tick run.clocks)) g.S.StageIn.words g.S.StageIn.plan g.S.StageIn.sent g.S.StageIn.closed g.S.StageIn.at g.S.StageIn.seen in
     let next = c.in-Some.ensures.steps in (
       seen ++ c.in-Some.writer ∷ [],
       walked seen _ _ _ c.in-Some.writer joined next.0,

@@ -4,6 +4,7 @@ use Rattle.std.proofs.lemmas.Option.{same_Some, slice_get_within}
 use Rattle.nl_io.specs.Count.{Rose}
 use Rattle.printf_grammar.specs.declared.argument.Value.{Value}
 use Rattle.printf_grammar.specs.Types.{Types, Fits}
+use Rattle.log_dictionary.specs.Clocks.{first_tick}
 use Rattle.session_options.specs.declared.options.Policy.TheVariants as policies
 use Rattle.arg_records.specs.declared.call.Call.{Call}
 use Rattle.arg_records.specs.Frames.{FrameLen}
@@ -29,7 +30,7 @@ log-requires-clause-known g c =
     let good = worked_call c.self.invariant.0 call is in
     let fits = subst (λ (args : List Value). Fits args (Types good.message.format.pieces)) (sym values) good.fits in
     subst (λ (plan : Plan). Knows plan call.id (map (λ (value : Value). value) c.as_slice.result.now)) (sym c.self.invariant.0.plan_is)
-    (knows_taken task.run.dictionary task.run.clock.tick call.id _ (good.message, good.known, fits))
+    (knows_taken task.run.dictionary (first_tick task.run.clocks) call.id _ (good.message, good.known, fits))
 
 pub log-requires-clause-not_before : goal.log-requires-clause-not_before
 log-requires-clause-not_before g c =
