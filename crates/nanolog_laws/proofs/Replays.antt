@@ -51,7 +51,7 @@ use Rattle.session_commands.proofs.lemmas.WholeRuns.{whole_text}
 pub lawful_text : (new : Desk) (log : List ℕ) (run : Recording) (options : Options) (drops : List Dropped)
     (bytes : List ℕ) → LogLawful new log run options drops bytes → TextSame run options drops bytes
 lawful_text new log run options drops bytes lawful =
-    log_is_text bytes (Taken run options.level drops) run.dictionary 1 (run.clock ∷ []) options.batch lawful.whole.lawful
+    log_is_text bytes (Taken run options.level drops) run.dictionary run.version run.clocks options.batch lawful.whole.lawful
 
 -- ---- a log that is read again
 

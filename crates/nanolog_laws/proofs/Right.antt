@@ -43,7 +43,7 @@ use Rattle.log_commands.specs.Decompressing.{log_ending, HaveText, GivesText, Be
 use Rattle.log_commands.specs.Aggregating.{totals_ending, GivesTotals}
 use Rattle.log_commands.specs.Migrating.{migration_ending, GivesMigrated, IsMigratable}
 use Rattle.schedule_commands.specs.Tasks.{verdict_of, GivesSteps, IsSchedule}
-use Rattle.session_commands.specs.Replays.{ReplayGives}
+use Rattle.session_commands.specs.Replays.{IsReplayable, ReplayGives}
 use Rattle.nanolog_cli.specs.Outcomes.{task_of}
 
 -- ---- what a name holds, where that is told
@@ -63,9 +63,9 @@ module _ (desk : Desk) (held : Held) (told : desk.held ≡ Some held) where
   lines_right trace product ending gives done = absurd cc
 
   session_right : (trace : List ℕ) (options : Options) (product : Product) (ending : Ending)
-      → ReplayGives trace options desk product ending → IsDone ending → Holds desk trace IsTrace
+      → ReplayGives trace options desk product ending → IsDone ending → Holds desk trace (IsReplayable options)
   session_right trace options product Done gives done =
-      holds_so trace (λ bytes. TraceText bytes gives.run) IsTrace gives.trace_read (λ bytes text. (gives.run, text))
+      holds_so trace (λ bytes. TraceText bytes gives.run) (IsReplayable options) gives.trace_read (λ bytes text. (gives.run, text, gives.rings))
   session_right trace options product (StillOpen name numbers) gives done = absurd gives
   session_right trace options product ending gives done = absurd cc
 

@@ -239,7 +239,8 @@ lines_nothing trace desk product ending gives is = absurd gives
 session_nothing : (trace : List ℕ) (options : Options) (desk : Desk) (product : Product) (ending : Ending)
     → ReplayGives trace options desk product ending → IsRefusedEnding ending → product ≡ nothing
 session_nothing trace options desk product Done gives is = absurd is
-session_nothing trace options desk product (Refused name line cause) gives is = gives.1
+session_nothing trace options desk product (Refused name line cause) (inl refused) is = refused.1
+session_nothing trace options desk product (Refused name line cause) (inr refused) is = refused.nothing_came
 session_nothing trace options desk product ending gives is = absurd gives
 
 header_nothing : (dictionary : List ℕ) (desk : Desk) (product : Product) (ending : Ending)
@@ -549,7 +550,7 @@ log_cut trace log name options old new effect = elim effect [
   | inl printing ↦ inl (printing.0, printing.1.rose)
   | inr lost ↦
       let named : log ≡ name = same_Some log name lost.output in
-      let (run, read, front) = lost.leaves in
+      let (run, read, fit, front) = lost.leaves in
       let holds : HoldsCutLog trace log options old.desk new.desk = elim lost.holds [
         | inl same ↦ inl (subst (λ (n : List ℕ). found_in new.desk n ≡ found_in old.desk n) (sym named) same)
         | inr held ↦ inr (run, lost.bytes, read, subst (λ (n : List ℕ). IsHeld new.desk n lost.bytes) (sym named) held, front)

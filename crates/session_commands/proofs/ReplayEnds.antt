@@ -18,7 +18,7 @@ use Rattle.trace_session.specs.declared.outcome.RunFault.TheVariants as run_faul
 use Rattle.trace_session.specs.Drops.{Taken}
 use Rattle.trace_session.specs.Sessions.{AreCounted, IsSession, AreFirstCalls, IsCutSession}
 use Rattle.decompressor.proofs.lemmas.TextLaws.{log_is_text}
-use Rattle.command_base.specs.Endings.{Ending, WriteFault, NoMemory}
+use Rattle.command_base.specs.Endings.{Ending, Refused, WriteFault, NoMemory}
 use Rattle.command_base.specs.Effects.{CommandEffect}
 use Rattle.command_base.proofs.lemmas.EffectLaws.{put_nothing, nothing_came, none_given, printed_done, lost}
 use Rattle.command_base.specs.HeldFiles.{IsHeld}
@@ -28,7 +28,7 @@ use Rattle.command_base.specs.Scenes.{Scene, scene}
 use Rattle.command_base.specs.Tasks.{Product}
 use Rattle.trace_commands.specs.Traces.{TraceRead, IsRefusedAt, GivesNoTrace}
 use Rattle.session_commands.specs.Headline.{outcome_text, accepted_count, filtered_count, told_text}
-use Rattle.session_commands.specs.Replays.{ReplayGives, IsLogFront, GivesNoLog, run_fault_ending, replay_task}
+use Rattle.session_commands.specs.Replays.{FitRings, rings_too_large, ReplayGives, IsLogFront, GivesNoLog, run_fault_ending, replay_task}
 use Rattle.session_commands.proofs.lemmas.Soundness.{replay_sound}
 
 -- ---- the log
@@ -72,7 +72,7 @@ whole_front sent got run options outcome bytes session =
       taken = taken;
       first = first_of_all taken;
       rest = [];
-      log = subst (λ (b : List ℕ). LogOf b taken run.dictionary 1 (run.clock ∷ []) options.batch) (sym (append-nil bytes)) session.log.lawful;
+      log = subst (λ (b : List ℕ). LogOf b taken run.dictionary run.version run.clocks options.batch) (sym (append-nil bytes)) session.log.lawful;
       closed = λ writer marked. refl;
     }
 
@@ -143,7 +143,18 @@ pub replay_unread : (trace log : List ℕ) (options : Options) (old : Scene) (de
     → CommandEffect (replay_task trace log options) old (scene desk old.put old.faults) ending
 replay_unread trace log options old desk ending none =
     nothing_came (replay_task trace log options) old desk ending (replay_sound trace log options)
-    (none_given trace (IsRefusedAt trace) (ReplayGives trace options) _ _ _ (λ name line cause refused. refused) none)
+    (none_given trace (IsRefusedAt trace) (ReplayGives trace options) _ _ _ (λ name line cause refused. inl refused) none)
+
+-- the trace was read, and its rings would have too many words
+pub replay_too_large : (trace log : List ℕ) (options : Options) (old : Scene) (desk : Desk) (run : Recording)
+    → TraceRead old.desk trace run → desk ≡ old.desk → ¬ (FitRings run options)
+    → CommandEffect (replay_task trace log options) old (scene desk old.put old.faults) (Refused trace (Some 0) rings_too_large)
+replay_too_large trace log options old desk run read same large =
+    nothing_came (replay_task trace log options) old desk (Refused trace (Some 0) rings_too_large) (replay_sound trace log options) (
+      same,
+      such_there old.desk trace (λ bytes. TraceText bytes run) read,
+      inr (record { named = refl; nothing_came = refl; at_no_line = refl; cause_is = refl; run = run; trace_read = read; large = large }),
+    )
 
 -- memory was wanting behind the trace
 pub replay_lacked : (trace log : List ℕ) (options : Options) (old : Scene) (desk : Desk) (run : Recording)
@@ -155,25 +166,25 @@ replay_lacked trace log options old desk run read same =
 
 -- the trace was read, and no log was given
 pub replay_lost : (trace log : List ℕ) (options : Options) (old : Scene) (desk : Desk) (run : Recording)
-    (ending : Ending) → TraceRead old.desk trace run → GivesNoLog run options log old.desk desk ending → OnlyName log old.desk desk
+    (ending : Ending) → TraceRead old.desk trace run → FitRings run options → GivesNoLog run options log old.desk desk ending → OnlyName log old.desk desk
     → CommandEffect (replay_task trace log options) old (scene desk old.put old.faults) ending
-replay_lost trace log options old desk run (WriteFault name) read (named, holds, rose) only =
+replay_lost trace log options old desk run (WriteFault name) read fit (named, holds, rose) only =
     subst (λ (n : List ℕ). CommandEffect (replay_task trace log options) old (scene desk old.put old.faults) (WriteFault n))
     (sym named)
     (elim holds [
-      | inl same ↦ lost (replay_task trace log options) old desk log [] refl (run, read, inl refl) (inl same) only rose
+      | inl same ↦ lost (replay_task trace log options) old desk log [] refl (run, read, fit, inl refl) (inl same) only rose
       | inr (bytes, held, front) ↦
-          lost (replay_task trace log options) old desk log bytes refl (run, read, front) (inr held) only rose
+          lost (replay_task trace log options) old desk log bytes refl (run, read, fit, front) (inr held) only rose
     ])
-replay_lost trace log options old desk run NoMemory read (held, counted) only = inr (record {
+replay_lost trace log options old desk run NoMemory read fit (held, counted) only = inr (record {
   name = log;
   output = refl;
-  leaves = (run, read, inl refl);
+  leaves = (run, read, fit, inl refl);
   emptied = (held, only, counted);
   unprinted = refl;
   counted = refl;
 })
-replay_lost trace log options old desk run ending read gives only = absurd gives
+replay_lost trace log options old desk run ending read fit gives only = absurd gives
 
 -- the counts that are told are those of the run
 counts_told : (run : Recording) (options : Options) (drops : List Dropped) (accepted filtered : ℕ)
@@ -187,11 +198,11 @@ counts_told run options drops accepted filtered counts =
 -- the log was written, and what the session came to was told without want of memory
 pub replay_told : {D : Type 0} (sent got : D → List (List ℕ)) (trace log : List ℕ) (options : Options) (old : Scene)
     (desk : Desk) (run : Recording) (outcome : Outcome D) (bytes : List ℕ) (put : Told) (faults : ℕ) (ending : Ending)
-    → TraceRead old.desk trace run → IsHeld desk log bytes → IsSession sent got run options outcome bytes
+    → TraceRead old.desk trace run → FitRings run options → IsHeld desk log bytes → IsSession sent got run options outcome bytes
     → OnlyName log old.desk desk → desk.write_faults ≡ old.desk.write_faults
     → Prints (outcome_text outcome.drops outcome.accepted outcome.filtered) old.put put old.faults faults ending
     → ending ≢ NoMemory → CommandEffect (replay_task trace log options) old (scene desk put faults) ending
-replay_told sent got trace log options old desk run outcome bytes put faults ending read held session only written prints memory =
+replay_told sent got trace log options old desk run outcome bytes put faults ending read fit held session only written prints memory =
     let text = outcome_text outcome.drops outcome.accepted outcome.filtered in
     let product : Product = record { made = Some bytes; text = text } in
     printed_done (replay_task trace log options) old desk product ending put faults
@@ -205,12 +216,13 @@ replay_told sent got trace log options old desk run outcome bytes put faults end
           drops = outcome.drops;
           bytes = bytes;
           trace_read = read;
+          rings = fit;
           made = refl;
           session = record {
             waits = session.waits;
             told = counts_told run options outcome.drops outcome.accepted outcome.filtered session.counts;
             whole = session.log;
-            text_same = log_is_text bytes (Taken run options.level outcome.drops) run.dictionary 1 (run.clock ∷ []) options.batch
+            text_same = log_is_text bytes (Taken run options.level outcome.drops) run.dictionary run.version run.clocks options.batch
                 session.log.lawful;
             drops_lawful = session.dropped;
           };

@@ -1,5 +1,5 @@
 -- What the log of a session in memory gives.
-use Rattle.std.proofs.Common.{◌≡◌, ◌≢◌, ℕ, ◌≤◌, List, [], ◌∷◌, ◌++◌, length, Some, Err, refl, sym, ap, subst, ◌∙◌}
+use Rattle.std.proofs.Common.{◌≡◌, ◌≢◌, ℕ, ◌≤◌, List, [], ◌++◌, length, Some, Err, refl, sym, ap, subst, ◌∙◌}
 use Rattle.std.specs.Prelude.{IfSome}
 use Rattle.std.proofs.lemmas.Option.{same_Some}
 use Rattle.nl_io.specs.Content.{Told, with_end}
@@ -54,8 +54,8 @@ whole_read run batch log left text report whole same read =
     let lawful = whole.lawful in
     let front = whole_is_front lawful.header lawful.blocks log lawful.file lawful.valid in
     let blocks = one_front log is.part.header lawful.header is.part.blocks lawful.blocks (length log) (length log) is.scanned.front front in (
-      is.lines ∙ (λ i. length (all_calls (blocks.0 i) (blocks.1 i))) ∙ ap length (taken_are log run.writers run.dictionary 1 (run.clock ∷ []) batch lawful),
-      one_text log text (direct_text run) is.decompressed (log_is_text log run.writers run.dictionary 1 (run.clock ∷ []) batch lawful),
+      is.lines ∙ (λ i. length (all_calls (blocks.0 i) (blocks.1 i))) ∙ ap length (taken_are log run.writers run.dictionary run.version run.clocks batch lawful),
+      one_text log text (direct_text run) is.decompressed (log_is_text log run.writers run.dictionary run.version run.clocks batch lawful),
     )
 
 -- and is not damaged

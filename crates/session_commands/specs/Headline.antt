@@ -1,6 +1,6 @@
 -- The headline: what a replay that was done has read, written, dropped and told. Each of its six clauses is one
 -- definition.
-use Rattle.std.specs.Prelude.{◌≡◌, ◌≢◌, ℕ, ◌-◌, List, [], ◌∷◌, ◌++◌, length, codes}
+use Rattle.std.specs.Prelude.{◌≡◌, ◌≢◌, ℕ, ◌-◌, List, [], ◌++◌, length, codes}
 use Rattle.std.specs.Fmt.{decimal}
 use Rattle.std.specs.List.{flat_map}
 use Rattle.nl_io.specs.Content.{Told, with_end, PutsFront}
@@ -52,7 +52,7 @@ told_text run level drops = outcome_text drops (accepted_count run level drops) 
 
 -- the lines of the calls that the level keeps and that aren't dropped
 abbrev pub taken_text : Recording → Severity → List Dropped → List ℕ
-taken_text run level drops = Direct (run.clock ∷ []) (calls_by_writer run.dictionary (Taken run level drops))
+taken_text run level drops = Direct run.clocks (calls_by_writer run.dictionary (Taken run level drops))
 
 -- ---- the clauses
 

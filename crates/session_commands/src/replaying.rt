@@ -1,6 +1,6 @@
 //! The command `replay`.
 
-ghost use Rattle.std.specs.Prelude.{◌≡◌, ◌≢◌, ◌≤◌, ℕ, List, None, IfOk, IfErr, OnOk, IsErrOf};
+ghost use Rattle.std.specs.Prelude.{◌≡◌, ◌≢◌, ◌≤◌, ◌↔◌, ℕ, List, None, IsTrue, IfOk, IfErr, OnOk, IsErrOf};
 ghost use Rattle.std.specs.Arc.{arc_value};
 ghost use Rattle.std.specs.FinMap as map;
 ghost use Rattle.nl_io.specs.Count.{Rose};
@@ -12,13 +12,13 @@ ghost use Rattle.command_base.specs.Effects.{CommandEffect};
 ghost use Rattle.command_base.specs.Endings.{ending_of, refusal_ending};
 ghost use Rattle.command_base.specs.HeldFiles.{IsHeld};
 ghost use Rattle.command_base.specs.Scenes.{scene};
-ghost use Rattle.session_commands.specs.Replays.{GivesNoLog, run_fault_ending, replay_task};
+ghost use Rattle.session_commands.specs.Replays.{FitRings, GivesNoLog, run_fault_ending, replay_task};
 
 use crate::telling::tell;
-use command_base::Refusal;
+use command_base::{Refusal, ToldCause};
 use nl_io::{FileSink, Files, Sink};
 use ring_core::Stage;
-use session_options::Options;
+use session_options::{MAX_SESSION_WORDS, Options};
 use std::alloc::Global;
 use std::mem;
 use std::sync::{Arc, Wait};
@@ -67,6 +67,20 @@ where
         &mut FileSink::make(files, id),
         gate,
     )
+}
+
+/// That the rings of a trace's writers would have too many words.
+const RINGS_TOO_LARGE: ToldCause = ToldCause {
+    number: 19,
+    name: "RingsTooLarge",
+};
+
+/// Whether the rings of the run's writers have no more words together than a session may have.
+fn fit_rings(run: &Trace, options: &Options) -> bool
+    requires bounds { AreInBounds options.now }
+    ensures { IsTrue result ↔ FitRings run.now options.now }
+{
+    run.writers.len() as u64 * options.ring <= MAX_SESSION_WORDS
 }
 
 /// The refusal of a log for which a session wasn't run to its end.
@@ -119,7 +133,8 @@ where
 }
 
 /// Reads the run that a name holds, makes its calls through rings, writes their log to another name, and tells which
-/// calls were dropped and how many were accepted, dropped and filtered. The memory of a run whose log was written isn't
+/// calls were dropped and how many were accepted, dropped and filtered. A trace is refused at line 0 where the rings of
+/// its writers would have more than 67,108,864 words together. The memory of a run whose log was written isn't
 /// given back before the program ends.
 pub fn replay<'a, R, S, F, O, G>(
     rt: R,
@@ -145,6 +160,13 @@ where
     ensures out_others { O.rest out.old out.new }
 {
     let run = trace_of_file(alloc, files, trace)?;
+    if !fit_rings(&run, options) {
+        return Err(Refusal::Refused {
+            name: trace,
+            line: Some(0),
+            cause: RINGS_TOO_LARGE,
+        });
+    }
     let Ok(run) = Arc::new(alloc, run) else {
         return Err(Refusal::NoMemory);
     };

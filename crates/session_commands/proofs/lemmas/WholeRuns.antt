@@ -43,4 +43,4 @@ taken_writers run from (calls ∷ writers) named = λ i. taken_all run.dictionar
 -- the lines of the calls that were taken are those of all calls
 pub whole_text : (run : Recording) (level : Severity) (drops : List Dropped) → IsRecording run → level ≡ severities.Debug → drops ≡ [] → taken_text run level drops ≡ direct_text run
 whole_text run level drops recorded all none =
-    (λ i. taken_text run (all i) (none i)) ∙ ap (λ (writers : List (List Call)). Direct (run.clock ∷ []) (calls_by_writer run.dictionary writers)) (taken_writers run 0 run.writers recorded.calls)
+    (λ i. taken_text run (all i) (none i)) ∙ ap (λ (writers : List (List Call)). Direct run.clocks (calls_by_writer run.dictionary writers)) (taken_writers run 0 run.writers recorded.calls)
