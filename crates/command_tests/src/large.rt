@@ -36,6 +36,40 @@ fn too_many_messages_are_told(rt: HostRuntime) -> Result<(), Fail> {
     Ok(())
 }
 
+/// A trace of version 2 of so many clocks, one a tick, with a call of the last of 1,024 writers at tick 255.
+fn timed_trace(alloc: Global, clocks: u32) -> Result<String, AllocError> {
+    let mut text = String::from_str(alloc, "nanolog-trace 2\n")?;
+    text.push_str("message 0 NOTICE 12 \"srv.cc\" \"x=%d\"\n")?;
+    for tick in 0..clocks {
+        writeln!(text, "clock {tick} 1{tick:03} 1")?;
+    }
+    text.push_str("writers 1024\ncall 1023 255 0 7\nend\n")?;
+    Ok(text)
+}
+
+/// As many clocks and writers as there can be are taken, also into a log and out of it. One clock more is told.
+#[test]
+fn all_clocks_and_writers_are_taken(rt: HostRuntime) -> Result<(), Fail> {
+    let alloc = rt.alloc();
+    let text = timed_trace(alloc, 256)?;
+    let line = "0.000001255 srv.cc:12 NOTICE[1023]: x=7\n";
+    let ran = run_over(&rt, alloc, "direct t", ("t", text.as_bytes()))?;
+    expect_ran(&rt, &ran, Status::Done, line, "");
+    let replay = "replay t l --ring 1024";
+    let ran = run_over(&rt, alloc, replay, ("t", text.as_bytes()))?;
+    let told = "accepted 1 dropped 0 filtered 0\n";
+    expect_ran(&rt, &ran, Status::Done, told, "");
+    let log = ran.log.as_deref().unwrap_or(&[]);
+    let ran = run_over(&rt, alloc, "decompress l", ("l", log))?;
+    expect_ran(&rt, &ran, Status::Done, line, "");
+    let text = timed_trace(alloc, 257)?;
+    let ran = run_over(&rt, alloc, replay, ("t", text.as_bytes()))?;
+    let told = "nanolog: t:259: refused: 20 TooManyClocks\n";
+    expect_ran(&rt, &ran, Status::Refused, "", told);
+    assert!(rt; ran.log.is_none());
+    Ok(())
+}
+
 /// One byte more than a trace has is told, and so it is of a dictionary.
 #[test]
 fn too_large_a_trace_is_told(rt: HostRuntime) -> Result<(), Fail> {
