@@ -1,6 +1,5 @@
 -- Strings that stand one behind another.
-use Rattle.std.specs.List.{All}
-use Rattle.std.specs.Prelude.{ℕ, ◌+◌, ◌<◌, List, [], ◌∷◌, take, drop}
+use Rattle.std.specs.Prelude.{ℕ, ◌+◌, List, [], ◌∷◌, take, drop}
 
 -- the strings of these lengths that the bytes are made of
 abbrev pub split : List ℕ → List ℕ → List (List ℕ)
@@ -11,7 +10,3 @@ split (len ∷ lens) bytes = take len bytes ∷ split lens (drop len bytes)
 abbrev pub total : List ℕ → ℕ
 total [] = 0
 total (len ∷ lens) = len + total lens
-
--- each of them is a byte
-abbrev pub AreBytes : List ℕ → Type 0
-AreBytes bytes = All (λ byte. byte < 256) bytes

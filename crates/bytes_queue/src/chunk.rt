@@ -1,7 +1,6 @@
 //! A piece of memory that holds byte strings, one behind another.
 
-ghost use Rattle.std.specs.Prelude.{◌≡◌, ◌^◌, ◌<◌, ◌↔◌, [], ◌∷◌, ◌++◌, length, drop, slice_get, Some, IfOk, IfSome, IsNone, IsTrue, OnOk, OnErr};
-ghost use Rattle.bytes_queue.specs.Splitting.{AreBytes};
+ghost use Rattle.std.specs.Prelude.{◌≡◌, ◌^◌, ◌<◌, ◌↔◌, [], ◌∷◌, ◌++◌, length, drop, slice_get, All, Some, IfOk, IfSome, IsNone, IsTrue, OnOk, OnErr};
 
 use std::alloc::{AllocError, Global};
 use std::marker::Model;
@@ -73,7 +72,7 @@ impl Chunk {
     /// The first string that is left.
     pub(crate) fn first(&self) -> Option<&[u8]>
         ensures some { IfSome result (λ first. slice_get self.now 0 ≡ Some first.now) }
-        ensures small { IfSome result (λ first. AreBytes first.now) }
+        ensures small { IfSome result (λ first. All (λ byte. byte < 256) first.now) }
         ensures none { IsNone result ↔ (self.now ≡ []) }
     {
         let len = *self.lens.get(self.next)? as usize;

@@ -1,7 +1,6 @@
 //! Byte strings that wait, in order.
 
-ghost use Rattle.std.specs.Prelude.{◌≡◌, ◌^◌, ◌<◌, ◌↔◌, [], ◌∷◌, ◌++◌, length, drop, slice_get, Some, IfSome, IsNone, IsTrue, OnOk, OnErr};
-ghost use Rattle.bytes_queue.specs.Splitting.{AreBytes};
+ghost use Rattle.std.specs.Prelude.{◌≡◌, ◌^◌, ◌<◌, ◌↔◌, [], ◌∷◌, ◌++◌, length, drop, slice_get, All, Some, IfSome, IsNone, IsTrue, OnOk, OnErr};
 
 use crate::chunk::Chunk;
 use std::alloc::{AllocError, Global};
@@ -75,7 +74,7 @@ impl BytesQueue {
     /// The first byte string.
     pub fn first(&self) -> Option<&[u8]>
         ensures some { IfSome result (λ first. slice_get self.now 0 ≡ Some first.now) }
-        ensures small { IfSome result (λ first. AreBytes first.now) }
+        ensures small { IfSome result (λ first. All (λ byte. byte < 256) first.now) }
         ensures none { IsNone result ↔ (self.now ≡ []) }
     {
         self.chunks.front()?.first()

@@ -7,11 +7,11 @@ use Rattle.checkpoint_io.specs.declared.header.Header.{Header}
 use Rattle.checkpoint_io.specs.Blocks.{Block, Fragment, Extent, NewClock, Close, messages_of}
 use Rattle.checkpoint_io.specs.Validity.{block_records, records_of, closes, IsRightAfter, Valid}
 use Rattle.checkpoint_io.proofs.lemmas.ValidityLaws.{records-push, AreRightAfter-split}
-use Rattle.checkpoint_io.proofs.lemmas.VersionLaws.{few_writers}
+use Rattle.session_options.proofs.lemmas.VersionLimits.{few_writers}
 use Rattle.stamp_merge.specs.declared.merger.ListState.{ListState}
 use Rattle.direct_printf.specs.Lines.{in_order}
 use Rattle.decompressor.specs.Settling.{closed_by, settled_calls}
-use Rattle.decompressor.specs.Waiting.{QueueState, HasHeads, AreShown, MayStillCome, closed_behind, TakesRecords, IsAdded}
+use Rattle.decompressor.specs.Waiting.{QueueState, HasHeads, AreShown, MayStillCome, closed_behind, TakesRecords, AddsBlock}
 use Rattle.decompressor.specs.Decompressors.{PrinterState, count_of, no_more_come, HasToPrint, HasTaken, HasLast}
 use Rattle.decompressor.proofs.Tests.{not_true, or_false}
 use Rattle.decompressor.proofs.WriterLists.{own}
@@ -60,7 +60,7 @@ module _ {state : PrinterState} {first : List Block} {block : Block} (read : Has
         no_more_calls was w,
       )
 
-  module _ {changed shown : List QueueState} {new : List ListState} (is : shown ≡ changed) (added : IsAdded (closed_by first) block state.reader read.records changed new) where
+  module _ {changed shown : List QueueState} {new : List ListState} (is : shown ≡ changed) (added : AddsBlock (closed_by first) block state.reader read.records changed new) where
     took : TakesRecords (closed_by first) block read.records added.records new
     took = added.takes
 

@@ -16,7 +16,7 @@ use Rattle.checkpoint_io.specs.NextBlocks.{Describes}
 use Rattle.stamp_merge.specs.declared.merger.ListState.{ListState}
 use Rattle.stamp_merge.specs.Mergers.{no_list, list_at, wants, with_head, with_close}
 use Rattle.stamp_merge.proofs.lemmas.Mergers.{wanting_is}
-use Rattle.decompressor.specs.Waiting.{QueueState, first_of, Holds, list_of, records_at, HasHeads, MayStillCome, closed_behind, TakesRecords}
+use Rattle.decompressor.specs.Waiting.{QueueState, first_of, HoldsRecords, list_of, records_at, HasHeads, MayStillCome, closed_behind, TakesRecords}
 use Rattle.decompressor.proofs.Tests.{or_true, or_false}
 
 -- ---- one list
@@ -30,7 +30,7 @@ wanting_state list want =
 none_first : (records : List Call) → records ≡ [] → (closed : Bool) → list_of closed records ≡ record { head = None; closed = closed }
 none_first records none closed = ap (list_of closed) none
 
-first_shown : (closed : Bool) (records : List Call) (messages : List Message) (tick : ℕ) (queue : QueueState) (stamp : ℕ) → Holds messages tick queue records → first_of queue.bodies queue.head ≡ Some stamp → list_of closed records ≡ record { head = Some stamp; closed = false }
+first_shown : (closed : Bool) (records : List Call) (messages : List Message) (tick : ℕ) (queue : QueueState) (stamp : ℕ) → HoldsRecords messages tick queue records → first_of queue.bodies queue.head ≡ Some stamp → list_of closed records ≡ record { head = Some stamp; closed = false }
 first_shown closed [] messages tick queue stamp none is = let wrong = sym (ap (λ (bodies : List (List ℕ)). first_of bodies queue.head) none) ∙ is in absurd cc
 first_shown closed (first ∷ others) messages tick queue stamp holds is =
     let shown = sym (ap (λ (bodies : List (List ℕ)). first_of bodies queue.head) holds.bodies_are) ∙ is in
@@ -38,7 +38,7 @@ first_shown closed (first ∷ others) messages tick queue stamp holds is =
     ap (λ (s : ℕ). record { head = Some s; closed = false }) same
 
 module _ (lists : List ListState) (writer : ℕ) where
-  pub shown_some : (closed : Bool) (records : List Call) (messages : List Message) (tick : ℕ) (queue : QueueState) (stamp : ℕ) → wants (list_at lists writer) ≡ true → Holds messages tick queue records → first_of queue.bodies queue.head ≡ Some stamp
+  pub shown_some : (closed : Bool) (records : List Call) (messages : List Message) (tick : ℕ) (queue : QueueState) (stamp : ℕ) → wants (list_at lists writer) ≡ true → HoldsRecords messages tick queue records → first_of queue.bodies queue.head ≡ Some stamp
       → with_head lists writer stamp ≡ slice_set lists writer (list_of closed records)
   shown_some closed records messages tick queue stamp want holds is =
       ap (slice_set lists writer) (ap (λ (s : ListState). record s { head = Some stamp }) (wanting_state (list_at lists writer) want) ∙ sym (first_shown closed records messages tick queue stamp holds is))

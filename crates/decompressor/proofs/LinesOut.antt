@@ -28,7 +28,7 @@ use Rattle.decompressor.specs.declared.fault.DecodeFault.{DecodeFault}
 use Rattle.decompressor.specs.declared.fault.DecodeFault.TheVariants.{WriteFault, NoMemory}
 use Rattle.decompressor.specs.Decompression.{all_calls}
 use Rattle.decompressor.specs.Settling.{closed_by, settled_calls, settled_text}
-use Rattle.decompressor.specs.Waiting.{QueueState, HoldsFirst, Holds, list_of, no_queue, queue_at, AreHeld}
+use Rattle.decompressor.specs.Waiting.{QueueState, HoldsFirst, HoldsRecords, list_of, no_queue, queue_at, AreHeld}
 use Rattle.decompressor.specs.Decompressors.{AreWaiting, no_more_come, ready_calls, ready_text, HasToPrint, HasMore, CutsMore, PrintsReady}
 use Rattle.decompressor.specs.Printing.{CutsText}
 use Rattle.decompressor.proofs.RecordCalls.{IsCallOf, line_is}
@@ -180,7 +180,7 @@ module _ {ended : Bool} {reader : ReaderState} {first all : List Block} {waiting
     pub holds : (default : QueueState) → HoldsFirst reader.messages header.clock.tick (get_or now writer default) turn.logged turn.records
     holds default =
         subst (λ (queue : QueueState). HoldsFirst reader.messages header.clock.tick queue turn.logged turn.records) (sym (get_or_default now writer default no_queue within))
-        (subst (Holds reader.messages header.clock.tick (queue_at now writer)) turn.there (so_far.queues.each writer among))
+        (subst (HoldsRecords reader.messages header.clock.tick (queue_at now writer)) turn.there (so_far.queues.each writer among))
 
     pub said : IsCallOf reader.messages header.clock.tick call turn.logged
     said =
@@ -206,7 +206,7 @@ module _ {ended : Bool} {reader : ReaderState} {first all : List Block} {waiting
           ∙ (λ i. so_far.joined i ++ append-nil (Line clocks call) i)
           ∙ append_assoc (settled_text header first) so_far.text (Line clocks call)
 
-      pub next_lines : {put : Told} {left : List ℕ} (queue : QueueState) {new : List ListState} → Carries (held ++ line) is put left → Holds reader.messages header.clock.tick queue turn.records
+      pub next_lines : {put : Told} {left : List ℕ} (queue : QueueState) {new : List ListState} → Carries (held ++ line) is put left → HoldsRecords reader.messages header.clock.tick queue turn.records
           → new ≡ slice_set (without_head heads writer) writer (list_of (no_more_come ended all writer) turn.records) → HasLines ended reader first all ready.valid (lines + 1) was put left (slice_set now writer queue) new
       next_lines {put} {left} queue {new} carried rest new_is = record {
         printed = longer;

@@ -17,7 +17,7 @@ use Rattle.buffer_extent.proofs.lemmas.BodyLaws.{head_first, still_body, still_g
 use Rattle.checkpoint_io.specs.declared.header.Header.{Header}
 use Rattle.checkpoint_io.specs.Readers.{ReaderState}
 use Rattle.stamp_merge.specs.declared.merger.ListState.{ListState}
-use Rattle.decompressor.specs.Waiting.{QueueState, AreBodies, HoldsFirst, Holds, no_queue, queue_at, records_at, AreHeld, AreShown}
+use Rattle.decompressor.specs.Waiting.{QueueState, AreBodies, HoldsFirst, HoldsRecords, no_queue, queue_at, records_at, AreHeld, AreShown}
 
 -- what stands behind the front of a list's end
 pub behind_front : (bytes front back : List ℕ) (place : ℕ) → place ≤ length bytes → drop place bytes ≡ front ++ back → drop (length bytes - length back) bytes ≡ back
@@ -83,12 +83,12 @@ some_records messages tick last (first ∷ others) body is some = (first, others
 module _ (messages : List Message) (tick : ℕ) where
   -- ---- what is there
 
-  pub holds_none : (queue : QueueState) (records : List Call) → Holds messages tick queue records → queue.bodies ≡ [] → records ≡ []
+  pub holds_none : (queue : QueueState) (records : List Call) → HoldsRecords messages tick queue records → queue.bodies ≡ [] → records ≡ []
   holds_none queue [] holds none = refl
   holds_none queue (first ∷ others) holds none = let wrong = sym none ∙ holds.bodies_are in absurd cc
 
-  pub none_held : (queue : QueueState) (records : List Call) → Holds messages tick queue records → records ≡ [] → queue.bodies ≡ []
-  none_held queue records holds none = subst (Holds messages tick queue) none holds
+  pub none_held : (queue : QueueState) (records : List Call) → HoldsRecords messages tick queue records → records ≡ [] → queue.bodies ≡ []
+  none_held queue records holds none = subst (HoldsRecords messages tick queue) none holds
 
   -- ---- one body more
 
@@ -109,7 +109,7 @@ module _ (messages : List Message) (tick : ℕ) where
 
   -- behind the records that wait
   pub added : (old new : QueueState) (body : List ℕ) (records more : List Call) (last : ℕ) → body ≢ [] → old.bodies ≢ [] → new.bodies ≡ old.bodies ++ body ∷ [] → new.head ≡ old.head → new.place ≡ old.place
-      → Holds messages tick old records → IsBody messages tick last more body → Holds messages tick new (records ++ more)
+      → HoldsRecords messages tick old records → IsBody messages tick last more body → HoldsRecords messages tick new (records ++ more)
   added old new body [] more last some waits bodies head place none is = absurd (waits none)
   added old new body (first ∷ others) more last some waits bodies head place holds is = record {
     body = holds.body;
@@ -147,23 +147,23 @@ module _ (messages : List Message) (tick : ℕ) where
 
   -- where its head is read, the queue has the records of the bodies from this place of the first one on
   holds_rest : (queue : QueueState) (body : List ℕ) (bodies : List (List ℕ)) (before last place : ℕ) (own more : List Call) → queue.bodies ≡ body ∷ bodies → drop place body ≢ [] → IsBody messages before last own (drop place body) → AreBodies messages tick bodies more
-      → ((first : Call) (others : List Call) → IsBody messages before last (first ∷ others) (drop place body) → ReadsHead queue body first others) → Holds messages tick queue (own ++ more)
+      → ((first : Call) (others : List Call) → IsBody messages before last (first ∷ others) (drop place body) → ReadsHead queue body first others) → HoldsRecords messages tick queue (own ++ more)
   holds_rest queue body bodies before last place own more bodies_are some is behind reads =
       let (first, others, are) = some_records messages before last own (drop place body) is some in
-      subst (λ (l : List Call). Holds messages tick queue (l ++ more)) (sym are)
+      subst (λ (l : List Call). HoldsRecords messages tick queue (l ++ more)) (sym are)
       (holds_first queue body bodies first others more bodies_are (reads first others (subst (λ (l : List Call). IsBody messages before last l (drop place body)) are is)) behind)
 
   -- a body is the first one
-  pub added_first : (old new : QueueState) (body : List ℕ) (records more : List Call) (last : ℕ) → body ≢ [] → old.bodies ≡ [] → new.bodies ≡ body ∷ [] → Holds messages tick old records → IsBody messages tick last more body
-      → ((first : Call) (others : List Call) → IsBody messages tick last (first ∷ others) body → ReadsHead new body first others) → Holds messages tick new (records ++ more)
+  pub added_first : (old new : QueueState) (body : List ℕ) (records more : List Call) (last : ℕ) → body ≢ [] → old.bodies ≡ [] → new.bodies ≡ body ∷ [] → HoldsRecords messages tick old records → IsBody messages tick last more body
+      → ((first : Call) (others : List Call) → IsBody messages tick last (first ∷ others) body → ReadsHead new body first others) → HoldsRecords messages tick new (records ++ more)
   added_first old new body records more last some empty bodies_are holds is reads =
-      subst (λ (l : List Call). Holds messages tick new (l ++ more)) (sym (holds_none old records holds empty))
-      (subst (Holds messages tick new) (append-nil more) (holds_rest new body [] tick last 0 more [] bodies_are some is refl reads))
+      subst (λ (l : List Call). HoldsRecords messages tick new (l ++ more)) (sym (holds_none old records holds empty))
+      (subst (HoldsRecords messages tick new) (append-nil more) (holds_rest new body [] tick last 0 more [] bodies_are some is refl reads))
 
   -- a body without bytes has no records
-  pub none_added : (queue : QueueState) (body : List ℕ) (records more : List Call) (last : ℕ) → body ≡ [] → Holds messages tick queue records → IsBody messages tick last more body → Holds messages tick queue (records ++ more)
+  pub none_added : (queue : QueueState) (body : List ℕ) (records more : List Call) (last : ℕ) → body ≡ [] → HoldsRecords messages tick queue records → IsBody messages tick last more body → HoldsRecords messages tick queue (records ++ more)
   none_added queue body records more last none holds is =
-      subst (Holds messages tick queue) (sym (ap (λ (l : List Call). records ++ l) (no_records messages tick last more (subst (IsBody messages tick last more) none is)) ∙ append-nil records)) holds
+      subst (HoldsRecords messages tick queue) (sym (ap (λ (l : List Call). records ++ l) (no_records messages tick last more (subst (IsBody messages tick last more) none is)) ∙ append-nil records)) holds
 
   module _ {old : QueueState} {first : Call} {others : List Call} (holds : HoldsFirst messages tick old first others) where
     abbrev back : List ℕ
@@ -171,50 +171,50 @@ module _ (messages : List Message) (tick : ℕ) where
 
     -- the first record is taken, behind which stands another one of its body
     pub next_of_body : (new : QueueState) (before place : ℕ) → new.bodies ≡ old.bodies → 1 ≤ length back → before ≡ old.head.stamp → place ≡ length holds.body - length back
-        → ((body : List ℕ) (bodies : List (List ℕ)) (next : Call) (own : List Call) (last : ℕ) → old.bodies ≡ body ∷ bodies → IsBody messages before last (next ∷ own) (drop place body) → ReadsHead new body next own) → Holds messages tick new others
+        → ((body : List ℕ) (bodies : List (List ℕ)) (next : Call) (own : List Call) (last : ℕ) → old.bodies ≡ body ∷ bodies → IsBody messages before last (next ∷ own) (drop place body) → ReadsHead new body next own) → HoldsRecords messages tick new others
     next_of_body new before place kept some from at reads =
         let stamp : first.stamp ≡ before = sym (from ∙ ap (λ (h : RecordHeader). h.stamp) holds.head_is) in
         let is : drop place holds.body ≡ back = ap (λ (n : ℕ). drop n holds.body) at ∙ behind_front holds.body holds.goes_on.front back old.place holds.within holds.goes_on.joined in
-        subst (Holds messages tick new) (sym holds.joined)
+        subst (HoldsRecords messages tick new) (sym holds.joined)
         (holds_rest new holds.body holds.bodies before first.stamp place holds.own holds.more (kept ∙ holds.bodies_are) (λ none. omega (arith, some, ap length (sym is ∙ none)))
         (subst (λ (b : List ℕ). IsBody messages before first.stamp holds.own b) (sym is) (subst (λ (n : ℕ). IsBody messages n first.stamp holds.own back) stamp holds.goes_on.behind)) holds.behind
         (λ next own. reads holds.body holds.bodies next own first.stamp holds.bodies_are))
 
     -- it is the last one of its body
     pub next_body : (new : QueueState) → new.bodies ≡ drop 1 old.bodies → length back ≡ 0
-        → ((body : List ℕ) (bodies : List (List ℕ)) (next : Call) (own : List Call) (last : ℕ) → drop 1 old.bodies ≡ body ∷ bodies → IsBody messages tick last (next ∷ own) body → ReadsHead new body next own) → Holds messages tick new others
+        → ((body : List ℕ) (bodies : List (List ℕ)) (next : Call) (own : List Call) (last : ℕ) → drop 1 old.bodies ≡ body ∷ bodies → IsBody messages tick last (next ∷ own) body → ReadsHead new body next own) → HoldsRecords messages tick new others
     next_body new less none reads =
         let left : drop 1 old.bodies ≡ holds.bodies = ap (drop 1) holds.bodies_are in
         let own_none : holds.own ≡ [] = no_records messages first.stamp first.stamp holds.own (subst (IsBody messages first.stamp first.stamp holds.own) (nil_from_length back none) holds.goes_on.behind) in
-        subst (Holds messages tick new) (sym (holds.joined ∙ ap (λ (l : List Call). l ++ holds.more) own_none)) (from holds.bodies holds.more (less ∙ left) left holds.behind)
+        subst (HoldsRecords messages tick new) (sym (holds.joined ∙ ap (λ (l : List Call). l ++ holds.more) own_none)) (from holds.bodies holds.more (less ∙ left) left holds.behind)
       where
-        from : (bodies : List (List ℕ)) (more : List Call) → new.bodies ≡ bodies → drop 1 old.bodies ≡ bodies → AreBodies messages tick bodies more → Holds messages tick new more
-        from [] more bodies_are left empty = subst (Holds messages tick new) (sym empty) bodies_are
+        from : (bodies : List (List ℕ)) (more : List Call) → new.bodies ≡ bodies → drop 1 old.bodies ≡ bodies → AreBodies messages tick bodies more → HoldsRecords messages tick new more
+        from [] more bodies_are left empty = subst (HoldsRecords messages tick new) (sym empty) bodies_are
         from (body ∷ bodies) more bodies_are left (next, own, rest, last, joined, is, behind) =
-            subst (Holds messages tick new) (sym joined) (holds_first new body bodies next own rest bodies_are (reads body bodies next own last left is) behind)
+            subst (HoldsRecords messages tick new) (sym joined) (holds_first new body bodies next own rest bodies_are (reads body bodies next own last left is) behind)
 
   -- ---- the queues of all writers
 
-  pub held_set : {queues : List QueueState} {records : List (List Call)} → AreHeld messages tick queues records → (writer : ℕ) (queue : QueueState) (own : List Call) → writer < length records → Holds messages tick queue own
+  pub held_set : {queues : List QueueState} {records : List (List Call)} → AreHeld messages tick queues records → (writer : ℕ) (queue : QueueState) (own : List Call) → writer < length records → HoldsRecords messages tick queue own
       → AreHeld messages tick (slice_set queues writer queue) (slice_set records writer own)
   held_set {queues} {records} held writer queue own within holds = record {
     many = length-set queues writer queue ∙ held.many ∙ sym (length-set records writer own);
     each = λ w known. elim (eqb_tells w writer) [
       | inl one ↦
-          subst (λ (v : ℕ). Holds messages tick (queue_at (slice_set queues writer queue) v) (records_at (slice_set records writer own) v)) (sym one.1)
-          (subst (Holds messages tick (queue_at (slice_set queues writer queue) writer)) (sym (get_or-set_same records writer own [] within))
-          (subst (λ (q : QueueState). Holds messages tick q own) (sym (get_or-set_same queues writer queue no_queue (omega (arith, within, held.many)))) holds))
+          subst (λ (v : ℕ). HoldsRecords messages tick (queue_at (slice_set queues writer queue) v) (records_at (slice_set records writer own) v)) (sym one.1)
+          (subst (HoldsRecords messages tick (queue_at (slice_set queues writer queue) writer)) (sym (get_or-set_same records writer own [] within))
+          (subst (λ (q : QueueState). HoldsRecords messages tick q own) (sym (get_or-set_same queues writer queue no_queue (omega (arith, within, held.many)))) holds))
       | inr apart ↦
-          subst (Holds messages tick (queue_at (slice_set queues writer queue) w)) (sym (get_or-set_other records writer w own [] apart.1))
-          (subst (λ (q : QueueState). Holds messages tick q (records_at records w)) (sym (get_or-set_other queues writer w queue no_queue apart.1))
+          subst (HoldsRecords messages tick (queue_at (slice_set queues writer queue) w)) (sym (get_or-set_other records writer w own [] apart.1))
+          (subst (λ (q : QueueState). HoldsRecords messages tick q (records_at records w)) (sym (get_or-set_other queues writer w queue no_queue apart.1))
           (held.each w (omega (arith, known, length-set records writer own))))
     ];
   }
 
   -- with the queue of one writer as it was
-  pub held_same : {queues : List QueueState} {records : List (List Call)} → AreHeld messages tick queues records → (writer : ℕ) → writer < length records → (default : QueueState) → Holds messages tick (get_or queues writer default) (records_at records writer)
+  pub held_same : {queues : List QueueState} {records : List (List Call)} → AreHeld messages tick queues records → (writer : ℕ) → writer < length records → (default : QueueState) → HoldsRecords messages tick (get_or queues writer default) (records_at records writer)
   held_same {queues} {records} held writer within default =
-      subst (λ (q : QueueState). Holds messages tick q (records_at records writer)) (sym (get_or_default queues writer default no_queue (omega (arith, within, held.many)))) (held.each writer within)
+      subst (λ (q : QueueState). HoldsRecords messages tick q (records_at records writer)) (sym (get_or_default queues writer default no_queue (omega (arith, within, held.many)))) (held.each writer within)
 
 -- ---- more messages
 
@@ -224,7 +224,7 @@ module _ (messages more : List Message) (tick : ℕ) where
   grown_bodies (body ∷ bodies) records (first, own, rest, last, joined, is, behind) =
       (first, own, rest, last, joined, still_body messages more tick last (first ∷ own) body is, grown_bodies bodies rest behind)
 
-  grown_queue : (queue : QueueState) (records : List Call) → Holds messages tick queue records → Holds (messages ++ more) tick queue records
+  grown_queue : (queue : QueueState) (records : List Call) → HoldsRecords messages tick queue records → HoldsRecords (messages ++ more) tick queue records
   grown_queue queue [] none = none
   grown_queue queue (first ∷ others) holds = record {
     body = holds.body;

@@ -15,7 +15,7 @@ use Rattle.stamp_merge.specs.Mergers.{fresh_list, no_list}
 use Rattle.direct_printf.specs.Lines.{in_order, Direct}
 use Rattle.decompressor.specs.Decompression.{CallsOf, lines_of}
 use Rattle.decompressor.specs.Settling.{closed_by, is_settled, settled_calls, settled_text}
-use Rattle.decompressor.specs.Waiting.{QueueState, Holds, list_of, HasHeads, no_queue, queue_at, AreHeld}
+use Rattle.decompressor.specs.Waiting.{QueueState, HoldsRecords, list_of, HasHeads, no_queue, queue_at, AreHeld}
 use Rattle.decompressor.specs.Decompressors.{AreWaiting, HasPrinted}
 
 no_calls : (from n : ℕ) → flat_map (CallsOf []) (range_with_len from n) ≡ []
@@ -53,7 +53,7 @@ none_held messages tick n = record {
   many = length-replicate n no_queue ∙ sym (length-replicate n []);
   each = λ w known.
       let below : w < n = omega (arith, known, length-replicate {A = List Call} n []) in
-      subst (Holds messages tick (queue_at (replicate n no_queue) w)) (sym (get_or-replicate {A = List Call} n w [] [] below)) (ap (λ (q : QueueState). q.bodies) (get_or-replicate n w no_queue no_queue below));
+      subst (HoldsRecords messages tick (queue_at (replicate n no_queue) w)) (sym (get_or-replicate {A = List Call} n w [] [] below)) (ap (λ (q : QueueState). q.bodies) (get_or-replicate n w no_queue no_queue below));
 }
 
 pub started : (reader : ReaderState) (taken : List ℕ) (waiting : List QueueState) (lists : List ListState) → reader.failed ≡ false → (read : StandsFor reader taken) → read.blocks ≡ [] → waiting ≡ replicate reader.header.writers no_queue → lists ≡ replicate reader.header.writers fresh_list

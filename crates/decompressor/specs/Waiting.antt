@@ -47,9 +47,9 @@ pub record HoldsFirst (messages : List Message) (tick : ℕ) (queue : QueueState
   pub behind : AreBodies messages tick bodies more
 
 -- the queue has these records, whose bodies count from the tick
-abbrev pub Holds : List Message → ℕ → QueueState → List Call → Type 0
-Holds messages tick queue [] = queue.bodies ≡ []
-Holds messages tick queue (first ∷ others) = HoldsFirst messages tick queue first others
+abbrev pub HoldsRecords : List Message → ℕ → QueueState → List Call → Type 0
+HoldsRecords messages tick queue [] = queue.bodies ≡ []
+HoldsRecords messages tick queue (first ∷ others) = HoldsFirst messages tick queue first others
 
 -- ---- the records of all writers
 
@@ -79,7 +79,7 @@ pub record AreHeld (messages : List Message) (tick : ℕ) (queues : List QueueSt
     (records : List (List Call)) : Type 0 where
   pub many : length queues ≡ length records
   pub each : (writer : ℕ) → writer < length records
-      → Holds messages tick (queue_at queues writer) (records_at records writer)
+      → HoldsRecords messages tick (queue_at queues writer) (records_at records writer)
 
 -- The queues have these records of a log that is read so far, and the merger has the first ones.
 pub record AreShown (closed : ℕ → Bool) (reader : ReaderState) (queues : List QueueState) (lists : List ListState)
@@ -103,7 +103,7 @@ pub record TakesRecords (closed : ℕ → Bool) (block : Block) (old new : List 
   pub heads : HasHeads (closed_behind closed block) lists new
 
 -- so it is, and the queues have these records
-pub record IsAdded (closed : ℕ → Bool) (block : Block) (reader : ReaderState) (old : List (List Call))
+pub record AddsBlock (closed : ℕ → Bool) (block : Block) (reader : ReaderState) (old : List (List Call))
     (queues : List QueueState) (lists : List ListState) : Type 0 where
   pub records : List (List Call)
   pub takes : TakesRecords closed block old records lists

@@ -5,7 +5,7 @@ ghost use Rattle.printf_grammar.specs.Types.{values_of};
 ghost use Rattle.arg_records.specs.declared.call.Call.{Call};
 ghost use Rattle.buffer_extent.specs.Reading.{types_of, header_of};
 ghost use Rattle.buffer_extent.specs.Bodies.{IsBody, GoesOn};
-ghost use Rattle.decompressor.specs.Waiting.{no_queue, first_of, HoldsFirst, Holds};
+ghost use Rattle.decompressor.specs.Waiting.{no_queue, first_of, HoldsFirst, HoldsRecords};
 
 use arrayvec::ArrayVec;
 use buffer_extent::{NumberRoom, RecordHeader, unpack_arguments, unpack_head};
@@ -103,9 +103,9 @@ impl RecordQueue {
         body: &[u8],
     ) -> Result<(), AllocError>
         requires { length body.now < 2 ^ 32 }
-        ensures ok { (records more : List Call) (last : ℕ) → Holds dictionary.now base self.old records
+        ensures ok { (records more : List Call) (last : ℕ) → HoldsRecords dictionary.now base self.old records
             → IsBody dictionary.now base last more body.now
-            → OnOk result (Holds dictionary.now base self.new (records ++ more)) }
+            → OnOk result (HoldsRecords dictionary.now base self.new (records ++ more)) }
         ensures err { OnErr result (self.new ≡ self.old) }
     {
         if body.is_empty() {
@@ -149,7 +149,7 @@ impl RecordQueue {
             × (left ≡ length holds.goes_on.back) }
         ensures { (first : Call) (others : List Call) (holds : HoldsFirst dictionary.now base self.old first others)
             → left ≡ length holds.goes_on.back
-            → Holds dictionary.now base self.new others }
+            → HoldsRecords dictionary.now base self.new others }
     {
         let Some(body) = self.bodies.first() else {
             return;

@@ -8,7 +8,7 @@ ghost use Rattle.checkpoint_io.specs.Blocks.{Block as LogBlock};
 ghost use Rattle.checkpoint_io.specs.Readers.{ReaderState};
 ghost use Rattle.checkpoint_io.specs.NextBlocks.{Describes, HasBody};
 ghost use Rattle.stamp_merge.specs.Mergers.{wants, list_at};
-ghost use Rattle.decompressor.specs.Waiting.{list_of, Holds, HasHeads, AreShown, MayStillCome, IsAdded};
+ghost use Rattle.decompressor.specs.Waiting.{list_of, HoldsRecords, HasHeads, AreShown, MayStillCome, AddsBlock};
 
 use crate::queue::RecordQueue;
 use checkpoint_io::{Block, Reader};
@@ -18,7 +18,7 @@ use std::alloc::AllocError;
 /// Tells the merger the first record of a writer of which it has none, or that none can come.
 pub fn show_first(merger: &mut Merger, writer: u32, queue: &RecordQueue, closed: bool)
     requires { wants (list_at merger.old writer) ≡ true }
-    ensures { (messages : List Message) (tick : ℕ) (records : List Call) → Holds messages tick queue.now records
+    ensures { (messages : List Message) (tick : ℕ) (records : List Call) → HoldsRecords messages tick queue.now records
         → merger.new ≡ slice_set merger.old writer (list_of closed records) }
 {
     match queue.first_stamp() {
@@ -35,9 +35,9 @@ pub fn show_first(merger: &mut Merger, writer: u32, queue: &RecordQueue, closed:
 fn close_writer(merger: &mut Merger, writer: u32, queue: &RecordQueue)
     requires known { writer < length merger.old }
     requires shown { (closed : Bool) × (messages : List Message) × (tick : ℕ) × (records : List Call)
-        × Holds messages tick queue.now records × (list_at merger.old writer ≡ list_of closed records) }
+        × HoldsRecords messages tick queue.now records × (list_at merger.old writer ≡ list_of closed records) }
     ensures { (closed : Bool) (messages : List Message) (tick : ℕ) (records : List Call)
-        → Holds messages tick queue.now records
+        → HoldsRecords messages tick queue.now records
         → list_at merger.old writer ≡ list_of closed records
         → merger.new ≡ slice_set merger.old writer (list_of true records) }
 {
@@ -54,13 +54,13 @@ fn add_records(
     reader: &Reader,
 ) -> Result<(), AllocError>
     requires { (records : List Call)
-        × Holds reader.now.messages reader.now.header.clock.tick queue.old records
+        × HoldsRecords reader.now.messages reader.now.header.clock.tick queue.old records
         × (list_at merger.old writer ≡ list_of false records) }
     ensures { (records more : List Call) (last : ℕ)
-        → Holds reader.now.messages reader.now.header.clock.tick queue.old records
+        → HoldsRecords reader.now.messages reader.now.header.clock.tick queue.old records
         → list_at merger.old writer ≡ list_of false records
         → IsBody reader.now.messages reader.now.header.clock.tick last more reader.now.body
-        → OnOk result (Holds reader.now.messages reader.now.header.clock.tick queue.new (records ++ more)
+        → OnOk result (HoldsRecords reader.now.messages reader.now.header.clock.tick queue.new (records ++ more)
         × (merger.new ≡ slice_set merger.old writer (list_of false (records ++ more)))) }
 {
     let was_empty = queue.is_empty();
@@ -90,7 +90,7 @@ pub fn add_block(
         → HasBody reader.now.header.clock.tick reader.now.messages next reader.now.body
         → MayStillCome closed (length waiting.old) next
         → AreShown closed reader.now waiting.old merger.old records
-        → OnOk result (IsAdded closed next reader.now records waiting.new merger.new) }
+        → OnOk result (AddsBlock closed next reader.now records waiting.new merger.new) }
 {
     match block {
         Block::Fragment { .. } | Block::Clock(_) => Ok(()),

@@ -18,11 +18,11 @@ use Rattle.checkpoint_io.proofs.lemmas.FileLaws.{is_extent}
 use Rattle.checkpoint_io.proofs.lemmas.FrontLaws.{file_goes_on}
 use Rattle.checkpoint_io.proofs.lemmas.LimitLaws.{extent_within, close_within, extent_has_records}
 use Rattle.checkpoint_io.proofs.lemmas.ValidityLaws.{messages-push, ids_go_on, writers_known}
-use Rattle.checkpoint_io.proofs.lemmas.VersionLaws.{few_writers}
+use Rattle.session_options.proofs.lemmas.VersionLimits.{few_writers}
 use Rattle.log_scan.specs.Parts.{LogPart, with_block, StandsNext}
 use Rattle.log_migration.specs.declared.new_log.NewLog.{NewLog}
 use Rattle.log_migration.specs.Migrating.{version_2}
-use Rattle.log_migration.specs.Migrations.{fragment_bytes, Puts, IsMade}
+use Rattle.log_migration.specs.Migrations.{fragment_bytes, PutsPart, MigratesPart}
 
 -- ---- a log has no more blocks than bytes
 
@@ -98,7 +98,7 @@ module _ (part : LogPart) (reader : ReaderState) (told : ReadBlock) (block : Blo
       omega (arith, writers_known part.header writer part.blocks b [] valid of_writer, few_of part.header valid.header_right.few_writers)
 
   -- a block more in the new log
-  made : {T E : Type 0} (b : Block) (old new : NewLog) (spelled : List ℕ) (r : Result T E) → block ≡ b → (part.header.version ≡ 1 → SpellsBlock (messages_of part.blocks) (version_2 part.header) b spelled) → Puts r old new spelled → IsMade part old → OnOk r (IsMade (with_block part block) new)
+  made : {T E : Type 0} (b : Block) (old new : NewLog) (spelled : List ℕ) (r : Result T E) → block ≡ b → (part.header.version ≡ 1 → SpellsBlock (messages_of part.blocks) (version_2 part.header) b spelled) → PutsPart r old new spelled → MigratesPart part old → OnOk r (MigratesPart (with_block part block) new)
   made b old new spelled (Err e) is spells puts was = tt
   made b old new spelled (Ok x) is spells puts was = λ one.
       let (bytes, file, holds) = was one in
@@ -136,7 +136,7 @@ module _ (part : LogPart) (reader : ReaderState) (told : ReadBlock) (block : Blo
         ∙ ap (take count) (sym (append-nil fragment.0))
         ∙ take_at fragment.0 [] count (sym fragment.2)
 
-    pub fragment_made : {T E : Type 0} (old new : NewLog) (r : Result T E) (all : List Message) → all ≡ reader.messages → Puts r old new (fragment_bytes first (take count (drop first all))) → SpellsFragment first (take count (drop first all)) (fragment_bytes first (take count (drop first all))) → IsMade part old → OnOk r (IsMade (with_block part block) new)
+    pub fragment_made : {T E : Type 0} (old new : NewLog) (r : Result T E) (all : List Message) → all ≡ reader.messages → PutsPart r old new (fragment_bytes first (take count (drop first all))) → SpellsFragment first (take count (drop first all)) (fragment_bytes first (take count (drop first all))) → MigratesPart part old → OnOk r (MigratesPart (with_block part block) new)
     fragment_made old new r all same puts spells =
         let bytes = fragment_bytes first (take count (drop first all)) in
         let defined : take count (drop first all) ≡ fragment.0 = ap (λ (l : List Message). take count (drop first l)) same ∙ these in
@@ -156,7 +156,7 @@ module _ (part : LogPart) (reader : ReaderState) (told : ReadBlock) (block : Blo
         let (last, spelled) = spelled_so (Extent writer extent.0) extent.1 in
         records_some reader.messages part.header.clock.tick extent.0 reader.body extent.3.spelled (has_records (messages_of part.blocks) part.header writer extent.0 last spelled)
 
-    pub extent_made : {T E : Type 0} (old new : NewLog) (r : Result T E) (body : List ℕ) → body ≡ reader.body → length body ≤ 1048576 → Puts r old new (extent_head_bytes 2 writer (length body) ++ body) → IsMade part old → OnOk r (IsMade (with_block part block) new)
+    pub extent_made : {T E : Type 0} (old new : NewLog) (r : Result T E) (body : List ℕ) → body ≡ reader.body → length body ≤ 1048576 → PutsPart r old new (extent_head_bytes 2 writer (length body) ++ body) → MigratesPart part old → OnOk r (MigratesPart (with_block part block) new)
     extent_made old new r body same short puts =
         let known : reader.messages ≡ messages_of part.blocks = known_so (Extent writer extent.0) extent.1 ∙ messages-push part.blocks (Extent writer extent.0) ∙ append-nil (messages_of part.blocks) in
         let records : SpellsRecords (messages_of part.blocks) part.header.clock.tick extent.0 body = subst (SpellsRecords (messages_of part.blocks) part.header.clock.tick extent.0) (sym same) (subst (λ (ms : List Message). SpellsRecords ms part.header.clock.tick extent.0 reader.body) known extent.3.spelled) in
@@ -174,7 +174,7 @@ module _ (part : LogPart) (reader : ReaderState) (told : ReadBlock) (block : Blo
     pub close_writer : writer < 1024
     close_writer = writer_known (Close writer) writer closed refl
 
-    pub close_made : {T E : Type 0} (old new : NewLog) (r : Result T E) → Puts r old new (close_bytes 2 writer) → IsMade part old → OnOk r (IsMade (with_block part block) new)
+    pub close_made : {T E : Type 0} (old new : NewLog) (r : Result T E) → PutsPart r old new (close_bytes 2 writer) → MigratesPart part old → OnOk r (MigratesPart (with_block part block) new)
     close_made old new r puts =
         made (Close writer) old new (close_bytes 2 writer) r closed (λ one. close_within (version_2 part.header) writer (omega (arith, close_writer))) puts
 
@@ -184,7 +184,7 @@ none_in_1 : has_clocks 1 ≡ true → ⊥
 none_in_1 has = cc
 
 -- version 1 has none
-pub no_clock : (part : LogPart) (reader : ReaderState) (told : ReadBlock) (block : Block) (log : NewLog) (clock : Clock) → told ≡ read.Clock clock → StandsNext part reader told block → IsMade (with_block part block) log
+pub no_clock : (part : LogPart) (reader : ReaderState) (told : ReadBlock) (block : Block) (log : NewLog) (clock : Clock) → told ≡ read.Clock clock → StandsNext part reader told block → MigratesPart (with_block part block) log
 no_clock part reader told block log clock named next = λ one. absurd (never block refl (subst (λ (t : ReadBlock). Describes t block) named next.tells) one)
   where
     never : (b : Block) → block ≡ b → Describes (read.Clock clock) b → part.header.version ≡ 1 → ⊥

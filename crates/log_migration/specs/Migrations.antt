@@ -19,27 +19,27 @@ abbrev pub fragment_bytes : ℕ → List Message → List ℕ
 fragment_bytes first messages = fragment_head_bytes first (length messages) ++ flat_map entry_bytes messages
 
 -- These are the parts of the log that were put so far. They are kept where they are no more than are read of a log.
-pub record Holds (log : NewLog) (bytes : List ℕ) : Type 0 where
+pub record HoldsLog (log : NewLog) (bytes : List ℕ) : Type 0 where
   pub kept : log.large ≡ false → (log.bytes.items ≡ bytes) × (length bytes ≤ MAX_LOG)
   pub large : log.large ≡ true → MAX_LOG < length bytes
 
 -- these bytes were put behind the others
-abbrev pub Puts : {T E : Type 0} → Result T E → NewLog → NewLog → List ℕ → Type 0
-Puts result old new part = (before : List ℕ) → Holds old before → OnOk result (Holds new (before ++ part))
+abbrev pub PutsPart : {T E : Type 0} → Result T E → NewLog → NewLog → List ℕ → Type 0
+PutsPart result old new part = (before : List ℕ) → HoldsLog old before → OnOk result (HoldsLog new (before ++ part))
 
 -- The log is that of version 2 with the part's numbers and blocks, where the part is of version 1.
-abbrev pub IsMade : LogPart → NewLog → Type 0
-IsMade part log =
-    part.header.version ≡ 1 → (bytes : List ℕ) × FileOf (version_2 part.header) part.blocks bytes × Holds log bytes
+abbrev pub MigratesPart : LogPart → NewLog → Type 0
+MigratesPart part log =
+    part.header.version ≡ 1 → (bytes : List ℕ) × FileOf (version_2 part.header) part.blocks bytes × HoldsLog log bytes
 
 -- the migration is that of the part
 pub record IsMigration (part : LogPart) (migration : Migration) : Type 0 where
   pub many : migration.blocks ≡ length part.blocks
-  pub made : IsMade part migration.log
+  pub made : MigratesPart part migration.log
 
 -- the migration is that of the part, or of nothing
 abbrev pub HasMigration : Migration → Option LogPart → Type 0
-HasMigration migration None = Holds migration.log [] × (migration.blocks ≡ 0)
+HasMigration migration None = HoldsLog migration.log [] × (migration.blocks ≡ 0)
 HasMigration migration (Some part) = IsMigration part migration
 
 -- the migration is that of the whole file, of no more bytes than are read
@@ -47,7 +47,7 @@ pub record IsWholeMigration (bytes : List ℕ) (migration : Migration) : Type 0 
   pub migrated : List ℕ
   pub is : IsMigrated bytes migrated migration.blocks
   pub within : length bytes ≤ MAX_LOG
-  pub holds : Holds migration.log migrated
+  pub holds : HoldsLog migration.log migrated
 
 -- why there is no log where a file begins with no header
 abbrev pub fault_of : BlockFault → MigrateFault

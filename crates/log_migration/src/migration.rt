@@ -3,7 +3,7 @@
 ghost use Rattle.std.specs.Prelude.{None, OnOk, ⊤};
 ghost use Rattle.checkpoint_io.specs.Blocks.{Block as LogBlock};
 ghost use Rattle.log_scan.specs.Parts.{LogPart, with_block, StandsNext};
-ghost use Rattle.log_migration.specs.Migrations.{IsMade, HasMigration};
+ghost use Rattle.log_migration.specs.Migrations.{MigratesPart, HasMigration};
 
 use crate::new_log::NewLog;
 use crate::parts::{add_close, add_extent, add_fragment, add_header};
@@ -22,8 +22,8 @@ pub(crate) struct Migration {
 // Puts the next block of a log, which is right behind those before.
 fn add_block(reader: &Reader, block: Block, log: &mut NewLog) -> Result<(), AllocError>
     requires { (part : LogPart) × (next : LogBlock) × StandsNext part reader.now block next }
-    ensures { (part : LogPart) (next : LogBlock) → StandsNext part reader.now block next → IsMade part log.old
-        → OnOk result (IsMade (with_block part next) log.new) }
+    ensures { (part : LogPart) (next : LogBlock) → StandsNext part reader.now block next → MigratesPart part log.old
+        → OnOk result (MigratesPart (with_block part next) log.new) }
 {
     match block {
         Block::Fragment { first, count } => add_fragment(reader.dictionary(), first, count, log),

@@ -1,7 +1,7 @@
 //! The bytes of a log that is made part by part.
 
 ghost use Rattle.std.specs.Prelude.{[]};
-ghost use Rattle.log_migration.specs.Migrations.{Holds, Puts};
+ghost use Rattle.log_migration.specs.Migrations.{HoldsLog, PutsPart};
 
 use checkpoint_io::MAX_LOG;
 use std::alloc::{AllocError, Global};
@@ -18,7 +18,7 @@ pub(crate) struct NewLog {
 impl NewLog {
     /// That of no parts.
     pub(crate) fn none(alloc: Global) -> NewLog
-        ensures { Holds result [] }
+        ensures { HoldsLog result [] }
     {
         NewLog {
             bytes: Vec::new(alloc),
@@ -28,7 +28,7 @@ impl NewLog {
 
     /// Puts a part behind the others.
     pub(crate) fn put(&mut self, part: &[u8]) -> Result<(), AllocError>
-        ensures { Puts result self.old self.new part.now }
+        ensures { PutsPart result self.old self.new part.now }
     {
         if self.large {
             return Ok(());

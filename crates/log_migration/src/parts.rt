@@ -7,7 +7,7 @@ ghost use Rattle.checkpoint_io.specs.declared.heads.TheConstants.{MAX_FRAGMENT_M
 ghost use Rattle.checkpoint_io.specs.Versions.{most_writers, most_body};
 ghost use Rattle.checkpoint_io.specs.Blocks.{header_bytes, extent_head_bytes, close_bytes, SpellsFragment};
 ghost use Rattle.log_migration.specs.Migrating.{version_2};
-ghost use Rattle.log_migration.specs.Migrations.{fragment_bytes, Puts};
+ghost use Rattle.log_migration.specs.Migrations.{fragment_bytes, PutsPart};
 
 use crate::new_log::NewLog;
 use checkpoint_io::{
@@ -25,7 +25,7 @@ pub(crate) fn add_header(header: &Header, log: &mut NewLog) -> Result<(), AllocE
     requires some_writer { 1 ≤ header.now.writers }
     requires few_writers { header.now.writers ≤ most_writers 2 }
     requires rate { 1 ≤ header.now.clock.rate }
-    ensures { Puts result log.old log.new (header_bytes (version_2 header.now)) }
+    ensures { PutsPart result log.old log.new (header_bytes (version_2 header.now)) }
 {
     let header = Header {
         version: NEW_VERSION,
@@ -39,7 +39,7 @@ pub(crate) fn add_header(header: &Header, log: &mut NewLog) -> Result<(), AllocE
 
 // Puts the entry of a message.
 fn add_entry(message: &Message, log: &mut NewLog) -> Result<(), AllocError>
-    ensures { Puts result log.old log.new (entry_bytes message.now) }
+    ensures { PutsPart result log.old log.new (entry_bytes message.now) }
 {
     let mut entry = [0; MAX_ENTRY];
     let len = entry_len(message);
@@ -49,7 +49,7 @@ fn add_entry(message: &Message, log: &mut NewLog) -> Result<(), AllocError>
 
 // Puts the entries of messages, one behind the other.
 fn add_entries(messages: &[Message], log: &mut NewLog) -> Result<(), AllocError>
-    ensures { Puts result log.old log.new (flat_map entry_bytes messages.now) }
+    ensures { PutsPart result log.old log.new (flat_map entry_bytes messages.now) }
 {
     for message in messages {
         add_entry(message, log)?;
@@ -67,7 +67,7 @@ pub(crate) fn add_fragment(
     requires some { 1 ≤ count }
     requires few { count ≤ MAX_FRAGMENT_MESSAGES }
     requires within { first + count ≤ length dictionary.now }
-    ensures added { Puts result log.old log.new (fragment_bytes first (take count (drop first dictionary.now))) }
+    ensures added { PutsPart result log.old log.new (fragment_bytes first (take count (drop first dictionary.now))) }
     ensures spelled { let messages = take count (drop first dictionary.now) in
         SpellsFragment first messages (fragment_bytes first messages) }
 {
@@ -84,7 +84,7 @@ pub(crate) fn add_extent(writer: u32, body: &[u8], log: &mut NewLog) -> Result<(
     requires known { writer < most_writers 2 }
     requires some { 1 ≤ length body.now }
     requires short { length body.now ≤ most_body 2 }
-    ensures { Puts result log.old log.new (extent_head_bytes 2 writer (length body.now) ++ body.now) }
+    ensures { PutsPart result log.old log.new (extent_head_bytes 2 writer (length body.now) ++ body.now) }
 {
     let mut head = [0; MAX_EXTENT_HEAD_LEN];
     let len = put_extent_head(NEW_VERSION, writer, body.len() as u32, &mut head);
@@ -95,7 +95,7 @@ pub(crate) fn add_extent(writer: u32, body: &[u8], log: &mut NewLog) -> Result<(
 /// Puts the close mark of the writer.
 pub(crate) fn add_close(writer: u32, log: &mut NewLog) -> Result<(), AllocError>
     requires known { writer < most_writers 2 }
-    ensures { Puts result log.old log.new (close_bytes 2 writer) }
+    ensures { PutsPart result log.old log.new (close_bytes 2 writer) }
 {
     let mut mark = [0; MAX_CLOSE_LEN];
     let len = put_close(NEW_VERSION, writer, &mut mark);

@@ -1,1 +1,2 @@
 pub mod RunClocks
+pub mod VersionLimits

@@ -17,8 +17,8 @@ pub record StandsRaw (bytes : List ℕ) (kind : TokenKind) (rest : List ℕ) : T
 
 -- what the byte `first` opens goes on with the longest text that stands at the front of the bytes behind it, and
 -- `rest` stands behind that
-abbrev pub GoesOn : Opening → ℕ → List ℕ → TokenKind → List ℕ → Type 0
-GoesOn opening first behind kind rest =
+abbrev pub ContinuesToken : Opening → ℕ → List ℕ → TokenKind → List ℕ → Type 0
+ContinuesToken opening first behind kind rest =
     (tail : List ℕ) × IsLongest (is_tail opening first) behind tail rest × (kind ≡ token_kind opening (first ∷ tail))
 
 -- what the first byte opens stands at the front, as long as it can be, and `rest` stands behind it and its splices
@@ -26,7 +26,7 @@ pub record StandsPlain (bytes : List ℕ) (kind : TokenKind) (rest : List ℕ) :
   pub first : ℕ
   pub behind : List ℕ
   pub bytes_are : bytes ≡ first ∷ behind
-  pub goes_on : GoesOn (opening_of first (past_splices behind)) first (past_splices behind) kind rest
+  pub goes_on : ContinuesToken (opening_of first (past_splices behind)) first (past_splices behind) kind rest
   pub not_raw : (raw : List ℕ) → ¬ (BeginsRaw bytes raw)
 
 abbrev pub Stands : List ℕ → TokenKind → List ℕ → Type 0

@@ -2,7 +2,7 @@
 
 ghost use Rattle.std.specs.Prelude.{◌≡◌, ◌≤◌, ◌<◌, [], length, MatchOption};
 ghost use Rattle.source_tokens.specs.Forms.{opening_of};
-ghost use Rattle.source_tokens.specs.Tokens.{GoesOn, Stands};
+ghost use Rattle.source_tokens.specs.Tokens.{ContinuesToken, Stands};
 
 use crate::class::Class;
 use crate::comment::past_comment;
@@ -23,7 +23,7 @@ pub(crate) struct Standing<'a> {
 
 /// A string literal, whose first mark stands before the bytes.
 fn string_literal(behind: &[u8]) -> Standing<'_>
-    ensures goes_on { GoesOn Opening.StringLiteral 34 behind.now result.kind result.rest.now }
+    ensures goes_on { ContinuesToken Opening.StringLiteral 34 behind.now result.kind result.rest.now }
     ensures within { length result.rest.now ≤ length behind.now }
 {
     let end = literal_end(b'"', behind);
@@ -38,7 +38,7 @@ fn string_literal(behind: &[u8]) -> Standing<'_>
 
 /// A character constant, whose first mark stands before the bytes.
 fn character_constant(behind: &[u8]) -> Standing<'_>
-    ensures goes_on { GoesOn Opening.CharacterConstant 39 behind.now result.kind result.rest.now }
+    ensures goes_on { ContinuesToken Opening.CharacterConstant 39 behind.now result.kind result.rest.now }
     ensures within { length result.rest.now ≤ length behind.now }
 {
     let end = literal_end(b'\'', behind);
@@ -53,7 +53,7 @@ fn character_constant(behind: &[u8]) -> Standing<'_>
 
 /// What the byte `first` opens, where the bytes stand behind it and its splices.
 fn plain(first: u8, behind: &[u8]) -> Standing<'_>
-    ensures goes_on { GoesOn (opening_of first behind.now) first behind.now result.kind result.rest.now }
+    ensures goes_on { ContinuesToken (opening_of first behind.now) first behind.now result.kind result.rest.now }
     ensures within { length result.rest.now ≤ length behind.now }
 {
     let (kind, rest) = match opening_of(first, behind) {

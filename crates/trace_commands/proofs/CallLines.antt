@@ -128,7 +128,7 @@ call_there_at seen run place calls same at by =
 -- what is found at the place of a run's call
 pub record Found (run : Recording) (place : CallPlace) (call : Call) : Type 0 where
   pub named : IsCall run.dictionary call
-  pub later : (first_tick run.clocks) ≤ call.stamp
+  pub later : first_tick run.clocks ≤ call.stamp
   pub is : (made : LogCall) → HasCall run made → place ≡ call_place made → log_call run.dictionary made.writer (made.ordinal, call) ≡ Some made
 
 found_in : (run : Recording) (place : CallPlace) (calls : List Call) (call : Call) → IsRecording run → slice_get run.writers place.writer ≡ Some calls → slice_get calls place.ordinal ≡ Some call → Found run place call

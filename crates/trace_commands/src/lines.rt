@@ -49,7 +49,7 @@ fn append_line(
 fn call_at<'a>(run: &'a Trace, place: CallPlace) -> &'a Call
     requires { (call : LogCall) × HasCall run.now call × (place ≡ call_place call) }
     ensures named { IsCall run.now.dictionary result.now }
-    ensures later { (first_tick run.now.clocks) ≤ result.now.stamp }
+    ensures later { first_tick run.now.clocks ≤ result.now.stamp }
     ensures made { (call : LogCall) → HasCall run.now call → place ≡ call_place call →
         log_call run.now.dictionary call.writer (call.ordinal, result.now) ≡ Some call }
 {

@@ -16,6 +16,7 @@ use Rattle.arg_records.specs.declared.call.Call.{Call}
 use Rattle.arg_records.specs.declared.frame.TheConstants.{MAX_FRAME_WORDS}
 use Rattle.arg_records.specs.Frames.{FrameLen}
 use Rattle.arg_records.specs.Calls.{NeverFalls}
+use Rattle.session_options.proofs.lemmas.VersionLimits.{few_writers}
 use Rattle.trace_text.specs.declared.cause.TraceCause.{TraceCause}
 use Rattle.trace_text.specs.declared.cause.TraceCause.TheVariants.{TooMany, CallForm, Writer, BeforeClock, StampFalls, Id, TooLong}
 use Rattle.trace_text.specs.declared.trace.TheConstants.{MAX_CALLS}
@@ -24,7 +25,7 @@ use Rattle.trace_text.specs.Lines.{WriterCall, SpellsCall}
 use Rattle.trace_text.specs.LineFields.{begins_with, field_number, CallHead, head_at}
 use Rattle.trace_text.specs.CallReading.{refused_if, ends_field, arguments_at, last_stamp, call_at}
 use Rattle.trace_text.proofs.NumberFields.{number_read, number_taken}
-use Rattle.trace_text.proofs.HeadLines.{split_number, three_joined, most_small}
+use Rattle.trace_text.proofs.HeadLines.{split_number, three_joined}
 use Rattle.trace_text.proofs.DecimalBytes.{decimal_all}
 use Rattle.trace_text.proofs.ArgumentLines.{first_read, first_taken, arguments_end, arguments_read, arguments_taken, bind-Ok}
 use Rattle.trace_text.proofs.CallSteps.{made_of, with_args, with_message, when_risen, when_ticked, with_calls, with_head, when_few, accepted}
@@ -128,7 +129,7 @@ call_read run line made recorded few spells next =
     let head : CallHead = record { writer = made.writer; stamp = made.call.stamp; id = made.call.id; fields = spells.fields } in
     let writer_there = slice_get_within run.writers made.writer next.calls next.known in
     let message_there = slice_get_within run.dictionary made.call.id message next.is_call.known in
-    let is : IsHead head = record { writer = omega (arith, writer_there, recorded.few_writers, most_small run.version); stamp = spells.stamp_fits; id = omega (arith, message_there, few); ends = arguments_end spells.fields made.call.args spells.arguments } in
+    let is : IsHead head = record { writer = omega (arith, writer_there, recorded.few_writers, few_writers run.version); stamp = spells.stamp_fits; id = omega (arith, message_there, few); ends = arguments_end spells.fields made.call.args spells.arguments } in
     let headed : head_at line ≡ Some head = ap head_at spells.spelled ∙ head_read head is in
     let first = first_tick run.clocks in
     let ticked : first ≤ made.call.stamp = omega (arith, last_stamp-least first next.calls (all_at (NeverFalls first) run.writers made.writer next.calls next.known recorded.stamps), next.risen) in

@@ -1,8 +1,8 @@
 -- What the lines of the version, of clocks and of the number of writers say.
-use Rattle.std.proofs.Common.{◌≡◌, ◌≢◌, ℕ, ◌<◌, ◌≤◌, ◌^◌, Bool, true, false, cond, eqb, leb, List, ◌∷◌, ◌++◌, length, ⊎_elim, lit≤, Option, Some, None, Result, Ok, refl, sym, ap, ◌∙◌, subst, append_assoc, inl, arith}
+use Rattle.std.proofs.Common.{◌≡◌, ◌≢◌, ℕ, ◌<◌, ◌≤◌, ◌^◌, Bool, true, false, cond, eqb, leb, List, ◌∷◌, ◌++◌, length, ⊎_elim, Option, Some, None, Result, Ok, refl, sym, ap, ◌∙◌, subst, append_assoc, inl, arith}
 use Rattle.std.specs.Prelude.{codes, decimal, ◌&&◌}
 use Rattle.std.specs.Option.{ok_or}
-use Rattle.std.proofs.lemmas.Bool.{eqb-false, ne_eqb, and_parts, leb-true, leb-false, le-leb, lt-leb, and_right, or_cases, eqb-true, cond_both}
+use Rattle.std.proofs.lemmas.Bool.{eqb-false, ne_eqb, and_parts, leb-true, leb-false, le-leb, lt-leb, and_right, or_cases, eqb-true}
 use Rattle.std.proofs.lemmas.Option.{cond_some}
 use Rattle.log_dictionary.specs.declared.clock.Clock.{Clock}
 use Rattle.log_dictionary.specs.declared.clocks.TheConstants.{MAX_CLOCKS}
@@ -11,6 +11,7 @@ use Rattle.log_dictionary.specs.Fields.{◌>>=◌, after, split_at_first}
 use Rattle.log_dictionary.proofs.lemmas.Splits.{split_again, split_takes, after_takes, found}
 use Rattle.log_dictionary.proofs.lemmas.Lines.{decimal_none}
 use Rattle.session_options.specs.Versions.{is_known, has_clocks, most_writers}
+use Rattle.session_options.proofs.lemmas.VersionLimits.{few_writers}
 use Rattle.trace_text.specs.declared.cause.TraceCause.{TraceCause}
 use Rattle.trace_text.specs.declared.cause.TraceCause.TheVariants as causes
 use Rattle.trace_text.specs.Lines.{first_line, clock_line, writers_line}
@@ -69,16 +70,13 @@ version_taken line version e =
 
 -- ---- the number of writers
 
-pub most_small : (version : ℕ) → most_writers version ≤ 1024
-most_small version = cond_both (eqb version 1) 64 1024 (λ (n : ℕ). n ≤ 1024) (λ _. lit≤ tt) (λ _. lit≤ tt)
-
 abbrev within : ℕ → ℕ → Bool
 within version count = leb 1 count && leb count (most_writers version)
 
 -- the line of a number of writers is read as that number
 pub writers_read : (version count : ℕ) → 1 ≤ count → count ≤ most_writers version → writers_at version (writers_line count) ≡ Some count
 writers_read version count some few =
-    numbered_read (within version) count (omega (arith, few, most_small version)) (rw (le-leb 1 count some, le-leb count (most_writers version) few) refl)
+    numbered_read (within version) count (omega (arith, few, few_writers version)) (rw (le-leb 1 count some, le-leb count (most_writers version) few) refl)
 
 -- what a line of a number of writers says
 pub record SaysWriters (version : ℕ) (line : List ℕ) (count : ℕ) : Type 0 where

@@ -25,14 +25,7 @@ writers_fit version = by_test (eqb version 1)
     by_test true = lit< tt
     by_test false = lit< tt
 
--- no version has more writers, nor longer bodies
-pub few_writers : (version : ℕ) → most_writers version ≤ 1024
-few_writers version = by_test (eqb version 1)
-  where
-    by_test : (one : Bool) → (if one then 64 else 1024) ≤ 1024
-    by_test true = lit≤ tt
-    by_test false = lit≤ tt
-
+-- no version has longer bodies
 pub short_bodies : (version : ℕ) → most_body version ≤ 1048576
 short_bodies version = by_test (eqb version 1)
   where

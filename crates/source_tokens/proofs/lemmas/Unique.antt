@@ -9,7 +9,7 @@ use Rattle.source_tokens.specs.Splices.{past_splices}
 use Rattle.source_tokens.specs.Reading.{ReadsUnspliced, IsLongest}
 use Rattle.source_tokens.specs.RawStrings.{EndsRaw, EndsAt}
 use Rattle.source_tokens.specs.Forms.{opening_of, is_tail, token_kind}
-use Rattle.source_tokens.specs.Tokens.{Tokens, IsToken, Follow, Stands, GoesOn, past_front, front_tokens}
+use Rattle.source_tokens.specs.Tokens.{Tokens, IsToken, Follow, Stands, ContinuesToken, past_front, front_tokens}
 use Rattle.source_tokens.proofs.lemmas.Texts.{reads-longer, reads-once, reads-length}
 use Rattle.source_tokens.proofs.lemmas.Prefixes.{one_mark}
 
@@ -50,7 +50,7 @@ raw_once raw rest behind kind other here there =
     let same : there.place ≡ here.place = first_once _ _ there.place here.place there.first here.first in
     place_end raw here.place rest behind kind other here.ends (subst (λ (place : Option ℕ). EndsAt raw place other behind) same there.ends)
 
-goes_once : (first : ℕ) (behind rest end : List ℕ) (kind other : TokenKind) → GoesOn (opening_of first behind) first behind kind rest → GoesOn (opening_of first behind) first behind other end → (kind ≡ other) × (rest ≡ end)
+goes_once : (first : ℕ) (behind rest end : List ℕ) (kind other : TokenKind) → ContinuesToken (opening_of first behind) first behind kind rest → ContinuesToken (opening_of first behind) first behind other end → (kind ≡ other) × (rest ≡ end)
 goes_once first behind rest end kind other here there =
     let same = longest_once (is_tail (opening_of first behind) first) behind here.0 rest there.0 end here.1 there.1 in
     (here.2 ∙ ap (λ tail. token_kind (opening_of first behind) (first ∷ tail)) (sym same.0) ∙ sym there.2, sym same.1)
@@ -66,8 +66,8 @@ stands_once bytes rest behind kind other (inr here) (inr there) =
     let both : there.first ∷ there.behind ≡ here.first ∷ here.behind = sym there.bytes_are ∙ here.bytes_are in
     let first : there.first ≡ here.first = cc in
     let tail : there.behind ≡ here.behind = cc in
-    let moved = subst (λ (f : ℕ). GoesOn (opening_of f (past_splices there.behind)) f (past_splices there.behind) other behind) first there.goes_on in
-    let goes = subst (λ (b : List ℕ). GoesOn (opening_of here.first (past_splices b)) here.first (past_splices b) other behind) tail moved in
+    let moved = subst (λ (f : ℕ). ContinuesToken (opening_of f (past_splices there.behind)) f (past_splices there.behind) other behind) first there.goes_on in
+    let goes = subst (λ (b : List ℕ). ContinuesToken (opening_of here.first (past_splices b)) here.first (past_splices b) other behind) tail moved in
     goes_once here.first (past_splices here.behind) rest behind kind other here.goes_on goes
 
 nothing_stands : (rest : List ℕ) (kind : TokenKind) → Stands [] kind rest → ⊥

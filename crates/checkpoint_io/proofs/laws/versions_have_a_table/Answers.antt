@@ -1,6 +1,7 @@
 use Rattle.std.proofs.Common.{◌≡◌, ◌⊎◌, ℕ, ◌||◌, Bool, true, false, nat_eq, refl, inl, inr, arith}
 use Rattle.std.proofs.lemmas.Bool.{eqb-true}
-use Rattle.checkpoint_io.proofs.lemmas.VersionLaws.{few_len, few_writers, short_bodies, writers_fit, bodies_fit}
+use Rattle.session_options.proofs.lemmas.VersionLimits.{few_writers}
+use Rattle.checkpoint_io.proofs.lemmas.VersionLaws.{few_len, short_bodies, writers_fit, bodies_fit}
 use Rattle.checkpoint_io.proofs.laws.versions_have_a_table.Goals as goal
 
 pub returns-clause-known : goal.returns-clause-known

@@ -2,7 +2,7 @@ use Rattle.std.proofs.Common.{◌<◌, ◌++◌, Bool, length, refl, ap, sym, su
 use Rattle.std.specs.Prelude.{OnOk, slice_set}
 use Rattle.checkpoint_io.specs.Blocks.{Block}
 use Rattle.checkpoint_io.specs.NextBlocks.{HasBody}
-use Rattle.decompressor.specs.Waiting.{list_of, records_at, IsAdded}
+use Rattle.decompressor.specs.Waiting.{list_of, records_at, AddsBlock}
 use Rattle.decompressor.proofs.Queued.{held_set, held_same, on_ok}
 use Rattle.decompressor.proofs.Heads.{takes_extent, takes_close, extent_may, close_may}
 use Rattle.decompressor.proofs.showing.add_block.Goals as goal
@@ -49,7 +49,7 @@ returns-in-Extent c closed next records tells body may shown =
     let among : writer < length records = omega (arith, m.known, shown.held.many) in
     let (last, is) = subst (λ (block : Block). HasBody reader.header.clock.tick reader.messages block reader.body) m.is body in
     let all = records_at records writer ++ m.records in
-    subst (λ (block : Block). OnOk c.add_records.result (IsAdded closed block reader records (slice_set c.args.waiting.now writer c.add_records.new.queue) c.add_records.new.merger)) (sym m.is)
+    subst (λ (block : Block). OnOk c.add_records.result (AddsBlock closed block reader records (slice_set c.args.waiting.now writer c.add_records.new.queue) c.add_records.new.merger)) (sym m.is)
     (on_ok c.add_records.result
     (λ (holds, list). record {
       records = slice_set records writer all;
@@ -65,7 +65,7 @@ returns-in-Closed c closed next records tells body may shown =
     let known = close_may c.args.block next closed (length c.args.waiting.now) writer c.in-Closed.is tells may in
     let among : writer < length records = omega (arith, known.0, shown.held.many) in
     let list = c.close_writer.ensures (closed writer) _ _ (records_at records writer) (held_same _ _ shown.held writer among c.index-waiting-writer-in-Closed.result) (shown.heads.each writer among) in
-    subst (λ (block : Block). IsAdded closed block c.args.reader.now records c.args.waiting.now c.close_writer.new.merger) (sym known.1) (record {
+    subst (λ (block : Block). AddsBlock closed block c.args.reader.now records c.args.waiting.now c.close_writer.new.merger) (sym known.1) (record {
       records = records;
       takes = takes_close closed c.args.merger.now records shown.heads writer c.close_writer.new.merger among list;
       held = shown.held;

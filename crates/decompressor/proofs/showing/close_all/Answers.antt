@@ -2,7 +2,7 @@ use Rattle.std.proofs.Common.{◌≡◌, ℕ, ◌<◌, ◌||◌, true, eqb, List
 use Rattle.std.proofs.lemmas.Bool.Decides.{eqb_tells}
 use Rattle.arg_records.specs.declared.call.Call.{Call}
 use Rattle.checkpoint_io.specs.Readers.{ReaderState}
-use Rattle.decompressor.specs.Waiting.{QueueState, Holds, records_at, AreHeld}
+use Rattle.decompressor.specs.Waiting.{QueueState, HoldsRecords, records_at, AreHeld}
 use Rattle.decompressor.proofs.Tests.{or_true}
 use Rattle.decompressor.proofs.Queued.{held_same}
 use Rattle.decompressor.proofs.Heads.{heads_by, close_one}
@@ -13,9 +13,9 @@ overflow_cast-writer c = omega (arith, c.requires.few, c.loop-writer-test.true)
 
 -- the queue that is looked at has its writer's records
 there : (reader : ReaderState) (waiting : List QueueState) (records : List (List Call)) (k : ℕ) (queue : QueueState) → AreHeld reader.messages reader.header.clock.tick waiting records → k < length records → queue ≡ get_or waiting k queue
-    → Holds reader.messages reader.header.clock.tick queue (records_at records k)
+    → HoldsRecords reader.messages reader.header.clock.tick queue (records_at records k)
 there reader waiting records k queue held among is =
-    subst (λ (q : QueueState). Holds reader.messages reader.header.clock.tick q (records_at records k)) (sym is) (held_same reader.messages reader.header.clock.tick held k among queue)
+    subst (λ (q : QueueState). HoldsRecords reader.messages reader.header.clock.tick q (records_at records k)) (sym is) (held_same reader.messages reader.header.clock.tick held k among queue)
 
 pub close_writer-requires-clause-known : goal.close_writer-requires-clause-known
 close_writer-requires-clause-known c =

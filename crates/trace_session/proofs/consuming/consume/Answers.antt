@@ -1,5 +1,5 @@
 use Rattle.std.proofs.Common.{◌≡◌, ◌∙◌, ℕ, length, refl, sym, subst, arith}
-use Rattle.checkpoint_io.proofs.lemmas.VersionLaws.{few_writers}
+use Rattle.session_options.proofs.lemmas.VersionLimits.{few_writers}
 use Rattle.roaming_consumer.specs.Roamers.{ends_of}
 use Rattle.trace_session.specs.Rounds.{IsOverUpTo}
 use Rattle.trace_session.proofs.Rounds.{roams_none, roams_then, as_many}

@@ -1,7 +1,7 @@
 use Rattle.std.proofs.Common.{ℕ, ◌≤◌, eqb, length, refl, ap, subst, inl, inr, ⊎_elim, arith}
 use Rattle.std.proofs.lemmas.Bool.{eqb-true, or_cases}
 use Rattle.session_options.specs.Versions.{has_clocks, most_writers}
-use Rattle.trace_text.proofs.HeadLines.{most_small}
+use Rattle.session_options.proofs.lemmas.VersionLimits.{few_writers}
 use Rattle.trace_text.proofs.lemmas.RecordingLaws.{two_messages_recorded, two_clocks_recorded, slowest_recorded, writers_recorded, calls_recorded}
 use Rattle.trace_text.proofs.laws.recordings_are_within_limits.Goals as goal
 
@@ -24,7 +24,7 @@ pub returns-clause-calls : goal.returns-clause-calls
 returns-clause-calls c = calls_recorded
 
 pub returns-clause-limits : goal.returns-clause-limits
-returns-clause-limits c run is = (is.some_writer, omega (arith, is.few_writers, most_small run.version), is.clocks.are.some, is.clocks.are.few, is.few_calls)
+returns-clause-limits c run is = (is.some_writer, omega (arith, is.few_writers, few_writers run.version), is.clocks.are.some, is.clocks.are.few, is.few_calls)
 
 pub returns-clause-limits_of_1 : goal.returns-clause-limits_of_1
 returns-clause-limits_of_1 c run is first = (subst (λ (version : ℕ). length run.writers ≤ most_writers version) first is.few_writers, is.clocks.alone (ap has_clocks first))
