@@ -1,6 +1,6 @@
 //! The roamer's end of a ring of words.
 
-ghost use Rattle.std.specs.Prelude.{◌≡◌, ◌≢◌, ◌<◌, ◌≤◌, ◌+◌, ◌%◌, [], true, false, take, IsTrue, IsFalse, MatchOption};
+ghost use Rattle.std.specs.Prelude.{◌≡◌, ◌≢◌, ◌<◌, ◌≤◌, ◌+◌, ◌%◌, [], true, false, length, take, IsTrue, IsFalse, MatchOption};
 ghost use Rattle.std.specs.Arc.{arc_value};
 ghost use Rattle.arg_records.specs.declared.frame.TheConstants.{MAX_FRAME_WORDS};
 ghost use Rattle.nl_io.specs.Count.{counted};
@@ -78,6 +78,13 @@ impl WordOut {
             ended: false,
             frames: 0,
         }
+    }
+
+    /// How many frames were taken.
+    pub fn frames(&self) -> u64
+        ensures { result ≡ length self.now.got }
+    {
+        self.frames
     }
 
     /// Loads how far words are published, and whether the ring is closed. It answers whether words are left.
