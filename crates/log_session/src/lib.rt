@@ -9,5 +9,5 @@ mod writer;
 
 pub use refusal::{JudgedRefusal, LogRefusal};
 pub use settling::settle;
-pub use starting::start;
+pub use starting::{open_rings, start};
 pub use writer::Writer;

@@ -58,21 +58,22 @@ fn add_ring<S: Stage>(
     Ok(())
 }
 
-/// The ends of so many new rings, in the same order.
-fn open_rings<S: Stage>(
+/// The ends of so many new rings, in the same order: the writers, and the roamer's ends. They are for calls of the
+/// dictionary whose stamps aren't below `first`.
+pub fn open_rings<S: Stage>(
     alloc: Global,
     ring: u64,
     writers: u32,
-    messages: &[Message],
+    dictionary: &Dictionary,
     first: u64,
 ) -> Result<(Vec<Writer<S::In>>, Vec<S::Out>), AllocError>
     requires ring { (MIN_RING ≤ ring) × (ring ≤ MAX_RING) }
-    requires plan { IsDictionaryPlan (plan_of messages.now first) }
-    ensures { IfOk result (λ ends. (length ends.0.items ≡ writers)
-        × AllZip (IsNewRing ring (plan_of messages.now first)
+    ensures count { IfOk result (λ ends. length ends.0.items ≡ writers) }
+    ensures rings { IfOk result (λ ends. AllZip (IsNewRing ring (plan_of dictionary.now first)
         S.In.pair S.In.words S.In.plan S.In.sent S.In.closed S.In.at S.In.seen
         S.Out.pair S.Out.plan S.Out.got S.Out.ended) ends.0.items ends.1.items) }
 {
+    let messages = dictionary.as_slice();
     let mut ours = Vec::new(alloc);
     let mut theirs = Vec::new(alloc);
     for _ in 0..writers {
@@ -123,9 +124,8 @@ pub fn start<'d, S: Stage>(
     if ring < MIN_RING || MAX_RING < ring {
         return Err(StageFault::BadSize);
     }
-    let messages = dictionary.as_slice();
     let first = clocks.first().tick;
-    let Ok((ours, theirs)) = open_rings::<S>(alloc, ring, writers, messages, first) else {
+    let Ok((ours, theirs)) = open_rings::<S>(alloc, ring, writers, dictionary, first) else {
         return Err(StageFault::NoMemory);
     };
     match Roamer::make(alloc, theirs, dictionary, version, clocks, batch) {
