@@ -217,7 +217,7 @@ module _ {S : Type 0} (got : S → List (List ℕ)) (ended : S → Bool) (loads 
 -- ---- after a fault
 
 -- what is said of the blocks of a log of which a front was put
-abbrev CutSays : {S : Type 0} → (S → List (List ℕ)) → (S → Bool) → List (List Call) → Plan × List S × ℕ → List Block → Type 0
+abbrev pub CutSays : {S : Type 0} → (S → List (List ℕ)) → (S → Bool) → List (List Call) → Plan × List S × ℕ → List Block → Type 0
 CutSays {S} got ended taken (plan, ends, latest) blocks =
     (greatest_stamp (all_records blocks) ≤ latest) × ((w : ℕ) (end : S) → slice_get ends w ≡ Some end → IsClosed w blocks → (ended end ≡ true) × AreFramesOf plan (got end) (get_or taken w []))
 

@@ -10,3 +10,4 @@ mod TakenFrames
 mod Standing
 mod Additions
 mod Stopping
+mod Holding

@@ -32,7 +32,7 @@ use Rattle.roaming_consumer.proofs.lemmas.OnePlace.{get_set_other, get_set_same,
 use Rattle.roaming_consumer.proofs.Growth.{grown, closing, beginning, last_is_greatest}
 
 -- the log of another roamer, of the same run
-same_log : {S : Type 0} (old new : Roamer S) (wrote others : List ℕ) (taken : List (List Call)) (progress now : LogProgress) → IsSameRun old new → wrote ≡ others → progress ≡ now
+pub same_log : {S : Type 0} (old new : Roamer S) (wrote others : List ℕ) (taken : List (List Call)) (progress now : LogProgress) → IsSameRun old new → wrote ≡ others → progress ≡ now
     → IsLogSoFar wrote taken (roamer_messages old) (roamer_version old) (roamer_clocks old) (roamer_batch old) progress
     → IsLogSoFar others taken (roamer_messages new) (roamer_version new) (roamer_clocks new) (roamer_batch new) now
 same_log old new wrote others taken progress now run bytes same_progress =

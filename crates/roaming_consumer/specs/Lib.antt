@@ -4,3 +4,4 @@ pub mod Drafts
 pub mod Gathering
 pub mod Roamers
 pub mod Visits
+pub mod Parting

@@ -1,6 +1,6 @@
 //! The clocks of a log behind that of its header.
 
-ghost use Rattle.std.specs.Prelude.{◌≡◌, ◌↔◌, ◌≤◌, ℕ, List, length, All, Err, OnOk, OnErr};
+ghost use Rattle.std.specs.Prelude.{◌≡◌, ◌↔◌, ◌≤◌, ℕ, List, length, All, Err, OnOk, OnErr, IsTrue};
 ghost use Rattle.checkpoint_io.specs.declared.heads.TheConstants.{CLOCK_LEN};
 ghost use Rattle.roaming_consumer.specs.Growth.{due_clocks, clocks_bytes};
 ghost use Rattle.roaming_consumer.specs.Sinks.{Sends};
@@ -46,6 +46,13 @@ impl<'d, S> Roamer<'d, S> {
         let end = self.clocks.reached(stamp).max(self.written);
         &self.clocks.as_slice()[self.written..end]
     }
+
+    /// Whether a clock may follow those that were told.
+    pub fn may_take(&self, clock: &Clock) -> bool
+        ensures { IsTrue result ↔ MayTakeClock self.now clock.now }
+    {
+        has_clocks(self.version) && self.clocks.check(clock).is_ok()
+    }
 }
 
 impl<'d, S: StageOut> Roamer<'d, S> {
@@ -67,7 +74,7 @@ impl<'d, S: StageOut> Roamer<'d, S> {
         ensures same_begun { is_begun self.new ≡ is_begun self.old }
         ensures same_ends { ends_of self.new ≡ ends_of self.old }
     {
-        if !has_clocks(self.version) || self.clocks.check(&clock).is_err() {
+        if !self.may_take(&clock) {
             return Err(ClockRefusal::Misfit);
         }
         if clock.tick <= self.latest {

@@ -2,7 +2,7 @@
 use Rattle.std.proofs.Common.{◌≡◌, ◌≢◌, ℕ, zero, suc, List, [], ◌∷◌, get_or, refl, ap, subst}
 use Rattle.std.specs.Prelude.{All, Some, slice_get, slice_set}
 use Rattle.std.specs.List.{AllZip}
-use Rattle.std.proofs.lemmas.List.Elements.{All-nil, All-cons}
+use Rattle.std.proofs.lemmas.List.Elements.{All-nil, All-cons, All-head, All-tail}
 use Rattle.std.proofs.lemmas.Option.{same_Some}
 
 -- the others stay
@@ -55,3 +55,27 @@ zip_second R P then [] [] all = All-nil P
 zip_second R P then [] (b ∷ ys) all = absurd all
 zip_second R P then (a ∷ xs) [] all = absurd all
 zip_second R P then (a ∷ xs) (b ∷ ys) all = All-cons P b ys (then a b all.0) (zip_second R P then xs ys all.1)
+
+-- what follows for each of a list from what holds of the one beside it
+pub all_across : {A B : Type 0} (R : A → B → Type 0) (P : A → Type 0) (Q : B → Type 0) → ((x : A) (y : B) → R x y → P x → Q y) → (xs : List A) (ys : List B) → AllZip R xs ys → All P xs → All Q ys
+all_across R P Q then [] [] all are = All-nil Q
+all_across R P Q then [] (y ∷ ys) all are = absurd all
+all_across R P Q then (x ∷ xs) [] all are = absurd all
+all_across R P Q then (x ∷ xs) (y ∷ ys) all are = All-cons Q y ys (then x y all.0 (All-head P x xs are)) (all_across R P Q then xs ys all.1 (All-tail P x xs are))
+
+-- and for each with what stands beside both
+pub zip_across : {A B C : Type 0} (R : A → B → Type 0) (P : A → C → Type 0) (Q : B → C → Type 0) → ((x : A) (y : B) (z : C) → R x y → P x z → Q y z) → (xs : List A) (ys : List B) (zs : List C) → AllZip R xs ys → AllZip P xs zs → AllZip Q ys zs
+zip_across R P Q then [] [] [] all are = tt
+zip_across R P Q then [] [] (z ∷ zs) all are = absurd are
+zip_across R P Q then [] (y ∷ ys) zs all are = absurd all
+zip_across R P Q then (x ∷ xs) [] zs all are = absurd all
+zip_across R P Q then (x ∷ xs) (y ∷ ys) [] all are = absurd are
+zip_across R P Q then (x ∷ xs) (y ∷ ys) (z ∷ zs) all are = (then x y z all.0 are.0, zip_across R P Q then xs ys zs all.1 are.1)
+
+-- beside an item of the second list there is one of the first
+pub beside : {A B : Type 0} (R : A → B → Type 0) (xs : List A) (ys : List B) (place : ℕ) (y : B) → AllZip R xs ys → slice_get ys place ≡ Some y → (x : A) × (slice_get xs place ≡ Some x) × R x y
+beside R [] [] place y all there = absurd cc
+beside R [] (b ∷ ys) place y all there = absurd all
+beside R (a ∷ xs) [] place y all there = absurd all
+beside R (a ∷ xs) (b ∷ ys) zero y all there = (a, refl, subst (λ (b : _). R a b) (same_Some b y there) all.0)
+beside R (a ∷ xs) (b ∷ ys) (suc place) y all there = beside R xs ys place y all.1 there

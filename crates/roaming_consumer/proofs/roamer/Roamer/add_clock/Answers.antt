@@ -1,6 +1,5 @@
 use Rattle.std.proofs.Common.{◌≡◌, ◌∷◌, [], ◌++◌, refl, rules}
 use Rattle.session_options.proofs.lemmas.RunClocks.{may_have_more}
-use Rattle.roaming_consumer.proofs.lemmas.Sending.{ok_of}
 use Rattle.roaming_consumer.proofs.Additions.{clock_added, first_stays}
 use Rattle.roaming_consumer.proofs.roamer.Roamer.add_clock.Goals as goal
 
@@ -8,7 +7,8 @@ pub invariant_of-self-clause-may_have : goal.invariant_of-self-clause-may_have
 invariant_of-self-clause-may_have g c =
     let old = c.args.self.now in
     let now : c.add-added.new.self ≡ old.clocks ++ c.args.clock ∷ [] = search rules in
-    may_have_more old.version old.clocks c.add-added.new.self c.args.clock old.may_have (search rules) (ok_of c.check.result c.if-is_err.ensures.value c.check.ensures.ok) (search rules) now
+    let may = c.may_take.ensures.0 (search rules) in
+    may_have_more old.version old.clocks c.add-added.new.self c.args.clock old.may_have (search rules) may.follows (search rules) now
 
 pub invariant_of-self-clause-first : goal.invariant_of-self-clause-first
 invariant_of-self-clause-first g c =
