@@ -6,7 +6,8 @@ use Rattle.std.proofs.lemmas.List.{length-append, length-take}
 use Rattle.std.proofs.lemmas.Option.{same_Some}
 use Rattle.nl_io.specs.Count.{Rose}
 use Rattle.nl_io.specs.Content.{PutsFront}
-use Rattle.word_ring.specs.Ends.{WordRoamerEnd}
+use Rattle.log_ends.specs.declared.part_end.PartEnd.{PartEnd}
+use Rattle.log_ends.specs.PartEnds.{part_frames, is_part_over}
 use Rattle.checkpoint_io.specs.declared.header.Header.{Header}
 use Rattle.checkpoint_io.specs.Blocks.{header_bytes, close_bytes}
 use Rattle.checkpoint_io.proofs.lemmas.BlockLaws.{le_length, length-header_bytes}
@@ -44,9 +45,9 @@ roomy_puts bytes old new none unrefused same (n, within, puts) fits rose =
     omega (arith, full, put, length-append (held_back old) (take n bytes), length-take n bytes, ap length none, same.room, fits)
 
 -- no visit fails
-pub visit_succeeds : (old new : Roamer WordRoamerEnd) (backlog backlog_after : Backlog) (writer : ℕ) (outcome : Result Visit SinkFault) → held_back backlog ≡ [] → backlog.refused ≡ 0 → visit_len (roamer_messages old) < room_len backlog → IsSameRoom backlog backlog_after
+pub visit_succeeds : (old new : Roamer PartEnd) (backlog backlog_after : Backlog) (writer : ℕ) (outcome : Result Visit SinkFault) → held_back backlog ≡ [] → backlog.refused ≡ 0 → visit_len (roamer_messages old) < room_len backlog → IsSameRoom backlog backlog_after
     → OnErr outcome (Rose backlog.refused backlog_after.refused)
-    → OnErr outcome (ChangesOne (ends_of old) (ends_of new) writer (VisitStops (λ (end : WordRoamerEnd). end.got) (λ (end : WordRoamerEnd). end.ended) old writer (Some (held_back backlog)) (Some (held_back backlog_after))))
+    → OnErr outcome (ChangesOne (ends_of old) (ends_of new) writer (VisitStops part_frames is_part_over old writer (Some (held_back backlog)) (Some (held_back backlog_after))))
     → OnErr outcome ⊥
 visit_succeeds old new backlog backlog_after writer (Ok visit) none unrefused roomy same rose stops = tt
 visit_succeeds old new backlog backlog_after writer (Err fault) none unrefused roomy same rose stops =
@@ -60,7 +61,7 @@ visit_succeeds old new backlog backlog_after writer (Err fault) none unrefused r
           roomy_puts (close_bytes version writer) backlog backlog_after none unrefused same mark.puts (omega (arith, long, few_len version, roomy)) rose
     ]
 
-pub stays_unfaulted : (old new : Roamer WordRoamerEnd) (outcome : Result Visit SinkFault) → OnErr outcome ⊥ → OnOk outcome (is_faulted new ≡ is_faulted old) → is_faulted old ≡ false → is_faulted new ≡ false
+pub stays_unfaulted : (old new : Roamer PartEnd) (outcome : Result Visit SinkFault) → OnErr outcome ⊥ → OnOk outcome (is_faulted new ≡ is_faulted old) → is_faulted old ≡ false → is_faulted new ≡ false
 stays_unfaulted old new (Ok visit) never same before = same ∙ before
 stays_unfaulted old new (Err fault) never same before = absurd never
 
@@ -80,7 +81,7 @@ pub no_error : (outcome : Result (Unit {0}) SinkFault) → OnErr outcome ⊥ →
 no_error (Ok done) never is = absurd cc
 no_error (Err fault) never is = never
 
-pub header_unfaulted : (old new : Roamer WordRoamerEnd) (backlog backlog_after : Backlog) (outcome : Result (Unit {0}) SinkFault) → OnErr outcome ⊥ → OnOk outcome (is_faulted new ≡ is_faulted old) → OnOk outcome (backlog_after.refused ≡ backlog.refused) → is_faulted old ≡ false → backlog.refused ≡ 0
+pub header_unfaulted : (old new : Roamer PartEnd) (backlog backlog_after : Backlog) (outcome : Result (Unit {0}) SinkFault) → OnErr outcome ⊥ → OnOk outcome (is_faulted new ≡ is_faulted old) → OnOk outcome (backlog_after.refused ≡ backlog.refused) → is_faulted old ≡ false → backlog.refused ≡ 0
     → (is_faulted new ≡ false) × (backlog_after.refused ≡ 0)
 header_unfaulted old new backlog backlog_after (Ok done) never same same_count before none = (same ∙ before, same_count ∙ none)
 header_unfaulted old new backlog backlog_after (Err fault) never same same_count before none = absurd never

@@ -12,3 +12,5 @@ pub mod Openings
 pub mod HeldEnds
 pub mod Printing
 pub mod Logged
+pub mod Parts
+pub mod PartFrames

@@ -1,8 +1,10 @@
 -- Lists that are gone through item by item.
-use Rattle.std.proofs.Common.{◌≡◌, ℕ, zero, suc, Some, List, [], ◌∷◌, ◌++◌, length, map, refl, sym, ap, ◌∙◌, append_assoc, arith}
-use Rattle.std.specs.Prelude.{slice_get, slice_set}
+use Rattle.std.proofs.Common.{◌≡◌, ℕ, zero, suc, Some, List, [], ◌∷◌, ◌++◌, length, map, refl, sym, ap, subst, ◌∙◌, append_assoc, arith}
+use Rattle.std.specs.Prelude.{All, slice_get, slice_set}
 use Rattle.std.specs.List.{AllZip}
 use Rattle.std.proofs.lemmas.List.{append-nil, map-append}
+use Rattle.std.proofs.lemmas.List.Elements.{All-nil, All-cons, All-head, All-tail}
+use Rattle.std.proofs.lemmas.Option.{same_Some}
 
 -- the next one is moved behind those that were made of the ones before it
 pub moved_next : {A B : Type 0} (f : B → A) (made : List B) (rest more all : List A) (y : B) → map f made ++ rest ≡ all → rest ≡ f y ∷ more → map f (made ++ y ∷ []) ++ more ≡ all
@@ -34,3 +36,32 @@ zip_images f R [] [] all = tt
 zip_images f R [] (y ∷ ys) all = absurd all
 zip_images f R (x ∷ xs) [] all = absurd all
 zip_images f R (x ∷ xs) (y ∷ ys) all = (all.0, zip_images f R xs ys all.1)
+
+-- what holds of all holds at each place
+pub of_place : {A : Type 0} (P : A → Type 0) (xs : List A) (i : ℕ) (x : A) → All P xs → slice_get xs i ≡ Some x → P x
+of_place P [] i x all there = absurd cc
+of_place P (y ∷ xs) zero x all there = subst P (same_Some y x there) (All-head P y xs all)
+of_place P (y ∷ xs) (suc i) x all there = of_place P xs i x (All-tail P y xs all) there
+
+pub zip_images_of_second : {A B C : Type 0} (f : C → B) (R : A → B → Type 0) (xs : List A) (ys : List C) → AllZip R xs (map f ys) → AllZip (λ (x : A) (y : C). R x (f y)) xs ys
+zip_images_of_second f R [] [] all = tt
+zip_images_of_second f R [] (y ∷ ys) all = absurd all
+zip_images_of_second f R (x ∷ xs) [] all = absurd all
+zip_images_of_second f R (x ∷ xs) (y ∷ ys) all = (all.0, zip_images_of_second f R xs ys all.1)
+
+-- what holds of each of the second list holds beside each of the first
+pub zip_and_all : {A B : Type 0} (R Q : A → B → Type 0) (P : B → Type 0) → ((x : A) (y : B) → R x y → P y → Q x y) → (xs : List A) (ys : List B) → AllZip R xs ys → All P ys → AllZip Q xs ys
+zip_and_all R Q P then [] [] all each = tt
+zip_and_all R Q P then [] (y ∷ ys) all each = absurd all
+zip_and_all R Q P then (x ∷ xs) [] all each = absurd all
+zip_and_all R Q P then (x ∷ xs) (y ∷ ys) all each = (then x y all.0 (All-head P y ys each), zip_and_all R Q P then xs ys all.1 (All-tail P y ys each))
+
+pub all_images : {A B : Type 0} (f : A → B) (P : B → Type 0) (Q : A → Type 0) → ((x : A) → P (f x) → Q x) → (xs : List A) → All P (map f xs) → All Q xs
+all_images f P Q then [] all = All-nil Q
+all_images f P Q then (x ∷ xs) all = All-cons Q x xs (then x (All-head P (f x) (map f xs) all)) (all_images f P Q then xs (All-tail P (f x) (map f xs) all))
+
+-- one of them is set
+pub all_set : {A : Type 0} (P : A → Type 0) (xs : List A) (i : ℕ) (x : A) → All P xs → P x → All P (slice_set xs i x)
+all_set P [] i x all here = all
+all_set P (y ∷ xs) zero x all here = All-cons P x xs here (All-tail P y xs all)
+all_set P (y ∷ xs) (suc i) x all here = All-cons P y (slice_set xs i x) (All-head P y xs all) (all_set P xs i x (All-tail P y xs all) here)

@@ -1,6 +1,8 @@
 pub mod Arguments
 pub mod Backlogs
 pub mod Ends
+pub mod PartEnds
+pub mod Parting
 pub mod Rooms
 pub mod Texts
 pub mod Consumers

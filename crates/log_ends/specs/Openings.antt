@@ -19,9 +19,11 @@ use Rattle.log_ends.specs.declared.setup.Setup.{Setup}
 use Rattle.log_ends.specs.declared.writer.WriterEnd.{WriterEnd}
 use Rattle.log_ends.specs.declared.session.SessionEnd.{SessionEnd}
 use Rattle.log_ends.specs.declared.consumer.ConsumerEnd.{ConsumerEnd}
+use Rattle.log_ends.specs.declared.part_end.PartEnd.{PartEnd}
+use Rattle.log_ends.specs.PartEnds.{IsFirstPart}
 use Rattle.log_ends.specs.Writers.{writer_messages}
 use Rattle.log_ends.specs.Sessions.{writers_left, is_session_ended, session_messages}
-use Rattle.log_ends.specs.Consumers.{consumer_ends, next_writer, is_over, HasGiven}
+use Rattle.log_ends.specs.Consumers.{consumer_ends, next_writer, is_over, is_ending, earlier_stamp, HasGiven}
 
 -- a session may have these numbers
 pub record IsSetupInRange (setup : Setup) : Type 0 where
@@ -52,9 +54,10 @@ IsNewPair size plan =
     (λ (end : WordWriterEnd). end.at) seen_by (λ (end : WordRoamerEnd). end.pair) (λ (end : WordRoamerEnd). end.plan)
     (λ (end : WordRoamerEnd). end.got) (λ (end : WordRoamerEnd). end.ended)
 
--- a writer and the consumer's end have such a ring
-abbrev pub HaveNewRing : ℕ → Plan → WriterEnd → WordRoamerEnd → Type 0
-HaveNewRing size plan writer end = IsNewPair size plan writer.writer end
+-- a writer and the consumer's end have such a ring, and it is the first part
+pub record HaveNewRing (size : ℕ) (plan : Plan) (writer : WriterEnd) (end : PartEnd) : Type 0 where
+  pub ring : IsNewPair size plan writer.writer end.out
+  pub first : IsFirstPart end
 
 -- The session has as many writers as were asked for, each with a new ring, of which the consumer has the other end, in
 -- the same order. None was given out, and no byte of the log was.
@@ -71,3 +74,5 @@ pub record IsOpened (messages : List Message) (setup : Setup) (session : Session
   pub ungiven : HasGiven consumer []
   pub first_is_next : next_writer consumer ≡ 0
   pub goes_on : is_over consumer ≡ false
+  pub open_part : is_ending consumer ≡ false
+  pub first_part : earlier_stamp consumer ≡ 0

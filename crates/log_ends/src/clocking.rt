@@ -15,6 +15,9 @@ impl ConsumerEnd {
     pub fn take_clock(&mut self, clock: Clock) -> Result<(), ClockRefusal>
         ensures { TakesClock self.old clock result self.new }
     {
+        if clock.tick <= self.earlier && self.roamer.may_take(&clock) {
+            return Err(ClockRefusal::Reached);
+        }
         self.roamer.add_clock(clock)
     }
 }

@@ -11,31 +11,32 @@ ghost use Rattle.printf_grammar.specs.declared.piece.Piece.{Piece};
 ghost use Rattle.printf_grammar.specs.Pieces.{Parsed};
 ghost use Rattle.printf_grammar.specs.Types.{Types, Fits, FitsType};
 ghost use Rattle.direct_printf.specs.Fields.{Text};
-ghost use Rattle.word_ring.specs.Ends.{WordRoamerEnd};
 ghost use Rattle.roaming_consumer.specs.Roamers.{roamer_progress, IsLogOfEnds};
 ghost use Rattle.log_ends.specs.declared.argument.CArgument.{CArgument};
 ghost use Rattle.log_ends.specs.declared.argument.TheConstants.{SIGNED, UNSIGNED, TEXT};
 ghost use Rattle.log_ends.specs.declared.consumer.ConsumerEnd.{ConsumerEnd};
+ghost use Rattle.log_ends.specs.declared.part_end.PartEnd.{PartEnd};
 ghost use Rattle.log_ends.specs.declared.session.SessionEnd.{SessionEnd};
 ghost use Rattle.log_ends.specs.declared.setup.Setup.{Setup};
 ghost use Rattle.log_ends.specs.declared.writer.WriterEnd.{WriterEnd};
 ghost use Rattle.log_ends.specs.Arguments.{argument_given};
 ghost use Rattle.log_ends.specs.Consumers.{HasGiven, IsAllGiven, waiting};
-ghost use Rattle.log_ends.specs.Consumers.{consumer_ends, next_writer, turns_before, EndGoesOn, FoundNone, ServesNext};
+ghost use Rattle.log_ends.specs.Consumers.{consumer_ends, next_writer, turns_before, SameRings, FoundNone, ServesNext};
+ghost use Rattle.log_ends.specs.PartEnds.{part_frames, is_part_over};
 ghost use Rattle.log_ends.specs.Logged.{IsWriterOf};
 ghost use Rattle.log_ends.specs.Openings.{IsOpened};
 ghost use Rattle.log_ends.specs.Sessions.{writers_left};
 ghost use Rattle.log_ends.specs.Writers.{IsSameWriter};
 ghost use Rattle.log_ends.specs.Texts.{text_limits, cut_texts};
 
-/// The bytes that were given are the front of a log of exactly the calls whose frames were taken from the rings, and once
-/// all is given they are all of it.
+/// The bytes that were given of a part are the front of a log of exactly the calls whose frames were taken from the rings
+/// since it began, and once all is given they are all of it.
 pub fn given_bytes_are_of_a_log()
     ensures front { (consumer : ConsumerEnd) (given : List ℕ) → HasGiven consumer given
-        → IsLogOfEnds (λ (end : WordRoamerEnd). end.got) (λ (end : WordRoamerEnd). end.ended) consumer.roamer
+        → IsLogOfEnds part_frames is_part_over consumer.roamer
         (roamer_progress consumer.roamer) (given ++ waiting consumer) }
     ensures all { (consumer : ConsumerEnd) (given : List ℕ) → HasGiven consumer given → IsAllGiven consumer
-        → IsLogOfEnds (λ (end : WordRoamerEnd). end.got) (λ (end : WordRoamerEnd). end.ended) consumer.roamer
+        → IsLogOfEnds part_frames is_part_over consumer.roamer
         (roamer_progress consumer.roamer) given }
 {}
 
@@ -55,14 +56,14 @@ pub fn writers_keep_their_numbers()
     ensures of_writer { (old new : WriterEnd) (consumer : ConsumerEnd) (number : ℕ) → IsSameWriter old new
         → IsWriterOf old consumer number → IsWriterOf new consumer number }
     ensures of_consumer { (old new : ConsumerEnd) (writer : WriterEnd) (number : ℕ)
-        → AllZip EndGoesOn (consumer_ends old) (consumer_ends new)
+        → SameRings (consumer_ends old) (consumer_ends new)
         → IsWriterOf writer old number → IsWriterOf writer new number }
 {}
 
 /// No writer is passed over while others are served. Of a writer that wasn't found without a frame, the bytes are its
 /// own, or its turn has come nearer: so at most as many others are served before it as there are.
 pub fn turns_come_nearer()
-    ensures nearer { (old new : ConsumerEnd) (serves : ServesNext old new) (writer : ℕ) (before after : WordRoamerEnd)
+    ensures nearer { (old new : ConsumerEnd) (serves : ServesNext old new) (writer : ℕ) (before after : PartEnd)
         → slice_get (consumer_ends old) writer ≡ Some before
         → slice_get (consumer_ends new) writer ≡ Some after
         → next_writer old ≤ length (consumer_ends new)

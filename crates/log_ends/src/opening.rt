@@ -5,19 +5,22 @@ ghost use Rattle.log_dictionary.specs.declared.message.Message.{Message};
 ghost use Rattle.trace_text.specs.Dictionaries.{DictionaryText};
 ghost use Rattle.log_ends.specs.Openings.{IsSetupInRange, IsTextRefusedAt, IsOpened, open_fault};
 ghost use Rattle.log_ends.specs.Ends.{IsWriterFor};
+ghost use Rattle.log_ends.specs.PartEnds.{IsFirstPart};
 
 use crate::backlog::Backlog;
 use crate::consumer::{ConsumerEnd, VERSION};
+use crate::part_end::PartEnd;
 use crate::rooms::room_of;
 use crate::session::SessionEnd;
 use crate::setup::Setup;
 use crate::writer::WriterEnd;
 use log_dictionary::{Clocks, Dictionary};
-use log_session::{Writer, start};
+use log_session::{Writer, open_rings};
+use roaming_consumer::Roamer;
 use std::alloc::{AllocError, Global};
 use std::collections::VecDeque;
 use trace_text::{TraceFault, read_dictionary};
-use word_ring::{WordIn, WordRing};
+use word_ring::{WordIn, WordOut, WordRing};
 
 /// Why no session was opened.
 #[derive(Clone, Copy, Debug, PartialEq, Eq)]
@@ -75,6 +78,18 @@ fn writer_ends(
     Ok(left)
 }
 
+/// The ends from which the consumer takes calls.
+fn part_ends(alloc: Global, outs: Vec<WordOut>) -> Result<Vec<PartEnd>, AllocError>
+    ensures rings { IfOk result (λ ends. map (λ end. end.out) ends.items ≡ outs.items) }
+    ensures first { IfOk result (λ ends. All IsFirstPart ends.items) }
+{
+    let mut ends = Vec::with_capacity(alloc, outs.len())?;
+    for out in outs {
+        ends.push(PartEnd::over(out))?;
+    }
+    Ok(ends)
+}
+
 /// A session over the dictionary.
 fn session_over(
     alloc: Global,
@@ -85,17 +100,15 @@ fn session_over(
     ensures { IfOk result (λ ends. IsOpened dictionary.now setup ends.0 ends.1) }
 {
     let clocks = Clocks::make(alloc, setup.clock)?;
-    let Ok((writers, mut roamer)) = start::<WordRing>(
+    let (writers, outs) = open_rings::<WordRing>(
         alloc,
         setup.ring,
         setup.writers,
-        setup.batch,
-        VERSION,
-        &clocks,
         dictionary,
-    ) else {
-        return Err(AllocError);
-    };
+        setup.clock.tick,
+    )?;
+    let ends = part_ends(alloc, outs)?;
+    let mut roamer = Roamer::make(alloc, ends, dictionary, VERSION, &clocks, setup.batch)?;
     let mut backlog = Backlog::make(alloc, room_of(dictionary))?;
     let left = writer_ends(alloc, writers, dictionary)?;
     if roamer.begin(&mut backlog).is_err() {
@@ -112,6 +125,8 @@ fn session_over(
         writers: setup.writers,
         next: 0,
         over: false,
+        ending: false,
+        earlier: 0,
     };
     Ok((session, consumer))
 }

@@ -1,11 +1,7 @@
 //! Pumping the bytes of the log out of a consumer.
 
-ghost use Rattle.std.specs.Prelude.{◌≡◌, ◌≢◌, ◌<◌, ◌≤◌, ◌+◌, ◌++◌, ◌↔◌, ◌^◌, [], ℕ, List, true, false, length, Some, slice_get, Ok, IsTrue, IsFalse};
-ghost use Rattle.std.specs.List.{AllZip};
-ghost use Rattle.word_ring.specs.Ends.{WordRoamerEnd};
-ghost use Rattle.roaming_consumer.specs.declared.visit.Visit.TheVariants as visits;
-ghost use Rattle.roaming_consumer.specs.Roamers.{is_marked, IsSameRun, ChangesOne};
-ghost use Rattle.log_ends.specs.Consumers.{HasPut, consumer_ends, waiting, HasGiven, is_over, IsAllGiven, EndGoesOn, FoundNone, Pumps, IfGave};
+ghost use Rattle.std.specs.Prelude.{◌≡◌, ◌<◌, ◌^◌, [], true, false, length};
+ghost use Rattle.log_ends.specs.Consumers.{consumer_ends, waiting, is_over, is_ending, Pumps, IfGave};
 ghost use Rattle.log_ends.specs.Rounds.{IsVisited, Passes, Seeks};
 
 use crate::consumer::{ConsumerEnd, Pumped};
@@ -48,7 +44,21 @@ impl ConsumerEnd {
         all_ended
     }
 
-    /// Visits writers where no bytes wait, until some do. It answers whether the log has come to its end, and all of it
+    /// Writes the close mark of the first writer that has none in the part, which is being ended. It answers whether each
+    /// has one.
+    fn close_next(&mut self) -> bool
+        requires none { waiting self.old ≡ [] }
+        requires going { is_over self.old ≡ false }
+        requires ending { is_ending self.old ≡ true }
+        ensures { Seeks self.old result self.new }
+    {
+        let next = self.next;
+        let closed = self.visit_from(0);
+        self.next = next;
+        closed
+    }
+
+    /// Visits writers where no bytes wait, until some do. It answers whether the part has come to its end, and all of it
     /// was given.
     fn seek(&mut self) -> bool
         requires { is_over self.old ≡ false }
@@ -56,6 +66,9 @@ impl ConsumerEnd {
     {
         if !self.backlog.is_empty() {
             return false;
+        }
+        if self.ending {
+            return self.close_next();
         }
         self.visit_from(self.next);
         if !self.backlog.is_empty() {
@@ -65,7 +78,7 @@ impl ConsumerEnd {
     }
 
     /// Gives the next bytes of the log: those that wait, or else those that the next visits write. It gives what there is,
-    /// though there might be more after another visit.
+    /// though there might be more after another visit. Behind the last bytes of a part it says so once.
     pub fn pump(&mut self, into: &mut [u8]) -> Pumped
         ensures pumps { Pumps self.old into.old result self.new into.new }
         ensures bound { IfGave result (λ n. n < 2 ^ 63) }
@@ -76,16 +89,16 @@ impl ConsumerEnd {
         if self.over {
             return Pumped::AtEnd;
         }
-        let at_end = self.seek();
-        match self.backlog.give(into) {
-            0 => {
-                self.over = at_end;
-                if at_end {
-                    Pumped::AtEnd
-                } else {
-                    Pumped::Nothing
-                }
+        if self.seek() {
+            if self.ending {
+                self.begin_part();
+                return Pumped::PartOver;
             }
+            self.over = true;
+            return Pumped::AtEnd;
+        }
+        match self.backlog.give(into) {
+            0 => Pumped::Nothing,
             count => Pumped::Gave(count),
         }
     }

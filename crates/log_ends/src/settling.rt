@@ -5,6 +5,7 @@ ghost use Rattle.log_ends.specs.Consumers.{HasGiven};
 ghost use Rattle.log_ends.specs.Logged.{IsWriterOf, TakesLogged, IsInLog};
 
 use crate::consumer::ConsumerEnd;
+use crate::part_end::PartEnd;
 use crate::writer::WriterEnd;
 use word_ring::WordDone;
 
@@ -27,7 +28,13 @@ pub fn settle(writer: WriterEnd, consumer: ConsumerEnd, number: u32)
         writers: _,
         next: _,
         over: _,
+        ending: _,
+        earlier: _,
     } = consumer;
-    let end = roamer.into_ends().swap_remove(number as usize);
-    drop(WordDone::of(writer.into_end(), end));
+    let PartEnd {
+        out,
+        earlier: _,
+        held: _,
+    } = roamer.into_ends().swap_remove(number as usize);
+    drop(WordDone::of(writer.into_end(), out));
 }

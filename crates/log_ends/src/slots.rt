@@ -7,12 +7,14 @@ ghost use Rattle.log_ends.specs.Sessions.{session_messages, EndsSession};
 ghost use Rattle.log_ends.specs.Texts.{text_limit};
 ghost use Rattle.log_ends.specs.Consumers.{Pumps, IfGave};
 ghost use Rattle.log_ends.specs.Clocking.{TakesClock};
+ghost use Rattle.log_ends.specs.Parting.{EndsLog};
 ghost use Rattle.log_ends.specs.Slots.{end_in, session_in, OnWriter, OnSession, OnConsumer, IsAnswered, GivesInto, OpensInto};
 
 use crate::argument::CArgument;
 use crate::consumer::Pumped;
 use crate::end::End;
 use crate::opening::{OpenFault, open};
+use crate::parting::PartRefusal;
 use crate::session::WriterFault;
 use crate::setup::Setup;
 use crate::writer::LogFault;
@@ -165,6 +167,20 @@ pub fn pump_log(consumer: &mut Slot, into: &mut [u8]) -> Option<Pumped>
         return None;
     };
     Some(consumer.pump(into))
+}
+
+/// Ends the part that the consumer gives. There is no answer, and nothing is done, where there is none.
+pub fn end_part(consumer: &mut Slot) -> Option<Result<(), PartRefusal>>
+    ensures { OnConsumer (end_in consumer.old) (end_in consumer.new) (λ old new.
+        IsAnswered result (λ outcome. EndsLog old outcome new)) (result ≡ None) }
+{
+    let Some(end) = consumer.as_mut() else {
+        return None;
+    };
+    let End::Consumer(consumer) = &mut **end else {
+        return None;
+    };
+    Some(consumer.next_part())
 }
 
 /// Tells the consumer a further clock. There is no answer, and nothing is done, where there is none.

@@ -16,7 +16,7 @@ beside R (a ∷ xs) (y ∷ ys) (suc place) x all there = beside R xs ys place x 
 pub returns-clause-opened : goal.returns-clause-opened
 returns-clause-opened c = λ messages setup session consumer opened number writer there.
     let other = beside _ (writers_left session) (consumer_ends consumer) number writer opened.rings there in
-    record { end = other.0; there = other.1; one_ring = sym other.2.one_ring }
+    record { end = other.0; there = other.1; one_ring = sym other.2.ring.one_ring }
 
 pub returns-clause-of_writer : goal.returns-clause-of_writer
 returns-clause-of_writer c = λ old new consumer number same is. record { end = is.end; there = is.there; one_ring = is.one_ring ∙ sym same.same_pair }
@@ -24,4 +24,4 @@ returns-clause-of_writer c = λ old new consumer number same is. record { end = 
 pub returns-clause-of_consumer : goal.returns-clause-of_consumer
 returns-clause-of_consumer c = λ old new writer number goes_on is.
     let other = beside _ (consumer_ends old) (consumer_ends new) number is.end goes_on is.there in
-    record { end = other.0; there = other.1; one_ring = other.2.same_pair ∙ is.one_ring }
+    record { end = other.0; there = other.1; one_ring = other.2 ∙ is.one_ring }

@@ -1,7 +1,7 @@
 use Rattle.std.proofs.Common.{refl, ap, arith}
 use Rattle.log_ends.specs.Rooms.{definitions_len}
 use Rattle.log_ends.proofs.Faultless.{visit_succeeds, stays_unfaulted, stays_unrefused}
-use Rattle.log_ends.proofs.Visiting.{visited}
+use Rattle.log_ends.proofs.Visiting.{visited, again_ended, held_after}
 use Rattle.log_ends.proofs.consumer.ConsumerEnd.visit.Goals as goal
 
 pub invariant_of-self-clause-unfaulted : goal.invariant_of-self-clause-unfaulted
@@ -23,7 +23,12 @@ invariant_of-self-clause-roomy c =
     let e = c.visit.ensures in let roomy = c.args.self.now.roomy in
     omega (arith, ap definitions_len e.same_run.messages, e.others.room, roomy)
 
+pub invariant_of-self-clause-held : goal.invariant_of-self-clause-held
+invariant_of-self-clause-held c =
+    let one = c.visit.ensures.visits in
+    held_after c.args.self.now.ending _ _ c.args.writer one.before one.after c.args.self.now.held one.was one.now one.step.1
+
 pub returns : goal.returns
 returns c =
     let e = c.in-Ok.ensures in let self = c.args.self.now in
-    visited self _ c.args.writer c.in-Ok.visit c.requires.none e.visits (e.written self.unfaulted) e.marks e.writes e.wrote e.same_run refl refl refl
+    visited self _ c.args.writer c.in-Ok.visit c.requires.none e.visits (e.written self.unfaulted) e.marks e.writes e.wrote e.same_run (again_ended _ c.args.writer c.in-Ok.visit _ e.again) refl refl refl (record { ending = refl; earlier = refl })

@@ -13,7 +13,7 @@ loop-writer-init c = record {
 pub returns-then-not-is_empty : goal.returns-then-not-is_empty
 returns-then-not-is_empty c =
     let some : ¬ (waiting c.visit-visit.new.self ≡ []) = λ none. let told : c.is_empty.result ≡ true = c.is_empty.ensures.1 none in absurd cc in
-    let stops = passing_stops c.args.self.now c.loop-writer.self c.visit-visit.new.self c.args.first c.loop-writer.writer c.loop-writer.all_ended c.visit-visit.result c.loop-writer.invariant.passing c.visit-visit.ensures in record {
+    let stops = passing_stops c.args.self.now c.loop-writer.self c.visit-visit.new.self c.args.first c.loop-writer.writer c.loop-writer.all_ended c.visit-visit.result c.loop-writer.invariant.passing c.visit-visit.ensures some in record {
       ends = stops.ends;
       stands = stops.stands;
       below = stops.below;
@@ -26,6 +26,13 @@ returns-then-not-is_empty c =
           passed = stops.passed;
           behind = stops.behind;
           next = refl;
+          closes = λ ending.
+              let closes = stops.closes ending in record {
+                below = closes.below;
+                unmarked = closes.unmarked;
+                marked = closes.marked;
+                mark = closes.mark;
+              };
         },
       );
       same_next = λ none. absurd (some none);
@@ -33,6 +40,7 @@ returns-then-not-is_empty c =
       some_open = λ is none. absurd (some none);
       same_run = stops.same_run;
       same_over = stops.same_over;
+      same_part = record { ending = stops.same_part.ending; earlier = stops.same_part.earlier };
     }
 
 pub loop-writer-preserved : goal.loop-writer-preserved
