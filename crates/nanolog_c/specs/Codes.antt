@@ -8,9 +8,11 @@ use Rattle.log_ends.specs.declared.writer.LogFault.{LogFault}
 use Rattle.log_ends.specs.declared.writer.LogFault.TheVariants as logs
 use Rattle.roaming_consumer.specs.declared.clocks.ClockRefusal.{ClockRefusal}
 use Rattle.roaming_consumer.specs.declared.clocks.ClockRefusal.TheVariants as refusals
+use Rattle.log_ends.specs.declared.parting.PartRefusal.{PartRefusal}
+use Rattle.log_ends.specs.declared.parting.PartRefusal.TheVariants as parts
 use Rattle.log_ends.specs.declared.consumer.Pumped.{Pumped}
 use Rattle.log_ends.specs.declared.consumer.Pumped.TheVariants as pumps
-use Rattle.nanolog_c.specs.declared.answers.TheConstants.{DONE, FULL, TOO_LONG, MISFIT, EARLY, FINISHED, WORN_OUT, NO_WRITER, REACHED, NO_MEMORY, BAD_DICTIONARY, OUT_OF_RANGE, BAD_HANDLE, NO_TEXT, NOTHING, AT_END, NO_ROOM, NO_CONSUMER}
+use Rattle.nanolog_c.specs.declared.answers.TheConstants.{DONE, FULL, TOO_LONG, MISFIT, EARLY, FINISHED, WORN_OUT, NO_WRITER, REACHED, ENDING, LAST_PART, NO_MEMORY, BAD_DICTIONARY, OUT_OF_RANGE, BAD_HANDLE, NO_TEXT, NOTHING, AT_END, PART_OVER, NO_ROOM, NO_CONSUMER}
 
 -- ---- opening a session, and giving out a writer
 
@@ -64,7 +66,7 @@ finish_code (Some true) = DONE
 finish_code (Some false) = FINISHED
 finish_code None = BAD_HANDLE
 
--- ---- ending a session, pumping, and clocks
+-- ---- ending a session, pumping, clocks, and parts
 
 abbrev pub end_code : Bool → ℤ
 end_code true = DONE
@@ -74,6 +76,7 @@ abbrev pub pump_code : Option Pumped → ℤ
 pump_code (Some (pumps.Gave count)) = pos count
 pump_code (Some pumps.NoRoom) = NO_ROOM
 pump_code (Some pumps.Nothing) = NOTHING
+pump_code (Some pumps.PartOver) = PART_OVER
 pump_code (Some pumps.AtEnd) = AT_END
 pump_code None = NO_CONSUMER
 
@@ -82,3 +85,9 @@ clock_code (Some (Ok tt)) = DONE
 clock_code (Some (Err refusals.Misfit)) = OUT_OF_RANGE
 clock_code (Some (Err refusals.Reached)) = REACHED
 clock_code None = BAD_HANDLE
+
+abbrev pub part_code : Option (Result (Unit {0}) PartRefusal) → ℤ
+part_code (Some (Ok tt)) = DONE
+part_code (Some (Err parts.AtEnd)) = LAST_PART
+part_code (Some (Err parts.Ending)) = ENDING
+part_code None = BAD_HANDLE

@@ -14,9 +14,10 @@ ghost use Rattle.nanolog_c.specs.Codes.{
   end_code,
   pump_code,
   clock_code,
+  part_code,
 };
 
-use log_ends::{LogFault, OpenFault, Pumped, WriterFault};
+use log_ends::{LogFault, OpenFault, PartRefusal, Pumped, WriterFault};
 use roaming_consumer::ClockRefusal;
 
 /// Done.
@@ -38,6 +39,12 @@ pub(crate) const NO_WRITER: i32 = 1;
 
 pub(crate) const REACHED: i32 = 1;
 
+/// The part is being ended already.
+pub(crate) const ENDING: i32 = 1;
+
+/// The part is the last one.
+pub(crate) const LAST_PART: i32 = 5;
+
 pub(crate) const NO_MEMORY: i32 = -1;
 
 pub(crate) const BAD_DICTIONARY: i32 = -2;
@@ -56,6 +63,8 @@ pub(crate) const VERSION: i32 = 1;
 pub(crate) const NOTHING: i64 = 0;
 
 pub(crate) const AT_END: i64 = -1;
+
+pub(crate) const PART_OVER: i64 = -2;
 
 pub(crate) const NO_ROOM: i64 = -3;
 
@@ -155,6 +164,7 @@ pub(crate) fn pump_answer(outcome: Option<Pumped>) -> i64
         Some(Pumped::Gave(count)) => count as i64,
         Some(Pumped::NoRoom) => NO_ROOM,
         Some(Pumped::Nothing) => NOTHING,
+        Some(Pumped::PartOver) => PART_OVER,
         Some(Pumped::AtEnd) => AT_END,
         None => NO_CONSUMER,
     }
@@ -168,6 +178,18 @@ pub(crate) fn clock_answer(outcome: Option<Result<(), ClockRefusal>>) -> i32
         Some(Ok(())) => DONE,
         Some(Err(ClockRefusal::Misfit)) => OUT_OF_RANGE,
         Some(Err(ClockRefusal::Reached)) => REACHED,
+        None => BAD_HANDLE,
+    }
+}
+
+/// What the ending of a part answers.
+pub(crate) fn part_answer(outcome: Option<Result<(), PartRefusal>>) -> i32
+    ensures { result ≡ part_code outcome }
+{
+    match outcome {
+        Some(Ok(())) => DONE,
+        Some(Err(PartRefusal::AtEnd)) => LAST_PART,
+        Some(Err(PartRefusal::Ending)) => ENDING,
         None => BAD_HANDLE,
     }
 }

@@ -12,6 +12,8 @@ ghost use Rattle.log_ends.specs.Texts.{text_limit};
 ghost use Rattle.roaming_consumer.specs.declared.clocks.ClockRefusal.{ClockRefusal};
 ghost use Rattle.log_ends.specs.Consumers.{Pumps};
 ghost use Rattle.log_ends.specs.Clocking.{TakesClock};
+ghost use Rattle.log_ends.specs.declared.parting.PartRefusal.{PartRefusal};
+ghost use Rattle.log_ends.specs.Parting.{EndsLog};
 ghost use Rattle.log_ends.specs.Slots.{session_in, OnWriter, OnSession, OnConsumer, GivesInto, OpensInto};
 ghost use Rattle.nanolog_c.specs.declared.answers.TheConstants.{DONE, BAD_HANDLE, NO_CONSUMER};
 ghost use Rattle.nanolog_c.specs.Codes.{
@@ -25,17 +27,18 @@ ghost use Rattle.nanolog_c.specs.Codes.{
   finish_code,
   pump_code,
   clock_code,
+  part_code,
 };
 
 use crate::answers::{
     VERSION, clock_answer, end_answer, finish_answer, limit_answer, log_answer, open_answer,
-    pump_answer, writer_answer,
+    part_answer, pump_answer, writer_answer,
 };
 use crate::handle::Handle;
 use log_dictionary::Clock;
 use log_ends::{
-    CArgument, Setup, end_session, finish_writer, give_writer, log_call, open_into, pump_log,
-    tell_clock, text_limit_of,
+    CArgument, Setup, end_part, end_session, finish_writer, give_writer, log_call, open_into,
+    pump_log, tell_clock, text_limit_of,
 };
 use std::alloc::Global;
 
@@ -199,6 +202,19 @@ pub extern "C" fn nanolog_clock(
     let outcome = tell_clock(&mut end, Clock { tick, nanos, rate });
     consumer.put(alloc, end);
     clock_answer(outcome)
+}
+
+/// Ends the part of the log that is given.
+#[unsafe(no_mangle)]
+pub extern "C" fn nanolog_next_part(alloc: Global, consumer: &mut Handle) -> i32
+    ensures { OnConsumer consumer.old.value consumer.new.value (λ old new.
+        (outcome : Result (Unit {0}) PartRefusal) × (result ≡ part_code (Some outcome)) × EndsLog old outcome new)
+        (result ≡ BAD_HANDLE) }
+{
+    let mut end = consumer.take(alloc);
+    let outcome = end_part(&mut end);
+    consumer.put(alloc, end);
+    part_answer(outcome)
 }
 
 /// Gives up a handle.
