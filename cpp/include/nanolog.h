@@ -49,6 +49,11 @@ extern "C" {
 /* nanolog_clock: the consumer has taken a call with a stamp at or above the tick. */
 #define NANOLOG_REACHED 1
 
+/* nanolog_next_part: a part is being ended, and nanolog_pump hasn't answered NANOLOG_PART_OVER yet. */
+#define NANOLOG_PART_ENDS 1
+/* nanolog_next_part: nanolog_pump has answered NANOLOG_AT_END. */
+#define NANOLOG_NO_PART 5
+
 /* nanolog_open, nanolog_writer: there is no memory. */
 #define NANOLOG_NO_MEMORY (-1)
 /* nanolog_open: the dictionary isn't the text of one. */
@@ -64,6 +69,8 @@ extern "C" {
 
 /* nanolog_pump: every writer has its close mark, and all bytes of the log were given. */
 #define NANOLOG_AT_END (-1)
+/* nanolog_pump: all bytes of the part were given. What comes is another log. */
+#define NANOLOG_PART_OVER (-2)
 
 /* ---- arguments ---- */
 
@@ -166,15 +173,27 @@ int32_t nanolog_end(void **session);
  * a stamp that isn't below the tick. */
 int32_t nanolog_clock(void **consumer, uint64_t tick, uint64_t nanos, uint64_t rate);
 
+/* Ends a part of the log: what is taken from now on belongs to a new one. No call is taken from a ring until the bytes
+ * of the old part were given. They end with the close marks, in rising order, of all writers that have none in it, so
+ * that the part is a whole log; then nanolog_pump answers NANOLOG_PART_OVER, once. Behind that comes another log, of
+ * the calls that are taken since: its header with the clock of nanolog_open, and the other clocks and the messages anew
+ * as they are needed. The last part ends at NANOLOG_AT_END, without NANOLOG_PART_OVER. It takes no memory.
+ *
+ * NANOLOG_OK. Else nothing changed; the first of these that holds: NANOLOG_BAD_HANDLE where `*consumer` is no consumer;
+ * NANOLOG_NO_PART; NANOLOG_PART_ENDS. */
+int32_t nanolog_next_part(void **consumer);
+
 /* Puts the next bytes of the log into the front of `into`, which has `room` bytes, and answers how many: at least one.
  * It gives what it has, which may be less than the room: call it again until it answers 0 or less. The first bytes are
  * the log's header. All bytes that were given, joined, are the front of a log of calls that were logged: of each writer
- * the first ones, each once and in their order. At NANOLOG_AT_END they are the whole log, of all calls.
+ * the first ones, each once and in their order. At NANOLOG_AT_END they are the whole log, of all calls. Where the log
+ * has parts this holds of the bytes of each: it has the calls behind those of the part before.
  *
  * Bytes are made of one writer's calls at a time. Each search for a writer that has calls begins behind the one that
  * was served last, so that none is passed over while others are served.
  *
- * 0 where nothing waits now. NANOLOG_AT_END, from then on always. NANOLOG_BAD_HANDLE where `*consumer` is no consumer;
+ * 0 where nothing waits now. NANOLOG_PART_OVER, once, where nanolog_next_part has ended a part and all its bytes were
+ * given. NANOLOG_AT_END, from then on always. NANOLOG_BAD_HANDLE where `*consumer` is no consumer;
  * else NANOLOG_OUT_OF_RANGE where the room is 0. */
 int64_t nanolog_pump(void **consumer, uint8_t *into, size_t room);
 

@@ -20,6 +20,9 @@ namespace detail {
 // What each call reads, and what others write, stand so many bytes apart.
 constexpr std::size_t kLine = 128;
 
+// The most bytes of a file's name, with its NUL.
+constexpr std::size_t kMaxPath = 4096;
+
 // A number that one thread at a time changes, while others may read it.
 class Count {
    public:

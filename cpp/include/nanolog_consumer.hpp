@@ -30,10 +30,16 @@ class Consumer {
     Consumer(const Consumer &) = delete;
     Consumer &operator=(const Consumer &) = delete;
 
-    // Starts the thread for a consumer's handle, and answers an errno. A file below 0 couldn't be made, as the error
-    // says. Where the thread can't be started, the file is closed, and the handle is still the caller's.
-    int start(void *handle, const Times &times, const char *name, bool quiet, int file, int error) {
-        file_.begin(name, quiet, file, error);
+    // Finds the log's file, and opens it. Each answers false where another session writes it.
+    bool find_file(const char *name, bool quiet, std::uint64_t part_bytes, std::uint32_t parts) {
+        return file_.find(name, quiet, part_bytes, parts);
+    }
+    bool open_file() { return file_.open(); }
+
+    // Starts the thread for a consumer's handle, of which so many bytes may wait in the rings, and answers an errno.
+    // Where the thread can't be started, the file is closed, and the handle is still the caller's.
+    int start(void *handle, const Times &times, std::uint64_t most_bytes) {
+        most_bytes_ = most_bytes;
         buffer_ = static_cast<std::uint8_t *>(std::malloc(kRoom + Times::kRoom));
         times_ = times;
         times_.keep_in(buffer_ + kRoom);
@@ -46,16 +52,18 @@ class Consumer {
         pthread_sigmask(SIG_SETMASK, &before, nullptr);
         if (failed == 0) return 0;
         std::free(buffer_);
-        file_.leave();
+        file_.close();
         return failed;
     }
 
     // Goes on with another handle, and answers the old one. Both are of sessions in which nothing was logged, so what
-    // was pumped of the one are the first bytes of the other, too: no clock stands in front of the first call.
+    // was pumped of this part of the one are the first bytes of the other, too: no clock stands in front of the first
+    // call, and where the part ends, it ends with the same marks.
     void *exchange(void *handle) {
         Patience patience;
         void *old = nullptr;
         while ((old = handle_.exchange(nullptr)) == nullptr) patience.wait();
+        if (is_ending_) nanolog_next_part(&handle);
         std::uint8_t again[64];
         for (std::uint64_t left = given_; left != 0;) {
             const std::int64_t answer = nanolog_pump(&handle, again, left < sizeof again ? left : sizeof again);
@@ -82,27 +90,27 @@ class Consumer {
 
     // Asks for a flush, and answers its number.
     std::uint64_t ask() {
-        const std::uint64_t number = asked_.fetch_add(1) + 1;
+        const std::uint64_t number = flushes_.ask();
         bell_.ring();
         return number;
     }
 
     // Waits for a flush until this time, and answers whether it is done: what was logged before it was asked for is
     // handed to the system.
-    bool wait(std::uint64_t number, std::uint64_t until) const {
-        for (;;) {
-            const std::uint32_t rings = done_bell_.rings();
-            if (done_.load() >= number) return true;
-            const std::uint64_t now = nanos_of(CLOCK_MONOTONIC);
-            if (now >= until) return false;
-            done_bell_.wait(rings, until - now);
-        }
-    }
+    bool wait(std::uint64_t number, std::uint64_t until) const { return flushes_.wait(number, until); }
 
     // Waits for the end of the thread, which comes when all writers have ended.
     bool wait_for_end(std::uint64_t until) {
         ask();
-        return wait(kEnd, until);
+        return wait(Errand::kLast, until);
+    }
+
+    // Begins a new part of the log, and answers whether it has begun by then.
+    bool rotate(std::uint64_t until) {
+        if (!file_.is_parted()) return false;
+        const std::uint64_t number = turns_.ask();
+        bell_.ring();
+        return turns_.wait(number, until) && refused_.load() < number;
     }
 
     bool is_this_thread() const { return pthread_equal(thread_, pthread_self()) != 0; }
@@ -113,6 +121,7 @@ class Consumer {
     std::uint64_t written() const { return file_.written(); }
     std::uint64_t unwritten() const { return file_.unwritten(); }
     int error() const { return file_.error(); }
+    bool is_failing() const { return file_.is_failing(); }
 
     // ---- its end
 
@@ -133,12 +142,13 @@ class Consumer {
     void lose() {
         give_up();
         file_.leave();
-        done_.store(kEnd);
+        refused_.store(Errand::kLast);
+        turns_.lose();
+        flushes_.lose();
     }
 
    private:
     static constexpr std::size_t kRoom = 1 << 20;
-    static constexpr std::uint64_t kEnd = UINT64_MAX;
     // How long it sleeps where nothing waits: at first, at most, and at most after a second in which nothing came.
     static constexpr std::uint64_t kLeastNap = kMillisecond / 5;
     static constexpr std::uint64_t kMostNap = 5 * kMillisecond;
@@ -154,25 +164,27 @@ class Consumer {
     void consume() {
         for (;;) {
             const std::uint32_t rings = bell_.rings();
-            const std::uint64_t asked = asked_.load();
+            const std::uint64_t asked = flushes_.asked(), turns = turns_.asked();
             std::size_t filled = 0;
             const std::int64_t answer = pump(filled);
             file_.write(buffer_, filled);
             pumped_.add(filled);
-            if (answer < 0) {
-                file_.close();
-                return tell(kEnd);
+            if (answer == NANOLOG_PART_OVER) {
+                begin_part();
+            } else if (answer < 0) {
+                return end();
             }
             if (filled != 0) wake_up();
             if (answer == 0) {
                 pumped_.set(0);
-                tell(asked);
+                flushes_.tell(asked);
             }
+            wait_for_turn(turns, answer == 0, filled);
             // Nobody waits for it here, and nothing is taken until the next round has told what comes of it. Where the
             // thread is left alone, the program's functions may be gone.
             const std::uint64_t now = nanos_of(CLOCK_MONOTONIC);
             if (!is_given_up() && times_.compare(now)) file_.remark(kOutOfClocks);
-            if (answer == 0) rest(rings, now);
+            if (answer == 0 && !is_turn()) rest(rings, now);
         }
     }
 
@@ -185,21 +197,64 @@ class Consumer {
         times_.tell(&handle);
         std::int64_t answer = 1;
         while (filled < kRoom) {
+            if (!is_ending_ && wants_part()) is_ending_ = nanolog_next_part(&handle) == NANOLOG_OK;
             answer = nanolog_pump(&handle, buffer_ + filled, kRoom - filled);
             if (answer <= 0) break;
-            filled += static_cast<std::size_t>(answer);
+            const auto len = static_cast<std::size_t>(answer);
+            if (!front_.has_extent()) front_.walk(buffer_ + filled, len, UINT64_MAX);
+            filled += len;
+            given_ += len;
         }
-        given_ += filled;
+        if (answer == NANOLOG_PART_OVER) {
+            front_ = Blocks();
+            given_ = 0;
+            is_ending_ = false;
+        }
         handle_.store(handle);
         return answer;
     }
 
-    // Nothing waited since this flush was asked for, and all is written.
-    void tell(std::uint64_t asked) {
-        if (done_.load() == asked) return;
-        done_.store(asked);
-        done_bell_.ring();
+    void end() {
+        file_.close();
+        refused_.store(Errand::kLast);
+        turns_.tell(Errand::kLast);
+        flushes_.tell(Errand::kLast);
     }
+
+    // ---- parts
+
+    // Whether somebody has asked for a new part, and it is time for it.
+    bool is_turn() const { return turn_ > turns_.done(); }
+
+    // A new part that is asked for begins when what was logged before was taken, or where threads log without a pause,
+    // as much as the rings hold.
+    void wait_for_turn(std::uint64_t turns, bool is_empty, std::size_t filled) {
+        taken_ = turns != turns_.done() ? taken_ + filled : 0;
+        if (turns == turns_.done()) return;
+        if (!is_empty && taken_ < most_bytes_) return;
+        turn_ = turns;
+        taken_ = 0;
+    }
+
+    // Whether a new part is to begin, for which there is a file. One that nobody asked for has calls before it ends.
+    bool wants_part() {
+        if (!is_turn() && !file_.is_due(front_.has_extent() ? given_ : 0)) return false;
+        begun_ = turn_;
+        if (file_.prepare()) return true;
+        tell_turn(false);
+        return false;
+    }
+
+    void begin_part() { tell_turn(file_.next_part()); }
+
+    // Tells those who have asked for a part that it has begun, or hasn't.
+    void tell_turn(bool has_begun) {
+        if (begun_ <= turns_.done()) return;
+        if (!has_begun) refused_.store(begun_);
+        turns_.tell(begun_);
+    }
+
+    // ---- sleep
 
     void wake_up() {
         nap_ = kLeastNap;
@@ -229,7 +284,9 @@ class Consumer {
     }
 
     std::atomic<void *> handle_{nullptr};
-    std::uint64_t given_ = 0;  // bytes that it gave
+    std::uint64_t given_ = 0;  // bytes of the part that it gave
+    Blocks front_;             // as far as there are no calls among them
+    bool is_ending_ = false;   // the part ends
     std::uint8_t *buffer_ = nullptr;
     Times times_;
     LogFile file_;
@@ -240,9 +297,13 @@ class Consumer {
     bool is_dozing_ = false;
     Count pumped_;
 
-    // The number of the last flush that was asked for, and of the last one that was done.
-    std::atomic<std::uint64_t> asked_{0}, done_{0};
-    Bell bell_, done_bell_;
+    Errand flushes_, turns_;
+    Bell bell_;
+    // Of the parts that were asked for: the last one that may begin, that has begun, and that couldn't; and how many
+    // bytes were taken since the next one was asked for.
+    std::uint64_t turn_ = 0, begun_ = 0;
+    std::atomic<std::uint64_t> refused_{0};
+    std::uint64_t taken_ = 0, most_bytes_ = 0;
 
     std::atomic<bool> is_napping_{false}, is_given_up_{false};
 };

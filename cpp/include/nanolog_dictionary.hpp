@@ -8,56 +8,14 @@
 #include <cstddef>
 #include <cstdint>
 #include <cstdio>
-#include <cstdlib>
 #include <cstring>
 
 #include "nanolog_hub.hpp"
+#include "nanolog_pile.hpp"
 
 namespace nanolog {
 inline namespace version_1 {
 namespace detail {
-
-// Memory that grows. What is asked of it answers false where there is none.
-template <class Item>
-class Pile {
-   public:
-    Pile() = default;
-    ~Pile() { std::free(items_); }
-    Pile(const Pile &) = delete;
-    Pile &operator=(const Pile &) = delete;
-
-    bool reserve(std::size_t wanted) {
-        if (wanted <= room_) return true;
-        std::size_t room = room_ != 0 ? room_ : kLeastRoom;
-        while (room < wanted) room *= 2;
-        void *const more = std::realloc(static_cast<void *>(items_), room * sizeof(Item));
-        if (more == nullptr) return false;
-        items_ = static_cast<Item *>(more);
-        room_ = room;
-        return true;
-    }
-
-    bool add(const Item *items, std::size_t count) {
-        if (!reserve(count_ + count)) return false;
-        if (count != 0) std::memcpy(static_cast<void *>(items_ + count_), items, count * sizeof(Item));
-        count_ += count;
-        return true;
-    }
-
-    bool add(Item item) { return add(&item, 1); }
-
-    Item *items() { return items_; }
-    const Item *items() const { return items_; }
-    std::size_t count() const { return count_; }
-    std::size_t room() const { return room_; }
-    void keep(std::size_t count) { count_ = count; }
-
-   private:
-    static constexpr std::size_t kLeastRoom = 64;
-
-    Item *items_ = nullptr;
-    std::size_t count_ = 0, room_ = 0;
-};
 
 // A text in quotation marks, byte by byte, as what it stands for.
 class SpelledText {
@@ -96,8 +54,6 @@ class SpelledText {
     const char *end_;
     bool is_spelled_;
 };
-
-constexpr std::size_t kMaxPath = 4096;
 
 // Where the file with this name is: there, or else beside the program. It may be written into this room.
 inline const char *find_beside(const char *name, char *room, std::size_t len) {

@@ -21,7 +21,7 @@ inline void set_level(Severity level) {
     hub.level.store(level == Severity::Off ? Hub::kNothing : static_cast<int>(level));
 }
 
-// ---- flushes
+// ---- flushes and parts
 
 // Holds up the calls of all threads, but for those that are being made. It may be done again.
 inline void hold(Core &core, bool &is_holding) {
@@ -53,7 +53,7 @@ inline std::uint64_t most_bytes() {
 inline bool flush(Core &core, std::uint64_t nanos) {
     constexpr std::uint64_t patience = 20 * kMillisecond;
     if (core.stage.load() != Stage::Open) return false;
-    const std::uint64_t until = time_after(nanos);
+    const std::uint64_t until = time_after(nanos), unwritten = core.consumer.unwritten();
     const std::uint64_t number = core.consumer.ask();
     bool is_holding = false, is_done = false;
     for (;;) {
@@ -64,7 +64,12 @@ inline bool flush(Core &core, std::uint64_t nanos) {
         if (is_holding || core.consumer.pumped() > most_bytes()) hold(core, is_holding);
     }
     if (is_holding) let_go(core);
-    return is_done && core.consumer.error() == 0;
+    return is_done && !core.consumer.is_failing() && core.consumer.unwritten() == unwritten;
+}
+
+// Begins a new part of the log, and answers whether that took so long at most.
+inline bool rotate(Core &core, std::uint64_t nanos) {
+    return core.stage.load() == Stage::Open && core.consumer.rotate(time_after(nanos));
 }
 
 // ---- ends

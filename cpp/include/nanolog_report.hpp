@@ -30,6 +30,11 @@ struct Options {
     // Less grave calls are left out, and their arguments aren't evaluated.
     Severity level = Severity::Debug;
     Policy policy = Policy::Wait;
+    // A part of the log ends once it has so many bytes, 1 to 67,108,864. The newest part has the log's name, and the
+    // others have numbers behind it. So many of these are kept, and the oldest ones go; 0 stands for all.
+    static constexpr std::uint64_t kPartBytes = 67108864;
+    std::uint64_t part_bytes = kPartBytes;
+    std::uint32_t parts = 0;
     // Whether nothing is said on standard error.
     bool quiet = false;
     // How many milliseconds a flush, the destructor, close and the end of the program wait at most until all is written.
@@ -144,8 +149,8 @@ struct Report {
     std::uint64_t sessionless = 0;  // made while there was no session
     std::uint64_t cut = 0;          // texts that were cut, since the call was too long, or at a NUL
     std::uint64_t early = 0;        // logged with the stamp of the call before, since the program's clock fell
-    std::uint64_t unwritten = 0;    // bytes of the log, since the file failed
-    int error = 0;                  // how it failed, as errno has it
+    std::uint64_t unwritten = 0;    // bytes of the log, while the file failed
+    int error = 0;                  // how it failed last, as errno has it
     bool timed_out = false;         // the session's end came to its time limit before all was written
 
     bool is_clean() const {

@@ -24,8 +24,9 @@ class Session {
     using Options = nanolog::Options;
     using Report = nanolog::Report;
 
-    // Makes the file, in place of what that held. What fails is said on standard error. The dictionary is that of the
-    // statements that were taken out of their sources, if there are any; all others are known without.
+    // Makes the file; one that is there, and holds something, is kept under another name. What fails is said on standard
+    // error. The dictionary is that of the statements that were taken out of their sources, if there are any; all others
+    // are known without.
     explicit Session(const char *log_name, const Options &options = Options()) : Session(log_name, nullptr, options) {}
 
     Session(const char *log_name, const char *dictionary, const Options &options = Options())
@@ -45,9 +46,9 @@ class Session {
 
     // ---- Any thread may call these at any time, several at once; a signal handler may not.
 
-    // Whether calls are logged, and the file has all that was written so far.
+    // Whether calls are logged, and the file takes them.
     explicit operator bool() const {
-        return core_ != nullptr && core_->stage.load() == detail::Stage::Open && core_->consumer.error() == 0;
+        return core_ != nullptr && core_->stage.load() == detail::Stage::Open && !core_->consumer.is_failing();
     }
 
     // From now on less grave calls are left out.
@@ -62,6 +63,14 @@ class Session {
     bool flush() { return core_ != nullptr && detail::flush(*core_, core_->limit); }
     bool flush(std::uint32_t milliseconds) {
         return core_ != nullptr && detail::flush(*core_, milliseconds * detail::kMillisecond);
+    }
+
+    // Returns once a new part of the log has begun, or after so many milliseconds, and answers whether that took it. It
+    // begins behind what was logged before, unless threads log without a pause. Where the log's name doesn't lead to its
+    // file any more, since somebody has moved that, nothing else is renamed.
+    bool rotate() { return core_ != nullptr && detail::rotate(*core_, core_->limit); }
+    bool rotate(std::uint32_t milliseconds) {
+        return core_ != nullptr && detail::rotate(*core_, milliseconds * detail::kMillisecond);
     }
 
     // What became of the calls so far.
@@ -122,6 +131,7 @@ class Session {
             return fail(dictionary != nullptr ? dictionary : log_name, std::strerror(error));
         }
         directory.take_in();
+        if (!find_file(log_name, options)) return false;
         const detail::Timing timing = {options.clock, options.real_time,
                                        options.clock != nullptr ? options.rate : detail::kSecond, options.keep_times};
         const detail::Reading reading = detail::read_first(timing);
@@ -134,7 +144,7 @@ class Session {
         void *session = nullptr, *consumer = nullptr;
         std::uint64_t line = 0;
         const std::int32_t answer = detail::open_session(directory.dictionary, setup, &session, &consumer, &line);
-        if (answer == NANOLOG_OK && make_entries(&session) && start(log_name, consumer, times)) {
+        if (answer == NANOLOG_OK && make_entries(&session) && start(log_name, consumer, setup, times)) {
             begin(session, setup, options);
             return true;
         }
@@ -160,11 +170,19 @@ class Session {
                fail(core_->name, "there is no memory for the statements");
     }
 
-    // Makes the file and starts the consumer.
-    bool start(const char *log_name, void *consumer, const detail::Times &times) {
-        const int file = detail::make_file(log_name);
-        const int error = file < 0 ? errno : 0;
-        const int failed = core_->consumer.start(consumer, times, log_name, core_->is_quiet, file, error);
+    // Finds the file, before memory is taken that is never given back.
+    bool find_file(const char *log_name, const Options &options) {
+        if (options.part_bytes == 0 || options.part_bytes > Options::kPartBytes) {
+            return tell_refusal(NANOLOG_OUT_OF_RANGE, log_name, nullptr, 0);
+        }
+        return core_->consumer.find_file(log_name, core_->is_quiet, options.part_bytes, options.parts) ||
+               fail(log_name, kTaken);
+    }
+
+    // Makes the file and starts the consumer. A record takes no more than nine bytes for each word.
+    bool start(const char *log_name, void *consumer, const detail::Setup &setup, const detail::Times &times) {
+        if (!core_->consumer.open_file()) return fail(log_name, kTaken);
+        const int failed = core_->consumer.start(consumer, times, setup.writers * setup.ring * 9);
         return failed == 0 || fail(log_name, std::strerror(failed));
     }
 
@@ -201,6 +219,8 @@ class Session {
         if (!core_->is_quiet) detail::say("nanolog: %s: %s", name, what);
         return false;
     }
+
+    static constexpr const char *kTaken = "another session writes this file";
 
     detail::Core *const core_;
 };

@@ -78,6 +78,42 @@ class Bell {
     std::atomic<std::uint32_t> rings_{0};
 };
 
+// What threads ask of another one: each time has a number, higher than that before. Asking, waiting and telling are
+// allowed in signal handlers.
+class Errand {
+   public:
+    static constexpr std::uint64_t kLast = UINT64_MAX;
+
+    std::uint64_t ask() { return asked_.fetch_add(1) + 1; }
+    std::uint64_t asked() const { return asked_.load(); }
+    std::uint64_t done() const { return done_.load(); }
+
+    // All up to this number are done.
+    void tell(std::uint64_t number) {
+        if (done_.load() == number) return;
+        done_.store(number);
+        bell_.ring();
+    }
+
+    // Waits for it until this time, and answers whether it is done.
+    bool wait(std::uint64_t number, std::uint64_t until) const {
+        for (;;) {
+            const std::uint32_t rings = bell_.rings();
+            if (done_.load() >= number) return true;
+            const std::uint64_t now = nanos_of(CLOCK_MONOTONIC);
+            if (now >= until) return false;
+            bell_.wait(rings, until - now);
+        }
+    }
+
+    // In the child of a fork: what is under way is over.
+    void lose() { done_.store(kLast); }
+
+   private:
+    std::atomic<std::uint64_t> asked_{0}, done_{0};
+    Bell bell_;
+};
+
 }  // namespace detail
 }  // namespace version_1
 }  // namespace nanolog

@@ -5,7 +5,7 @@
 end_case() {
     local wanted=$1 status
     shift
-    rm -f -- ./*.log pipe
+    rm -f -- ./*.log ./*.log.[0-9]* pipe
     # Where a signal ends it, a shell says so.
     (
         timeout 120 "./$program" "$@" >out 2>err

@@ -2,7 +2,7 @@
 
 # run_session CASE SAID runs a case, which is to say this on standard error. N is any number of four digits or more.
 run_session() {
-    rm -f -- ./*.log
+    rm -f -- ./*.log ./*.log.[0-9]*
     timeout 120 ./sessions "$1" >out 2>err
     local status=$?
     [ "$status" = 0 ] || fail "$compiler: sessions $1: status $status: $(cat err)"
@@ -64,7 +64,7 @@ test_calls_of_sessions() {
     lines sessions.log 0 got
     equal 'lines at the level' "$(grep -c ': kept [0-9]*$' got) $(grep -c ': left out' got)" '100 0'
     run_session many_without $'nanolog: sessions2.log: calls without a session: N\n'
-    rm -f -- ./*.log
+    rm -f -- ./*.log ./*.log.[0-9]*
     ./sessions without >out 2>err || fail "$compiler: sessions without: status $?"
     [ "$way" = plain ] && logged=1 || logged=0
     equal 'lines without a session' "$(grep -c ' NOTICE\[0\]: before 1$' err)" "$logged"
@@ -98,7 +98,7 @@ test_lives_of_sessions() {
     logs sessions.log 300
     run_session statics $'nanolog: calls without a session: 1\n'
     logs sessions.log 2
-    rm -f -- ./*.log
+    rm -f -- ./*.log ./*.log.[0-9]*
     timeout 60 ./sessions exiting >out 2>err || fail "$compiler: sessions exiting: status $?: $(cat err)"
     lines sessions.log 0 got
     run_session one_writer ''

@@ -22,6 +22,7 @@ owned() {
 run_threads() {
     local wrong
     logged='' dropped='' writers='' shared=''
+    rm -f threads.log*
     passes ./threads "$@" || return
     read -r logged dropped writers shared <out
     lines threads.log 0 got

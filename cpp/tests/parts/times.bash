@@ -5,7 +5,7 @@
 run_times() {
     local said=$1 status
     shift
-    rm -f times.log times.expected
+    rm -f times.log times.log.[0-9]* times.expected
     timeout 120 ./times "$@" >out 2>err
     status=$?
     [ "$status" = 0 ] || fail "$compiler: times $*: status $status: $(head -n 20 err)"

@@ -7,13 +7,13 @@ test_failures() {
     run_ends 0 "nanolog: /dev/full: No space left on device; nothing more is written
 ${marks}nanolog: /dev/full: bytes not written: M
 " fails /dev/full
-    run_ends 0 "nanolog: no/such.log: No such file or directory; nothing is written
+    run_ends 0 "nanolog: no/such.log: No such file or directory; it is tried again once a second, in a new part
 ${marks}nanolog: no/such.log: bytes not written: M
 " fails no/such.log
     run_ends 0 "$marks" fails quiet
     local case
     for case in closes replaces; do
-        leaves 0 'nanolog: ends.log: Bad file descriptor; nothing more is written
+        leaves 0 'nanolog: ends.log: Bad file descriptor; it is tried again once a second, in a new part
 -- flushed
 nanolog: ends.log: bytes not written: M
 ' 5 $case
@@ -29,12 +29,11 @@ nanolog: ends.log: bytes not written: M
     printf '%s\n' '-- exit' "$late" >wanted
     same 'writing pipe_exits says' wanted said
     [ -n "${is_sanitized-}" ] && return
-    # A log that nobody could read to its end.
-    run_ends 0 'nanolog: ends.log: a log of more than 134217728 bytes can'"'"'t be read; nothing more is written
+    # A log without parts that nobody could read to its end.
+    run_ends 0 'nanolog: /dev/null: a log of more than 134217728 bytes can'"'"'t be read; nothing more is written
 -- told
-nanolog: ends.log: bytes not written: M
+nanolog: /dev/null: bytes not written: M
 ' too_large
-    rm -f ends.log
 }
 
 # What is grave enough is printed, and written at once.
