@@ -484,6 +484,95 @@ void two_clocks() {
     write_file("clocks.log", all);
 }
 
+// ---- nanolog_next_part
+
+// All that is given up to this answer.
+std::string given(void *&consumer, std::int64_t wanted) {
+    std::string all;
+    std::uint8_t bytes[7];
+    std::int64_t answer;
+    while ((answer = nanolog_pump(&consumer, bytes, sizeof bytes)) > 0) {
+        all.append(reinterpret_cast<const char *>(bytes), static_cast<std::size_t>(answer));
+    }
+    CHECK(answer == wanted);
+    return all;
+}
+
+// The close marks of the first writers.
+std::string marks(std::size_t writers) {
+    std::string all;
+    for (std::size_t writer = 0; writer < writers; writer++) {
+        all += {'\4', static_cast<char>(writer), '\0'};
+    }
+    return all;
+}
+
+bool ends_with(const std::string &all, const std::string &back) {
+    return all.size() >= back.size() && all.compare(all.size() - back.size(), back.size(), back) == 0;
+}
+
+void parting() {
+    constexpr std::size_t header = 31;
+    Ends ends;
+    void *null = nullptr, *one = ends.writer(), *two = ends.writer();
+    for (void **other : {&null, &ends.session, &one}) CHECK(nanolog_next_part(other) == NANOLOG_BAD_HANDLE);
+    CHECK(log(one, kTick + 1, 0, {signed_of(1)}) == NANOLOG_OK);
+    std::string first = given(ends.consumer, 0);
+    // What is logged by now and wasn't taken belongs to the next part, as what is logged while this one ends.
+    CHECK(log(two, kTick + 2, 0, {signed_of(2)}) == NANOLOG_OK);
+    CHECK(nanolog_next_part(&ends.consumer) == NANOLOG_OK);
+    for (int turn = 0; turn < 3; turn++) CHECK(nanolog_next_part(&ends.consumer) == NANOLOG_PART_ENDS);
+    CHECK(log(one, kTick + 3, 0, {signed_of(3)}) == NANOLOG_OK);
+    CHECK(nanolog_pump(&ends.consumer, nullptr, 0) == NANOLOG_OUT_OF_RANGE);
+    first += given(ends.consumer, NANOLOG_PART_OVER);
+    CHECK(ends_with(first, marks(3)) && !ends_with(first, marks(3) + marks(3)));
+    write_file("part1.log", first);
+    // A call of the part before has reached this clock.
+    CHECK(tell(ends.consumer, kTick + 1) == NANOLOG_REACHED && tell(ends.consumer, kTick + 4) == NANOLOG_OK);
+    const std::string second = given(ends.consumer, 0);
+    CHECK(second.compare(0, header, first, 0, header) == 0);
+    CHECK(nanolog_finish(&two) == NANOLOG_OK);
+    const std::string closed = given(ends.consumer, 0);
+    CHECK(closed == marks(2).substr(3));
+    // A writer that is finished has its mark in each part that follows.
+    CHECK(nanolog_next_part(&ends.consumer) == NANOLOG_OK);
+    const std::string rest = given(ends.consumer, NANOLOG_PART_OVER);
+    CHECK(rest == marks(1) + marks(3).substr(6));
+    write_file("part2.log", second + closed + rest);
+    CHECK(nanolog_finish(&one) == NANOLOG_OK && nanolog_end(&ends.session) == NANOLOG_OK);
+    const std::string third = given(ends.consumer, NANOLOG_AT_END);
+    CHECK(third.size() == header + 9 && third.compare(0, header, first, 0, header) == 0);
+    for (int turn = 0; turn < 3; turn++) {
+        CHECK(nanolog_next_part(&ends.consumer) == NANOLOG_NO_PART);
+        CHECK(given(ends.consumer, NANOLOG_AT_END).empty());
+    }
+    nanolog_free(one);
+    nanolog_free(two);
+
+    // A part in which nothing was logged, and one that ends when all writers have finished.
+    Ends empty;
+    CHECK(nanolog_next_part(&empty.consumer) == NANOLOG_OK);
+    CHECK(given(empty.consumer, NANOLOG_PART_OVER) == first.substr(0, header) + marks(3));
+    CHECK(nanolog_end(&empty.session) == NANOLOG_OK && nanolog_next_part(&empty.consumer) == NANOLOG_OK);
+    CHECK(given(empty.consumer, NANOLOG_PART_OVER) == first.substr(0, header) + marks(3));
+    CHECK(given(empty.consumer, NANOLOG_AT_END) == first.substr(0, header) + marks(3));
+}
+
+// How much memory is asked for while parts end and begin.
+void parting_without_memory() {
+    Ends ends(1024, 64);
+    const long before = requests;
+    for (int turn = 0; turn < 100; turn++) {
+        CHECK(nanolog_next_part(&ends.consumer) == NANOLOG_OK);
+        std::uint8_t bytes[64];
+        std::int64_t answer;
+        while ((answer = nanolog_pump(&ends.consumer, bytes, sizeof bytes)) > 0) {
+        }
+        CHECK(answer == NANOLOG_PART_OVER);
+    }
+    CHECK(requests == before);
+}
+
 // A clock that no call is read by isn't in the log.
 void no_clock() {
     Ends ends(1024, 1);
@@ -625,6 +714,8 @@ int main() {
     telling();
     two_clocks();
     no_clock();
+    parting();
+    parting_without_memory();
     memory();
     giving_up();
     return 0;

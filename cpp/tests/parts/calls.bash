@@ -20,6 +20,15 @@ END
     lines clocks.log 0 got
     echo '1514764801.000000003 srv.cc:12 NOTICE[0]: x=7' >wanted
     same clocks.log wanted got
+    lines part1.log 0 got
+    echo '0.000000006 calls.cc:1 NOTICE[0]: 1 of int' >wanted
+    same part1.log wanted got
+    lines part2.log 0 got
+    cat >wanted <<'END'
+0.000000007 calls.cc:1 NOTICE[1]: 2 of int
+0.000000008 calls.cc:1 NOTICE[0]: 3 of int
+END
+    same part2.log wanted got
     lines writers.log 0 got
     for ((number = 0; number < 1024; number++)); do
         printf '0.%09d calls.cc:1 NOTICE[%d]: %d of int\n' $((number + 5)) $number $number
