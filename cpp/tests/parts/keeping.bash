@@ -122,7 +122,7 @@ test_kept() {
     rm -rf ./ends.log* && echo kept >ends.log && ln ends.log ends.log.000007 && : >ends.log.new && ./keeping one
     equal 'what a killed session left' "$(ls ends.log* | tr '\n' ' ')" 'ends.log ends.log.000007 '
     for number in 1 2; do
-        (./keeping killed) 2>err
+        bash -c './keeping killed; :' 2>err
         case="killed $number"
         equal "$case: parts" "$(ls ends.log.[0-9]* | tail -n 1)" "ends.log.00000$((number + 7))"
     done

@@ -32,5 +32,6 @@ test_sanitizers() {
         TSAN_OPTIONS='die_after_fork=0 report_signal_unsafe=0' test_ends "${flags[@]}"
         TSAN_OPTIONS='report_signal_unsafe=0' test_writing "${flags[@]}"
         test_times "${flags[@]}"
+        TSAN_OPTIONS='die_after_fork=0 report_signal_unsafe=0' test_keeping "${flags[@]}"
     done
 }
