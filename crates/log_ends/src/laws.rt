@@ -1,6 +1,6 @@
 //! Laws over the definitions. The functions do nothing: what they ensure is proved of the definitions.
 
-ghost use Rattle.std.specs.Prelude.{◌≡◌, ◌≢◌, ◌⊎◌, ◌<◌, ◌≤◌, ◌↔◌, ℕ, List, ◌++◌, length, slice_get, Some, IsSome, IfSome};
+ghost use Rattle.std.specs.Prelude.{◌≡◌, ◌≢◌, ◌⊎◌, ◌+◌, ◌<◌, ◌≤◌, ◌↔◌, ℕ, List, ◌++◌, length, drop, slice_get, Some, IsSome, IfSome};
 ghost use Rattle.std.specs.List.{AllZip};
 ghost use Rattle.log_dictionary.specs.declared.message.Message.{Message};
 ghost use Rattle.printf_grammar.specs.declared.argument.Value.{Value};
@@ -11,6 +11,7 @@ ghost use Rattle.printf_grammar.specs.declared.piece.Piece.{Piece};
 ghost use Rattle.printf_grammar.specs.Pieces.{Parsed};
 ghost use Rattle.printf_grammar.specs.Types.{Types, Fits, FitsType};
 ghost use Rattle.direct_printf.specs.Fields.{Text};
+ghost use Rattle.ring_core.specs.Plans.{BeginsWith};
 ghost use Rattle.roaming_consumer.specs.Roamers.{roamer_progress, IsLogOfEnds};
 ghost use Rattle.log_ends.specs.declared.argument.CArgument.{CArgument};
 ghost use Rattle.log_ends.specs.declared.argument.TheConstants.{SIGNED, UNSIGNED, TEXT};
@@ -21,7 +22,7 @@ ghost use Rattle.log_ends.specs.declared.setup.Setup.{Setup};
 ghost use Rattle.log_ends.specs.declared.writer.WriterEnd.{WriterEnd};
 ghost use Rattle.log_ends.specs.Arguments.{argument_given};
 ghost use Rattle.log_ends.specs.Consumers.{HasGiven, IsAllGiven, waiting};
-ghost use Rattle.log_ends.specs.Consumers.{consumer_ends, next_writer, turns_before, SameRings, FoundNone, ServesNext};
+ghost use Rattle.log_ends.specs.Consumers.{consumer_ends, next_writer, turns_before, SameRings, EndBeginsPart, FoundNone, ServesNext};
 ghost use Rattle.log_ends.specs.PartEnds.{part_frames, is_part_over};
 ghost use Rattle.log_ends.specs.Logged.{IsWriterOf};
 ghost use Rattle.log_ends.specs.Openings.{IsOpened};
@@ -58,6 +59,18 @@ pub fn writers_keep_their_numbers()
     ensures of_consumer { (old new : ConsumerEnd) (writer : WriterEnd) (number : ℕ)
         → SameRings (consumer_ends old) (consumer_ends new)
         → IsWriterOf writer old number → IsWriterOf writer new number }
+{}
+
+/// What a writer's calls of two parts that follow one another come to: joined, they are the first of those that it has
+/// logged behind the parts before, however many it has logged since. The second part begins behind the calls of the first.
+pub fn parts_follow_one_another()
+    ensures joined { (logged later first second : List (List ℕ)) (earlier : ℕ) → earlier ≤ length logged
+        → BeginsWith (drop earlier logged) first
+        → BeginsWith later logged
+        → BeginsWith (drop (earlier + length first) later) second
+        → BeginsWith (drop earlier later) (first ++ second) }
+    ensures behind { (before after : PartEnd) → EndBeginsPart before after
+        → after.earlier ≡ before.earlier + length (part_frames before) }
 {}
 
 /// No writer is passed over while others are served. Of a writer that wasn't found without a frame, the bytes are its
