@@ -15,6 +15,7 @@
 #include "nanolog_hub.hpp"
 #include "nanolog_registry.hpp"
 #include "nanolog_report.hpp"
+#include "nanolog_waiting.hpp"
 
 namespace nanolog {
 inline namespace version_1 {
@@ -89,8 +90,10 @@ class Directory {
 
     // ---- the files whose statements were numbered by another dictionary
 
+    // A signal handler may have interrupted its thread in one of these two. It gives up after a moment, and does without.
     void count_stale(const char *file) {
-        const Lock lock(mutex_);
+        const TimedLock lock(mutex_, time_after(kMoment));
+        if (!lock.is_had()) return;
         std::uint32_t at = 0;
         while (at < units_ && std::strcmp(unit_[at].file, file) != 0) at++;
         if (at == Report::kMostUnits) return;
@@ -99,7 +102,8 @@ class Directory {
     }
 
     void copy_units(Report &report) const {
-        const Lock lock(mutex_);
+        const TimedLock lock(mutex_, time_after(kMoment));
+        if (!lock.is_had()) return;
         report.units = units_;
         for (std::uint32_t at = 0; at < units_; at++) report.unit[at] = unit_[at];
     }
@@ -107,6 +111,7 @@ class Directory {
    private:
     // So many statements that come later have an entry at once.
     static constexpr std::uint32_t kSpare = 1024;
+    static constexpr std::uint64_t kMoment = kSecond / 10;
 
     // Both mutexes are had.
     void resolve(void **session, std::uint32_t place) {
