@@ -3,8 +3,8 @@ use Rattle.std.proofs.Common.{◌≡◌, ℕ, zero, suc, Some, List, [], ◌∷�
 use Rattle.std.specs.Prelude.{All, slice_get, slice_set}
 use Rattle.std.specs.List.{AllZip}
 use Rattle.std.proofs.lemmas.List.{append-nil, map-append}
-use Rattle.std.proofs.lemmas.List.Elements.{All-nil, All-cons, All-head, All-tail}
-use Rattle.std.proofs.lemmas.Option.{same_Some}
+use Rattle.std.proofs.lemmas.List.Elements.{All-nil, All-cons, All-head, All-tail, All-get_or}
+use Rattle.std.proofs.lemmas.Option.{slice_get_within, get_or_from_slice_get}
 
 -- the next one is moved behind those that were made of the ones before it
 pub moved_next : {A B : Type 0} (f : B → A) (made : List B) (rest more all : List A) (y : B) → map f made ++ rest ≡ all → rest ≡ f y ∷ more → map f (made ++ y ∷ []) ++ more ≡ all
@@ -39,9 +39,7 @@ zip_images f R (x ∷ xs) (y ∷ ys) all = (all.0, zip_images f R xs ys all.1)
 
 -- what holds of all holds at each place
 pub of_place : {A : Type 0} (P : A → Type 0) (xs : List A) (i : ℕ) (x : A) → All P xs → slice_get xs i ≡ Some x → P x
-of_place P [] i x all there = absurd cc
-of_place P (y ∷ xs) zero x all there = subst P (same_Some y x there) (All-head P y xs all)
-of_place P (y ∷ xs) (suc i) x all there = of_place P xs i x (All-tail P y xs all) there
+of_place P xs i x all there = subst P (get_or_from_slice_get xs i x x there) (All-get_or P xs i x (slice_get_within xs i x there) all)
 
 pub zip_images_of_second : {A B C : Type 0} (f : C → B) (R : A → B → Type 0) (xs : List A) (ys : List C) → AllZip R xs (map f ys) → AllZip (λ (x : A) (y : C). R x (f y)) xs ys
 zip_images_of_second f R [] [] all = tt
@@ -59,9 +57,3 @@ zip_and_all R Q P then (x ∷ xs) (y ∷ ys) all each = (then x y all.0 (All-hea
 pub all_images : {A B : Type 0} (f : A → B) (P : B → Type 0) (Q : A → Type 0) → ((x : A) → P (f x) → Q x) → (xs : List A) → All P (map f xs) → All Q xs
 all_images f P Q then [] all = All-nil Q
 all_images f P Q then (x ∷ xs) all = All-cons Q x xs (then x (All-head P (f x) (map f xs) all)) (all_images f P Q then xs (All-tail P (f x) (map f xs) all))
-
--- one of them is set
-pub all_set : {A : Type 0} (P : A → Type 0) (xs : List A) (i : ℕ) (x : A) → All P xs → P x → All P (slice_set xs i x)
-all_set P [] i x all here = all
-all_set P (y ∷ xs) zero x all here = All-cons P x xs here (All-tail P y xs all)
-all_set P (y ∷ xs) (suc i) x all here = All-cons P y (slice_set xs i x) (All-head P y xs all) (all_set P xs i x (All-tail P y xs all) here)

@@ -10,7 +10,7 @@ use Rattle.checkpoint_io.specs.Logs.{greatest_stamp}
 use Rattle.ring_core.specs.Plans.{Plan, plan_of, AreFramesOf}
 use Rattle.word_ring.specs.Ends.{WordRoamerEnd}
 use Rattle.roaming_consumer.specs.Roamers.{roamer_messages, roamer_version, roamer_clocks, roamer_batch, roamer_progress, plan_of_roamer, IsSameRun, IsClosedLogOfEnds}
-use Rattle.roaming_consumer.proofs.lemmas.OnePlace.{zip_across, zip_weaker}
+use Rattle.roaming_consumer.proofs.lemmas.OnePlace.{zip_across, zip_turned, zip_weaker}
 use Rattle.roaming_consumer.proofs.lemmas.Marking.{same_said_log}
 use Rattle.log_ends.specs.declared.consumer.ConsumerEnd.{ConsumerEnd}
 use Rattle.log_ends.specs.declared.part_end.PartEnd.{PartEnd}
@@ -42,12 +42,6 @@ parts_begin [] (y ∷ ys) zs on none begin = absurd on
 parts_begin (x ∷ xs) [] zs on none begin = absurd on
 parts_begin (x ∷ xs) (y ∷ ys) [] on none begin = absurd begin
 parts_begin (x ∷ xs) (y ∷ ys) (z ∷ zs) on none begin = (begins_behind x y z on.0 none.0 begin.0, parts_begin xs ys zs on.1 none.1 begin.1)
-
-zip_turned : {A B : Type 0} (R : A → B → Type 0) (xs : List A) (ys : List B) → AllZip R xs ys → AllZip (λ y x. R x y) ys xs
-zip_turned R [] [] all = tt
-zip_turned R [] (y ∷ ys) all = absurd all
-zip_turned R (x ∷ xs) [] all = absurd all
-zip_turned R (x ∷ xs) (y ∷ ys) all = (all.0, zip_turned R xs ys all.1)
 
 -- all of a part was given, from whose ends no frame was taken since
 pub whole_part : (old mid : ConsumerEnd) (stamp : ℕ) → AllZip FoundNone (consumer_ends old) (consumer_ends mid) → IsSameRun old.roamer mid.roamer → IsAllGiven mid → stamp ≡ max (earlier_stamp old) (roamer_progress mid.roamer).latest

@@ -6,6 +6,7 @@ use Rattle.std.proofs.lemmas.List.{append-nil}
 use Rattle.std.proofs.lemmas.Option.{same_Some}
 use Rattle.std.proofs.lemmas.Bool.{cases_lt, both_ways}
 use Rattle.roaming_consumer.specs.declared.roamer.Roamer.{Roamer}
+use Rattle.roaming_consumer.proofs.lemmas.OnePlace.{beside}
 use Rattle.log_ends.specs.declared.consumer.ConsumerEnd.{ConsumerEnd}
 use Rattle.log_ends.specs.declared.part_end.PartEnd.{PartEnd}
 use Rattle.log_ends.specs.PartEnds.{part_frames}
@@ -14,13 +15,6 @@ use Rattle.log_ends.specs.Rounds.{StopsAtWriter, Passes, Seeks}
 use Rattle.log_ends.proofs.Passing.{all_go_on_same, all_go_on_then, run_then}
 use Rattle.std.proofs.lemmas.List.Elements.{length_all_zip}
 use Rattle.log_ends.proofs.Lists.{by_place}
-
--- the one from which an end came
-came_from : (xs ys : List PartEnd) (i : ℕ) (y : PartEnd) → AllZip EndGoesOn xs ys → slice_get ys i ≡ Some y → (x : PartEnd) × (slice_get xs i ≡ Some x) × EndGoesOn x y
-came_from xs [] i y all there = absurd cc
-came_from [] (z ∷ ys) i y all there = absurd all
-came_from (x ∷ xs) (z ∷ ys) zero y all there = (x, refl, subst (λ (e : PartEnd). EndGoesOn x e) (same_Some z y there) all.0)
-came_from (x ∷ xs) (z ∷ ys) (suc i) y all there = came_from xs ys i y all.1 there
 
 found_twice : (a b c : PartEnd) → a.out.loads ≤ b.out.loads → FoundNone a b → FoundNone b c → FoundNone a c
 found_twice a b c never_fell first second = record {
@@ -43,7 +37,7 @@ module _ (old cur new : ConsumerEnd) (one two : Bool) (before : Passes old (next
 
   -- an end between the two passes
   between : (other : ℕ) (y : PartEnd) → slice_get (consumer_ends new) other ≡ Some y → (mid : PartEnd) × (slice_get (consumer_ends cur) other ≡ Some mid) × EndGoesOn mid y
-  between other y now = came_from (consumer_ends cur) (consumer_ends new) other y after.ends now
+  between other y now = beside EndGoesOn (consumer_ends cur) (consumer_ends new) other y after.ends now
 
   -- it was found without a frame in the first pass
   first_none : waiting cur ≡ [] → (other : ℕ) (x mid : PartEnd) → next_writer old ≤ other → slice_get (consumer_ends old) other ≡ Some x → slice_get (consumer_ends cur) other ≡ Some mid → FoundNone x mid
@@ -59,7 +53,7 @@ module _ (old cur new : ConsumerEnd) (one two : Bool) (before : Passes old (next
       elim (cases_lt other (next_writer old)) [
         | inl below ↦ subst (λ (e : PartEnd). FoundNone e y) (first_same other x mid below was is) then
         | inr from ↦
-            let start = came_from (consumer_ends old) (consumer_ends cur) other mid before.ends is in
+            let start = beside EndGoesOn (consumer_ends old) (consumer_ends cur) other mid before.ends is in
             let never_fell = subst (λ (e : PartEnd). e.out.loads ≤ mid.out.loads) (same_Some start.0 x (sym start.1 ∙ was)) start.2.loads_never_fall in
             found_twice x mid y never_fell (first_none none_then other x mid from was is) then
       ]

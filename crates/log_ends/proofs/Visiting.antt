@@ -3,6 +3,7 @@ use Rattle.std.proofs.Common.{◌≡◌, ℕ, Bool, true, false, List, [], ◌++
 use Rattle.std.specs.Prelude.{◌⊎◌, Result, Ok, IsErr, All, slice_get, slice_set, if◌then◌else◌}
 use Rattle.std.proofs.lemmas.Bool.Decides.{eqb_tells}
 use Rattle.std.proofs.lemmas.List.{length-append, append-nil}
+use Rattle.std.proofs.lemmas.List.Elements.{All-set}
 use Rattle.std.proofs.lemmas.Option.{same_Some}
 use Rattle.ring_core.specs.Plans.{BeginsWith}
 use Rattle.roaming_consumer.specs.declared.roamer.Roamer.{Roamer}
@@ -19,7 +20,7 @@ use Rattle.log_ends.specs.PartEnds.{part_frames, is_part_over, part_numbers}
 use Rattle.log_ends.specs.declared.backlog.Backlog.{Backlog}
 use Rattle.log_ends.specs.Backlogs.{held_back}
 use Rattle.log_ends.specs.Consumers.{HasPut, waiting, EndGoesOn}
-use Rattle.log_ends.proofs.Lists.{of_place, all_set}
+use Rattle.log_ends.proofs.Lists.{of_place}
 use Rattle.log_ends.specs.Rounds.{VisitAnswers, IsSamePart, IsVisited}
 
 abbrev loads : PartEnd → ℕ
@@ -54,7 +55,7 @@ same_hold before after keeps = same_code after.held before.held (cc keeps.same_p
 pub held_after : (ending : Bool) (ends ends_after : List PartEnd) (writer : ℕ) (before after : PartEnd) → All (λ (end : PartEnd). end.held ≡ ending) ends → slice_get ends writer ≡ Some before → ends_after ≡ slice_set ends writer after → Keeps before after → All (λ (end : PartEnd). end.held ≡ ending) ends_after
 held_after ending ends ends_after writer before after all was now keeps =
     let held : PartEnd → Type 0 = λ end. end.held ≡ ending in
-    subst (All held) (sym now) (all_set held ends writer after all (same_hold before after keeps ∙ of_place held ends writer before all was))
+    subst (All held) (sym now) (All-set held ends writer after (same_hold before after keeps ∙ of_place held ends writer before all was) all)
 
 goes_on : (visit : Visit) (before after : PartEnd) → Tells visit before after → Keeps before after → EndGoesOn before after
 goes_on visit before after tells keeps = record {

@@ -12,7 +12,7 @@ use Rattle.ring_core.specs.Plans.{Plan, plan_of}
 use Rattle.word_ring.specs.Ends.{WordWriterEnd, WordRoamerEnd, seen_by}
 use Rattle.log_session.specs.Writers.{WriterView}
 use Rattle.log_session.specs.Starts.{IsNewRing}
-use Rattle.roaming_consumer.specs.Roamers.{roamer_messages, roamer_clocks, roamer_batch}
+use Rattle.roaming_consumer.specs.Roamers.{roamer_messages, roamer_version, roamer_clocks, roamer_batch}
 use Rattle.log_ends.specs.declared.opening.OpenFault.{OpenFault}
 use Rattle.log_ends.specs.declared.opening.OpenFault.TheVariants as opens
 use Rattle.log_ends.specs.declared.setup.Setup.{Setup}
@@ -69,6 +69,7 @@ pub record IsOpened (messages : List Message) (setup : Setup) (session : Session
   pub lasts : is_session_ended session ≡ false
   pub known : session_messages session ≡ messages
   pub messages_are : roamer_messages consumer.roamer ≡ messages
+  pub version_is : roamer_version consumer.roamer ≡ 2
   pub clocks_are : roamer_clocks consumer.roamer ≡ setup.clock ∷ []
   pub batch_is : roamer_batch consumer.roamer ≡ setup.batch
   pub ungiven : HasGiven consumer []

@@ -8,7 +8,7 @@ use Rattle.checkpoint_io.specs.Logs.{greatest_stamp}
 use Rattle.ring_core.specs.Plans.{Plan, AreFramesOf}
 use Rattle.roaming_consumer.specs.declared.roamer.Roamer.{Roamer}
 use Rattle.roaming_consumer.specs.Growth.{LogProgress}
-use Rattle.roaming_consumer.specs.Parting.{IsHeld}
+use Rattle.roaming_consumer.specs.Parting.{IsStopped}
 use Rattle.roaming_consumer.specs.Roamers.{ends_of, roamer_messages, roamer_version, roamer_clocks, roamer_batch, roamer_progress, is_begun, plan_of_roamer, ArePlanned, KeepsLog, BeginWithFramesOf, IsLogOfEnds, IsCutLogOfEnds, RoamerStandsFor}
 use Rattle.roaming_consumer.proofs.lemmas.OnePlace.{all_across, zip_across, beside}
 use Rattle.roaming_consumer.proofs.lemmas.Marking.{same_said_log}
@@ -25,25 +25,25 @@ pub planned_across : {S : Type 0} (R : S → S → Type 0) (plan : S → Plan) (
 planned_across R plan old ends keeps each planned =
     all_across R (λ end. plan end ≡ plan_of_roamer old) (λ end. plan end ≡ plan_of_roamer old) (λ before after is was. keeps before after is ∙ was) (ends_of old) ends each planned
 
-held_log : {S : Type 0} (got : S → List (List ℕ)) (ended : S → Bool) (plan : S → Plan) (old new : Roamer S) (wrote : List ℕ) → AllZip (IsHeld got ended plan) (ends_of old) (ends_of new) → KeepsLog old new → IsLogOfEnds got ended old (roamer_progress old) wrote → IsLogOfEnds got ended new (roamer_progress new) wrote
+held_log : {S : Type 0} (got : S → List (List ℕ)) (ended : S → Bool) (plan : S → Plan) (old new : Roamer S) (wrote : List ℕ) → AllZip (IsStopped got ended plan) (ends_of old) (ends_of new) → KeepsLog old new → IsLogOfEnds got ended old (roamer_progress old) wrote → IsLogOfEnds got ended new (roamer_progress new) wrote
 held_log got ended plan old new wrote held keeps log = record {
   taken = log.taken;
   frames =
-      zip_across (IsHeld got ended plan) (λ end calls. AreFramesOf (plan_of_roamer old) (got end) calls) (λ end calls. AreFramesOf (plan_of_roamer new) (got end) calls)
+      zip_across (IsStopped got ended plan) (λ end calls. AreFramesOf (plan_of_roamer old) (got end) calls) (λ end calls. AreFramesOf (plan_of_roamer new) (got end) calls)
       (λ before after calls is. subst (λ (x : Plan × List (List ℕ)). AreFramesOf x.0 x.1 calls) (λ i. (same_plan old new keeps.same_run i, sym is.same_got i)))
       (ends_of old) (ends_of new) log.taken held log.frames;
   log = same_log old new wrote wrote log.taken (roamer_progress old) (roamer_progress new) keeps.same_run refl (sym keeps.progress) log.log;
-  closed = λ writer end there marked. (beside (IsHeld got ended plan) (ends_of old) (ends_of new) writer end held there).2.over;
+  closed = λ writer end there marked. (beside (IsStopped got ended plan) (ends_of old) (ends_of new) writer end held there).2.over;
 }
 
-held_cut : {S : Type 0} (got : S → List (List ℕ)) (ended : S → Bool) (plan : S → Plan) (old new : Roamer S) (wrote : List ℕ) → AllZip (IsHeld got ended plan) (ends_of old) (ends_of new) → KeepsLog old new → IsCutLogOfEnds got ended old wrote → IsCutLogOfEnds got ended new wrote
+held_cut : {S : Type 0} (got : S → List (List ℕ)) (ended : S → Bool) (plan : S → Plan) (old new : Roamer S) (wrote : List ℕ) → AllZip (IsStopped got ended plan) (ends_of old) (ends_of new) → KeepsLog old new → IsCutLogOfEnds got ended old wrote → IsCutLogOfEnds got ended new wrote
 held_cut got ended plan old new wrote held keeps cut =
     let run = keeps.same_run in
     let Says = CutSays got ended cut.taken (plan_of_roamer new, ends_of new, (roamer_progress new).latest) in
     let said_before : Says cut.log.blocks = (
       subst (λ (n : ℕ). greatest_stamp (all_records cut.log.blocks) ≤ n) (λ i. (sym keeps.progress i).latest) cut.latest,
       λ writer end there is.
-          let found = beside (IsHeld got ended plan) (ends_of old) (ends_of new) writer end held there in (
+          let found = beside (IsStopped got ended plan) (ends_of old) (ends_of new) writer end held there in (
             found.2.over,
             subst (λ (x : Plan × List (List ℕ)). AreFramesOf x.0 x.1 (get_or cut.taken writer [])) (λ i. (same_plan old new run i, sym found.2.same_got i)) (cut.closed writer found.0 found.1 is).1,
           ),
@@ -53,7 +53,7 @@ held_cut got ended plan old new wrote held keeps cut =
     record {
       taken = cut.taken;
       frames =
-          zip_across (IsHeld got ended plan) (λ end calls. BeginWithFramesOf (plan_of_roamer old) (got end) calls) (λ end calls. BeginWithFramesOf (plan_of_roamer new) (got end) calls)
+          zip_across (IsStopped got ended plan) (λ end calls. BeginWithFramesOf (plan_of_roamer old) (got end) calls) (λ end calls. BeginWithFramesOf (plan_of_roamer new) (got end) calls)
           (λ before after calls is. subst (λ (x : Plan × List (List ℕ)). BeginWithFramesOf x.0 x.1 calls) (λ i. (same_plan old new run i, sym is.same_got i)))
           (ends_of old) (ends_of new) cut.taken held cut.frames;
       rest = cut.rest;
@@ -63,12 +63,12 @@ held_cut got ended plan old new wrote held keeps cut =
     }
 
 -- what a roamer stands for stays where its ends give no frame any more
-pub held_stands : {S : Type 0} (got : S → List (List ℕ)) (ended : S → Bool) (plan : S → Plan) (old new : Roamer S) → AllZip (IsHeld got ended plan) (ends_of old) (ends_of new) → KeepsLog old new → (wrote : List ℕ) → RoamerStandsFor got ended old wrote → RoamerStandsFor got ended new wrote
+pub held_stands : {S : Type 0} (got : S → List (List ℕ)) (ended : S → Bool) (plan : S → Plan) (old new : Roamer S) → AllZip (IsStopped got ended plan) (ends_of old) (ends_of new) → KeepsLog old new → (wrote : List ℕ) → RoamerStandsFor got ended old wrote → RoamerStandsFor got ended new wrote
 held_stands got ended plan old new held keeps wrote stood =
     let at : is_begun old ≡ is_begun new = sym keeps.begun in
     record {
       nothing = λ unset. stood.nothing (at ∙ unset);
-      untaken = λ unset. all_across (IsHeld got ended plan) (λ end. got end ≡ []) (λ end. got end ≡ []) (λ before after is none. is.same_got ∙ none) (ends_of old) (ends_of new) held (stood.untaken (at ∙ unset));
+      untaken = λ unset. all_across (IsStopped got ended plan) (λ end. got end ≡ []) (λ end. got end ≡ []) (λ before after is none. is.same_got ∙ none) (ends_of old) (ends_of new) held (stood.untaken (at ∙ unset));
       undefined = λ unset. ap (λ (o : LogProgress). o.defined) keeps.progress ∙ stood.undefined (at ∙ unset);
       unclosed = λ unset writer. ap (λ (o : LogProgress). get_or o.closed writer false) keeps.progress ∙ stood.unclosed (at ∙ unset) writer;
       first_clock = λ unset. ap (λ (o : LogProgress). o.written) keeps.progress ∙ stood.first_clock (at ∙ unset);

@@ -1,4 +1,4 @@
 pub mod Marking
 pub mod OnePlace
 pub mod Sending
-pub mod Walking
+pub mod FrontChanges

@@ -1,6 +1,6 @@
 //! Ends of rings whose frames go into several logs.
 
-ghost use Rattle.roaming_consumer.specs.Parting.{IsHeld, IsAnew};
+ghost use Rattle.roaming_consumer.specs.Parting.{IsStopped, IsAnew};
 
 use ring_core::StageOut;
 
@@ -15,7 +15,7 @@ pub trait PartOut: StageOut {
 
     /// Ends the part: until the next one begins, the end answers that all has ended.
     fn end_part(&mut self)
-        ensures held { IsHeld Self.got Self.ended Self.plan self.old self.new }
+        ensures held { IsStopped Self.got Self.ended Self.plan self.old self.new }
         ensures ends { ends_part self.old self.new };
 
     /// Begins a part, into which the frames go that are taken from now on.

@@ -2,7 +2,7 @@
 
 ghost use Rattle.std.specs.Prelude.{◌≡◌, ℕ, List, [], false, length};
 ghost use Rattle.std.specs.List.{AllZip};
-ghost use Rattle.roaming_consumer.specs.Parting.{IsHeld, IsAnew};
+ghost use Rattle.roaming_consumer.specs.Parting.{IsStopped, IsAnew};
 ghost use Rattle.roaming_consumer.specs.Roamers.{ends_of, roamer_progress, is_begun, is_faulted, ArePlanned, IsSameRun, KeepsLog, RoamerStandsFor};
 
 use crate::part_out::PartOut;
@@ -10,7 +10,7 @@ use crate::roamer::Roamer;
 
 /// Ends the part of each end.
 fn end_each<S: PartOut>(ends: &mut [S])
-    ensures held { AllZip (IsHeld S.got S.ended S.plan) ends.old ends.new }
+    ensures held { AllZip (IsStopped S.got S.ended S.plan) ends.old ends.new }
     ensures ends { AllZip S.ends_part ends.old ends.new }
     ensures count { length ends.new ≡ length ends.old }
 {

@@ -79,3 +79,10 @@ beside R [] (b ∷ ys) place y all there = absurd all
 beside R (a ∷ xs) [] place y all there = absurd all
 beside R (a ∷ xs) (b ∷ ys) zero y all there = (a, refl, subst (λ (b : _). R a b) (same_Some b y there) all.0)
 beside R (a ∷ xs) (b ∷ ys) (suc place) y all there = beside R xs ys place y all.1 there
+
+-- the other way round
+pub zip_turned : {A B : Type 0} (R : A → B → Type 0) (xs : List A) (ys : List B) → AllZip R xs ys → AllZip (λ y x. R x y) ys xs
+zip_turned R [] [] all = tt
+zip_turned R [] (y ∷ ys) all = absurd all
+zip_turned R (x ∷ xs) [] all = absurd all
+zip_turned R (x ∷ xs) (y ∷ ys) all = (all.0, zip_turned R xs ys all.1)

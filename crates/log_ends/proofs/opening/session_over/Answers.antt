@@ -73,6 +73,7 @@ returns c =
       lasts = refl;
       known = refl;
       messages_are = begun.same_run.messages ∙ made.run.0;
+      version_is = begun.same_run.version ∙ made.run.1;
       clocks_are = begun.same_run.clocks ∙ made.run.2 ∙ c.in_ok-clocks.ensures;
       batch_is = begun.same_run.batch ∙ made.run.3;
       ungiven = stands_after c.in_ok-roamer.roamer c.begin.new.self c.in_ok-backlog.backlog c.begin.new.sink c.in_ok-backlog.ensures.empty begun.wrote [] made.stands;

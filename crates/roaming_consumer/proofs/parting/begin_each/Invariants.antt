@@ -1,7 +1,7 @@
 use Rattle.roaming_consumer.specs.Parting.{IsAnew}
-use Rattle.roaming_consumer.proofs.lemmas.Walking.{Walked}
+use Rattle.roaming_consumer.proofs.lemmas.FrontChanges.{ChangesFront}
 use Rattle.roaming_consumer.proofs.parting.begin_each.Given as goal
 
 abbrev pub invariant-loop-end : goal.invariant-loop-end
 invariant-loop-end g l =
-    Walked (λ before after. IsAnew g.S.StageOut.got g.S.StageOut.plan before after × g.S.PartOut.begins_part before after) l.end-index l.fn.ends l.ends
+    ChangesFront (λ before after. IsAnew g.S.StageOut.got g.S.StageOut.plan before after × g.S.PartOut.begins_part before after) l.end-index l.fn.ends l.ends

@@ -1,7 +1,7 @@
-use Rattle.roaming_consumer.specs.Parting.{IsHeld}
-use Rattle.roaming_consumer.proofs.lemmas.Walking.{Walked}
+use Rattle.roaming_consumer.specs.Parting.{IsStopped}
+use Rattle.roaming_consumer.proofs.lemmas.FrontChanges.{ChangesFront}
 use Rattle.roaming_consumer.proofs.parting.end_each.Given as goal
 
 abbrev pub invariant-loop-end : goal.invariant-loop-end
 invariant-loop-end g l =
-    Walked (λ before after. IsHeld g.S.StageOut.got g.S.StageOut.ended g.S.StageOut.plan before after × g.S.PartOut.ends_part before after) l.end-index l.fn.ends l.ends
+    ChangesFront (λ before after. IsStopped g.S.StageOut.got g.S.StageOut.ended g.S.StageOut.plan before after × g.S.PartOut.ends_part before after) l.end-index l.fn.ends l.ends
